@@ -1,0 +1,1 @@
+-- Theorems that pin the play's definitions.

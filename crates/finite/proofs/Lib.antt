@@ -1,0 +1,4 @@
+-- Laws of finite mathematics.
+pub mod Truth
+pub mod Bounded
+pub mod Pigeonhole

@@ -1,0 +1,20 @@
+-- A graph: states numbered from 0, which of them are initial, and moves.
+--
+--   edge G s t    == the graph moves from s to t, both being states of it
+--   begins G s    == s is an initial state
+use Prim.Native.Nat.{ℕ}
+use mathlib.Core.Bool.{Bool, _&&_}
+use lib.Dec.{ltb}
+
+-- "A graph is a state count, a set of initial states, and 64 rows of moves, one set of next states a row." A set is told by its members.
+pub record Graph : Type 0 where
+  pub states : ℕ
+  pub initial : ℕ → Bool
+  pub moves : ℕ → ℕ → Bool
+
+-- "A state is past the count when its number is not below it." What is past the count is no state, and so neither end of a move.
+unfoldable pub edge : Graph → ℕ → ℕ → Bool
+edge G s t = ltb s (G .states) && (ltb t (G .states) && G .moves s t)
+
+unfoldable pub begins : Graph → ℕ → Bool
+begins G s = ltb s (G .states) && G .initial s

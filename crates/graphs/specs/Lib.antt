@@ -1,0 +1,3 @@
+-- Graphs and walks.
+pub mod Walk
+pub mod Graph
