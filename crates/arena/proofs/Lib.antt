@@ -1,1 +1,14 @@
--- Theorems that pin the play's definitions.
+-- Laws of the play, and theorems that pin its definitions on small games.
+pub mod Bounds
+pub mod Meets
+pub mod Reach
+pub mod Sets
+pub mod Answers
+pub mod Eight
+pub mod Line
+pub mod Fork
+pub mod Echo
+pub mod Nones
+pub mod Left
+pub mod Demand
+pub mod From

@@ -3,3 +3,4 @@ pub mod Arena
 pub mod Table
 pub mod Play
 pub mod Win
+pub mod Bounds

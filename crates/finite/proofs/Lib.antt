@@ -1,4 +1,6 @@
 -- Laws of finite mathematics.
 pub mod Truth
 pub mod Bounded
+pub mod Lists
+pub mod Tabulate
 pub mod Pigeonhole

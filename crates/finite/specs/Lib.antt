@@ -1,3 +1,4 @@
--- Finite mathematics: bounded quantifiers, least witnesses, counting.
+-- Finite mathematics: bounded quantifiers, least witnesses, counting; quantifiers over lists; lists made from functions.
 pub mod Bounded
 pub mod Lists
+pub mod Tabulate

@@ -1,1 +1,8 @@
 -- Laws of graphs and walks.
+pub mod Walk
+pub mod Measure
+pub mod Graph
+pub mod Rows
+pub mod Closure
+pub mod Component
+pub mod Way

@@ -1,0 +1,2 @@
+-- What the duel speaks of, beside the play.
+pub mod Beats

@@ -1,0 +1,266 @@
+-- What the code's branches and loops make of the tests: one law for each return, start, turn and end of a loop.
+use mathlib.Core.Path.{_≡_, refl, sym, ap, _∙_}
+use mathlib.Core.Bool.{Bool, true, false, not, _&&_}
+use mathlib.Core.List.{List, [], _∷_}
+use Prim.Native.Nat.{ℕ, suc, _+_, _≤_, _<_}
+use native.Mathlib.Nat.{le-antisymm}
+use native.Mathlib.Numerals.{add-one}
+use lib.Dec.{eqb, leb}
+use lib.ListN.{getD}
+use borrow.Author.Tests.{not-true, not-false, lt-ltb, le-ltb, le-leb, lt-leb, eq-eqb, ne-eqb}
+use Rattle.finite.specs.Bounded.{all}
+use Rattle.finite.proofs.Bounded.{all-fails}
+use Rattle.sets.specs.Member.{within}
+use Rattle.game.specs.declared.Graph.{Graph}
+use Rattle.game.specs.declared.Requirement.{Requirement}
+use Rattle.game.specs.declared.Game.{Game}
+use Rattle.game.specs.declared.Acceptance.{Acceptance}
+use Rattle.game.specs.declared.Acceptance.the-variants.{Accepted, Refused}
+use Rattle.game.specs.Access.{noInput, noOutput, requirementAt}
+use Rattle.game.specs.Acceptance.{limit, countFits, rowFits, statesFit, hasInitial, hasMove, allMove, fewSets, inSetFits, outSetFits, inUse, requirementFits, fewSetsAt, requirementFitsAt, countsFit, statesInCount, initialsExist, movesExist, fewRequirements, lengthsFit, setsFit, tests, firstFailing, acceptance}
+
+-- ---- a loop over `all`
+
+pub all-start : (p : ℕ → Bool) → all 0 p ≡ true
+unfolding all
+all-start p = refl
+
+pub all-turn : (i : ℕ) (p : ℕ → Bool) → all i p ≡ true → p i ≡ true → all (i + 1) p ≡ true
+unfolding all
+all-turn i p h e = rw add-one (rw e h)
+
+pub all-stop : (n i : ℕ) (p : ℕ → Bool) → i < n → p i ≡ false → false ≡ all n p
+all-stop n i p l e = sym (all-fails n p i l e)
+
+pub all-end : (n i : ℕ) (p : ℕ → Bool) → i ≤ n → n ≤ i → all i p ≡ true → true ≡ all n p
+all-end n i p l g h = sym (ap (λ (m : ℕ). all m p) (le-antisymm g l) ∙ h)
+
+-- ---- a call's result in `if !f(..)`
+
+pub failed : {r t : Bool} → r ≡ t → not r ≡ true → t ≡ false
+failed {r} e n = sym e ∙ not-true r n
+
+pub passed : {r t : Bool} → r ≡ t → not r ≡ false → t ≡ true
+passed {r} e n = sym e ∙ not-false r n
+
+-- ---- two tests, one after the other
+
+pub and-stop : {a : Bool} (b : Bool) → a ≡ false → false ≡ (a && b)
+and-stop b e = sym (ap (λ (t : Bool). t && b) e)
+
+pub and-next : {a b r : Bool} → a ≡ true → r ≡ b → r ≡ (a && b)
+and-next {a} {b} e q = q ∙ sym (ap (λ (t : Bool). t && b) e)
+
+-- ---- a graph
+
+pub limit-in : (used j n : ℕ) → j < used → n ≡ limit used j n
+unfolding limit
+limit-in used j n l = rw (lt-ltb j used l, limit)
+
+pub limit-out : (used j n : ℕ) → used ≤ j → 0 ≡ limit used j n
+unfolding limit
+limit-out used j n l = rw (le-ltb j used l, limit)
+
+pub count-none : (g : Graph) → g .states < 1 → false ≡ countFits g
+unfolding countFits
+count-none g l = and-stop (leb (g .states) 64) (lt-leb 1 (g .states) l)
+
+pub count-some : (g : Graph) → 1 ≤ g .states → leb (g .states) 64 ≡ countFits g
+unfolding countFits
+count-some g l = and-next (le-leb 1 (g .states) l) refl
+
+pub row-fits : (g : Graph) (s l : ℕ) (r : Bool) → l ≡ limit (g .states) s (g .states) → r ≡ within (getD (g .moves) s 0) l → r ≡ rowFits g s
+unfolding rowFits
+row-fits g s l r e q = q ∙ ap (within (getD (g .moves) s 0)) e
+
+pub states-initial : (g : Graph) → within (g .initial) (g .states) ≡ false → false ≡ statesFit g
+unfolding statesFit
+states-initial g e = and-stop (all 64 (rowFits g)) e
+
+pub states-row : (g : Graph) (s : ℕ) → within (g .initial) (g .states) ≡ true → s < 64 → rowFits g s ≡ false → false ≡ statesFit g
+unfolding statesFit
+states-row g s i l e = and-next i (all-stop 64 s (rowFits g) l e)
+
+pub states-end : (g : Graph) (s : ℕ) → within (g .initial) (g .states) ≡ true → s ≤ 64 → 64 ≤ s → all s (rowFits g) ≡ true → true ≡ statesFit g
+unfolding statesFit
+states-end g s i l m e = and-next i (all-end 64 s (rowFits g) l m e)
+
+pub move-past : (g : Graph) (s : ℕ) → g .states ≤ s → true ≡ hasMove g s
+unfolding hasMove
+move-past g s l = rw (le-leb (g .states) s l)
+
+pub move-row : (g : Graph) (s : ℕ) → s < g .states → not (eqb (getD (g .moves) s 0) 0) ≡ hasMove g s
+unfolding hasMove
+move-row g s l = rw (lt-leb (g .states) s l)
+
+pub moves-stop : (g : Graph) (s : ℕ) → s < 64 → hasMove g s ≡ false → false ≡ allMove g
+unfolding allMove
+moves-stop g s l e = all-stop 64 s (hasMove g) l e
+
+pub moves-end : (g : Graph) (s : ℕ) → s ≤ 64 → 64 ≤ s → all s (hasMove g) ≡ true → true ≡ allMove g
+unfolding allMove
+moves-end g s l m e = all-end 64 s (hasMove g) l m e
+
+-- ---- a requirement
+
+pub few-many : (q : Requirement) → 4 < q .assumed → false ≡ fewSets q
+unfolding fewSets
+few-many q l = and-stop (leb (q .guaranteed) 4) (lt-leb (q .assumed) 4 l)
+
+pub few-next : (q : Requirement) → q .assumed ≤ 4 → leb (q .guaranteed) 4 ≡ fewSets q
+unfolding fewSets
+few-next q l = and-next (le-leb (q .assumed) 4 l) refl
+
+pub in-set-fits : (q : Requirement) (n j l : ℕ) (r : Bool) → l ≡ limit (q .assumed) j n → r ≡ within (getD (q .assumptions) j noInput .0) l → r ≡ inSetFits q n j
+unfolding inSetFits
+in-set-fits q n j l r e p = p ∙ ap (within (getD (q .assumptions) j noInput .0)) e
+
+pub out-set-fits : (q : Requirement) (n j l : ℕ) (r : Bool) → l ≡ limit (q .guaranteed) j n → r ≡ within (getD (q .guarantees) j noOutput .0) l → r ≡ outSetFits q n j
+unfolding outSetFits
+out-set-fits q n j l r e p = p ∙ ap (within (getD (q .guarantees) j noOutput .0)) e
+
+pub use-below : (g : Game) (r : ℕ) (q : Requirement) → r < g .k → true ≡ inUse g r q
+unfolding inUse
+use-below g r q l = rw (lt-ltb r (g .k) l)
+
+pub use-assumed : (g : Game) (r : ℕ) (q : Requirement) → g .k ≤ r → (q .assumed ≡ 0 → ⊥) → false ≡ inUse g r q
+unfolding inUse
+use-assumed g r q l n = rw (le-ltb r (g .k) l, ne-eqb (q .assumed) 0 n)
+
+pub use-next : (g : Game) (r : ℕ) (q : Requirement) → g .k ≤ r → q .assumed ≡ 0 → eqb (q .guaranteed) 0 ≡ inUse g r q
+unfolding inUse
+use-next g r q l e = rw (le-ltb r (g .k) l, eq-eqb (q .assumed) 0 e)
+
+module _ (g : Game) (r : ℕ) (q : Requirement) where
+  pub fits-unused : inUse g r q ≡ false → false ≡ requirementFits g r q
+  unfolding requirementFits
+  fits-unused e = and-stop (all 4 (inSetFits q (g .input .states)) && all 4 (outSetFits q (g .output .states))) e
+
+  pub fits-in : inUse g r q ≡ true → all 4 (inSetFits q (g .input .states)) ≡ false → false ≡ requirementFits g r q
+  unfolding requirementFits
+  fits-in u e = and-next u (and-stop (all 4 (outSetFits q (g .output .states))) e)
+
+  pub fits-out : (b : Bool) → inUse g r q ≡ true → all 4 (inSetFits q (g .input .states)) ≡ true → b ≡ all 4 (outSetFits q (g .output .states)) → b ≡ requirementFits g r q
+  unfolding requirementFits
+  fits-out b u i e = and-next u (and-next i e)
+
+-- ---- a game
+
+module _ (g : Game) where
+  pub counts-stop : countFits (g .input) ≡ false → false ≡ countsFit g
+  unfolding countsFit
+  counts-stop e = and-stop (countFits (g .output)) e
+
+  pub counts-next : (r : Bool) → countFits (g .input) ≡ true → r ≡ countFits (g .output) → r ≡ countsFit g
+  unfolding countsFit
+  counts-next r e q = and-next e q
+
+  pub states-stop : statesFit (g .input) ≡ false → false ≡ statesInCount g
+  unfolding statesInCount
+  states-stop e = and-stop (statesFit (g .output)) e
+
+  pub states-next : (r : Bool) → statesFit (g .input) ≡ true → r ≡ statesFit (g .output) → r ≡ statesInCount g
+  unfolding statesInCount
+  states-next r e q = and-next e q
+
+  pub initials-stop : hasInitial (g .input) ≡ false → false ≡ initialsExist g
+  unfolding initialsExist
+  initials-stop e = and-stop (hasInitial (g .output)) e
+
+  pub initials-next : (r : Bool) → hasInitial (g .input) ≡ true → r ≡ hasInitial (g .output) → r ≡ initialsExist g
+  unfolding initialsExist
+  initials-next r e q = and-next e q
+
+  pub exist-stop : allMove (g .input) ≡ false → false ≡ movesExist g
+  unfolding movesExist
+  exist-stop e = and-stop (allMove (g .output)) e
+
+  pub exist-next : (r : Bool) → allMove (g .input) ≡ true → r ≡ allMove (g .output) → r ≡ movesExist g
+  unfolding movesExist
+  exist-next r e q = and-next e q
+
+  pub few-at : (r : ℕ) → fewSets (requirementAt g r) ≡ fewSetsAt g r
+  unfolding fewSetsAt
+  few-at r = refl
+
+  pub fits-at : (r : ℕ) → requirementFits g r (requirementAt g r) ≡ requirementFitsAt g r
+  unfolding requirementFitsAt
+  fits-at r = refl
+
+  pub lengths-stop : (r : ℕ) → r < 8 → fewSetsAt g r ≡ false → false ≡ lengthsFit g
+  unfolding lengthsFit
+  lengths-stop r l e = all-stop 8 r (fewSetsAt g) l e
+
+  pub lengths-end : (r : ℕ) → r ≤ 8 → 8 ≤ r → all r (fewSetsAt g) ≡ true → true ≡ lengthsFit g
+  unfolding lengthsFit
+  lengths-end r l m e = all-end 8 r (fewSetsAt g) l m e
+
+  pub sets-stop : (r : ℕ) → r < 8 → requirementFitsAt g r ≡ false → false ≡ setsFit g
+  unfolding setsFit
+  sets-stop r l e = all-stop 8 r (requirementFitsAt g) l e
+
+  pub sets-end : (r : ℕ) → r ≤ 8 → 8 ≤ r → all r (requirementFitsAt g) ≡ true → true ≡ setsFit g
+  unfolding setsFit
+  sets-end r l m e = all-end 8 r (requirementFitsAt g) l m e
+
+  pub few-over : 8 < g .k → fewRequirements g ≡ false
+  unfolding fewRequirements
+  few-over l = lt-leb (g .k) 8 l
+
+  pub few-below : g .k ≤ 8 → fewRequirements g ≡ true
+  unfolding fewRequirements
+  few-below l = le-leb (g .k) 8 l
+
+-- ---- the first test that fails
+
+pub first-stop : (n : ℕ) (ts : List Bool) {b : Bool} → b ≡ false → Refused n ≡ firstFailing n (b ∷ ts)
+unfolding firstFailing
+first-stop n ts e = sym (ap (λ (t : Bool). firstFailing n (t ∷ ts)) e)
+
+pub first-next : (n : ℕ) (ts : List Bool) {b : Bool} (r : Acceptance) → b ≡ true → r ≡ firstFailing (suc n) ts → r ≡ firstFailing n (b ∷ ts)
+unfolding firstFailing
+first-next n ts r e q = q ∙ sym (ap (λ (t : Bool). firstFailing n (t ∷ ts)) e)
+
+pub first-none : (n : ℕ) → Accepted ≡ firstFailing n []
+unfolding firstFailing
+first-none n = refl
+
+module _ (g : Game) where
+  pub refuse-1 : countsFit g ≡ false → Refused 1 ≡ acceptance g
+  unfolding acceptance tests
+  refuse-1 a = first-stop 1 _ a
+
+  pub refuse-2 : countsFit g ≡ true → statesInCount g ≡ false → Refused 2 ≡ acceptance g
+  unfolding acceptance tests
+  refuse-2 a b = first-next 1 _ _ a (first-stop 2 _ b)
+
+  pub refuse-3 : countsFit g ≡ true → statesInCount g ≡ true → initialsExist g ≡ false → Refused 3 ≡ acceptance g
+  unfolding acceptance tests
+  refuse-3 a b c = first-next 1 _ _ a (first-next 2 _ _ b (first-stop 3 _ c))
+
+  pub refuse-4 : countsFit g ≡ true → statesInCount g ≡ true → initialsExist g ≡ true → movesExist g ≡ false → Refused 4 ≡ acceptance g
+  unfolding acceptance tests
+  refuse-4 a b c d = first-next 1 _ _ a (first-next 2 _ _ b (first-next 3 _ _ c (first-stop 4 _ d)))
+
+  pub refuse-5 : countsFit g ≡ true → statesInCount g ≡ true → initialsExist g ≡ true → movesExist g ≡ true → fewRequirements g ≡ false
+      → Refused 5 ≡ acceptance g
+  unfolding acceptance tests
+  refuse-5 a b c d e = first-next 1 _ _ a (first-next 2 _ _ b (first-next 3 _ _ c (first-next 4 _ _ d (first-stop 5 _ e))))
+
+  pub refuse-6 : countsFit g ≡ true → statesInCount g ≡ true → initialsExist g ≡ true → movesExist g ≡ true → fewRequirements g ≡ true
+      → lengthsFit g ≡ false → Refused 6 ≡ acceptance g
+  unfolding acceptance tests
+  refuse-6 a b c d e f =
+      first-next 1 _ _ a (first-next 2 _ _ b (first-next 3 _ _ c (first-next 4 _ _ d (first-next 5 _ _ e (first-stop 6 _ f)))))
+
+  pub refuse-7 : countsFit g ≡ true → statesInCount g ≡ true → initialsExist g ≡ true → movesExist g ≡ true → fewRequirements g ≡ true
+      → lengthsFit g ≡ true → setsFit g ≡ false → Refused 7 ≡ acceptance g
+  unfolding acceptance tests
+  refuse-7 a b c d e f s =
+      first-next 1 _ _ a (first-next 2 _ _ b (first-next 3 _ _ c (first-next 4 _ _ d (first-next 5 _ _ e (first-next 6 _ _ f (first-stop 7 _ s))))))
+
+  pub accept-all : countsFit g ≡ true → statesInCount g ≡ true → initialsExist g ≡ true → movesExist g ≡ true → fewRequirements g ≡ true
+      → lengthsFit g ≡ true → setsFit g ≡ true → Accepted ≡ acceptance g
+  unfolding acceptance tests
+  accept-all a b c d e f s =
+      first-next 1 _ _ a (first-next 2 _ _ b (first-next 3 _ _ c (first-next 4 _ _ d (first-next 5 _ _ e (first-next 6 _ _ f (first-next 7 _ _ s (first-none 8)))))))

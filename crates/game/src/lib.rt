@@ -1,0 +1,128 @@
+// The records of a game: two graphs and the requirements on them, and whether a game is accepted.
+ghost use mathlib.Core.Path.{_≡_};
+ghost use Prim.Native.Nat.{_<_};
+ghost use Rattle.game.specs.Access.{inMoves, outMoves, assumptionAt, guaranteeAt, inInitial, outInitial};
+ghost use Rattle.game.specs.Acceptance.{acceptance};
+
+mod graphs; // the tests on one graph
+mod requirements; // the tests on one requirement
+mod tests; // the tests on a game, one for each refusal code
+
+// The number of an input state.
+pub struct InState(pub usize);
+
+// The number of an output state.
+pub struct OutState(pub usize);
+
+// A set of input states.
+pub struct InSet(pub u64);
+
+// A set of output states.
+pub struct OutSet(pub u64);
+
+// Row s of `moves` is the set of the states that state s moves to.
+pub struct Graph {
+    pub states: usize,
+    pub initial: u64,
+    pub moves: [u64; 64],
+}
+
+// If every assumption is visited, every guarantee is. Of the four places each, `assumed` and `guaranteed` are in use.
+pub struct Requirement {
+    pub assumptions: [InSet; 4],
+    pub assumed: usize,
+    pub guarantees: [OutSet; 4],
+    pub guaranteed: usize,
+}
+
+// Of the eight places for requirements k are in use.
+pub struct Game {
+    pub input: Graph,
+    pub output: Graph,
+    pub k: usize,
+    pub requirements: [Requirement; 8],
+}
+
+// A refusal holds its code, 1 to 7.
+pub enum Acceptance {
+    Accepted,
+    Refused(u8),
+}
+
+// Whether the game is accepted; else the lowest code whose condition holds.
+pub fn accept(g: Game) -> Acceptance
+    ensures { λ r. ⌜ r ≡ acceptance g ⌝ }
+{
+    if !tests::counts_fit(g) {
+        return Acceptance::Refused(1);
+    }
+    if !tests::states_in_count(g) {
+        return Acceptance::Refused(2);
+    }
+    if !tests::initials_exist(g) {
+        return Acceptance::Refused(3);
+    }
+    if !tests::moves_exist(g) {
+        return Acceptance::Refused(4);
+    }
+    if g.k > 8 {
+        return Acceptance::Refused(5);
+    }
+    if !tests::lengths_fit(g) {
+        return Acceptance::Refused(6);
+    }
+    if !tests::sets_fit(g) {
+        return Acceptance::Refused(7);
+    }
+    Acceptance::Accepted
+}
+
+// The input states that i moves to.
+pub fn in_moves(g: Game, i: InState) -> InSet
+    requires { ⌜ i .0 < 64 ⌝ }
+    ensures { λ r. ⌜ r ≡ inMoves g i ⌝ }
+{
+    let h = g.input;
+    let s = i.0;
+    InSet(h.moves[s])
+}
+
+// The output states that o moves to.
+pub fn out_moves(g: Game, o: OutState) -> OutSet
+    requires { ⌜ o .0 < 64 ⌝ }
+    ensures { λ r. ⌜ r ≡ outMoves g o ⌝ }
+{
+    let h = g.output;
+    let s = o.0;
+    OutSet(h.moves[s])
+}
+
+// Assumption j of requirement r.
+pub fn assumption(g: Game, r: usize, j: usize) -> InSet
+    requires { ⌜ (r < 8) × (j < 4) ⌝ }
+    ensures { λ x. ⌜ x ≡ assumptionAt g r j ⌝ }
+{
+    let q = g.requirements[r];
+    q.assumptions[j]
+}
+
+// Guarantee j of requirement r.
+pub fn guarantee(g: Game, r: usize, j: usize) -> OutSet
+    requires { ⌜ (r < 8) × (j < 4) ⌝ }
+    ensures { λ x. ⌜ x ≡ guaranteeAt g r j ⌝ }
+{
+    let q = g.requirements[r];
+    q.guarantees[j]
+}
+
+pub fn in_initial(g: Game) -> InSet
+    ensures { λ r. ⌜ r ≡ inInitial g ⌝ }
+{
+    InSet(g.input.initial)
+}
+
+pub fn out_initial(g: Game) -> OutSet
+    ensures { λ r. ⌜ r ≡ outInitial g ⌝ }
+{
+    OutSet(g.output.initial)
+}

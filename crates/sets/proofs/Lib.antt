@@ -1,0 +1,3 @@
+-- Laws of sets: Membership of `has` and of what makes a set, Compare of the tests and counts.
+pub mod Membership
+pub mod Compare

@@ -1,0 +1,11 @@
+-- Theorems.
+pub mod Region
+pub mod Delay
+pub mod Around
+pub mod Tour
+pub mod Loop
+pub mod Sets
+pub mod ControllerRow
+pub mod Controller
+pub mod EnvironmentRow
+pub mod Environment

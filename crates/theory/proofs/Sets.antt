@@ -1,0 +1,68 @@
+-- The sets of all requirements, in file order: each set of a requirement stands at some place among them.
+use Prim.Native.Nat.{ℕ, zero, suc, _<_}
+use mathlib.Core.Path.{_≡_, refl, sym, _∙_, ap}
+use mathlib.Core.Bool.{Bool, true, false, not, _||_}
+use mathlib.Core.List.{List, [], _∷_, _++_, List·Memᴰ, List·Memᴰ·head, List·Memᴰ·tail, Memᴰ·append-left, Memᴰ·append-right, List·Memᴰ·cases-cons, List·Memᴰ·not-nil}
+use mathlib.Core.Logic.{_⊎_, inl, inr}
+use native.Mathlib.Omega.{arith}
+use lib.ListN.{length, getD}
+use Rattle.finite.specs.Lists.{allOf, anyOf}
+use Rattle.finite.proofs.Truth.{decide, clash, or-left, or-right, or-false, not-false}
+use Rattle.finite.proofs.Lists.{allOf-intro, allOf-elim, allOf-fails, anyOf-false, anyOf-none}
+use Rattle.arena.specs.Arena.{Requirement, Separated}
+use Rattle.arena.specs.Play.{Configuration, visitsInput, visitsOutput, meets, breaks}
+use Rattle.theory.specs.Tour.{goalAt}
+use Rattle.theory.specs.Choice.{setsOf, guarantees, assumptions}
+
+-- the place of an element
+place : {A : Type 0} {a : A} (l : List A) (d : A) → List·Memᴰ a l → (k : ℕ) × (k < length l) × (getD l k d ≡ a)
+place [] d m = absurd (List·Memᴰ·not-nil m)
+place {A} {a} (x ∷ l) d m = go (List·Memᴰ·cases-cons m) (λ n. place l d n)
+  where
+    go : (a ≡ x) ⊎ List·Memᴰ a l → (List·Memᴰ a l → (k : ℕ) × (k < length l) × (getD l k d ≡ a)) → (k : ℕ) × (k < suc (length l)) × (getD (x ∷ l) k d ≡ a)
+    go (inl e) rec = (zero, omega arith, sym e)
+    go (inr n) rec = let v = rec n in (suc (v .0), omega (arith, v .1), v .2)
+
+in-sets : (f : Requirement → List (ℕ → Bool)) (l : List Requirement) (q : Requirement) (s : ℕ → Bool) → List·Memᴰ q l → List·Memᴰ s (f q) → List·Memᴰ s (setsOf f l)
+unfolding setsOf
+in-sets f [] q s m n = absurd (List·Memᴰ·not-nil m)
+in-sets f (x ∷ l) q s m n = go (List·Memᴰ·cases-cons m) (λ k. in-sets f l q s k n)
+  where
+    go : (q ≡ x) ⊎ List·Memᴰ q l → (List·Memᴰ q l → List·Memᴰ s (setsOf f l)) → List·Memᴰ s (f x ++ setsOf f l)
+    go (inl e) rec = Memᴰ·append-left (setsOf f l) (rw e at n)
+    go (inr k) rec = Memᴰ·append-right (f x) (rec k)
+
+pub guarantee-at : (S : Separated) (q : Requirement) (s : ℕ → Bool) → List·Memᴰ q (S .requirements) → List·Memᴰ s (q .guarantees)
+    → (k : ℕ) × (k < length (guarantees S)) × (goalAt (guarantees S) k ≡ s)
+unfolding guarantees goalAt
+guarantee-at S q s m n =
+    place (setsOf (λ x. x .guarantees) (S .requirements)) (λ t. false) (in-sets (λ x. x .guarantees) (S .requirements) q s m n)
+
+pub assumption-at : (S : Separated) (q : Requirement) (s : ℕ → Bool) → List·Memᴰ q (S .requirements) → List·Memᴰ s (q .assumptions)
+    → (k : ℕ) × (k < length (assumptions S)) × (goalAt (assumptions S) k ≡ s)
+unfolding assumptions goalAt
+assumption-at S q s m n =
+    place (setsOf (λ x. x .assumptions) (S .requirements)) (λ t. false) (in-sets (λ x. x .assumptions) (S .requirements) q s m n)
+
+-- a requirement is met where visiting all its input sets is followed by visiting all its output sets
+pub meets-intro : (q : Requirement) (cs : List Configuration)
+    → (((s : ℕ → Bool) → List·Memᴰ s (q .assumptions) → visitsInput s cs ≡ true) → (s : ℕ → Bool) → List·Memᴰ s (q .guarantees) → visitsOutput s cs ≡ true)
+    → meets q cs ≡ true
+unfolding meets
+meets-intro q cs f =
+    elim (decide (anyOf (λ s. not (visitsInput s cs)) (q .assumptions))) [
+      inl e ↦ or-left (allOf (λ s. visitsOutput s cs) (q .guarantees)) e
+    | inr e ↦ or-right (anyOf (λ s. not (visitsInput s cs)) (q .assumptions))
+        (allOf-intro (λ s. visitsOutput s cs) (q .guarantees)
+          (f (λ s m. not-false (visitsInput s cs) (anyOf-false (λ t. not (visitsInput t cs)) (q .assumptions) e s m))))
+    ]
+
+-- and broken where all its input sets are visited and some output set is not
+pub breaks-intro : (q : Requirement) (cs : List Configuration)
+    → ((s : ℕ → Bool) → List·Memᴰ s (q .assumptions) → visitsInput s cs ≡ true)
+    → (s : ℕ → Bool) → List·Memᴰ s (q .guarantees) → visitsOutput s cs ≡ false → breaks q cs ≡ true
+unfolding breaks meets
+breaks-intro q cs f s m h =
+    rw (or-false
+      (anyOf-none (λ t. not (visitsInput t cs)) (q .assumptions) (λ t n. ap not (f t n)))
+      (allOf-fails (λ t. visitsOutput t cs) m h))

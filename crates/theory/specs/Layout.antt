@@ -1,0 +1,74 @@
+-- Tables as lists of 16-bit entries, and back.
+--
+--   entry a                       == the entry that stands for an answer
+--   answer e                      == the answer that an entry stands for
+--   controllerEntries S           == the controller's table, written out
+--   environmentEntries S
+--   controllerTable I M l         == the list of entries l read as a controller's table for I inputs with M counters
+--   environmentTable O M l        == the same as an environment's table for O outputs
+use Prim.Native.Nat.{ℕ, suc, _+_, _*_, _/_, _%_, max}
+use mathlib.Core.Bool.{Bool, true, false}
+use mathlib.Core.List.{List, _∷_, _++_}
+use lib.Dec.{eqb}
+use lib.ListN.{length, getD}
+use Rattle.finite.specs.Tabulate.{tabulate}
+use Rattle.arena.specs.Arena.{Separated}
+use Rattle.arena.specs.Table.{Answer, none, gives, ControllerTable, EnvironmentTable}
+use Rattle.theory.specs.Choice.{
+  guarantees,
+  assumptions,
+  controllerRow,
+  controllerStart,
+  environmentRow,
+  environmentStart,
+}
+
+-- "Entries are 16 bits: next state + 64 × next counter; none is 65,535."
+unfoldable pub entry : Answer → ℕ
+entry none = 65535
+entry (gives counter state) = state + 64 * counter
+
+unfoldable pub answer : ℕ → Answer
+answer e = elim (eqb e 65535) [ true ↦ none | false ↦ gives (e / 64) (e % 64) ]
+
+-- "the controller's counter g runs below max(1, G)"
+unfoldable pub controllerCounters : Separated → ℕ
+controllerCounters S = max 1 (length (guarantees S))
+
+unfoldable pub environmentCounters : Separated → ℕ
+environmentCounters S = max 1 (length (assumptions S))
+
+-- row number r of rows by a, b and c, the last running fastest, where b runs below B and c below C
+unfoldable pub rowOf : ℕ → ℕ → (ℕ → ℕ → ℕ → Answer) → ℕ → ℕ
+rowOf B C f r = entry (f (r / C / B) (r / C % B) (r % C))
+
+-- "Controller: one start entry an input, then rows by output, counter, input, the last running fastest"
+unfoldable pub controllerEntries : Separated → List ℕ
+controllerEntries S =
+    let I : ℕ = S .input .states in
+    let O : ℕ = S .output .states in
+    let M : ℕ = controllerCounters S in
+    tabulate I (λ i. entry (controllerStart S i)) ++ tabulate (O * M * I) (rowOf M I (controllerRow S))
+
+-- "Panel: one start entry, then rows by input, counter, output"
+unfoldable pub environmentEntries : Separated → List ℕ
+environmentEntries S =
+    let I : ℕ = S .input .states in
+    let O : ℕ = S .output .states in
+    let M : ℕ = environmentCounters S in
+    entry (environmentStart S) ∷ tabulate (I * M * O) (rowOf M O (environmentRow S))
+
+-- "The table handed over is the filled front, read as under Rooms, its counters being the memory."
+unfoldable pub controllerTable : (I M : ℕ) → List ℕ → ControllerTable
+controllerTable I M l = record {
+  memories = M;
+  start = λ i. answer (getD l i 65535);
+  step = λ g o j. answer (getD l (I + ((o * M + g) * I + j)) 65535)
+}
+
+unfoldable pub environmentTable : (O M : ℕ) → List ℕ → EnvironmentTable
+environmentTable O M l = record {
+  memories = M;
+  start = answer (getD l 0 65535);
+  step = λ h i o. answer (getD l (1 + ((i * M + h) * O + o)) 65535)
+}
