@@ -203,10 +203,6 @@ module _ (g : Game) where
   unfolding setsFit
   sets-end r l m e = all-end 8 r (requirementFitsAt g) l m e
 
-  pub few-over : 8 < g .k → fewRequirements g ≡ false
-  unfolding fewRequirements
-  few-over l = lt-leb (g .k) 8 l
-
   pub few-below : g .k ≤ 8 → fewRequirements g ≡ true
   unfolding fewRequirements
   few-below l = le-leb (g .k) 8 l
@@ -225,42 +221,8 @@ pub first-none : (n : ℕ) → Accepted ≡ firstFailing n []
 unfolding firstFailing
 first-none n = refl
 
-module _ (g : Game) where
-  pub refuse-1 : countsFit g ≡ false → Refused 1 ≡ acceptance g
-  unfolding acceptance tests
-  refuse-1 a = first-stop 1 _ a
-
-  pub refuse-2 : countsFit g ≡ true → statesInCount g ≡ false → Refused 2 ≡ acceptance g
-  unfolding acceptance tests
-  refuse-2 a b = first-next 1 _ _ a (first-stop 2 _ b)
-
-  pub refuse-3 : countsFit g ≡ true → statesInCount g ≡ true → initialsExist g ≡ false → Refused 3 ≡ acceptance g
-  unfolding acceptance tests
-  refuse-3 a b c = first-next 1 _ _ a (first-next 2 _ _ b (first-stop 3 _ c))
-
-  pub refuse-4 : countsFit g ≡ true → statesInCount g ≡ true → initialsExist g ≡ true → movesExist g ≡ false → Refused 4 ≡ acceptance g
-  unfolding acceptance tests
-  refuse-4 a b c d = first-next 1 _ _ a (first-next 2 _ _ b (first-next 3 _ _ c (first-stop 4 _ d)))
-
-  pub refuse-5 : countsFit g ≡ true → statesInCount g ≡ true → initialsExist g ≡ true → movesExist g ≡ true → fewRequirements g ≡ false
-      → Refused 5 ≡ acceptance g
-  unfolding acceptance tests
-  refuse-5 a b c d e = first-next 1 _ _ a (first-next 2 _ _ b (first-next 3 _ _ c (first-next 4 _ _ d (first-stop 5 _ e))))
-
-  pub refuse-6 : countsFit g ≡ true → statesInCount g ≡ true → initialsExist g ≡ true → movesExist g ≡ true → fewRequirements g ≡ true
-      → lengthsFit g ≡ false → Refused 6 ≡ acceptance g
-  unfolding acceptance tests
-  refuse-6 a b c d e f =
-      first-next 1 _ _ a (first-next 2 _ _ b (first-next 3 _ _ c (first-next 4 _ _ d (first-next 5 _ _ e (first-stop 6 _ f)))))
-
-  pub refuse-7 : countsFit g ≡ true → statesInCount g ≡ true → initialsExist g ≡ true → movesExist g ≡ true → fewRequirements g ≡ true
-      → lengthsFit g ≡ true → setsFit g ≡ false → Refused 7 ≡ acceptance g
-  unfolding acceptance tests
-  refuse-7 a b c d e f s =
-      first-next 1 _ _ a (first-next 2 _ _ b (first-next 3 _ _ c (first-next 4 _ _ d (first-next 5 _ _ e (first-next 6 _ _ f (first-stop 7 _ s))))))
-
-  pub accept-all : countsFit g ≡ true → statesInCount g ≡ true → initialsExist g ≡ true → movesExist g ≡ true → fewRequirements g ≡ true
-      → lengthsFit g ≡ true → setsFit g ≡ true → Accepted ≡ acceptance g
-  unfolding acceptance tests
-  accept-all a b c d e f s =
-      first-next 1 _ _ a (first-next 2 _ _ b (first-next 3 _ _ c (first-next 4 _ _ d (first-next 5 _ _ e (first-next 6 _ _ f (first-next 7 _ _ s (first-none 8)))))))
+pub accept-all : (g : Game) → countsFit g ≡ true → statesInCount g ≡ true → initialsExist g ≡ true → movesExist g ≡ true
+    → fewRequirements g ≡ true → lengthsFit g ≡ true → setsFit g ≡ true → Accepted ≡ acceptance g
+unfolding acceptance tests
+accept-all g a b c d e f s =
+    first-next 1 _ _ a (first-next 2 _ _ b (first-next 3 _ _ c (first-next 4 _ _ d (first-next 5 _ _ e (first-next 6 _ _ f (first-next 7 _ _ s (first-none 8)))))))

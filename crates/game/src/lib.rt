@@ -1,8 +1,9 @@
 // The records of a game: two graphs and the requirements on them, and whether a game is accepted.
 ghost use mathlib.Core.Path.{_≡_};
+ghost use mathlib.Core.List.{[], _∷_};
 ghost use Prim.Native.Nat.{_<_};
 ghost use Rattle.game.specs.Access.{inMoves, outMoves, assumptionAt, guaranteeAt, inInitial, outInitial};
-ghost use Rattle.game.specs.Acceptance.{acceptance};
+ghost use Rattle.game.specs.Acceptance.{firstFailing, acceptance};
 
 mod graphs; // the tests on one graph
 mod requirements; // the tests on one requirement
@@ -49,32 +50,55 @@ pub enum Acceptance {
     Refused(u8),
 }
 
-// Whether the game is accepted; else the lowest code whose condition holds.
-pub fn accept(g: Game) -> Acceptance
-    ensures { λ r. ⌜ r ≡ acceptance g ⌝ }
+// Refused with the number of the first test that fails.
+fn first_failing(
+    counts: bool,
+    states: bool,
+    initials: bool,
+    moves: bool,
+    few: bool,
+    lengths: bool,
+    sets: bool,
+) -> Acceptance
+    ensures { λ r. ⌜ r ≡ firstFailing 1 (counts ∷ states ∷ initials ∷ moves ∷ few ∷ lengths ∷ sets ∷ []) ⌝ }
 {
-    if !tests::counts_fit(g) {
+    if !counts {
         return Acceptance::Refused(1);
     }
-    if !tests::states_in_count(g) {
+    if !states {
         return Acceptance::Refused(2);
     }
-    if !tests::initials_exist(g) {
+    if !initials {
         return Acceptance::Refused(3);
     }
-    if !tests::moves_exist(g) {
+    if !moves {
         return Acceptance::Refused(4);
     }
-    if g.k > 8 {
+    if !few {
         return Acceptance::Refused(5);
     }
-    if !tests::lengths_fit(g) {
+    if !lengths {
         return Acceptance::Refused(6);
     }
-    if !tests::sets_fit(g) {
+    if !sets {
         return Acceptance::Refused(7);
     }
     Acceptance::Accepted
+}
+
+// Whether the game is accepted; else the lowest code whose condition holds. Every test is safe on every record.
+pub fn accept(g: Game) -> Acceptance
+    ensures { λ r. ⌜ r ≡ acceptance g ⌝ }
+{
+    first_failing(
+        tests::counts_fit(g),
+        tests::states_in_count(g),
+        tests::initials_exist(g),
+        tests::moves_exist(g),
+        g.k <= 8,
+        tests::lengths_fit(g),
+        tests::sets_fit(g),
+    )
 }
 
 // The input states that i moves to.

@@ -42,14 +42,14 @@ pub fn moves_exist(g: Game) -> bool
 }
 
 pub fn lengths_fit(g: Game) -> bool
-    ensures { λ b. ⌜ b ≡ lengthsFit g ⌝ }
+    ensures { λ r. ⌜ r ≡ lengthsFit g ⌝ }
 {
-    let mut r = 0;
-    while r < 8 {
-        if !requirements::few_sets(g.requirements[r]) {
+    let mut p = 0;
+    while p < 8 {
+        if !requirements::few_sets(g.requirements[p]) {
             return false;
         }
-        r += 1;
+        p += 1;
     }
     true
 }

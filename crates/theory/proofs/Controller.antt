@@ -30,7 +30,7 @@ use Rattle.arena.specs.Play.{Configuration, ControllerTurn, Cycle, configuratio
 use Rattle.theory.specs.Region.{due, served, accepting, homeFor, settles, answers, replies, region}
 use Rattle.theory.specs.Tour.{goalAt, inside, tour}
 use Rattle.theory.specs.Choice.{guarantees, home, homeward, settled, controllerRow}
-use Rattle.theory.specs.Layout.{controllerCounters}
+use Rattle.theory.specs.Entries.{controllerCounters}
 use Rattle.theory.proofs.Region.{
   implies-elim,
   answers-intro,
@@ -46,7 +46,8 @@ use Rattle.theory.proofs.Region.{
 }
 use Rattle.theory.proofs.Delay.{first-move, reply}
 use Rattle.theory.proofs.Tour.{Toured, toured, toGo, inside-edge, inside-to}
-use Rattle.theory.proofs.Sets.{guarantee-at, meets-intro}
+use Rattle.arena.proofs.Meets.{meets-intro}
+use Rattle.theory.proofs.Sets.{guarantee-at}
 use Rattle.theory.proofs.Loop.{Along, along-first, along-turn, nontrivial-input, nontrivial-along, cycle-lands, cycle-finds, nowhere}
 
 use Rattle.theory.proofs.ControllerRow.{same-counter, same-state, home-leads, home-reached, home-homeFor, home-same, row-answers, settled-nontrivial, homeward-at, homeward-away, Replied, replied}
@@ -229,12 +230,16 @@ module _ (S : Separated) (T : ControllerTable) (F : Follows S T) where
     unfolding due served
     meets-one q m =
         meets-intro q (configurations First Turn r)
-        (λ visited s n.
-          let e : due S i q ≡ true = allOf-intro (meetsAt I i) (q .assumptions) (λ u k. visited-meets u (visited u k)) in
-          let h = allOf-elim (meetsAt O d) (q .guarantees) (served-when-due q m e) s n in
-          let k = guarantee-at S q s m n in
-          subst (λ (u : ℕ → Bool). visitsOutput u (configurations First Turn r) ≡ true) (k .2)
-          (visits-goal (k .0) (k .1) (subst⁻¹ (λ (u : ℕ → Bool). meetsAt O d u ≡ true) (k .2) h)))
+        (λ visited.
+          let e : due S i q ≡ true =
+                allOf-intro (meetsAt I i) (q .assumptions)
+                (λ u k. visited-meets u (allOf-elim (λ t. visitsInput t (configurations First Turn r)) (q .assumptions) visited u k)) in
+          allOf-intro (λ t. visitsOutput t (configurations First Turn r)) (q .guarantees)
+          (λ s n.
+            let h = allOf-elim (meetsAt O d) (q .guarantees) (served-when-due q m e) s n in
+            let k = guarantee-at S q s m n in
+            subst (λ (u : ℕ → Bool). visitsOutput u (configurations First Turn r) ≡ true) (k .2)
+            (visits-goal (k .0) (k .1) (subst⁻¹ (λ (u : ℕ → Bool). meetsAt O d u ≡ true) (k .2) h))))
 
     -- Every reachable round meets all requirements.
     pub cycle-meets : allOf (λ q. meets q (configurations First Turn r)) (S .requirements) ≡ true

@@ -29,7 +29,7 @@ use Rattle.arena.specs.Play.{Configuration, ControllerTurn, Cycle, configuratio
 use Rattle.theory.specs.Region.{due, served, accepting, homeFor, settles, answers, replies, region}
 use Rattle.theory.specs.Tour.{goalAt, inside, tour}
 use Rattle.theory.specs.Choice.{guarantees, home, homeward, settled, controllerRow}
-use Rattle.theory.specs.Layout.{controllerCounters}
+use Rattle.theory.specs.Entries.{controllerCounters}
 use Rattle.theory.proofs.Region.{
   implies-elim,
   answers-intro,
@@ -45,8 +45,6 @@ use Rattle.theory.proofs.Region.{
 }
 use Rattle.theory.proofs.Delay.{first-move, reply}
 use Rattle.theory.proofs.Tour.{Toured, toured, toGo, inside-edge, inside-to}
-use Rattle.theory.proofs.Sets.{guarantee-at, meets-intro}
-use Rattle.theory.proofs.Loop.{Along, along-first, along-turn, nontrivial-input, nontrivial-along, cycle-lands, cycle-finds}
 
 -- equal answers give equal counters and states
 pub same-counter : {m s m′ s′ : ℕ} → gives m s ≡ gives m′ s′ → m ≡ m′

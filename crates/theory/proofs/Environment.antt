@@ -28,11 +28,11 @@ use Rattle.arena.specs.Play.{Configuration, EnvironmentTurn, Cycle, configurati
 use Rattle.theory.specs.Region.{due, served, accepting, safe, homeFor, settles, region}
 use Rattle.theory.specs.Tour.{goalAt, inside, tour}
 use Rattle.theory.specs.Choice.{assumptions, lost, wayOut, gate, outward, escapes, pressing, environmentRow}
-use Rattle.theory.specs.Layout.{environmentCounters}
+use Rattle.theory.specs.Entries.{environmentCounters}
 use Rattle.theory.proofs.Region.{safe-intro, homeFor-intro, settles-intro, region-in, region-settles}
 use Rattle.theory.proofs.Delay.{output-delay}
 use Rattle.theory.proofs.Tour.{Toured, toured, toGo}
-use Rattle.theory.proofs.Sets.{assumption-at, breaks-intro}
+use Rattle.theory.proofs.Sets.{assumption-at, breaks-when}
 use Rattle.theory.proofs.Loop.{Along, along-first, along-turn, nontrivial-input, nontrivial-output, nontrivial-along, cycle-lands, cycle-finds, nowhere}
 use Rattle.theory.proofs.ControllerRow.{same-counter, same-state}
 use Rattle.theory.proofs.EnvironmentRow.{
@@ -287,7 +287,7 @@ module _ (S : Separated) (P : EnvironmentTable) (F : Presses S P) where
         let d = not-false (due S i (q .0)) (or-false-left (not (due S i (q .0))) (served S o (q .0)) (q .2)) in
         let s = allOf-false (meetsAt O o) (q .0 .guarantees) (or-false-right (not (due S i (q .0))) (served S o (q .0)) (q .2)) in
         anyOf-intro (λ x. breaks x (configurations First Turn r)) (q .1)
-        (breaks-intro (q .0) (configurations First Turn r)
+        (breaks-when (q .0) (configurations First Turn r)
           (λ u m.
             let k = assumption-at S (q .0) u (q .1) m in
             let h : meetsAt I (number I i) u ≡ true =

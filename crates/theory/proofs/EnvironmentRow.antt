@@ -22,7 +22,7 @@ use Rattle.arena.specs.Table.{Answer, none, gives}
 use Rattle.theory.specs.Region.{answers, replies, region}
 use Rattle.theory.specs.Tour.{inside, tour}
 use Rattle.theory.specs.Choice.{assumptions, lost, wayOut, gate, outward, escapes, pressing, pushing, environmentRow}
-use Rattle.theory.specs.Layout.{environmentCounters}
+use Rattle.theory.specs.Entries.{environmentCounters}
 use Rattle.theory.proofs.Region.{answers-false, replies-false, region-replies}
 use Rattle.theory.proofs.Delay.{output-back, output-delay, input-delay}
 use Rattle.theory.proofs.Tour.{toured, inside-edge, inside-to, inside-leads}

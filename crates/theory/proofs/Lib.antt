@@ -1,4 +1,4 @@
--- Theorems.
+-- Theorems, in the order in which they follow from each other.
 pub mod Region
 pub mod Delay
 pub mod Around
@@ -9,3 +9,5 @@ pub mod ControllerRow
 pub mod Controller
 pub mod EnvironmentRow
 pub mod Environment
+pub mod Entries
+pub mod Demands

@@ -20,6 +20,7 @@ use Rattle.graphs.proofs.Rows.{rel-rows, rel-from, rel-to}
 use Rattle.graphs.proofs.Closure.{reaches-to}
 use Rattle.graphs.proofs.Component.{rank-le, rank-pos, rank-leaves, rank-trivial, joined-to, joined-sym, joined-same, meetsAt-same, leaves-same, leaves-elim, nontrivial-same}
 use Rattle.arena.specs.Arena.{Requirement, Separated}
+use Rattle.theory.specs.Choice.{refused}
 use Rattle.theory.specs.Region.{due, served, accepting, safe, homeFor, settles, answers, replies, rule, regionRows, region, opens, verdict}
 
 -- an implication between tests
@@ -235,6 +236,12 @@ module _ (S : Separated) where
   opens-intro i o e h =
       any-intro (S .output .states) (λ k. begins (S .output) k && region S i k) o (begins-below (S .output) o e) (and-intro e h)
 
+  pub opens-elim : (i : ℕ) → opens S i ≡ true → (o : ℕ) × (begins (S .output) o ≡ true) × (region S i o ≡ true)
+  unfolding opens
+  opens-elim i h =
+      let v = any-elim (S .output .states) (λ k. begins (S .output) k && region S i k) h in
+      (v .0, and-left (begins (S .output) (v .0)) (region S i (v .0)) (v .2), and-right (begins (S .output) (v .0)) (region S i (v .0)) (v .2))
+
   pub opens-false : (i o : ℕ) → opens S i ≡ false → begins (S .output) o ≡ true → region S i o ≡ false
   opens-false i o h e = false-of (region S i o) (λ t. clash (opens-intro i o e t) h)
 
@@ -248,3 +255,14 @@ module _ (S : Separated) where
   verdict-elim h i e =
       implies-elim (begins (S .input) i) (opens S i)
       (all-elim (S .input .states) (λ k. not (begins (S .input) k) || opens S k) h i (begins-below (S .input) i e)) e
+
+  -- where the verdict is not the system's, some initial input has no won opening
+  pub some-refused : verdict S ≡ false → any (S .input .states) (refused S) ≡ true
+  unfolding verdict refused
+  some-refused h =
+      let v = all-false (S .input .states) (λ i. not (begins (S .input) i) || opens S i) h in
+      any-intro (S .input .states) (λ i. begins (S .input) i && not (opens S i)) (v .0) (v .1) (both (begins (S .input) (v .0)) (opens S (v .0)) (v .2))
+    where
+      both : (a b : Bool) → (not a || b) ≡ false → (a && not b) ≡ true
+      both true b e = ap not e
+      both false b e = clash refl e

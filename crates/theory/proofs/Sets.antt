@@ -7,10 +7,11 @@ use mathlib.Core.Logic.{_⊎_, inl, inr}
 use native.Mathlib.Omega.{arith}
 use lib.ListN.{length, getD}
 use Rattle.finite.specs.Lists.{allOf, anyOf}
-use Rattle.finite.proofs.Truth.{decide, clash, or-left, or-right, or-false, not-false}
-use Rattle.finite.proofs.Lists.{allOf-intro, allOf-elim, allOf-fails, anyOf-false, anyOf-none}
+use Rattle.finite.proofs.Truth.{clash, false-of}
+use Rattle.finite.proofs.Lists.{allOf-intro, allOf-fails}
 use Rattle.arena.specs.Arena.{Requirement, Separated}
 use Rattle.arena.specs.Play.{Configuration, visitsInput, visitsOutput, meets, breaks}
+use Rattle.arena.proofs.Meets.{breaks-intro, meets-elim}
 use Rattle.theory.specs.Tour.{goalAt}
 use Rattle.theory.specs.Choice.{setsOf, guarantees, assumptions}
 
@@ -44,25 +45,13 @@ unfolding assumptions goalAt
 assumption-at S q s m n =
     place (setsOf (λ x. x .assumptions) (S .requirements)) (λ t. false) (in-sets (λ x. x .assumptions) (S .requirements) q s m n)
 
--- a requirement is met where visiting all its input sets is followed by visiting all its output sets
-pub meets-intro : (q : Requirement) (cs : List Configuration)
-    → (((s : ℕ → Bool) → List·Memᴰ s (q .assumptions) → visitsInput s cs ≡ true) → (s : ℕ → Bool) → List·Memᴰ s (q .guarantees) → visitsOutput s cs ≡ true)
-    → meets q cs ≡ true
-unfolding meets
-meets-intro q cs f =
-    elim (decide (anyOf (λ s. not (visitsInput s cs)) (q .assumptions))) [
-      inl e ↦ or-left (allOf (λ s. visitsOutput s cs) (q .guarantees)) e
-    | inr e ↦ or-right (anyOf (λ s. not (visitsInput s cs)) (q .assumptions))
-        (allOf-intro (λ s. visitsOutput s cs) (q .guarantees)
-          (f (λ s m. not-false (visitsInput s cs) (anyOf-false (λ t. not (visitsInput t cs)) (q .assumptions) e s m))))
-    ]
-
--- and broken where all its input sets are visited and some output set is not
-pub breaks-intro : (q : Requirement) (cs : List Configuration)
+-- a requirement is broken where all its input sets are visited and some output set is not
+pub breaks-when : (q : Requirement) (cs : List Configuration)
     → ((s : ℕ → Bool) → List·Memᴰ s (q .assumptions) → visitsInput s cs ≡ true)
     → (s : ℕ → Bool) → List·Memᴰ s (q .guarantees) → visitsOutput s cs ≡ false → breaks q cs ≡ true
-unfolding breaks meets
-breaks-intro q cs f s m h =
-    rw (or-false
-      (anyOf-none (λ t. not (visitsInput t cs)) (q .assumptions) (λ t n. ap not (f t n)))
-      (allOf-fails (λ t. visitsOutput t cs) m h))
+breaks-when q cs f s m h =
+    breaks-intro q cs
+    (false-of (meets q cs)
+      (λ e. clash
+        (meets-elim q cs e (allOf-intro (λ t. visitsInput t cs) (q .assumptions) f))
+        (allOf-fails (λ t. visitsOutput t cs) m h)))

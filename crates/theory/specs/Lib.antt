@@ -2,4 +2,4 @@
 pub mod Region
 pub mod Tour
 pub mod Choice
-pub mod Layout
+pub mod Entries

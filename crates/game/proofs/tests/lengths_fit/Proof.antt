@@ -11,10 +11,10 @@ use Rattle.game.proofs.tests.lengths_fit.Statement.{statement}
 use Rattle.game.proofs.tests.lengths_fit.Tie as tie
 
 abbrev Inv-loop : tie.InvT-loop
-Inv-loop g r₀ r = (r ≤ 8) × (all r (fewSetsAt g) ≡ true)
+Inv-loop g p₀ p = (p ≤ 8) × (all p (fewSetsAt g) ≡ true)
 
 abbrev μ-loop : tie.MeasureT-loop
-μ-loop g r₀ r = 8 - r
+μ-loop g p₀ p = 8 - p
 
 loop-holds : tie.Need-loop-holds Inv-loop μ-loop
 loop-holds c = (omega arith, all-start _)
@@ -31,8 +31,8 @@ few-sets-requires c κs = search needs
 returns : tie.Need-returns Inv-loop μ-loop
 returns c = lengths-stop _ _ (c .before .before .before .loop-test .taken) (failed (c .before .few-sets .ensures ∙ few-at _ _) (c .if1 .taken))
 
-add-r : tie.Need-add-r Inv-loop μ-loop
-add-r c = omega arith
+add-p : tie.Need-add-p Inv-loop μ-loop
+add-p c = omega arith
 
 loop-less : tie.Need-loop-less Inv-loop μ-loop
 loop-less c = omega arith
@@ -54,7 +54,7 @@ lengths-fit-spec =
     element-copy-out-few-sets
     few-sets-requires
     returns
-    add-r
+    add-p
     loop-less
     loop-again
     returns-2)

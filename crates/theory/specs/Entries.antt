@@ -6,7 +6,8 @@
 --   environmentEntries S
 --   controllerTable I M l         == the list of entries l read as a controller's table for I inputs with M counters
 --   environmentTable O M l        == the same as an environment's table for O outputs
-use Prim.Native.Nat.{ℕ, suc, _+_, _*_, _/_, _%_, max}
+--   outcome S                     == the side that the verdict names, with its table
+use Prim.Native.Nat.{ℕ, _+_, _*_, _/_, _%_, max}
 use mathlib.Core.Bool.{Bool, true, false}
 use mathlib.Core.List.{List, _∷_, _++_}
 use lib.Dec.{eqb}
@@ -14,6 +15,8 @@ use lib.ListN.{length, getD}
 use Rattle.finite.specs.Tabulate.{tabulate}
 use Rattle.arena.specs.Arena.{Separated}
 use Rattle.arena.specs.Table.{Answer, none, gives, ControllerTable, EnvironmentTable}
+use Rattle.arena.specs.Win.{Outcome, system, environment}
+use Rattle.theory.specs.Region.{verdict}
 use Rattle.theory.specs.Choice.{
   guarantees,
   assumptions,
@@ -72,3 +75,11 @@ environmentTable O M l = record {
   start = answer (getD l 0 65535);
   step = λ h i o. answer (getD l (1 + ((i * M + h) * O + o)) 65535)
 }
+
+-- The side that the verdict names, with its table read from the list of entries.
+unfoldable pub outcome : Separated → Outcome
+outcome S =
+    elim (verdict S) [
+      true ↦ system (controllerTable (S .input .states) (controllerCounters S) (controllerEntries S))
+    | false ↦ environment (environmentTable (S .output .states) (environmentCounters S) (environmentEntries S))
+    ]

@@ -1,0 +1,194 @@
+-- The tables read from the lists of entries do what the choices say.
+--
+--   Sized S            == the game is small enough for the entries: what acceptance gives
+--   answer-entry       : an answer in range is read back from its entry
+--   controller-start, controller-step, environment-start, environment-step : what is read is the choice
+--   read-follows, read-presses : so the theorems about such tables hold of what is read
+use Prim.Native.Nat.{ℕ, zero, suc, _+_, _*_, _/_, _%_, _≤_, _<_, max}
+use native.Mathlib.Nat.{zero-add, add-mul-div-left, add-mul-mod-self-left, div-eq-of-lt, mod-eq-of-lt}
+use mathlib.Core.Path.{_≡_, refl, sym, _∙_, ap, ap₂, subst, subst⁻¹}
+use mathlib.Core.Bool.{Bool, true, false, _&&_, not}
+use mathlib.Core.List.{List, _∷_, _++_}
+use mathlib.Core.Logic.{_⊎_, inl, inr}
+use native.Mathlib.Numerals.{one-add}
+use native.Mathlib.Omega.{arith}
+use lib.Dec.{eqb}
+use lib.Arith.{digits-lt, digits-div, digits-mod}
+use lib.ListN.{length, getD, length-append, List·getD-append}
+use lib.Seq.{getD-append-add}
+use borrow.Author.Tests.{ne-eqb}
+use Rattle.finite.specs.Bounded.{any, least}
+use Rattle.finite.specs.Tabulate.{tabulate}
+use Rattle.finite.proofs.Truth.{decide, clash, false-of, and-left, and-right}
+use Rattle.finite.proofs.Bounded.{least-found, least-member}
+use Rattle.finite.proofs.Tabulate.{length-tabulate, getD-tabulate}
+use Rattle.graphs.specs.Graph.{edge, begins}
+use Rattle.graphs.proofs.Graph.{edge-to, begins-below}
+use Rattle.arena.specs.Arena.{Separated}
+use Rattle.arena.specs.Table.{Answer, none, gives, ControllerTable, EnvironmentTable}
+use Rattle.theory.specs.Region.{answers, region, opens}
+use Rattle.theory.specs.Choice.{controllerRow, controllerStart, environmentRow, environmentStart, refused}
+use Rattle.theory.specs.Entries.{
+  entry,
+  answer,
+  controllerCounters,
+  environmentCounters,
+  rowOf,
+  controllerEntries,
+  environmentEntries,
+  controllerTable,
+  environmentTable,
+}
+use Rattle.theory.proofs.ControllerRow.{Replied, replied}
+use Rattle.theory.proofs.Controller.{Follows}
+use Rattle.theory.proofs.EnvironmentRow.{Pushed, pushed}
+use Rattle.theory.proofs.Environment.{Presses}
+
+-- What acceptance gives: 64 states a graph, and counters such that no entry is none's.
+pub record Sized (S : Separated) : Type 0 where
+  pub inputs : S .input .states ≤ 64
+  pub outputs : S .output .states ≤ 64
+  pub controller : controllerCounters S ≤ 1023
+  pub environment : environmentCounters S ≤ 1023
+
+-- an answer that its entry can hold
+pub data Small : Answer → Type 0 where
+  small-none : Small none
+  small-gives : (counter state : ℕ) → counter < 1023 → state < 64 → Small (gives counter state)
+
+-- "none is 65,535", and no other entry is
+pub entry-below : (a : Answer) → Small a → (a ≡ none) ⊎ (entry a < 65535)
+unfolding entry
+entry-below none small-none = inl refl
+entry-below (gives c s) (small-gives counter state a b) = inr (omega arith)
+
+pub answer-entry : (a : Answer) → Small a → answer (entry a) ≡ a
+unfolding answer entry
+answer-entry none small-none = refl
+answer-entry (gives c s) (small-gives counter state a b) =
+    rw (ne-eqb (state + 64 * counter) 65535 (omega arith), answer)
+    (ap₂ gives
+      (add-mul-div-left state counter (omega arith) ∙ ap (λ (k : ℕ). k + counter) (div-eq-of-lt b) ∙ zero-add counter)
+      (add-mul-mod-self-left state 64 counter ∙ mod-eq-of-lt b))
+
+-- the row of rows by a, b and c, and its place
+module _ (A B C a b c : ℕ) (la : a < A) (lb : b < B) (lc : c < C) where
+  pub place-below : (a * B + b) * C + c < A * B * C
+  place-below = digits-lt (digits-lt la lb) lc
+
+  pub row-at : (f : ℕ → ℕ → ℕ → Answer) → rowOf B C f ((a * B + b) * C + c) ≡ entry (f a b c)
+  unfolding rowOf
+  row-at f =
+      rw (digits-div (a * B + b) lc, digits-mod (a * B + b) lc, digits-div a lb, digits-mod a lb)
+
+-- the controller's table
+
+module _ (S : Separated) (Z : Sized S) where
+  small-start : (i : ℕ) → Small (controllerStart S i)
+  unfolding controllerStart opens
+  small-start i = go (decide (begins (S .input) i && opens S i))
+    where
+      p : ℕ → Bool
+      p o = begins (S .output) o && region S i o
+      go : ((begins (S .input) i && opens S i) ≡ true) ⊎ ((begins (S .input) i && opens S i) ≡ false) → Small (controllerStart S i)
+      go (inl e) =
+          let f = least-found (S .output .states) p (and-right (begins (S .input) i) (any (S .output .states) p) e) in
+          rw (e, controllerStart) (small-gives 0 (least (S .output .states) p) (omega arith) (omega (arith, Z .outputs)))
+      go (inr e) = rw (e, controllerStart) small-none
+
+  small-row : (o g j : ℕ) → g < controllerCounters S → Small (controllerRow S o g j)
+  unfolding controllerRow
+  small-row o g j r = go (decide (answers S (region S) j o))
+    where
+      go : (answers S (region S) j o ≡ true) ⊎ (answers S (region S) j o ≡ false) → Small (controllerRow S o g j)
+      go (inl e) =
+          let v = replied S o g j e r in
+          subst⁻¹ Small (v .is)
+          (small-gives (v .counter) (v .state) (omega (arith, v .range, Z .controller)) (omega (arith, edge-to (S .output) o (v .state) (v .move), Z .outputs)))
+      go (inr e) = rw (e, controllerRow) small-none
+
+  starts-length : length (tabulate (S .input .states) (λ i. entry (controllerStart S i))) ≡ S .input .states
+  starts-length = length-tabulate (λ i. entry (controllerStart S i)) (S .input .states)
+
+  pub controller-start : (i : ℕ) → i < S .input .states
+      → controllerTable (S .input .states) (controllerCounters S) (controllerEntries S) .start i ≡ controllerStart S i
+  unfolding controllerTable controllerEntries
+  controller-start i b =
+      ap answer
+      (List·getD-append (tabulate (S .input .states) (λ k. entry (controllerStart S k)))
+        (tabulate (S .output .states * controllerCounters S * S .input .states) (rowOf (controllerCounters S) (S .input .states) (controllerRow S))) 65535 i
+        (rw starts-length b)
+        ∙ getD-tabulate (λ k. entry (controllerStart S k)) (S .input .states) i 65535 b)
+      ∙ answer-entry (controllerStart S i) (small-start i)
+
+  pub controller-step : (g o j : ℕ) → g < controllerCounters S → o < S .output .states → j < S .input .states
+      → controllerTable (S .input .states) (controllerCounters S) (controllerEntries S) .step g o j ≡ controllerRow S o g j
+  unfolding controllerTable controllerEntries
+  controller-step g o j lg lo lj =
+      ap answer
+      (ap (λ (k : ℕ). getD (starts ++ rows) (k + r) 65535) (sym starts-length)
+        ∙ getD-append-add starts rows r 65535
+        ∙ getD-tabulate f (S .output .states * controllerCounters S * S .input .states) r 65535 (place-below (S .output .states) (controllerCounters S) (S .input .states) o g j lo lg lj)
+        ∙ row-at (S .output .states) (controllerCounters S) (S .input .states) o g j lo lg lj (controllerRow S))
+      ∙ answer-entry (controllerRow S o g j) (small-row o g j lg)
+    where
+      f : ℕ → ℕ
+      f = rowOf (controllerCounters S) (S .input .states) (controllerRow S)
+      starts : List ℕ
+      starts = tabulate (S .input .states) (λ i. entry (controllerStart S i))
+      rows : List ℕ
+      rows = tabulate (S .output .states * controllerCounters S * S .input .states) f
+      r : ℕ
+      r = (o * controllerCounters S + g) * S .input .states + j
+
+  pub read-follows : Follows S (controllerTable (S .input .states) (controllerCounters S) (controllerEntries S))
+  unfolding controllerTable
+  read-follows = record { counters = refl; rows = λ g o j lg lo lj a. controller-step g o j lg lo lj }
+
+  -- the environment's table
+
+  small-refused : Small (environmentStart S)
+  unfolding environmentStart
+  small-refused = go (decide (any (S .input .states) (refused S)))
+    where
+      go : (any (S .input .states) (refused S) ≡ true) ⊎ (any (S .input .states) (refused S) ≡ false) → Small (environmentStart S)
+      go (inl e) =
+          let f = least-found (S .input .states) (refused S) e in
+          rw (e, environmentStart) (small-gives 0 (least (S .input .states) (refused S)) (omega arith) (omega (arith, Z .inputs)))
+      go (inr e) = rw (e, environmentStart) small-none
+
+  small-push : (i h o : ℕ) → h < environmentCounters S → i < S .input .states → o < S .output .states → Small (environmentRow S i h o)
+  unfolding environmentRow
+  small-push i h o r b c = go (decide (region S i o))
+    where
+      go : (region S i o ≡ true) ⊎ (region S i o ≡ false) → Small (environmentRow S i h o)
+      go (inl e) = rw (e, environmentRow) small-none
+      go (inr e) =
+          let v = pushed S i h o b c e r in
+          subst⁻¹ Small (v .is)
+          (small-gives (v .counter) (v .state) (omega (arith, v .range, Z .environment)) (omega (arith, edge-to (S .input) i (v .state) (v .move), Z .inputs)))
+
+  pub environment-start : environmentTable (S .output .states) (environmentCounters S) (environmentEntries S) .start ≡ environmentStart S
+  unfolding environmentTable environmentEntries
+  environment-start = answer-entry (environmentStart S) small-refused
+
+  pub environment-step : (h i o : ℕ) → h < environmentCounters S → i < S .input .states → o < S .output .states
+      → environmentTable (S .output .states) (environmentCounters S) (environmentEntries S) .step h i o ≡ environmentRow S i h o
+  unfolding environmentTable environmentEntries
+  environment-step h i o lh li lo =
+      ap answer
+      (ap (λ (k : ℕ). getD (entry (environmentStart S) ∷ rows) k 65535) (one-add r)
+        ∙ getD-tabulate f (S .input .states * environmentCounters S * S .output .states) r 65535 (place-below (S .input .states) (environmentCounters S) (S .output .states) i h o li lh lo)
+        ∙ row-at (S .input .states) (environmentCounters S) (S .output .states) i h o li lh lo (environmentRow S))
+      ∙ answer-entry (environmentRow S i h o) (small-push i h o lh li lo)
+    where
+      f : ℕ → ℕ
+      f = rowOf (environmentCounters S) (S .output .states) (environmentRow S)
+      rows : List ℕ
+      rows = tabulate (S .input .states * environmentCounters S * S .output .states) f
+      r : ℕ
+      r = (i * environmentCounters S + h) * S .output .states + o
+
+  pub read-presses : Presses S (environmentTable (S .output .states) (environmentCounters S) (environmentEntries S))
+  unfolding environmentTable
+  read-presses = record { counters = refl; rows = λ h i o lh li lo n. environment-step h i o lh li lo }
