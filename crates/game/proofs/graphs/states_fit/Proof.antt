@@ -29,7 +29,11 @@ row-fits-requires : tie.Need-row-fits-requires Inv-loop μ-loop
 row-fits-requires c κs = omega arith
 
 returns-2 : tie.Need-returns-2 Inv-loop μ-loop
-returns-2 c = states-row _ _ (passed (c .before .before .before .before .before .within .ensures) (c .before .before .before .before .if1 .left)) (c .before .before .loop-test .taken) (failed (c .before .row-fits .ensures) (c .if2 .taken))
+returns-2 c =
+    states-row _ _
+    (passed (c .before .before .before .before .before .within .ensures) (c .before .before .before .before .if1 .left))
+    (c .before .before .loop-test .taken)
+    (failed (c .before .row-fits .ensures) (c .if2 .taken))
 
 add-s : tie.Need-add-s Inv-loop μ-loop
 add-s c = omega arith
@@ -41,7 +45,12 @@ loop-again : tie.Need-loop-again Inv-loop μ-loop
 loop-again c = (omega arith, all-turn _ _ (c .before .before .before .loop .inv .1) (passed (c .before .row-fits .ensures) (c .if2 .left)))
 
 returns-3 : tie.Need-returns-3 Inv-loop μ-loop
-returns-3 c = states-end _ _ (passed (c .before .before .before .within .ensures) (c .before .before .if1 .left)) (c .before .loop .inv .0) (c .loop-test .left) (c .before .loop .inv .1)
+returns-3 c =
+    states-end _ _
+    (passed (c .before .before .before .within .ensures) (c .before .before .if1 .left))
+    (c .before .loop .inv .0)
+    (c .loop-test .left)
+    (c .before .loop .inv .1)
 
 pub states-fit-spec : {M : Type 1} → statement M
 states-fit-spec =

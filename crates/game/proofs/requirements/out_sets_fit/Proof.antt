@@ -22,7 +22,10 @@ out-set-fits-requires : tie.Need-out-set-fits-requires Inv-loop μ-loop
 out-set-fits-requires c κs = omega arith
 
 returns : tie.Need-returns Inv-loop μ-loop
-returns c = all-stop _ _ _ (c .before .before .loop-test .taken) (failed (c .before .out-set-fits .ensures) (c .if1 .taken))
+returns c =
+    all-stop _ _ _
+    (c .before .before .loop-test .taken)
+    (failed (c .before .out-set-fits .ensures) (c .if1 .taken))
 
 add-j : tie.Need-add-j Inv-loop μ-loop
 add-j c = omega arith

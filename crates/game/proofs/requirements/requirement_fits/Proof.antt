@@ -14,13 +14,20 @@ in-sets-fit-requires : tie.Need-in-sets-fit-requires
 in-sets-fit-requires c κs = search needs
 
 returns-2 : tie.Need-returns-2
-returns-2 c = fits-in _ _ _ (passed (c .before .before .before .before .in-use .ensures) (c .before .before .before .if1 .left)) (failed (c .before .in-sets-fit .ensures) (c .if2 .taken))
+returns-2 c =
+    fits-in _ _ _
+    (passed (c .before .before .before .before .in-use .ensures) (c .before .before .before .if1 .left))
+    (failed (c .before .in-sets-fit .ensures) (c .if2 .taken))
 
 out-sets-fit-requires : tie.Need-out-sets-fit-requires
 out-sets-fit-requires c κs = search needs
 
 returns-3 : tie.Need-returns-3
-returns-3 c = fits-out _ _ _ _ (passed (c .before .before .before .before .before .before .in-use .ensures) (c .before .before .before .before .before .if1 .left)) (passed (c .before .before .before .in-sets-fit .ensures) (c .before .before .if2 .left)) (c .out-sets-fit .ensures)
+returns-3 c =
+    fits-out _ _ _ _
+    (passed (c .before .before .before .before .before .before .in-use .ensures) (c .before .before .before .before .before .if1 .left))
+    (passed (c .before .before .before .in-sets-fit .ensures) (c .before .before .if2 .left))
+    (c .out-sets-fit .ensures)
 
 pub requirement-fits-spec : {M : Type 1} → statement M
 requirement-fits-spec =

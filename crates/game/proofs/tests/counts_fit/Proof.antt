@@ -14,7 +14,10 @@ count-fits-requires-2 : tie.Need-count-fits-requires-2
 count-fits-requires-2 c κs = search needs
 
 returns-2 : tie.Need-returns-2
-returns-2 c = counts-next _ _ (passed (c .before .before .count-fits .ensures) (c .before .if1 .left)) (c .count-fits2 .ensures)
+returns-2 c =
+    counts-next _ _
+    (passed (c .before .before .count-fits .ensures) (c .before .if1 .left))
+    (c .count-fits2 .ensures)
 
 pub counts-fit-spec : {M : Type 1} → statement M
 counts-fit-spec = tie.close (tie.spec count-fits-requires returns count-fits-requires-2 returns-2)

@@ -14,7 +14,10 @@ has-initial-requires-2 : tie.Need-has-initial-requires-2
 has-initial-requires-2 c κs = search needs
 
 returns-2 : tie.Need-returns-2
-returns-2 c = initials-next _ _ (passed (c .before .before .has-initial .ensures) (c .before .if1 .left)) (c .has-initial2 .ensures)
+returns-2 c =
+    initials-next _ _
+    (passed (c .before .before .has-initial .ensures) (c .before .if1 .left))
+    (c .has-initial2 .ensures)
 
 pub initials-exist-spec : {M : Type 1} → statement M
 initials-exist-spec =

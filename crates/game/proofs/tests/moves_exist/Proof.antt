@@ -14,7 +14,10 @@ all-move-requires-2 : tie.Need-all-move-requires-2
 all-move-requires-2 c κs = search needs
 
 returns-2 : tie.Need-returns-2
-returns-2 c = exist-next _ _ (passed (c .before .before .all-move .ensures) (c .before .if1 .left)) (c .all-move2 .ensures)
+returns-2 c =
+    exist-next _ _
+    (passed (c .before .before .all-move .ensures) (c .before .if1 .left))
+    (c .all-move2 .ensures)
 
 pub moves-exist-spec : {M : Type 1} → statement M
 moves-exist-spec = tie.close (tie.spec all-move-requires returns all-move-requires-2 returns-2)

@@ -14,7 +14,10 @@ states-fit-requires-2 : tie.Need-states-fit-requires-2
 states-fit-requires-2 c κs = search needs
 
 returns-2 : tie.Need-returns-2
-returns-2 c = states-next _ _ (passed (c .before .before .states-fit .ensures) (c .before .if1 .left)) (c .states-fit2 .ensures)
+returns-2 c =
+    states-next _ _
+    (passed (c .before .before .states-fit .ensures) (c .before .if1 .left))
+    (c .states-fit2 .ensures)
 
 pub states-in-count-spec : {M : Type 1} → statement M
 states-in-count-spec =

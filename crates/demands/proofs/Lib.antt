@@ -1,0 +1,3 @@
+-- Demands 2 and 3 of every accepted game.
+pub mod Sizes
+pub mod Demands

@@ -1,0 +1,2 @@
+-- What is demanded of an accepted game.
+pub mod Demands
