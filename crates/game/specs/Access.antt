@@ -1,5 +1,7 @@
 -- The parts of a game, by number. A place past the end of a list reads as empty.
 --
+--   noInput, noOutput  == the empty set of each sort
+--   noRequirement      == a requirement with no sets
 --   requirementAt g r  == requirement number r
 --   assumptionAt g r j == input set number j of requirement r ("input sets" of document 01)
 --   guaranteeAt g r j  == output set number j of requirement r

@@ -3,7 +3,8 @@
 --   near-some        : a walk along r from s to a member of p is a way of some length
 --   toward-move      : where some move of s has a way, `toward` is a move of s
 --   toward-falls     : and it lands in p, or leaves a shorter way
---   approach-below   : the shortest way has fewer moves than there are states
+--   approach-below   : from the best move on it has fewer moves than there are states
+--   approach-short   : and from outside p one fewer
 use Prim.Native.Nat.{ℕ, zero, suc, _+_, _≤_, _<_}
 use mathlib.Core.Path.{_≡_, refl, sym, _∙_, ap}
 use mathlib.Core.Bool.{Bool, true, false, _&&_, _||_}
@@ -170,3 +171,21 @@ module _ (n : ℕ) (r : ℕ → ℕ → Bool) (p : ℕ → Bool) where
 
   pub toward-falls : (s : ℕ) → Leads s → (p (toward n r p s) ≡ true) ⊎ (Leads (toward n r p s) × (approach n r p (toward n r p s) < approach n r p s))
   toward-falls s w = falls s (toward n r p s) (approach n r p s) refl (toward-move s w) (toward-near s w)
+
+  -- From outside p the shortest way has fewer moves than there are states: one more than `approach`, and the states on it are all different.
+  outside-near : (s : ℕ) → p s ≡ false → (j : ℕ) → j ≤ approach n r p s → near n r p j s ≡ false
+  outside-near s f zero b = false-of (near n r p zero s) (λ h. clash (near-zero s h) f)
+  outside-near s f (suc j) b = go (outside-near s f j (omega arith))
+    where
+      go : near n r p j s ≡ false → near n r p (suc j) s ≡ false
+      go e =
+          false-of (near n r p (suc j) s)
+          (λ h. elim (near-cases j s h) [
+            inl a ↦ clash a e
+          | inr v ↦ absurd (omega (arith, approach-best s (v .0) j (v .2) (v .3)))
+          ])
+
+  pub approach-short : (s : ℕ) → s < n → p s ≡ false → Leads s → suc (approach n r p s) < n
+  approach-short s b f w =
+      let h = near-step (approach n r p s) s (toward n r p s) b (toward-move s w) (toward-near s w) in
+      omega (arith, grows (suc (approach n r p s)) s h (λ j c. outside-near s f j (omega arith)), count-le n (near n r p (suc (approach n r p s))))

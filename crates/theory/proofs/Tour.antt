@@ -292,3 +292,11 @@ module _ (G : Graph) (c : ℕ) (l : List (ℕ → Bool)) where
           inl h ↦ let v = hasGoal-elim h in toured-goal (v .0) (v .1) (v .2) h
         | inr h ↦ toured-none h
         ]
+
+  -- at most sets × states
+  pub toGo-most : (q s g : ℕ) → q < length l → meetsAt G c (goalAt l q) ≡ true → g < length l → joined G c s ≡ true → nontrivial G s ≡ true
+      → toGo q s g ≤ length l * G .states
+  unfolding toGo
+  toGo-most q s g b m d a n =
+      omega (arith, mul-le-mul-right (G .states) (distance-below (length l) g q d b), suc-mul (distance (length l) g q) (G .states),
+        approach-below (G .states) (inside G c) (target G c l (goal G c l g)) s (aim-leads (goal G c l g) s a n (goal-meets q g b m d)))

@@ -1,0 +1,3 @@
+-- The cases of document 01, "Drives to try", that are to be proved.
+pub mod Print
+pub mod Cases
