@@ -1,19 +1,19 @@
 -- An accepted game is small enough for the entries.
-use Prim.Native.Nat.{ℕ, zero, suc, _+_, _*_, _≤_, _<_, max, min}
-use native.Mathlib.Nat.{min-le-left, max-le}
-use mathlib.Core.Path.{_≡_, refl, sym, _∙_, ap}
+use Prim.Native.Nat.{ℕ, zero, suc, _+_, _*_, _≤_, _<_, max}
+use native.Mathlib.Nat.{max-le, add-zero, zero-add}
+use mathlib.Core.Path.{_≡_, refl, sym, subst}
 use mathlib.Core.Bool.{Bool}
-use mathlib.Core.List.{List, [], _∷_, _++_, map}
+use mathlib.Core.List.{List}
 use native.Mathlib.Omega.{arith}
-use lib.ListN.{length, getD, take, length-append, length-take, length-map}
+use lib.ListN.{length, getD, length-append}
+use Rattle.finite.specs.Tabulate.{tabulate, tabulateFrom}
+use Rattle.finite.proofs.Tabulate.{length-tabulate}
 use Rattle.sets.specs.Member.{has}
 use Rattle.arena.specs.Arena.{Requirement}
 use Rattle.game.specs.declared.Game.{Game}
-use Rattle.game.specs.declared.InSet.{InSet}
-use Rattle.game.specs.declared.OutSet.{OutSet}
 use Rattle.game.specs.declared.Requirement.{Requirement as RequirementRecord}
 use Rattle.game.specs.declared.Acceptance.the-variants.{Accepted}
-use Rattle.game.specs.Access.{noRequirement, requirementAt}
+use Rattle.game.specs.Access.{noInput, noOutput, requirementAt}
 use Rattle.game.specs.Acceptance.{acceptance}
 use Rattle.game.proofs.Laws.{Fits, accepted-fits}
 use Rattle.play.specs.Play.{graphOf, requirementOf, requirementsOf, separatedOf}
@@ -21,36 +21,40 @@ use Rattle.theory.specs.Choice.{setsOf, guarantees, assumptions}
 use Rattle.theory.specs.Entries.{controllerCounters, environmentCounters}
 use Rattle.theory.proofs.Entries.{Sized}
 
--- what the first k requirements have, all of them have
-sets-few : (f : Requirement → List (ℕ → Bool)) (k : ℕ) (l : List RequirementRecord)
-    → ((r : ℕ) → r < k → length (f (requirementOf (getD l r noRequirement))) ≤ 4) → length (setsOf f (map requirementOf (take k l))) ≤ 4 * k
-unfolding setsOf
-sets-few f zero l h = omega arith
-sets-few f (suc k) [] h = omega arith
-sets-few f (suc k) (q ∷ l) h =
-    omega (arith, length-append (f (requirementOf q)) (setsOf f (map requirementOf (take k l))), h 0 (omega arith), sets-few f k l (λ r b. h (suc r) (omega arith)))
+-- few sets in each of k requirements are few in all
+sets-few : (f : Requirement → List (ℕ → Bool)) (h : ℕ → Requirement) (s k : ℕ)
+    → ((r : ℕ) → r < k → length (f (h (s + r))) ≤ 4) → length (setsOf f (tabulateFrom s k h)) ≤ 4 * k
+unfolding setsOf tabulateFrom
+sets-few f h s zero e = omega arith
+sets-few f h s (suc k) e =
+    omega (arith, length-append (f (h s)) (setsOf f (tabulateFrom (suc s) k h)),
+      subst (λ (n : ℕ). length (f (h n)) ≤ 4) (add-zero s) (e 0 (omega arith)),
+      sets-few f h (suc s) k (λ r b. subst (λ (n : ℕ). length (f (h n)) ≤ 4) (omega arith) (e (suc r) (omega arith))))
+
+sets-at-most : (f : Requirement → List (ℕ → Bool)) (h : ℕ → Requirement) (k : ℕ)
+    → ((r : ℕ) → r < k → length (f (h r)) ≤ 4) → length (setsOf f (tabulate k h)) ≤ 4 * k
+unfolding tabulate
+sets-at-most f h k e = sets-few f h 0 k (λ r b. subst (λ (n : ℕ). length (f (h n)) ≤ 4) (sym (zero-add r)) (e r b))
 
 few-guarantees : (q : RequirementRecord) → q .guaranteed ≤ 4 → length (requirementOf q .guarantees) ≤ 4
 unfolding requirementOf
-few-guarantees q h =
-    omega (arith, length-map (take (q .guaranteed) (q .guarantees)) (λ (s : OutSet). has (s .0)), length-take (q .guaranteed) (q .guarantees), min-le-left (q .guaranteed) (length (q .guarantees)))
+few-guarantees q h = omega (arith, length-tabulate (λ j. has (getD (q .guarantees) j noOutput .0)) (q .guaranteed))
 
 few-assumptions : (q : RequirementRecord) → q .assumed ≤ 4 → length (requirementOf q .assumptions) ≤ 4
 unfolding requirementOf
-few-assumptions q h =
-    omega (arith, length-map (take (q .assumed) (q .assumptions)) (λ (s : InSet). has (s .0)), length-take (q .assumed) (q .assumptions), min-le-left (q .assumed) (length (q .assumptions)))
+few-assumptions q h = omega (arith, length-tabulate (λ j. has (getD (q .assumptions) j noInput .0)) (q .assumed))
 
 module _ (g : Game) (F : Fits g) where
   pub guarantees-few : length (guarantees (separatedOf g)) ≤ 32
   unfolding guarantees separatedOf requirementsOf
   guarantees-few =
-      omega (arith, F .few, sets-few (λ (q : Requirement). q .guarantees) (g .k) (g .requirements)
+      omega (arith, F .few, sets-at-most (λ (q : Requirement). q .guarantees) (λ r. requirementOf (requirementAt g r)) (g .k)
         (λ r b. few-guarantees (requirementAt g r) (F .requirement r (omega (arith, F .few)) .few-guaranteed)))
 
   pub assumptions-few : length (assumptions (separatedOf g)) ≤ 32
   unfolding assumptions separatedOf requirementsOf
   assumptions-few =
-      omega (arith, F .few, sets-few (λ (q : Requirement). q .assumptions) (g .k) (g .requirements)
+      omega (arith, F .few, sets-at-most (λ (q : Requirement). q .assumptions) (λ r. requirementOf (requirementAt g r)) (g .k)
         (λ r b. few-assumptions (requirementAt g r) (F .requirement r (omega (arith, F .few)) .few-assumed)))
 
   pub controller-few : controllerCounters (separatedOf g) ≤ 32

@@ -6,28 +6,28 @@
 --   separatedOf g      == the two graphs and the requirements
 use Prim.Native.Nat.{ℕ}
 use mathlib.Core.Bool.{Bool}
-use mathlib.Core.List.{List, map}
-use lib.ListN.{getD, take}
+use mathlib.Core.List.{List}
+use lib.ListN.{getD}
+use Rattle.finite.specs.Tabulate.{tabulate}
 use Rattle.sets.specs.Member.{has}
 use Rattle.graphs.specs.Graph.{Graph}
 use Rattle.arena.specs.Arena.{Requirement, Separated}
-use Rattle.game.specs.declared.InSet.{InSet}
-use Rattle.game.specs.declared.OutSet.{OutSet}
 use Rattle.game.specs.declared.Graph.{Graph as GraphRecord}
 use Rattle.game.specs.declared.Requirement.{Requirement as RequirementRecord}
 use Rattle.game.specs.declared.Game.{Game}
+use Rattle.game.specs.Access.{noInput, noOutput, requirementAt}
 
 unfoldable pub graphOf : GraphRecord → Graph
 graphOf g = record { states = g .states; initial = has (g .initial); moves = λ s. has (getD (g .moves) s 0) }
 
 unfoldable pub requirementOf : RequirementRecord → Requirement
 requirementOf q = record {
-  assumptions = map (λ (s : InSet). has (s .0)) (take (q .assumed) (q .assumptions));
-  guarantees = map (λ (s : OutSet). has (s .0)) (take (q .guaranteed) (q .guarantees))
+  assumptions = tabulate (q .assumed) (λ j. has (getD (q .assumptions) j noInput .0));
+  guarantees = tabulate (q .guaranteed) (λ j. has (getD (q .guarantees) j noOutput .0))
 }
 
 unfoldable pub requirementsOf : Game → List Requirement
-requirementsOf g = map requirementOf (take (g .k) (g .requirements))
+requirementsOf g = tabulate (g .k) (λ r. requirementOf (requirementAt g r))
 
 -- "The input graph (old drive) and the output graph (new drive)"; "There are k requirements, 0 to 8."
 unfoldable pub separatedOf : Game → Separated
