@@ -1,0 +1,68 @@
+-- `joined` takes in the rows of the members, one state after the other.
+use Prim.Native.Nat.{_≤_, _-_}
+use mathlib.Core.Path.{_≡_, sym, _∙_}
+use mathlib.Core.Logic.{⊎-elim}
+use native.Mathlib.Omega.{arith}
+use borrow.Author.Needs.{needs}
+use Rattle.closure.specs.Sweep.{grown}
+use Rattle.closure.proofs.Growth.{grown-start, grown-member, grown-other}
+use Rattle.closure.proofs.joined.Statement.{statement}
+use Rattle.closure.proofs.joined.Tie as tie
+
+abbrev Inv-loop : tie.InvT-loop
+Inv-loop rows n x y₀ t₀ y t = (t ≤ n) × (y ≡ grown rows t x)
+
+abbrev μ-loop : tie.MeasureT-loop
+μ-loop rows n x y₀ t₀ y t = n - t
+
+loop-holds : tie.Need-loop-holds Inv-loop μ-loop
+loop-holds c = (omega arith, grown-start _ _)
+
+member-requires : tie.Need-member-requires Inv-loop μ-loop
+member-requires c κs = omega arith
+
+mul-union : tie.Need-mul-union Inv-loop μ-loop
+mul-union c = omega arith
+
+shared-slice-read-union : tie.Need-shared-slice-read-union Inv-loop μ-loop
+shared-slice-read-union c = omega arith
+
+union-requires : tie.Need-union-requires Inv-loop μ-loop
+union-requires c κs = search needs
+
+add-t : tie.Need-add-t Inv-loop μ-loop
+add-t c = omega arith
+
+loop-less : tie.Need-loop-less Inv-loop μ-loop
+loop-less c = omega arith
+
+loop-again : tie.Need-loop-again Inv-loop μ-loop
+loop-again c =
+    let b = c .before .before .before in (
+      omega arith,
+      ⊎-elim
+          (λ w. w .3 ∙ grown-member _ _ (b .loop .t) (b .loop .inv .1) (sym (c .before .member .ensures) ∙ w .0 .taken) (w .2 .ensures))
+          (λ w. w .1 ∙ grown-other _ _ (b .loop .t) (b .loop .inv .1) (sym (c .before .member .ensures) ∙ w .0 .left))
+          (c .if1 .came),
+    )
+
+returns : tie.Need-returns Inv-loop μ-loop
+returns c =
+    let e : c .before .loop .t ≡ c .before .before .before .args .n = omega arith in
+    rw e at (c .before .loop .inv .1)
+
+pub joined-spec : {M : Type 1} → statement M
+joined-spec =
+    tie.close
+    (tie.spec
+    Inv-loop
+    μ-loop
+    loop-holds
+    member-requires
+    mul-union
+    shared-slice-read-union
+    union-requires
+    add-t
+    loop-less
+    loop-again
+    returns)

@@ -1,0 +1,67 @@
+// The reach of every state of a graph, by sweeps over all states.
+use game::Graph;
+ghost use mathlib.Core.Path.{_≡_};
+ghost use Prim.Native.Nat.{_≤_};
+ghost use lib.ListN.{length};
+ghost use Rattle.closure.specs.Sweep.{grown, firstRows, Swept, Closed};
+
+// Row s becomes s and its moves. A move past the count is none.
+fn start(h: Graph, rows: &mut [u64])
+    requires { ⌜ (h .states ≤ 64) × (h .states ≤ length (now rows)) ⌝ }
+    ensures { λ r. ⌜ now (rows .exit) ≡ firstRows h (now (rows .entry)) ⌝ }
+{
+    let states = sets::below(h.states);
+    let mut s = 0;
+    while s < h.states {
+        rows[s] = sets::insert(sets::intersection(h.moves[s], states), s);
+        s += 1;
+    }
+}
+
+// The set x with the rows of its members below n, those that join on the way included.
+fn joined(rows: &[u64], n: usize, x: u64) -> u64
+    requires { ⌜ (n ≤ 64) × (n ≤ length (now rows)) ⌝ }
+    ensures { λ r. ⌜ r ≡ grown (now (rows .entry)) n x ⌝ }
+{
+    let mut y = x;
+    let mut t = 0;
+    while t < n {
+        if sets::member(y, t) {
+            y = sets::union(y, rows[t]);
+        }
+        t += 1;
+    }
+    y
+}
+
+// One sweep over the states below n, in place. Whether it added a state to a row.
+fn sweep(rows: &mut [u64], n: usize) -> bool
+    requires { ⌜ (n ≤ 64) × (n ≤ length (now rows)) ⌝ }
+    ensures { λ r. ⌜ Swept n (now (rows .entry)) n (now (rows .exit)) r ⌝ }
+{
+    let mut added = false;
+    let mut s = 0;
+    while s < n {
+        let old = rows[s];
+        let new = joined(rows, n, old);
+        if new != old {
+            rows[s] = new;
+            added = true;
+        }
+        s += 1;
+    }
+    added
+}
+
+// Row s becomes the set of the states that s reaches; later words stay. Sweeps end at the first that adds no state; their number is the answer.
+pub fn close(h: Graph, rows: &mut [u64]) -> usize
+    requires { ⌜ (h .states ≤ 64) × (h .states ≤ length (now rows)) ⌝ }
+    ensures { λ r. ⌜ Closed h (now (rows .entry)) (now (rows .exit)) r ⌝ }
+{
+    start(h, rows);
+    let mut sweeps = 1;
+    while sweep(rows, h.states) {
+        sweeps += 1;
+    }
+    sweeps
+}

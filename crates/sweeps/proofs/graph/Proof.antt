@@ -1,0 +1,50 @@
+-- `graph` writes the rows below the count.
+use Prim.Native.Nat.{_≤_, _-_}
+use native.Mathlib.Omega.{arith}
+use Rattle.sweeps.proofs.graph.Statement.{statement}
+use Rattle.sweeps.proofs.graph.Tie as tie
+
+abbrev Inv-loop : tie.InvT-loop
+Inv-loop shape n moves₀ s₀ moves s = s ≤ n
+
+abbrev μ-loop : tie.MeasureT-loop
+μ-loop shape n moves₀ s₀ moves s = n - s
+
+loop-holds : tie.Need-loop-holds Inv-loop μ-loop
+loop-holds c = omega arith
+
+row-requires : tie.Need-row-requires Inv-loop μ-loop
+row-requires c κs = omega arith
+
+mul-moves : tie.Need-mul-moves Inv-loop μ-loop
+mul-moves c = omega arith
+
+array-write-moves : tie.Need-array-write-moves Inv-loop μ-loop
+array-write-moves c = omega arith
+
+add-s : tie.Need-add-s Inv-loop μ-loop
+add-s c = omega arith
+
+loop-less : tie.Need-loop-less Inv-loop μ-loop
+loop-less c = omega arith
+
+loop-again : tie.Need-loop-again Inv-loop μ-loop
+loop-again c = omega arith
+
+returns : tie.Need-returns Inv-loop μ-loop
+returns c = omega arith
+
+pub graph-spec : {M : Type 1} → statement M
+graph-spec =
+    tie.close
+    (tie.spec
+    Inv-loop
+    μ-loop
+    loop-holds
+    row-requires
+    mul-moves
+    array-write-moves
+    add-s
+    loop-less
+    loop-again
+    returns)

@@ -1,0 +1,87 @@
+// Prints how many sweeps the closure of some graphs takes.
+use game::Graph;
+use libc::STDOUT_FILENO;
+ghost use mathlib.Core.Path.{_≡_};
+ghost use Prim.Native.Nat.{_≤_, _<_};
+
+enum Shape {
+    // Each state moves to itself.
+    Loops,
+    // Each state moves to the next, the last to itself.
+    Chain,
+    // Each state moves to the one before, the first to itself.
+    FallingChain,
+    // Each state moves to the next, the last to the first.
+    Cycle,
+    // State s moves to s + 27, going round at 64.
+    Strides,
+    // A cycle of the first 32 states, a cycle of the others, and a move from the one to the other.
+    TwoCycles,
+    // Each state moves to all of 64.
+    Full,
+}
+
+// Row s of a graph of n states.
+fn row(shape: Shape, n: usize, s: usize) -> u64
+    requires { ⌜ (s < n) × (n ≤ 64) ⌝ }
+{
+    match shape {
+        Shape::Loops => 1u64 << s,
+        Shape::Chain => if s + 1 < n {
+            1u64 << (s + 1)
+        } else {
+            1u64 << s
+        },
+        Shape::FallingChain => if s > 0 { 1u64 << (s - 1) } else { 1 },
+        Shape::Cycle => if s + 1 < n { 1u64 << (s + 1) } else { 1 },
+        Shape::Strides => 1u64 << ((s + 27) % 64),
+        Shape::TwoCycles => if s == 31 {
+            0x1_0000_0001
+        } else if s == 63 {
+            0x1_0000_0000
+        } else {
+            1u64 << ((s + 1) % 64)
+        },
+        Shape::Full => 0xffff_ffff_ffff_ffff,
+    }
+}
+
+fn graph(shape: Shape, n: usize) -> Graph
+    requires { ⌜ n ≤ 64 ⌝ }
+    ensures { λ r. ⌜ r .states ≡ n ⌝ }
+{
+    let mut moves = [0u64; 64];
+    let mut s = 0;
+    while s < n {
+        moves[s] = row(shape, n, s);
+        s += 1;
+    }
+    Graph {
+        states: n,
+        initial: 1,
+        moves,
+    }
+}
+
+// A line: the name and the count of sweeps.
+fn report(name: &[u8], shape: Shape, n: usize)
+    requires { ⌜ n ≤ 64 ⌝ }
+{
+    let mut rows = [0u64; 64];
+    let sweeps = closure::close(graph(shape, n), &mut rows);
+    io::write_all(STDOUT_FILENO, name);
+    io::print_decimal(STDOUT_FILENO, sweeps as u64);
+    io::write_all(STDOUT_FILENO, b"\n");
+}
+
+fn main() {
+    report(b"one state, to itself: ", Shape::Loops, 1);
+    report(b"two states, each to itself: ", Shape::Loops, 2);
+    report(b"64 states, each to itself: ", Shape::Loops, 64);
+    report(b"a chain of 64: ", Shape::Chain, 64);
+    report(b"a falling chain of 64: ", Shape::FallingChain, 64);
+    report(b"a cycle of 64: ", Shape::Cycle, 64);
+    report(b"a cycle of 64 in strides: ", Shape::Strides, 64);
+    report(b"two cycles of 32, joined: ", Shape::TwoCycles, 64);
+    report(b"64 states, each to all: ", Shape::Full, 64);
+}
