@@ -1,3 +1,4 @@
 -- Laws of sets: Membership of `has` and of what makes a set, Compare of the tests and counts.
 pub mod Membership
 pub mod Compare
+pub mod Collect

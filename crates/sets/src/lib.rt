@@ -95,3 +95,24 @@ pub fn below(n: usize) -> u64
     }
     (1u64 << n) - 1
 }
+
+// x, with state s where the test holds.
+pub fn insert_if(x: u64, s: usize, ok: bool) -> u64
+    requires { ⌜ s < 64 ⌝ }
+    ensures { λ r. ⌜ ((t : ℕ) → has r t ≡ (has x t || (ok && eqb t s))) ⌝ }
+{
+    if ok {
+        return insert(x, s);
+    }
+    x
+}
+
+// x, with the members of y where the test holds.
+pub fn union_if(x: u64, y: u64, ok: bool) -> u64
+    ensures { λ r. ⌜ ((s : ℕ) → has r s ≡ (has x s || (ok && has y s))) ⌝ }
+{
+    if ok {
+        return union(x, y);
+    }
+    x
+}
