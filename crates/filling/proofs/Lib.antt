@@ -1,0 +1,2 @@
+-- Laws of buffers filled in any order.
+pub mod Grows

@@ -1,0 +1,2 @@
+-- Buffers filled in any order.
+pub mod Grows
