@@ -4,3 +4,4 @@ pub mod Bounded
 pub mod Lists
 pub mod Tabulate
 pub mod Pigeonhole
+pub mod Loops

@@ -50,14 +50,14 @@ meets-packed m p q b = same-test (meets 64 (pack m p) (pack m q)) (any m (λ d. 
         (has-pack-below m q (v .0) (v .1) ∙ and-left (q (v .0)) (p (v .0)) (v .2))
 
 module _ (S : Separated) where
-  stored-nontrivial : (j : ℕ) → nontrivial (S .input) j ≡ true → storedRow S j ≡ pack (S .output .states) (homeFor S (region S) j)
+  pub stored-nontrivial : (j : ℕ) → nontrivial (S .input) j ≡ true → storedRow S j ≡ pack (S .output .states) (homeFor S (region S) j)
   unfolding storedRow storedAt
   stored-nontrivial j t = pack-ext (S .output .states) (storedAt S j) (homeFor S (region S) j) (λ o b. at o)
     where
       at : (o : ℕ) → storedAt S j o ≡ homeFor S (region S) j o
       at o = rw (t, storedAt) refl
 
-  stored-trivial : (j : ℕ) → nontrivial (S .input) j ≡ false → storedRow S j ≡ pack (S .output .states) (region S j)
+  pub stored-trivial : (j : ℕ) → nontrivial (S .input) j ≡ false → storedRow S j ≡ pack (S .output .states) (region S j)
   unfolding storedRow storedAt
   stored-trivial j t = pack-ext (S .output .states) (storedAt S j) (region S j) (λ o b. at o)
     where

@@ -96,7 +96,7 @@ module _ (S : Separated) where
 
   -- ways out depend on the output's component only
 
-  region-output : (j o o′ : ℕ) → joined (S .output) o o′ ≡ true → region S j o ≡ region S j o′
+  pub region-output : (j o o′ : ℕ) → joined (S .output) o o′ ≡ true → region S j o ≡ region S j o′
   region-output j o o′ a =
       same-test (region S j o) (region S j o′) (output-delay S j o′ o (joined-back (S .output) o o′ a))
       (output-delay S j o o′ (joined-there (S .output) o o′ a))

@@ -1,0 +1,1 @@
+// Formats of byte texts: definitions in specs/, laws in proofs/. No code.

@@ -1,0 +1,206 @@
+-- What the player answers: one law for each return.
+use Prim.Native.Nat.{ℕ, _+_, _*_, _/_, _%_, _≤_, _<_}
+use mathlib.Core.Path.{_≡_, refl, sym, _∙_, ap}
+use mathlib.Core.Bool.{Bool, true, false, _&&_}
+use mathlib.Core.List.{List}
+use native.Mathlib.Omega.{arith}
+use lib.Dec.{ltb}
+use lib.ListN.{length, getD}
+use borrow.Author.Tests.{ltb-true, lt-ltb, le-ltb, eq-eqb, ne-eqb}
+use Rattle.finite.proofs.Truth.{and-intro, and-left, and-right, and-false-left, and-false-right}
+use Rattle.sets.specs.Member.{has}
+use Rattle.graphs.specs.Graph.{edge, begins}
+use Rattle.graphs.proofs.Graph.{edge-to}
+use Rattle.arena.specs.Table.{gives}
+use Rattle.game.specs.declared.InState.{InState}
+use Rattle.game.specs.declared.OutSet.{OutSet}
+use Rattle.game.specs.declared.Game.{Game}
+use Rattle.game.specs.declared.Acceptance.{Acceptance}
+use Rattle.game.specs.declared.Acceptance.the-variants as acceptance·
+use Rattle.game.specs.Access.{outInitial, outMoves}
+use Rattle.game.specs.Acceptance.{acceptance}
+use Rattle.game.proofs.Steps.{and-stop, and-next}
+use Rattle.play.specs.Play.{graphOf, separatedOf}
+use Rattle.theory.specs.Entries.{answer, controllerCounters, controllerEntries, controllerTable}
+use Rattle.demands.specs.Demands.{controllerOf}
+use Rattle.sizes.proofs.Lengths.{controller-most}
+use Rattle.player.specs.declared.Position.{Position}
+use Rattle.player.specs.declared.Played.{Played}
+use Rattle.player.specs.declared.Played.the-variants.{At, Refused}
+use Rattle.player.specs.Rows.{rowEntry}
+use Rattle.player.specs.Player.{provided, arrives, fitting, hasPosition, begun, stepped, afterAcceptance, beginning, stepping}
+use Rattle.player.proofs.Range.{in-range, row-read}
+use Rattle.player.proofs.Moves.{inputs-most, outputs-most, initial-outputs, output-moves}
+
+-- ---- one test after the other
+
+pub held : {b : Bool} (n : ℕ) (p : Played) → b ≡ true → p ≡ provided b n p
+unfolding provided
+held n p e = rw (e, provided)
+
+pub refused : {b : Bool} (n : ℕ) (p : Played) → b ≡ false → Refused n ≡ provided b n p
+unfolding provided
+refused n p e = rw (e, provided)
+
+-- ---- an entry
+
+module _ (M : ℕ) (ok : ℕ → Bool) (i : InState) (e : ℕ) where
+  pub arrive-none : e ≡ 65535 → Refused 15 ≡ arrives M ok i (answer e)
+  unfolding arrives answer
+  arrive-none h = rw (eq-eqb e 65535 h, answer, arrives)
+
+  some : (e ≡ 65535 → ⊥) → gives (e / 64) (e % 64) ≡ answer e
+  unfolding answer
+  some h = rw (ne-eqb e 65535 h, answer)
+
+  unfoldable place : Played
+  place = At (record { input = i; output = record { 0 = e % 64 }; counter = e / 64 })
+
+  pub arrive-counter : (e ≡ 65535 → ⊥) → M ≤ e / 64 → Refused 15 ≡ arrives M ok i (answer e)
+  unfolding arrives place
+  arrive-counter h b = refused 15 place (and-false-left (ok (e % 64)) (le-ltb (e / 64) M b)) ∙ ap (arrives M ok i) (some h)
+
+  pub arrive-output : (e ≡ 65535 → ⊥) → e / 64 < M → ok (e % 64) ≡ false → Refused 15 ≡ arrives M ok i (answer e)
+  unfolding arrives place
+  arrive-output h b f = refused 15 place (and-false-right (ltb (e / 64) M) f) ∙ ap (arrives M ok i) (some h)
+
+  pub arrive-at : (e ≡ 65535 → ⊥) → e / 64 < M → ok (e % 64) ≡ true
+      → At (record { input = i; output = record { 0 = e % 64 }; counter = e / 64 }) ≡ arrives M ok i (answer e)
+  unfolding arrives place
+  arrive-at h b f = held 15 place (and-intro (lt-ltb (e / 64) M b) f) ∙ ap (arrives M ok i) (some h)
+
+-- ---- the beginning
+
+module _ (g : Game) (l : List ℕ) (n : ℕ) (e : n ≡ length (controllerEntries (separatedOf g))) where
+  pub fits : length l ≡ n → fitting g l ≡ true
+  unfolding fitting
+  fits h = eq-eqb (length l) (length (controllerEntries (separatedOf g))) (h ∙ e)
+
+  pub fits-not : (length l ≡ n → ⊥) → fitting g l ≡ false
+  unfolding fitting
+  fits-not h = ne-eqb (length l) (length (controllerEntries (separatedOf g))) (λ q. h (q ∙ sym e))
+
+module _ (g : Game) (l : List ℕ) (i : InState) where
+  -- the answer where the input is initial
+  unfoldable started : Played
+  started = arrives (controllerCounters (separatedOf g)) (begins (graphOf (g .output))) i (controllerOf g l .start (i .0))
+
+  pub begun-length : fitting g l ≡ false → Refused 16 ≡ begun g l i
+  unfolding begun started
+  begun-length h = refused 16 (provided (begins (graphOf (g .input)) (i .0)) 14 started) h
+
+  pub begun-input : fitting g l ≡ true → begins (graphOf (g .input)) (i .0) ≡ false → Refused 14 ≡ begun g l i
+  unfolding begun started
+  begun-input h b = refused 14 started b ∙ held 16 (provided (begins (graphOf (g .input)) (i .0)) 14 started) h
+
+  pub begun-at : acceptance g ≡ acceptance·.Accepted → fitting g l ≡ true → begins (graphOf (g .input)) (i .0) ≡ true
+      → (M e : ℕ) (x : OutSet) (r : Played) → M ≡ controllerCounters (separatedOf g) → e ≡ getD l (i .0) 65535 → x ≡ outInitial g
+      → r ≡ arrives M (has (x .0)) i (answer e) → r ≡ begun g l i
+  unfolding begun started controllerOf controllerTable
+  begun-at a h b M e x r m q t s =
+      s
+      ∙ ap (λ (y : OutSet). arrives M (has (y .0)) i (answer e)) t
+      ∙ ap (λ (k : ℕ). arrives k (has (g .output .initial)) i (answer e)) m
+      ∙ ap (λ (ok : ℕ → Bool). arrives (controllerCounters (separatedOf g)) ok i (answer e)) (initial-outputs g a)
+      ∙ ap (λ (k : ℕ). arrives (controllerCounters (separatedOf g)) (begins (graphOf (g .output))) i (answer k)) q
+      ∙ held 14 started b
+      ∙ held 16 (provided (begins (graphOf (g .input)) (i .0)) 14 started) h
+
+-- ---- a step
+
+module _ (g : Game) (M : ℕ) (p : Position) where
+  pub input-past : g .input .states ≤ p .input .0 → false ≡ hasPosition g M p
+  unfolding hasPosition
+  input-past a = and-stop (ltb (p .output .0) (g .output .states) && ltb (p .counter) M) (le-ltb (p .input .0) (g .input .states) a)
+
+  pub output-past : p .input .0 < g .input .states → g .output .states ≤ p .output .0 → false ≡ hasPosition g M p
+  unfolding hasPosition
+  output-past a b =
+      and-next (lt-ltb (p .input .0) (g .input .states) a)
+      (and-stop (ltb (p .counter) M) (le-ltb (p .output .0) (g .output .states) b))
+
+  pub counter-last : p .input .0 < g .input .states → p .output .0 < g .output .states → ltb (p .counter) M ≡ hasPosition g M p
+  unfolding hasPosition
+  counter-last a b =
+      and-next (lt-ltb (p .input .0) (g .input .states) a) (and-next (lt-ltb (p .output .0) (g .output .states) b) refl)
+
+  pub position-in : hasPosition g M p ≡ true → (p .input .0 < g .input .states) × (p .output .0 < g .output .states) × (p .counter < M)
+  unfolding hasPosition
+  position-in h =
+      let q = and-right (ltb (p .input .0) (g .input .states)) (ltb (p .output .0) (g .output .states) && ltb (p .counter) M) h in (
+        ltb-true (p .input .0) (g .input .states) (and-left (ltb (p .input .0) (g .input .states)) (ltb (p .output .0) (g .output .states) && ltb (p .counter) M) h),
+        ltb-true (p .output .0) (g .output .states) (and-left (ltb (p .output .0) (g .output .states)) (ltb (p .counter) M) q),
+        ltb-true (p .counter) M (and-right (ltb (p .output .0) (g .output .states)) (ltb (p .counter) M) q),
+      )
+
+module _ (g : Game) (l : List ℕ) (p : Position) (j : InState) where
+  -- the answer where the input is a move
+  unfoldable answered : Played
+  answered = arrives (controllerCounters (separatedOf g)) (edge (graphOf (g .output)) (p .output .0)) j (controllerOf g l .step (p .counter) (p .output .0) (j .0))
+
+  -- the answer where the table and the position fit
+  unfoldable placed : Played
+  placed = provided (edge (graphOf (g .input)) (p .input .0) (j .0)) 14 answered
+
+  pub stepped-length : fitting g l ≡ false → Refused 16 ≡ stepped g l p j
+  unfolding stepped placed answered
+  stepped-length h = refused 16 placed (and-false-left (hasPosition g (controllerCounters (separatedOf g)) p) h)
+
+  module _ (M : ℕ) (m : M ≡ controllerCounters (separatedOf g)) where
+    pub stepped-position : hasPosition g M p ≡ false → Refused 16 ≡ stepped g l p j
+    unfolding stepped placed answered
+    stepped-position h =
+        refused 16 placed (and-false-right (fitting g l) (ap (λ (k : ℕ). hasPosition g k p) (sym m) ∙ h))
+
+    in-place : fitting g l ≡ true → hasPosition g M p ≡ true → (fitting g l && hasPosition g (controllerCounters (separatedOf g)) p) ≡ true
+    in-place f h = and-intro f (ap (λ (k : ℕ). hasPosition g k p) (sym m) ∙ h)
+
+    pub stepped-input : fitting g l ≡ true → hasPosition g M p ≡ true → edge (graphOf (g .input)) (p .input .0) (j .0) ≡ false → Refused 14 ≡ stepped g l p j
+    unfolding stepped placed answered
+    stepped-input f h b = refused 14 answered b ∙ held 16 placed (in-place f h)
+
+    -- the row that is read is the table's
+    row-of : acceptance g ≡ acceptance·.Accepted → hasPosition g M p ≡ true → edge (graphOf (g .input)) (p .input .0) (j .0) ≡ true
+        → answer (rowEntry l (g .input .states) M (p .output .0) (p .counter) (j .0)) ≡ controllerOf g l .step (p .counter) (p .output .0) (j .0)
+    unfolding controllerOf controllerTable graphOf
+    row-of a h b =
+        let q = position-in g M p h in
+        ap answer
+        (sym (row-read (g .input .states) M (p .output .0) (p .counter) (j .0) l (getD l (g .input .states + ((p .output .0 * M + p .counter) * g .input .states + j .0)) 65535)
+        (in-range (g .input .states) M (p .output .0) (p .counter) (j .0) (inputs-most g a) (controller-most g a M m) (omega (arith, outputs-most g a)) (q .2)
+        (edge-to (graphOf (g .input)) (p .input .0) (j .0) b))
+        refl)
+        ∙ ap (λ (k : ℕ). getD l (g .input .states + ((p .output .0 * k + p .counter) * g .input .states + j .0)) 65535) m)
+
+    pub stepped-at : acceptance g ≡ acceptance·.Accepted → fitting g l ≡ true → hasPosition g M p ≡ true
+        → edge (graphOf (g .input)) (p .input .0) (j .0) ≡ true
+        → (e : ℕ) (x : OutSet) (r : Played) → e ≡ rowEntry l (g .input .states) M (p .output .0) (p .counter) (j .0) → x ≡ outMoves g (p .output)
+        → r ≡ arrives M (has (x .0)) j (answer e) → r ≡ stepped g l p j
+    unfolding stepped placed answered
+    stepped-at a f h b e x r q t s =
+        s
+        ∙ ap (λ (y : OutSet). arrives M (has (y .0)) j (answer e)) t
+        ∙ ap (λ (k : ℕ). arrives k (has (getD (g .output .moves) (p .output .0) 0)) j (answer e)) m
+        ∙ ap (λ (ok : ℕ → Bool). arrives (controllerCounters (separatedOf g)) ok j (answer e)) (output-moves g a (p .output .0) (position-in g M p h .1))
+        ∙ ap (arrives (controllerCounters (separatedOf g)) (edge (graphOf (g .output)) (p .output .0)) j) (ap answer q ∙ row-of a h b)
+        ∙ held 14 answered b
+        ∙ held 16 placed (in-place f h)
+
+-- ---- acceptance first
+
+module _ (g : Game) (l : List ℕ) where
+  pub beginning-refused : (i : InState) (n : ℕ) → acceptance g ≡ acceptance·.Refused n → Refused n ≡ beginning g l i
+  unfolding beginning afterAcceptance
+  beginning-refused i n e = rw (e, afterAcceptance)
+
+  pub beginning-accepted : (i : InState) (r : Played) → acceptance g ≡ acceptance·.Accepted → r ≡ begun g l i → r ≡ beginning g l i
+  unfolding beginning afterAcceptance
+  beginning-accepted i r e q = rw (e, afterAcceptance) q
+
+  pub stepping-refused : (p : Position) (j : InState) (n : ℕ) → acceptance g ≡ acceptance·.Refused n → Refused n ≡ stepping g l p j
+  unfolding stepping afterAcceptance
+  stepping-refused p j n e = rw (e, afterAcceptance)
+
+  pub stepping-accepted : (p : Position) (j : InState) (r : Played) → acceptance g ≡ acceptance·.Accepted → r ≡ stepped g l p j → r ≡ stepping g l p j
+  unfolding stepping afterAcceptance
+  stepping-accepted p j r e q = rw (e, afterAcceptance) q

@@ -1,0 +1,84 @@
+-- The rows of a table: one law for each return, and the bounds that keep a row's place within a word.
+use Prim.Native.Nat.{ℕ, zero, suc, _+_, _*_, _≤_, _<_}
+use native.Mathlib.Nat.{mul-le-mul}
+use mathlib.Core.Path.{_≡_, refl, sym, _∙_}
+use mathlib.Core.Bool.{true, false, _&&_}
+use mathlib.Core.List.{List, [], _∷_}
+use native.Mathlib.Omega.{arith}
+use lib.Dec.{ltb, leb}
+use lib.ListN.{length, getD}
+use borrow.Author.Tests.{ltb-true, leb-true, lt-ltb, le-ltb, le-leb, lt-leb}
+use Rattle.finite.proofs.Truth.{and-left, and-right}
+use Rattle.game.proofs.Steps.{and-stop, and-next}
+use Rattle.player.specs.Rows.{inRange, rowEntry}
+
+-- what is read inside a list does not depend on what is read past it
+pub inside : (l : List ℕ) (k d e : ℕ) → k < length l → getD l k d ≡ getD l k e
+inside [] k d e h = absurd (omega arith)
+inside (x ∷ l) zero d e h = refl
+inside (x ∷ l) (suc k) d e h = inside l k d e (omega arith)
+
+module _ (I M o g j : ℕ) where
+  pub many-inputs : 64 < I → false ≡ inRange I M o g j
+  unfolding inRange
+  many-inputs a = and-stop (leb M 32 && (ltb o 64 && (ltb g M && ltb j I))) (lt-leb I 64 a)
+
+  pub many-counters : I ≤ 64 → 32 < M → false ≡ inRange I M o g j
+  unfolding inRange
+  many-counters a b = and-next (le-leb I 64 a) (and-stop (ltb o 64 && (ltb g M && ltb j I)) (lt-leb M 32 b))
+
+  pub output-past : I ≤ 64 → M ≤ 32 → 64 ≤ o → false ≡ inRange I M o g j
+  unfolding inRange
+  output-past a b c = and-next (le-leb I 64 a) (and-next (le-leb M 32 b) (and-stop (ltb g M && ltb j I) (le-ltb o 64 c)))
+
+  pub counter-past : I ≤ 64 → M ≤ 32 → o < 64 → M ≤ g → false ≡ inRange I M o g j
+  unfolding inRange
+  counter-past a b c d = and-next (le-leb I 64 a) (and-next (le-leb M 32 b) (and-next (lt-ltb o 64 c) (and-stop (ltb j I) (le-ltb g M d))))
+
+  pub input-last : I ≤ 64 → M ≤ 32 → o < 64 → g < M → ltb j I ≡ inRange I M o g j
+  unfolding inRange
+  input-last a b c d = and-next (le-leb I 64 a) (and-next (le-leb M 32 b) (and-next (lt-ltb o 64 c) (and-next (lt-ltb g M d) refl)))
+
+  pub in-range : I ≤ 64 → M ≤ 32 → o < 64 → g < M → j < I → inRange I M o g j ≡ true
+  in-range a b c d e = sym (input-last a b c d) ∙ lt-ltb j I e
+
+  -- what a row's place is made of
+  pub record Bounds : Type 0 where
+    pub inputs : I ≤ 64
+    pub counters : M ≤ 32
+    pub output : o < 64
+    pub counter : g < M
+    pub input : j < I
+    pub block : o * M ≤ 2048
+    pub place : (o * M + g) * I ≤ 133120
+
+  pub range-bounds : inRange I M o g j ≡ true → Bounds
+  unfolding inRange
+  range-bounds h =
+      let a = leb-true I 64 (and-left (leb I 64) (leb M 32 && (ltb o 64 && (ltb g M && ltb j I))) h) in
+      let p = and-right (leb I 64) (leb M 32 && (ltb o 64 && (ltb g M && ltb j I))) h in
+      let b = leb-true M 32 (and-left (leb M 32) (ltb o 64 && (ltb g M && ltb j I)) p) in
+      let q = and-right (leb M 32) (ltb o 64 && (ltb g M && ltb j I)) p in
+      let c = ltb-true o 64 (and-left (ltb o 64) (ltb g M && ltb j I) q) in
+      let r = and-right (ltb o 64) (ltb g M && ltb j I) q in
+      let d = ltb-true g M (and-left (ltb g M) (ltb j I) r) in
+      let u : o ≤ 64 = omega arith in
+      let f : o * M ≤ 64 * 32 = mul-le-mul u b in
+      let v : o * M + g ≤ 2080 = omega arith in
+      record {
+        inputs = a;
+        counters = b;
+        output = c;
+        counter = d;
+        input = ltb-true j I (and-right (ltb g M) (ltb j I) r);
+        block = omega arith;
+        place = let k : (o * M + g) * I ≤ 2080 * 64 = mul-le-mul v a in omega arith;
+      }
+
+  pub row-none : (l : List ℕ) → inRange I M o g j ≡ false → 65535 ≡ rowEntry l I M o g j
+  unfolding rowEntry
+  row-none l h = rw (h, rowEntry)
+
+  pub row-read : (l : List ℕ) (e : ℕ) → inRange I M o g j ≡ true → e ≡ getD l (I + ((o * M + g) * I + j)) 65535 → e ≡ rowEntry l I M o g j
+  unfolding rowEntry
+  row-read l e h q = rw (h, rowEntry) q

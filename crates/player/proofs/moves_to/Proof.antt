@@ -1,0 +1,20 @@
+-- `moves_to` from what `holds` ensures.
+use Rattle.player.proofs.Moves.{edge-of}
+use borrow.Author.Needs.{needs}
+use Rattle.player.proofs.moves_to.Statement.{statement}
+use Rattle.player.proofs.moves_to.Tie as tie
+
+mul-holds : tie.Need-mul-holds
+mul-holds c = search needs
+
+element-copy-out-holds : tie.Need-element-copy-out-holds
+element-copy-out-holds c = search needs
+
+holds-requires : tie.Need-holds-requires
+holds-requires c κs = search needs
+
+returns : tie.Need-returns
+returns c = edge-of _ _ _ _ (c .before .before .before .pre .0) (c .holds .ensures)
+
+pub moves-to-spec : {M : Type 1} → statement M
+moves-to-spec = tie.close (tie.spec mul-holds element-copy-out-holds holds-requires returns)

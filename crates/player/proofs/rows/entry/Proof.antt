@@ -1,0 +1,22 @@
+-- `entry` reads inside the slice, and is none past it.
+use mathlib.Core.Path.{sym}
+use lib.ListN.{List·getD-eq-default}
+use Rattle.player.proofs.Range.{inside}
+use borrow.Author.Needs.{needs}
+use Rattle.player.proofs.rows.entry.Statement.{statement}
+use Rattle.player.proofs.rows.entry.Tie as tie
+
+mul-result : tie.Need-mul-result
+mul-result c = search needs
+
+shared-slice-read-result : tie.Need-shared-slice-read-result
+shared-slice-read-result c = search needs
+
+returns : tie.Need-returns
+returns c = inside (c .before .before .args .rows .now) (c .before .before .args .k) 0 65535 (c .before .if1 .taken)
+
+returns-2 : tie.Need-returns-2
+returns-2 c = sym (List·getD-eq-default (c .before .args .rows .now) 65535 (c .if1 .left))
+
+pub entry-spec : {M : Type 1} → statement M
+entry-spec = tie.close (tie.spec mul-result shared-slice-read-result returns returns-2)

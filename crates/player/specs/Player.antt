@@ -1,0 +1,75 @@
+-- The player: a controller's table run step by step.
+--
+--   provided b n p            == p where b holds; else the refusal n
+--   arrives M ok i a          == the position that the answer a gives after input i, if it names one of M counters and an output that is allowed
+--   fitting g l               == the list l has the controller's length
+--   hasPosition g M p         == the game has the position p, there being M counters
+--   begun g l i               == the answer to begin with input i, for an accepted game
+--   stepped g l p j           == the answer to step from position p with input j, for an accepted game
+--   afterAcceptance a p       == p where a is accepted; else the refusal
+--   beginning g l i           == the answer to begin
+--   stepping g l p j          == the answer to step
+use Prim.Native.Nat.{ℕ}
+use mathlib.Core.Bool.{Bool, true, false, _&&_}
+use mathlib.Core.List.{List}
+use lib.Dec.{eqb, ltb}
+use lib.ListN.{length}
+use Rattle.graphs.specs.Graph.{edge, begins}
+use Rattle.arena.specs.Table.{Answer, none, gives}
+use Rattle.game.specs.declared.InState.{InState}
+use Rattle.game.specs.declared.Game.{Game}
+use Rattle.game.specs.declared.Acceptance.{Acceptance}
+use Rattle.game.specs.declared.Acceptance.the-variants as acceptance·
+use Rattle.game.specs.Acceptance.{acceptance}
+use Rattle.play.specs.Play.{graphOf, separatedOf}
+use Rattle.theory.specs.Entries.{controllerCounters, controllerEntries}
+use Rattle.demands.specs.Demands.{controllerOf}
+use Rattle.player.specs.declared.Position.{Position}
+use Rattle.player.specs.declared.Played.{Played}
+use Rattle.player.specs.declared.Played.the-variants.{At, Refused}
+
+unfoldable pub provided : Bool → ℕ → Played → Played
+provided true n p = p
+provided false n p = Refused n
+
+-- "15 the row is none, or names a counter out of range or an output that is no move (at the start, not initial)"
+unfoldable pub arrives : ℕ → (ℕ → Bool) → InState → Answer → Played
+unfolding provided
+arrives M ok i none = Refused 15
+arrives M ok i (gives c s) = provided (ltb c M && ok s) 15 (At (record { input = i; output = record { 0 = s }; counter = c }))
+
+-- "16 table not of the controller's length"
+unfoldable pub fitting : Game → List ℕ → Bool
+fitting g l = eqb (length l) (length (controllerEntries (separatedOf g)))
+
+-- "or a place the game lacks"
+unfoldable pub hasPosition : Game → ℕ → Position → Bool
+hasPosition g M p = ltb (p .input .0) (g .input .states) && (ltb (p .output .0) (g .output .states) && ltb (p .counter) M)
+
+-- "14 first input not initial"
+unfoldable pub begun : Game → List ℕ → InState → Played
+begun g l i =
+    provided (fitting g l) 16
+    (provided (begins (graphOf (g .input)) (i .0)) 14
+    (arrives (controllerCounters (separatedOf g)) (begins (graphOf (g .output))) i (controllerOf g l .start (i .0))))
+
+-- "or next input not a move"
+unfoldable pub stepped : Game → List ℕ → Position → InState → Played
+stepped g l p j =
+    provided (fitting g l && hasPosition g (controllerCounters (separatedOf g)) p) 16
+    (provided (edge (graphOf (g .input)) (p .input .0) (j .0)) 14
+    (arrives (controllerCounters (separatedOf g)) (edge (graphOf (g .output)) (p .output .0)) j
+    (controllerOf g l .step (p .counter) (p .output .0) (j .0))))
+
+-- "Whoever drives a player, after 1 to 7"
+unfoldable pub afterAcceptance : Acceptance → Played → Played
+afterAcceptance acceptance·.Accepted p = p
+afterAcceptance (acceptance·.Refused n) p = Refused n
+
+-- "Beginning is a call of its own: it takes the first input and gives the first place."
+unfoldable pub beginning : Game → List ℕ → InState → Played
+beginning g l i = afterAcceptance (acceptance g) (begun g l i)
+
+-- "The player keeps its place (input, output, counter) itself, and each accepted input moves that place on."
+unfoldable pub stepping : Game → List ℕ → Position → InState → Played
+stepping g l p j = afterAcceptance (acceptance g) (stepped g l p j)

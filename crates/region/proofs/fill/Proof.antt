@@ -1,0 +1,52 @@
+-- `fill`.
+use native.Mathlib.Omega.{arith}
+use Rattle.region.specs.Fill.{Filling, Kept}
+use Rattle.region.proofs.Order.{kept-none, kept-more, filling-done}
+use borrow.Author.Needs.{needs}
+use mathlib.Core.Path.{_≡_, refl, sym, _∙_, ap}
+use Prim.Native.Nat.{ℕ, _+_, _-_, _≤_, _<_}
+use Rattle.region.proofs.fill.Statement.{statement}
+use Rattle.region.proofs.fill.Tie as tie
+
+abbrev Inv-loop : tie.InvT-loop
+Inv-loop g s₀ cores turning k₀ s k = (k ≤ g .input .states + 1) × Filling g cores turning s k 0 × Kept g s₀ s
+
+abbrev μ-loop : tie.MeasureT-loop
+μ-loop g s₀ cores turning k₀ s k = g .input .states + 1 - k
+
+loop-holds : tie.Need-loop-holds Inv-loop μ-loop
+loop-holds c = (omega arith, c .before .pre, kept-none _ _)
+
+fill-rank-requires : tie.Need-fill-rank-requires Inv-loop μ-loop
+fill-rank-requires c κs = c .before .before .before .loop .inv .1
+
+add-k : tie.Need-add-k Inv-loop μ-loop
+add-k c = omega arith
+
+loop-less : tie.Need-loop-less Inv-loop μ-loop
+loop-less c = omega arith
+
+loop-again : tie.Need-loop-again Inv-loop μ-loop
+loop-again c =
+    let b = c .before .before .before .before .before .before in
+    (omega arith, c .before .before .fill-rank .ensures .0, kept-more (b .loop .inv .2) (c .before .before .fill-rank .ensures .1))
+
+same-length : tie.Need-same-length Inv-loop μ-loop
+same-length c = c .before .before .loop .inv .2 .long
+
+returns : tie.Need-returns Inv-loop μ-loop
+returns c = record { ready = filling-done (c .before .before .loop .inv .1) (omega arith); kept = c .before .before .loop .inv .2 }
+
+pub fill-spec : {M : Type 1} → statement M
+fill-spec =
+    tie.close
+    (tie.spec
+    Inv-loop
+    μ-loop
+    loop-holds
+    fill-rank-requires
+    add-k
+    loop-less
+    loop-again
+    same-length
+    returns)

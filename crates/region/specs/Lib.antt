@@ -1,0 +1,3 @@
+-- What the functions of the region cite.
+pub mod Rows
+pub mod Fill

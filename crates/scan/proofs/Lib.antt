@@ -1,0 +1,5 @@
+pub mod Outcomes
+pub mod Steps
+pub mod LineSteps
+pub mod SetListSteps
+pub mod WholeSteps

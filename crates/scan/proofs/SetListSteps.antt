@@ -1,0 +1,214 @@
+-- Lists of sets and requirements, piece by piece.
+use Prim.Native.Nat.{ℕ, zero, suc, _+_, _-_, _≤_, _<_}
+use native.Mathlib.Omega.{arith}
+use native.Mathlib.Numerals.{add-one}
+use mathlib.Core.List.{List, [], _∷_}
+use mathlib.Core.Path.{_≡_, refl, sym, _∙_, ap, subst}
+use lib.ListN.{length, getD, set, replicate}
+use Rattle.grammar.specs.Format.{Format, Run, run, lit, alt, bind, chars, IsNode}
+use Rattle.grammar.specs.Format.Format.{done}
+use Rattle.grammar.specs.Format.Run.{got, fault}
+use Rattle.shape.proofs.SetLists.{list-sound}
+use Rattle.grammar.proofs.Format.{Found, run-got, run-done, run-lit-fault, run-alt-left, run-alt-right, lit-node, bind-node}
+use Rattle.game.specs.declared.InSet.{InSet}
+use Rattle.game.specs.declared.OutSet.{OutSet}
+use Rattle.game.specs.declared.Requirement.{Requirement}
+use Rattle.shape.specs.Text.{emptyRequirement}
+use Rattle.shape.specs.Shape.{setFormat, Sets, noSets, push, moreSets, setsFormat, inSets, outSets, opening, requirement, guaranteesFormat, requirementFormat}
+use Rattle.scan.specs.Scan.{setsOf, requirementOf}
+use Rattle.scan.specs.declared.pieces.Step.{Step}
+use Rattle.scan.specs.declared.pieces.Step.the-variants.{At, Fault}
+use Rattle.scan.specs.declared.set_lists.SetList.{SetList}
+use Rattle.scan.specs.declared.set_lists.RequirementScan.{RequirementScan}
+use Rattle.shape.proofs.Members.{set-node}
+use Rattle.scan.proofs.Steps.{lit-got, lit-on, bind-got, bind-fault}
+
+-- four words as sets
+pub four-in : (w : List ℕ) → length w ≡ 4 → _≡_ {A = List InSet} (record { 0 = getD w 0 0 } ∷ record { 0 = getD w 1 0 } ∷ record { 0 = getD w 2 0 } ∷ record { 0 = getD w 3 0 } ∷ []) (inSets w)
+four-in [] h = absurd (omega arith)
+four-in (a ∷ []) h = absurd (omega arith)
+four-in (a ∷ b ∷ []) h = absurd (omega arith)
+four-in (a ∷ b ∷ c ∷ []) h = absurd (omega arith)
+four-in (a ∷ b ∷ c ∷ d ∷ []) h = refl
+four-in (a ∷ b ∷ c ∷ d ∷ e ∷ w) h = absurd (omega arith)
+
+pub four-out : (w : List ℕ) → length w ≡ 4 → _≡_ {A = List OutSet} (record { 0 = getD w 0 0 } ∷ record { 0 = getD w 1 0 } ∷ record { 0 = getD w 2 0 } ∷ record { 0 = getD w 3 0 } ∷ []) (outSets w)
+four-out [] h = absurd (omega arith)
+four-out (a ∷ []) h = absurd (omega arith)
+four-out (a ∷ b ∷ []) h = absurd (omega arith)
+four-out (a ∷ b ∷ c ∷ []) h = absurd (omega arith)
+four-out (a ∷ b ∷ c ∷ d ∷ []) h = refl
+four-out (a ∷ b ∷ c ∷ d ∷ e ∷ w) h = absurd (omega arith)
+
+-- the answers
+pub list-got : {x : Run Sets} {ws : List ℕ} {n j : ℕ} → x ≡ got (record { words = ws; count = n }) j → _≡_ {A = SetList} (record { words = ws; count = n; end = At j }) (setsOf x)
+unfolding setsOf
+list-got e = sym (ap setsOf e)
+
+pub list-fault : {x : Run Sets} {p : ℕ} {r : SetList} → r ≡ setsOf (fault p) → x ≡ fault p → r ≡ setsOf x
+list-fault q e = q ∙ sym (ap setsOf e)
+
+pub got-list : (x : Run Sets) (r : SetList) (j : ℕ) → r ≡ setsOf x → r .end ≡ At j → x ≡ got (record { words = r .words; count = r .count }) j
+unfolding setsOf
+got-list (got a i) r j e f =
+    let same : At i ≡ At j = sym (ap (λ (y : SetList). y .end) e) ∙ f in
+    let k : i ≡ j = cc in
+    ap (λ (y : SetList). got (record { words = y .words; count = y .count }) i) (sym e) ∙ ap (got (record { words = r .words; count = r .count })) k
+got-list (fault p) r j e f = let same : Fault p ≡ At j = sym (ap (λ (y : SetList). y .end) e) ∙ f in let z : _≡_ {A = ℕ} 0 1 = cc in absurd (omega arith)
+
+pub fault-list : (x : Run Sets) (r : SetList) (p : ℕ) → r ≡ setsOf x → r .end ≡ Fault p → x ≡ fault p
+unfolding setsOf
+fault-list (got a i) r p e f = let same : At i ≡ Fault p = sym (ap (λ (y : SetList). y .end) e) ∙ f in let z : _≡_ {A = ℕ} 0 1 = cc in absurd (omega arith)
+fault-list (fault q) r p e f = let same : Fault q ≡ Fault p = sym (ap (λ (y : SetList). y .end) e) ∙ f in cc
+
+-- behind a set
+module _ (x : Run Sets) (n : ℕ) (a : Sets) (w : ℕ → ℕ) (at : ℕ) (e : x ≡ run (moreSets n a) w at) where
+  pub sets-closed : w at ≡ 41 → x ≡ got a (at + 1)
+  unfolding moreSets
+  sets-closed h = go n e
+    where
+      go : (m : ℕ) → x ≡ run (moreSets m a) w at → x ≡ got a (at + 1)
+      go zero f = f ∙ lit-got 41 a w at h
+      go (suc m) f = f ∙ run-alt-left 41 (done a) _ w at h ∙ run-done a w (suc at) ∙ ap (got a) (sym (add-one at))
+
+  pub sets-wrong : (w at ≡ 41 → ⊥) → (w at ≡ 32 → ⊥) → x ≡ fault at
+  unfolding moreSets
+  sets-wrong h g = go n e
+    where
+      go : (m : ℕ) → x ≡ run (moreSets m a) w at → x ≡ fault at
+      go zero f = f ∙ run-lit-fault 41 (done a) w at h
+      go (suc m) f = f ∙ run-alt-right 41 (done a) _ w at h (lit-node 32 _) ∙ run-lit-fault 32 _ w at g
+
+  pub sets-full : n ≡ 0 → (w at ≡ 41 → ⊥) → x ≡ fault at
+  unfolding moreSets
+  sets-full z h = go n z e
+    where
+      go : (m : ℕ) → m ≡ 0 → x ≡ run (moreSets m a) w at → x ≡ fault at
+      go zero z f = f ∙ run-lit-fault 41 (done a) w at h
+      go (suc m) z f = absurd (omega arith)
+
+  pub sets-bad : 0 < n → w at ≡ 32 → (p : ℕ) → run setFormat w (at + 1) ≡ fault p → x ≡ fault p
+  unfolding moreSets
+  sets-bad l h p g = go n l e
+    where
+      go : (m : ℕ) → 0 < m → x ≡ run (moreSets m a) w at → x ≡ fault p
+      go zero l f = absurd (omega arith)
+      go (suc m) l f =
+          f ∙ run-alt-right 41 (done a) _ w at (λ (z : w at ≡ 41). omega arith) (lit-node 32 _)
+          ∙ lit-on 32 (bind setFormat (λ y. moreSets m (push a y))) w at h ∙ bind-fault setFormat (λ y. moreSets m (push a y)) w (at + 1) p g
+
+  sets-next : 0 < n → w at ≡ 32 → (y j : ℕ) → run setFormat w (at + 1) ≡ got y j → x ≡ run (moreSets (n - 1) (push a y)) w j
+  unfolding moreSets
+  sets-next l h y j g = go n l e
+    where
+      less : (m : ℕ) → m ≡ suc m - 1
+      less m = omega arith
+
+      go : (m : ℕ) → 0 < m → x ≡ run (moreSets m a) w at → x ≡ run (moreSets (m - 1) (push a y)) w j
+      go zero l f = absurd (omega arith)
+      go (suc m) l f =
+          f ∙ run-alt-right 41 (done a) _ w at (λ (z : w at ≡ 41). omega arith) (lit-node 32 _)
+          ∙ lit-on 32 (bind setFormat (λ z. moreSets m (push a z))) w at h ∙ bind-got setFormat (λ z. moreSets m (push a z)) w (at + 1) y j g
+          ∙ ap (λ (k : ℕ). run (moreSets k (push a y)) w j) (less m)
+
+pub sets-turn : (x : Run Sets) (ws : List ℕ) (count : ℕ) (w : ℕ → ℕ) (at : ℕ) → x ≡ run (moreSets (4 - count) (record { words = ws; count = count })) w at
+    → count < 4 → w at ≡ 32 → (y j : ℕ) → run setFormat w (at + 1) ≡ got y j
+    → x ≡ run (moreSets (4 - (count + 1)) (record { words = set ws count y; count = count + 1 })) w j
+unfolding push
+sets-turn x ws count w at e l h y j g =
+    let fewer : 4 - count - 1 ≡ 4 - (count + 1) = omega arith in
+    sets-next x (4 - count) (record { words = ws; count = count }) w at e (omega arith) h y j g
+    ∙ ap (λ (m : ℕ). run (moreSets m (record { words = set ws count y; count = suc count })) w j) fewer
+    ∙ ap (λ (c : ℕ). run (moreSets (4 - (count + 1)) (record { words = set ws count y; count = c })) w j) (sym (add-one count))
+
+pub sets-first : (x : ℕ) (w : ℕ → ℕ) (i : ℕ) → run (moreSets 3 (push noSets x)) w i ≡ run (moreSets (4 - 1) (record { words = x ∷ 0 ∷ 0 ∷ 0 ∷ []; count = 1 })) w i
+unfolding push noSets
+sets-first x w i = refl
+
+-- the whole list
+module _ (w : ℕ → ℕ) (i : ℕ) where
+  pub list-closed : (w i ≡ 40 → ⊥) → run setsFormat w i ≡ fault i
+  unfolding setsFormat
+  list-closed h = run-lit-fault 40 _ w i h
+
+  module _ (h : w i ≡ 40) where
+    list-open : run setsFormat w i ≡ run (alt 41 (done noSets) (bind setFormat (λ x. moreSets 3 (push noSets x)))) w (i + 1)
+    unfolding setsFormat
+    list-open = lit-on 40 (alt 41 (done noSets) (bind setFormat (λ x. moreSets 3 (push noSets x)))) w i h
+
+    pub list-empty : w (i + 1) ≡ 41 → run setsFormat w i ≡ got (record { words = 0 ∷ 0 ∷ 0 ∷ 0 ∷ []; count = 0 }) (i + 1 + 1)
+    unfolding noSets
+    list-empty g = list-open ∙ run-alt-left 41 (done noSets) _ w (i + 1) g ∙ run-done noSets w (suc (i + 1)) ∙ ap (got noSets) (sym (add-one (i + 1)))
+
+    pub list-bad : (w (i + 1) ≡ 41 → ⊥) → (p : ℕ) → run setFormat w (i + 1) ≡ fault p → run setsFormat w i ≡ fault p
+    list-bad g p f =
+        list-open ∙ run-alt-right 41 (done noSets) (bind setFormat (λ x. moreSets 3 (push noSets x))) w (i + 1) g (bind-node setFormat _ set-node)
+        ∙ bind-fault setFormat (λ x. moreSets 3 (push noSets x)) w (i + 1) p f
+
+    pub list-on : (w (i + 1) ≡ 41 → ⊥) → (x j : ℕ) → run setFormat w (i + 1) ≡ got x j → run setsFormat w i ≡ run (moreSets 3 (push noSets x)) w j
+    list-on g x j f =
+        list-open ∙ run-alt-right 41 (done noSets) (bind setFormat (λ x. moreSets 3 (push noSets x))) w (i + 1) g (bind-node setFormat _ set-node)
+        ∙ bind-got setFormat (λ x. moreSets 3 (push noSets x)) w (i + 1) x j f
+
+-- requirements
+pub requirement-got : {x : Run Requirement} {q : Requirement} {j : ℕ} → x ≡ got q j → _≡_ {A = RequirementScan} (record { requirement = q; end = At j }) (requirementOf x)
+unfolding requirementOf
+requirement-got e = sym (ap requirementOf e)
+
+pub requirement-fault : {x : Run Requirement} {p : ℕ} {r : RequirementScan} → r ≡ requirementOf (fault p) → x ≡ fault p → r ≡ requirementOf x
+requirement-fault q e = q ∙ sym (ap requirementOf e)
+
+pub got-requirement : (x : Run Requirement) (r : RequirementScan) (j : ℕ) → r ≡ requirementOf x → r .end ≡ At j → x ≡ got (r .requirement) j
+unfolding requirementOf
+got-requirement (got q i) r j e f =
+    let same : At i ≡ At j = sym (ap (λ (y : RequirementScan). y .end) e) ∙ f in
+    let k : i ≡ j = cc in
+    ap (λ (y : RequirementScan). got (y .requirement) i) (sym e) ∙ ap (got (r .requirement)) k
+got-requirement (fault p) r j e f = let same : Fault p ≡ At j = sym (ap (λ (y : RequirementScan). y .end) e) ∙ f in let z : _≡_ {A = ℕ} 0 1 = cc in absurd (omega arith)
+
+pub fault-requirement : (x : Run Requirement) (r : RequirementScan) (p : ℕ) → r ≡ requirementOf x → r .end ≡ Fault p → x ≡ fault p
+unfolding requirementOf
+fault-requirement (got a i) r p e f = let same : At i ≡ Fault p = sym (ap (λ (y : RequirementScan). y .end) e) ∙ f in let z : _≡_ {A = ℕ} 0 1 = cc in absurd (omega arith)
+fault-requirement (fault q) r p e f = let same : Fault q ≡ Fault p = sym (ap (λ (y : RequirementScan). y .end) e) ∙ f in cc
+
+-- a list that is read has four words
+pub list-words : (w : ℕ → ℕ) (i : ℕ) (a : Sets) (j : ℕ) → run setsFormat w i ≡ got a j → length (a .words) ≡ 4
+list-words w i a j h = let F = run-got setsFormat w i h in list-sound (F .text) a (F .is-text) .0 .all
+
+module _ (a : Sets) (w : ℕ → ℕ) (i : ℕ) where
+  pub if-no-blank : (w i ≡ 32 → ⊥) → run (guaranteesFormat a) w i ≡ fault i
+  unfolding guaranteesFormat chars
+  if-no-blank h = bind-fault (chars (32 ∷ [])) _ w i i (run-lit-fault 32 (done tt) w i h)
+
+  module _ (h : w i ≡ 32) where
+    if-open : run (guaranteesFormat a) w i ≡ run (bind setsFormat (λ b. bind (chars (41 ∷ 10 ∷ [])) (λ _. done (requirement a b)))) w (i + 1)
+    unfolding guaranteesFormat chars
+    if-open = bind-got (chars (32 ∷ [])) (λ _. bind setsFormat (λ b. bind (chars (41 ∷ 10 ∷ [])) (λ _. done (requirement a b)))) w i tt (i + 1) (lit-got 32 tt w i h)
+
+    pub if-no-list : (p : ℕ) → run setsFormat w (i + 1) ≡ fault p → run (guaranteesFormat a) w i ≡ fault p
+    if-no-list p e = if-open ∙ bind-fault setsFormat _ w (i + 1) p e
+
+    module _ (b : Sets) (j : ℕ) (e : run setsFormat w (i + 1) ≡ got b j) where
+      pub if-no-end : (p : ℕ) → run (chars (41 ∷ 10 ∷ [])) w j ≡ fault p → run (guaranteesFormat a) w i ≡ fault p
+      if-no-end p f = if-open ∙ bind-got setsFormat _ w (i + 1) b j e ∙ bind-fault (chars (41 ∷ 10 ∷ [])) _ w j p f
+
+      pub if-got : (m : ℕ) → run (chars (41 ∷ 10 ∷ [])) w j ≡ got tt m → (x : List InSet) (y : List OutSet) → x ≡ inSets (a .words) → y ≡ outSets (b .words)
+          → run (guaranteesFormat a) w i ≡ got (record { assumptions = x; assumed = a .count; guarantees = y; guaranteed = b .count }) m
+      unfolding requirement
+      if-got m f x y p q =
+          if-open ∙ bind-got setsFormat _ w (i + 1) b j e ∙ bind-got (chars (41 ∷ 10 ∷ [])) _ w j tt m f ∙ run-done (requirement a b) w m
+          ∙ (λ n. got (record { assumptions = sym p n; assumed = a .count; guarantees = sym q n; guaranteed = b .count }) m)
+
+module _ (w : ℕ → ℕ) (i : ℕ) where
+  pub if-no-word : (p : ℕ) → run (chars (opening 3)) w i ≡ fault p → run requirementFormat w i ≡ fault p
+  unfolding requirementFormat
+  if-no-word p e = bind-fault (chars (opening 3)) _ w i p e
+
+  module _ (j : ℕ) (e : run (chars (opening 3)) w i ≡ got tt j) where
+    pub if-no-first : (p : ℕ) → run setsFormat w j ≡ fault p → run requirementFormat w i ≡ fault p
+    unfolding requirementFormat
+    if-no-first p f = bind-got (chars (opening 3)) _ w i tt j e ∙ bind-fault setsFormat _ w j p f
+
+    pub if-on : (a : Sets) (m : ℕ) → run setsFormat w j ≡ got a m → run requirementFormat w i ≡ run (guaranteesFormat a) w m
+    unfolding requirementFormat
+    if-on a m f = bind-got (chars (opening 3)) _ w i tt j e ∙ bind-got setsFormat _ w j a m f

@@ -1,0 +1,15 @@
+use borrow.Author.Tests.{le-leb, lt-leb, lt-ltb}
+use Rattle.grammar.specs.Number.{digit, inside, meets, begins, extends, starts}
+use Rattle.scan.proofs.pieces.inside.Statement.{statement}
+use Rattle.scan.proofs.pieces.inside.Tie as tie
+
+returns : tie.Need-returns
+unfolding inside
+returns c = simp (le-leb _ _ (c .if1 .taken))
+
+returns-2 : tie.Need-returns-2
+unfolding inside
+returns-2 c = simp (lt-leb _ _ (c .if1 .left))
+
+pub inside-spec : {M : Type 1} → statement M
+inside-spec = tie.close (tie.spec returns returns-2)

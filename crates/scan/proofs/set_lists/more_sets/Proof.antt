@@ -1,0 +1,119 @@
+use lib.ListN.{length-set}
+use Rattle.scan.proofs.SetListSteps.{list-got, list-fault, sets-closed, sets-wrong, sets-full, sets-bad, sets-turn, sets-first}
+use Rattle.shape.specs.Shape.{moreSets, push, noSets}
+use Rattle.grammar.specs.Place.{bytes}
+use Rattle.grammar.specs.Format.{run}
+use lib.ListN.{length}
+use Prim.Native.Nat.{_≤_, _<_, _-_}
+use borrow.Author.Needs.{needs}
+use Rattle.grammar.proofs.Place.{byte-within}
+use Rattle.scan.proofs.Outcomes.{step-at, step-fault, at-step, fault-step, number-value, number-fault, value-number, fault-number, set-members, set-fault, members-set, fault-set}
+use mathlib.Core.Path.{_≡_, refl, sym, _∙_, ap}
+use native.Mathlib.Omega.{arith}
+use Rattle.scan.proofs.set_lists.more_sets.Statement.{statement}
+use Rattle.scan.proofs.set_lists.more_sets.Tie as tie
+
+abbrev Inv-loop : tie.InvT-loop
+Inv-loop s i x words₀ count₀ at₀ words count at = (run (moreSets 3 (push noSets x)) (bytes s) i ≡ run (moreSets (4 - count) (record { words = words; count = count })) (bytes s) at) × (count ≤ 4) × (length words ≡ 4)
+
+abbrev μ-loop : tie.MeasureT-loop
+μ-loop s i x words₀ count₀ at₀ words count at = 4 - count
+
+array-write-words : tie.Need-array-write-words Inv-loop μ-loop
+array-write-words c = search needs
+
+loop-holds : tie.Need-loop-holds Inv-loop μ-loop
+loop-holds c = (sets-first _ _ _, omega arith, refl)
+
+byte-at-requires : tie.Need-byte-at-requires Inv-loop μ-loop
+byte-at-requires c κs = tt
+
+add-t16 : tie.Need-add-t16 Inv-loop μ-loop
+add-t16 c = omega (arith, byte-within _ _ _ (sym (c .before .byte-at .ensures) ∙ c .if1 .taken) (omega arith))
+
+returns : tie.Need-returns Inv-loop μ-loop
+returns c = list-got (sets-closed _ _ _ _ _ (c .before .before .before .loop .inv .0) (sym (c .before .byte-at .ensures) ∙ c .if1 .taken))
+
+no-list-requires : tie.Need-no-list-requires Inv-loop μ-loop
+no-list-requires c κs = tt
+
+returns-2 : tie.Need-returns-2 Inv-loop μ-loop
+returns-2 c = list-fault (c .no-list .ensures) (sets-wrong _ _ _ _ _ (c .before .before .before .before .before .loop .inv .0) (λ e. c .before .before .if1 .left (c .before .before .before .byte-at .ensures ∙ e)) (λ e. c .before .if2 .taken (c .before .before .before .byte-at .ensures ∙ e)))
+
+add-set-at : tie.Need-add-set-at Inv-loop μ-loop
+add-set-at c = omega (arith, byte-within _ _ _ (sym (c .before .before .byte-at .ensures) ∙ c .if2 .left) (omega arith))
+
+set-at-requires : tie.Need-set-at-requires Inv-loop μ-loop
+set-at-requires c κs = tt
+
+enum-known-t : tie.Need-enum-known-t Inv-loop μ-loop
+enum-known-t c = search needs
+
+no-list-requires-2 : tie.Need-no-list-requires-2 Inv-loop μ-loop
+no-list-requires-2 c κs = tt
+
+returns-3 : tie.Need-returns-3 Inv-loop μ-loop
+returns-3 c = list-fault (c .no-list2 .ensures) (sets-bad _ _ _ _ _ (c .before .before .before .before .before .before .before .before .before .loop .inv .0) (omega (arith, c .before .before .before .before .before .before .before .before .loop-test .taken)) (sym (c .before .before .before .before .before .before .before .byte-at .ensures) ∙ c .before .before .before .before .before .if2 .left) _ (fault-set _ (sym (c .before .before .t .given .1) ∙ c .before .before .before .before .set-at .ensures)))
+
+enum-known-t-2 : tie.Need-enum-known-t-2 Inv-loop μ-loop
+enum-known-t-2 c = search needs
+
+mul-words : tie.Need-mul-words Inv-loop μ-loop
+mul-words c = omega (arith, c .before .before .before .before .before .before .before .loop-test .taken)
+
+array-write-words-2 : tie.Need-array-write-words-2 Inv-loop μ-loop
+array-write-words-2 c = c .before .before .before .before .before .before .before .loop-test .taken
+
+add-count : tie.Need-add-count Inv-loop μ-loop
+add-count c = omega (arith, c .before .before .before .before .before .before .before .loop-test .taken)
+
+loop-less : tie.Need-loop-less Inv-loop μ-loop
+loop-less c = omega (arith, c .before .before .before .before .before .before .before .loop-test .taken)
+
+loop-again : tie.Need-loop-again Inv-loop μ-loop
+loop-again c = (sets-turn _ _ _ _ _ (c .before .before .before .before .before .before .before .before .loop .inv .0) (c .before .before .before .before .before .before .before .loop-test .taken) (sym (c .before .before .before .before .before .before .byte-at .ensures) ∙ c .before .before .before .before .if2 .left) _ _ (members-set _ (sym (c .before .t2 .given .1) ∙ c .before .before .before .set-at .ensures)), omega (arith, c .before .before .before .before .before .before .before .loop-test .taken), simp length-set (c .before .before .before .before .before .before .before .before .loop .inv .2))
+
+byte-at-requires-2 : tie.Need-byte-at-requires-2 Inv-loop μ-loop
+byte-at-requires-2 c κs = tt
+
+no-list-requires-3 : tie.Need-no-list-requires-3 Inv-loop μ-loop
+no-list-requires-3 c κs = tt
+
+returns-4 : tie.Need-returns-4 Inv-loop μ-loop
+returns-4 c = list-fault (c .no-list3 .ensures) (sets-full _ _ _ _ _ (c .before .before .before .before .loop .inv .0) (omega (arith, c .before .before .before .before .loop .inv, c .before .before .before .loop-test .left)) (λ e. c .before .if3 .taken (c .before .before .byte-at2 .ensures ∙ e)))
+
+add-t22 : tie.Need-add-t22 Inv-loop μ-loop
+add-t22 c = omega (arith, byte-within _ _ _ (sym (c .before .byte-at2 .ensures) ∙ c .if3 .left) (omega arith))
+
+returns-5 : tie.Need-returns-5 Inv-loop μ-loop
+returns-5 c = list-got (sets-closed _ _ _ _ _ (c .before .before .before .loop .inv .0) (sym (c .before .byte-at2 .ensures) ∙ c .if3 .left))
+
+pub more-sets-spec : {M : Type 1} → statement M
+more-sets-spec =
+    tie.close
+    (tie.spec
+    Inv-loop
+    μ-loop
+    array-write-words
+    loop-holds
+    byte-at-requires
+    add-t16
+    returns
+    no-list-requires
+    returns-2
+    add-set-at
+    set-at-requires
+    enum-known-t
+    no-list-requires-2
+    returns-3
+    enum-known-t-2
+    mul-words
+    array-write-words-2
+    add-count
+    loop-less
+    loop-again
+    byte-at-requires-2
+    no-list-requires-3
+    returns-4
+    add-t22
+    returns-5)

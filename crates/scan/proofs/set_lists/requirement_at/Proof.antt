@@ -1,0 +1,62 @@
+use Rattle.scan.proofs.SetListSteps.{requirement-got, requirement-fault, got-list, fault-list, if-no-blank, if-no-list, if-no-end, if-got, if-no-word, if-no-first, if-on}
+use Rattle.scan.specs.Scan.{requirementOf}
+use Rattle.grammar.proofs.Place.{byte-within}
+use Rattle.scan.proofs.Outcomes.{step-at, step-fault, at-step, fault-step, number-value, number-fault, value-number, fault-number, set-members, set-fault, members-set, fault-set}
+use mathlib.Core.Path.{_≡_, refl, sym, _∙_, ap}
+use native.Mathlib.Omega.{arith}
+use borrow.Author.Needs.{needs}
+use Rattle.scan.proofs.set_lists.requirement_at.Statement.{statement}
+use Rattle.scan.proofs.set_lists.requirement_at.Tie as tie
+
+opening-at-requires : tie.Need-opening-at-requires
+opening-at-requires c κs = search needs
+
+enum-known-o : tie.Need-enum-known-o
+enum-known-o c = search needs
+
+no-requirement-requires : tie.Need-no-requirement-requires
+no-requirement-requires c κs = search needs
+
+enum-known-o-2 : tie.Need-enum-known-o-2
+enum-known-o-2 c = search needs
+
+sets-at-requires : tie.Need-sets-at-requires
+sets-at-requires c κs = search needs
+
+enum-known-e : tie.Need-enum-known-e
+enum-known-e c = search needs
+
+no-requirement-requires-2 : tie.Need-no-requirement-requires-2
+no-requirement-requires-2 c κs = search needs
+
+enum-known-e-2 : tie.Need-enum-known-e-2
+enum-known-e-2 c = search needs
+
+guarantees-at-requires : tie.Need-guarantees-at-requires
+guarantees-at-requires c κs = search needs
+
+returns : tie.Need-returns
+returns c = requirement-fault (c .no-requirement .ensures) (if-no-word _ _ _ (fault-step _ (sym (c .before .before .o .given .1) ∙ c .before .before .before .before .opening-at .ensures)))
+
+returns-2 : tie.Need-returns-2
+returns-2 c = requirement-fault (c .no-requirement2 .ensures) (if-no-first _ _ _ (at-step _ (sym (c .before .before .before .before .before .before .o2 .given .1) ∙ c .before .before .before .before .before .before .before .before .opening-at .ensures)) _ (fault-list _ (c .before .before .before .before .sets-at .result) _ (c .before .before .before .before .sets-at .ensures) (c .before .before .e .given .1)))
+
+returns-3 : tie.Need-returns-3
+returns-3 c = c .guarantees-at .ensures ∙ sym (ap requirementOf (if-on _ _ _ (at-step _ (sym (c .before .before .before .before .before .before .before .o2 .given .1) ∙ c .before .before .before .before .before .before .before .before .before .opening-at .ensures)) _ _ (got-list _ (c .before .before .before .before .before .sets-at .result) _ (c .before .before .before .before .before .sets-at .ensures) (c .before .before .before .e2 .given .1))))
+
+pub requirement-at-spec : {M : Type 1} → statement M
+requirement-at-spec =
+    tie.close
+    (tie.spec
+    opening-at-requires
+    enum-known-o
+    no-requirement-requires
+    enum-known-o-2
+    sets-at-requires
+    enum-known-e
+    no-requirement-requires-2
+    enum-known-e-2
+    guarantees-at-requires
+    returns
+    returns-2
+    returns-3)

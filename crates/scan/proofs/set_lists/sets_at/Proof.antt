@@ -1,0 +1,70 @@
+use Rattle.scan.proofs.SetListSteps.{list-got, list-fault, list-closed, list-empty, list-bad, list-on}
+use Rattle.scan.specs.Scan.{setsOf}
+use Rattle.grammar.proofs.Place.{byte-within}
+use Rattle.scan.proofs.Outcomes.{step-at, step-fault, at-step, fault-step, number-value, number-fault, value-number, fault-number, set-members, set-fault, members-set, fault-set}
+use mathlib.Core.Path.{_≡_, refl, sym, _∙_, ap}
+use native.Mathlib.Omega.{arith}
+use borrow.Author.Needs.{needs}
+use Rattle.scan.proofs.set_lists.sets_at.Statement.{statement}
+use Rattle.scan.proofs.set_lists.sets_at.Tie as tie
+
+byte-at-requires : tie.Need-byte-at-requires
+byte-at-requires c κs = search needs
+
+no-list-requires : tie.Need-no-list-requires
+no-list-requires c κs = search needs
+
+returns : tie.Need-returns
+returns c = list-fault (c .no-list .ensures) (list-closed _ _ (λ e. c .before .if1 .taken (c .before .before .byte-at .ensures ∙ e)))
+
+add-j : tie.Need-add-j
+add-j c = omega (arith, byte-within _ _ _ (sym (c .before .byte-at .ensures) ∙ c .if1 .left) (omega arith))
+
+byte-at-requires-2 : tie.Need-byte-at-requires-2
+byte-at-requires-2 c κs = search needs
+
+add-t11 : tie.Need-add-t11
+add-t11 c = omega (arith, byte-within _ _ _ (sym (c .before .byte-at2 .ensures) ∙ c .if2 .taken) (omega arith))
+
+returns-2 : tie.Need-returns-2
+returns-2 c = list-got (list-empty _ _ (sym (c .before .before .before .byte-at .ensures) ∙ c .before .before .if1 .left) (sym (c .before .byte-at2 .ensures) ∙ c .if2 .taken))
+
+set-at-requires : tie.Need-set-at-requires
+set-at-requires c κs = search needs
+
+enum-known-t : tie.Need-enum-known-t
+enum-known-t c = search needs
+
+no-list-requires-2 : tie.Need-no-list-requires-2
+no-list-requires-2 c κs = search needs
+
+enum-known-t-2 : tie.Need-enum-known-t-2
+enum-known-t-2 c = search needs
+
+more-sets-requires : tie.Need-more-sets-requires
+more-sets-requires c κs = search needs
+
+returns-3 : tie.Need-returns-3
+returns-3 c = list-fault (c .no-list2 .ensures) (list-bad _ _ (sym (c .before .before .before .before .before .before .before .before .byte-at .ensures) ∙ c .before .before .before .before .before .before .before .if1 .left) (λ e. c .before .before .before .before .before .if2 .left (c .before .before .before .before .before .before .byte-at2 .ensures ∙ e)) _ (fault-set _ (sym (c .before .before .t .given .1) ∙ c .before .before .before .before .set-at .ensures)))
+
+returns-4 : tie.Need-returns-4
+returns-4 c = c .more-sets .ensures ∙ sym (ap setsOf (list-on _ _ (sym (c .before .before .before .before .before .before .before .before .byte-at .ensures) ∙ c .before .before .before .before .before .before .before .if1 .left) (λ e. c .before .before .before .before .before .if2 .left (c .before .before .before .before .before .before .byte-at2 .ensures ∙ e)) _ _ (members-set _ (sym (c .before .before .t2 .given .1) ∙ c .before .before .before .before .set-at .ensures))))
+
+pub sets-at-spec : {M : Type 1} → statement M
+sets-at-spec =
+    tie.close
+    (tie.spec
+    byte-at-requires
+    no-list-requires
+    returns
+    add-j
+    byte-at-requires-2
+    add-t11
+    returns-2
+    set-at-requires
+    enum-known-t
+    no-list-requires-2
+    enum-known-t-2
+    more-sets-requires
+    returns-3
+    returns-4)

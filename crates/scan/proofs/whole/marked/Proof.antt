@@ -1,0 +1,18 @@
+use Rattle.scan.proofs.Steps.{insert-is}
+use Rattle.shape.proofs.Graphs.{mark-on, mark-off}
+use mathlib.Core.Path.{_≡_, refl, sym, _∙_, ap}
+use borrow.Author.Needs.{needs}
+use Rattle.scan.proofs.whole.marked.Statement.{statement}
+use Rattle.scan.proofs.whole.marked.Tie as tie
+
+insert-requires : tie.Need-insert-requires
+insert-requires c κs = search needs
+
+returns : tie.Need-returns
+returns c = insert-is _ _ _ (c .insert .ensures) ∙ sym (mark-on _ _ _ (c .before .if1 .taken))
+
+returns-2 : tie.Need-returns-2
+returns-2 c = sym (mark-off _ _ _ (c .if1 .left))
+
+pub marked-spec : {M : Type 1} → statement M
+marked-spec = tie.close (tie.spec insert-requires returns returns-2)

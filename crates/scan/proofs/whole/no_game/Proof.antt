@@ -1,0 +1,17 @@
+use Rattle.scan.specs.Scan.{gameOf}
+use Rattle.scan.specs.declared.pieces.Step.the-variants.{Fault}
+use Rattle.game.specs.declared.Game.{Game}
+use mathlib.Core.Path.{_≡_, refl, sym, _∙_, ap}
+use borrow.Author.Needs.{needs}
+use Rattle.scan.proofs.whole.no_game.Statement.{statement}
+use Rattle.scan.proofs.whole.no_game.Tie as tie
+
+empty-game-requires : tie.Need-empty-game-requires
+empty-game-requires c κs = search needs
+
+returns : tie.Need-returns
+unfolding gameOf
+returns c = ap (λ (h : Game). record { game = h; end = Fault (c .before .args .p) }) (c .empty-game .ensures)
+
+pub no-game-spec : {M : Type 1} → statement M
+no-game-spec = tie.close (tie.spec empty-game-requires returns)

@@ -1,0 +1,17 @@
+use Rattle.scan.specs.Scan.{graphOf}
+use Rattle.scan.specs.declared.pieces.Step.the-variants.{Fault}
+use Rattle.game.specs.declared.Graph.{Graph}
+use mathlib.Core.Path.{_≡_, refl, sym, _∙_, ap}
+use borrow.Author.Needs.{needs}
+use Rattle.scan.proofs.whole.no_graph.Statement.{statement}
+use Rattle.scan.proofs.whole.no_graph.Tie as tie
+
+empty-graph-requires : tie.Need-empty-graph-requires
+empty-graph-requires c κs = search needs
+
+returns : tie.Need-returns
+unfolding graphOf
+returns c = ap (λ (h : Graph). record { graph = h; end = Fault (c .before .args .p) }) (c .empty-graph .ensures)
+
+pub no-graph-spec : {M : Type 1} → statement M
+no-graph-spec = tie.close (tie.spec empty-graph-requires returns)

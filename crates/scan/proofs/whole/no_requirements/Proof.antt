@@ -1,0 +1,14 @@
+use lib.ListN.{replicate}
+use mathlib.Core.Path.{_≡_, refl, sym, _∙_, ap}
+use borrow.Author.Needs.{needs}
+use Rattle.scan.proofs.whole.no_requirements.Statement.{statement}
+use Rattle.scan.proofs.whole.no_requirements.Tie as tie
+
+empty-requirement-requires : tie.Need-empty-requirement-requires
+empty-requirement-requires c κs = search needs
+
+returns : tie.Need-returns
+returns c = ap (replicate 8) (c .empty-requirement .ensures)
+
+pub no-requirements-spec : {M : Type 1} → statement M
+no-requirements-spec = tie.close (tie.spec empty-requirement-requires returns)

@@ -1,0 +1,8 @@
+pub mod Members
+pub mod Fill
+pub mod SetLists
+pub mod LineTexts
+pub mod Graphs
+pub mod Shape
+pub mod WordTable
+pub mod Opening

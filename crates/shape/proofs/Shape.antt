@@ -1,0 +1,95 @@
+-- The texts of the game format are the texts of the games within the shape's limits.
+use Prim.Native.Nat.{ℕ, zero, suc, _+_, _≤_, _<_}
+use native.Mathlib.Omega.{arith}
+use mathlib.Core.List.{List, [], _∷_, _++_, append-nil}
+use mathlib.Core.Path.{_≡_, refl, sym, _∙_, ap, subst}
+use lib.ListN.{length, getD, take, replicate}
+use Rattle.grammar.specs.Format.{Format, TextOf, Live, bind}
+use Rattle.grammar.specs.Format.Format.{done}
+use Rattle.grammar.proofs.Format.{bind-text, bind-parts, bind-live, done-text, done-parts, done-live, Parts}
+use Rattle.game.specs.declared.Graph.{Graph}
+use Rattle.game.specs.declared.Requirement.{Requirement}
+use Rattle.game.specs.declared.Game.{Game}
+use Rattle.shape.specs.Text.{headerLine, stateLines, requirementLines, gameText, ShapedGraph, Shaped, emptyRequirement}
+use Rattle.shape.specs.Shape.{Header, headerFormat, statesFormat, emptyGraph, requirementsFormat, outputFormat, gameFormat}
+use Rattle.shape.proofs.LineTexts.{HeaderParts, header-sound, header-complete, header-live, in-bytes, out-bytes}
+use Rattle.shape.proofs.Graphs.{graph-sound, graph-complete, states-live, RequirementsParts, requirements-sound, requirements-complete, requirements-live}
+
+whole : Graph → Graph → ℕ → List Requirement → Game
+whole a b k qs = record { input = a; output = b; k = k; requirements = qs }
+
+game-end : Header → Graph → Graph → Format Game
+game-end h a b = bind (requirementsFormat (h .k) 0 (replicate 8 emptyRequirement)) (λ qs. done (whole a b (h .k) qs))
+
+game-output : Header → Graph → Format Game
+game-output h a = bind (statesFormat 2 (h .outputs) 0 (emptyGraph (h .outputs))) (λ b. game-end h a b)
+
+game-input : Header → Format Game
+game-input h = bind (statesFormat 1 (h .inputs) 0 (emptyGraph (h .inputs))) (λ a. game-output h a)
+
+game-is : gameFormat ≡ bind headerFormat (λ h. game-input h)
+unfolding gameFormat outputFormat game-input game-output game-end whole
+game-is = refl
+
+pub game-sound : (t : List ℕ) (g : Game) → TextOf gameFormat t g → Shaped g × (t ≡ gameText g)
+unfolding game-input game-output game-end whole gameText
+game-sound t g p =
+    let H = bind-parts headerFormat (λ h. game-input h) t g (rw game-is at p) in
+    let h = H .value in
+    let hp = header-sound (H .front) h (H .is-front) in
+    let A = bind-parts (statesFormat 1 (h .inputs) 0 (emptyGraph (h .inputs))) (λ a. game-output h a) (H .back) g (H .is-back) in
+    let a = A .value in
+    let ap′ = graph-sound 1 (h .inputs) (A .front) a (hp .some-inputs) (hp .most-inputs) (A .is-front) in
+    let B = bind-parts (statesFormat 2 (h .outputs) 0 (emptyGraph (h .outputs))) (λ b. game-end h a b) (A .back) g (A .is-back) in
+    let b = B .value in
+    let bp = graph-sound 2 (h .outputs) (B .front) b (hp .some-outputs) (hp .most-outputs) (B .is-front) in
+    let Q = bind-parts (requirementsFormat (h .k) 0 (replicate 8 emptyRequirement)) (λ qs. done (whole a b (h .k) qs)) (B .back) g (B .is-back) in
+    let qs = Q .value in
+    let qp = requirements-sound (h .k) (Q .front) qs (hp .most-k) (Q .is-front) in
+    let D = done-parts (whole a b (h .k) qs) (Q .back) g (Q .is-back) in
+    let all : t ≡ headerLine (a .states) (b .states) (h .k) ++ (stateLines 1 (a .states) 0 a ++ (stateLines 2 (b .states) 0 b ++ requirementLines (take (h .k) qs))) =
+    H .whole ∙ ap (λ (l : List ℕ). l ++ H .back) (hp .text)
+    ∙ ap (λ (n : ℕ). headerLine n (h .outputs) (h .k) ++ H .back) (sym (ap′ .1))
+    ∙ ap (λ (n : ℕ). headerLine (a .states) n (h .k) ++ H .back) (sym (bp .1))
+    ∙ ap (λ (l : List ℕ). headerLine (a .states) (b .states) (h .k) ++ l)
+    (A .whole ∙ ap (λ (l : List ℕ). l ++ A .back) (ap′ .2 ∙ ap (λ (n : ℕ). stateLines 1 n 0 a) (sym (ap′ .1)))
+    ∙ ap (λ (l : List ℕ). stateLines 1 (a .states) 0 a ++ l)
+    (B .whole ∙ ap (λ (l : List ℕ). l ++ B .back) (bp .2 ∙ ap (λ (n : ℕ). stateLines 2 n 0 b) (sym (bp .1)))
+    ∙ ap (λ (l : List ℕ). stateLines 2 (b .states) 0 b ++ l)
+    (Q .whole ∙ ap (λ (l : List ℕ). Q .front ++ l) (D .0) ∙ append-nil (Q .front) ∙ qp .text))) in
+    subst (λ (x : Game). Shaped x × (t ≡ gameText x)) (sym (D .1))
+    (record { input = ap′ .0; output = bp .0; most = hp .most-k; all = qp .all; requirement = qp .each; unused = qp .unused }, all)
+
+header-of : Game → Header
+header-of g = record { inputs = g .input .states; outputs = g .output .states; k = g .k }
+
+pub game-complete : (g : Game) → Shaped g → TextOf gameFormat (gameText g) g
+unfolding game-input game-output game-end whole header-of gameText
+game-complete g S =
+    let h = header-of g in
+    let q = bind-text (requirementsFormat (g .k) 0 (replicate 8 emptyRequirement)) (λ qs. done (whole (g .input) (g .output) (g .k) qs))
+    (requirementLines (take (g .k) (g .requirements))) [] (g .requirements) g
+    (requirements-complete (g .k) (g .requirements) (S .most) (S .all) (S .requirement) (S .unused)) (done-text g) in
+    let q′ : TextOf (game-end h (g .input) (g .output)) (requirementLines (take (g .k) (g .requirements))) g =
+    subst (λ (l : List ℕ). TextOf (game-end h (g .input) (g .output)) l g) (append-nil (requirementLines (take (g .k) (g .requirements)))) q in
+    let b = bind-text (statesFormat 2 (h .outputs) 0 (emptyGraph (h .outputs))) (λ b. game-end h (g .input) b)
+    (stateLines 2 (g .output .states) 0 (g .output)) (requirementLines (take (g .k) (g .requirements))) (g .output) g (graph-complete 2 (g .output) (S .output)) q′ in
+    let a = bind-text (statesFormat 1 (h .inputs) 0 (emptyGraph (h .inputs))) (λ a. game-output h a)
+    (stateLines 1 (g .input .states) 0 (g .input)) _ (g .input) g (graph-complete 1 (g .input) (S .input)) b in
+    rw game-is
+    (bind-text headerFormat (λ h. game-input h) (headerLine (g .input .states) (g .output .states) (g .k)) _ h g
+    (header-complete h (S .input .some) (S .input .most) (S .output .some) (S .output .most) (S .most)) a)
+
+pub game-live : Live gameFormat
+unfolding game-input game-output game-end
+game-live =
+    rw game-is
+    (bind-live headerFormat (λ h. game-input h) header-live
+    (λ t h p.
+    let H = header-sound t h p in
+    let i = H .most-inputs in
+    let o = H .most-outputs in
+    bind-live (statesFormat 1 (h .inputs) 0 (emptyGraph (h .inputs))) (λ a. game-output h a) (states-live 1 (h .inputs) 0 (emptyGraph (h .inputs)) (omega arith) in-bytes)
+    (λ t a p. bind-live (statesFormat 2 (h .outputs) 0 (emptyGraph (h .outputs))) (λ b. game-end h a b) (states-live 2 (h .outputs) 0 (emptyGraph (h .outputs)) (omega arith) out-bytes)
+    (λ t b p. bind-live (requirementsFormat (h .k) 0 (replicate 8 emptyRequirement)) (λ qs. done (whole a b (h .k) qs)) (requirements-live (h .k) 0 (replicate 8 emptyRequirement))
+    (λ t qs p. done-live (whole a b (h .k) qs))))))

@@ -1,0 +1,161 @@
+-- The text of a game ("The file" of document 01), and the games that have one.
+--
+--   words                   == the fixed words: game, in, out, if; wins, start, step, refused, system, environment
+--   word n                  == the nth of them
+--   items gap ws            == the items ws with one blank between two, and one before the first where gap holds
+--   bracket ws              == the items ws in brackets
+--   line ws                 == the same, and byte 10
+--   members n lo x          == the members of the set x among the n states from lo on, rising
+--   setText x               == the text of a set of moves or of a requirement
+--   setsText n xs           == the text of a list: the first n sets of xs
+--   headerLine i o k        == (game I O K)
+--   stateLine w s f x       == (in S F (moves)) or (out S F (moves)), by the word w
+--   stateLines w n s h      == the lines of the n states of the graph h from s on
+--   requirementLine q       == (if (sets) (sets))
+--   requirementLines qs     == those of a list
+--   gameText g              == the text of the game g
+--   ShapedGraph h           == h is within the shape's limits, and empty past them
+--   ShapedRequirement q     == q is within them
+--   emptyRequirement        == a requirement with no sets
+--   emptyGame               == a game without states
+--   Shaped g                == g is within them: the games that have a text
+use Prim.Native.Nat.{ℕ, zero, suc, _≤_, _<_}
+use mathlib.Core.Bool.{Bool, true, false}
+use mathlib.Core.List.{List, [], _∷_, _++_, map}
+use mathlib.Core.Path.{_≡_}
+use lib.ListN.{length, getD, take, replicate}
+use Rattle.finite.specs.Bounded.{one}
+use Rattle.sets.specs.Member.{has, within}
+use Rattle.grammar.specs.Number.{decimal}
+use Rattle.game.specs.declared.Graph.{Graph}
+use Rattle.game.specs.declared.InSet.{InSet}
+use Rattle.game.specs.declared.OutSet.{OutSet}
+use Rattle.game.specs.declared.Requirement.{Requirement}
+use Rattle.game.specs.declared.Game.{Game}
+
+-- "Fixed words are game, in, out, if; in answers wins, start, step, refused, system, environment."
+unfoldable pub words : List (List ℕ)
+words =
+    (103 ∷ 97 ∷ 109 ∷ 101 ∷ [])
+    ∷ (105 ∷ 110 ∷ [])
+    ∷ (111 ∷ 117 ∷ 116 ∷ [])
+    ∷ (105 ∷ 102 ∷ [])
+    ∷ (119 ∷ 105 ∷ 110 ∷ 115 ∷ [])
+    ∷ (115 ∷ 116 ∷ 97 ∷ 114 ∷ 116 ∷ [])
+    ∷ (115 ∷ 116 ∷ 101 ∷ 112 ∷ [])
+    ∷ (114 ∷ 101 ∷ 102 ∷ 117 ∷ 115 ∷ 101 ∷ 100 ∷ [])
+    ∷ (115 ∷ 121 ∷ 115 ∷ 116 ∷ 101 ∷ 109 ∷ [])
+    ∷ (101 ∷ 110 ∷ 118 ∷ 105 ∷ 114 ∷ 111 ∷ 110 ∷ 109 ∷ 101 ∷ 110 ∷ 116 ∷ [])
+    ∷ []
+
+unfoldable pub word : ℕ → List ℕ
+word n = getD words n []
+
+-- "one blank separates items, none elsewhere"
+unfoldable pub gapText : Bool → List ℕ
+gapText true = 32 ∷ []
+gapText false = []
+
+unfoldable pub items : Bool → List (List ℕ) → List ℕ
+items gap [] = []
+items gap (w ∷ ws) = gapText gap ++ (w ++ items true ws)
+
+unfoldable pub bracket : List (List ℕ) → List ℕ
+bracket ws = 40 ∷ (items false ws ++ 41 ∷ [])
+
+-- "Every line ends in byte 10."
+unfoldable pub line : List (List ℕ) → List ℕ
+line ws = bracket ws ++ 10 ∷ []
+
+-- "Moves and sets hold strictly rising numbers 0 to 63."
+unfoldable pub members : ℕ → ℕ → ℕ → List ℕ
+members zero lo x = []
+members (suc n) lo x = elim (has x lo) [ true ↦ lo ∷ members n (suc lo) x | false ↦ members n (suc lo) x ]
+
+unfoldable pub setText : ℕ → List ℕ
+setText x = bracket (map decimal (members 64 0 x))
+
+-- "(if (sets) (sets)), 0 to 4 sets a list"
+unfoldable pub setsText : ℕ → List ℕ → List ℕ
+setsText n xs = bracket (map setText (take n xs))
+
+-- "(game I O K)"
+unfoldable pub headerLine : ℕ → ℕ → ℕ → List ℕ
+headerLine i o k = line (word 0 ∷ decimal i ∷ decimal o ∷ decimal k ∷ [])
+
+-- "I lines (in S F (moves)), S counting from 0, F 1 if initial, else 0; O such lines with out"
+unfoldable pub stateLine : ℕ → ℕ → ℕ → ℕ → List ℕ
+stateLine w s f x = line (word w ∷ decimal s ∷ decimal f ∷ setText x ∷ [])
+
+unfoldable pub stateLines : ℕ → ℕ → ℕ → Graph → List ℕ
+stateLines w zero s h = []
+stateLines w (suc n) s h = stateLine w s (one (has (h .initial) s)) (getD (h .moves) s 0) ++ stateLines w n (suc s) h
+
+abbrev pub inWords : List InSet → List ℕ
+inWords xs = map (λ (x : InSet). x .0) xs
+
+abbrev pub outWords : List OutSet → List ℕ
+outWords xs = map (λ (x : OutSet). x .0) xs
+
+unfoldable pub requirementLine : Requirement → List ℕ
+requirementLine q =
+    line (word 3 ∷ setsText (q .assumed) (inWords (q .assumptions)) ∷ setsText (q .guaranteed) (outWords (q .guarantees)) ∷ [])
+
+unfoldable pub requirementLines : List Requirement → List ℕ
+requirementLines [] = []
+requirementLines (q ∷ qs) = requirementLine q ++ requirementLines qs
+
+-- "Lines in order: (game I O K) ..; I lines ..; O such lines with out; K lines .."
+unfoldable pub gameText : Game → List ℕ
+gameText g =
+    headerLine (g .input .states) (g .output .states) (g .k)
+    ++ (stateLines 1 (g .input .states) 0 (g .input)
+    ++ (stateLines 2 (g .output .states) 0 (g .output)
+    ++ requirementLines (take (g .k) (g .requirements))))
+
+-- "with I and O 1 to 64"; "Rows past the count are empty."
+pub record ShapedGraph (h : Graph) : Type 0 where
+  pub some : 1 ≤ h .states
+  pub most : h .states ≤ 64
+  pub initial : within (h .initial) (h .states) ≡ true
+  pub rows : length (h .moves) ≡ 64
+  pub row : (s : ℕ) → within (getD (h .moves) s 0) 64 ≡ true
+  pub unused : (s : ℕ) → h .states ≤ s → getD (h .moves) s 0 ≡ 0
+
+-- "Unused sets are empty"
+pub record ShapedSets (n : ℕ) (xs : List ℕ) : Type 0 where
+  pub most : n ≤ 4
+  pub all : length xs ≡ 4
+  pub set : (i : ℕ) → within (getD xs i 0) 64 ≡ true
+  pub unused : (i : ℕ) → n ≤ i → getD xs i 0 ≡ 0
+
+pub record ShapedRequirement (q : Requirement) : Type 0 where
+  pub assumptions : ShapedSets (q .assumed) (inWords (q .assumptions))
+  pub guarantees : ShapedSets (q .guaranteed) (outWords (q .guarantees))
+
+unfoldable pub emptyRequirement : Requirement
+emptyRequirement =
+    record {
+      assumptions = replicate 4 (record { 0 = 0 });
+      assumed = 0;
+      guarantees = replicate 4 (record { 0 = 0 });
+      guaranteed = 0;
+    }
+
+unfoldable pub emptyGame : Game
+emptyGame =
+    record {
+      input = record { states = 0; initial = 0; moves = replicate 64 0 };
+      output = record { states = 0; initial = 0; moves = replicate 64 0 };
+      k = 0;
+      requirements = replicate 8 emptyRequirement;
+    }
+
+-- "K 0 to 8"; "unused requirements have both lengths 0"
+pub record Shaped (g : Game) : Type 0 where
+  pub input : ShapedGraph (g .input)
+  pub output : ShapedGraph (g .output)
+  pub most : g .k ≤ 8
+  pub all : length (g .requirements) ≡ 8
+  pub requirement : (r : ℕ) → ShapedRequirement (getD (g .requirements) r emptyRequirement)
+  pub unused : (r : ℕ) → g .k ≤ r → getD (g .requirements) r emptyRequirement ≡ emptyRequirement

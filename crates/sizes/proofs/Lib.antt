@@ -1,0 +1,4 @@
+-- Laws for the counts.
+pub mod Concat
+pub mod Below
+pub mod Lengths

@@ -1,0 +1,2 @@
+-- What the invariants of the counts cite.
+pub mod Below

@@ -1,0 +1,17 @@
+use Rattle.text.specs.declared.Answer.the-variants.{Misshapen, Refused}
+use Rattle.game.specs.declared.Game.{Game}
+use Rattle.text.specs.Read.{refused, misshapen, judged, judgedBy}
+use mathlib.Core.Path.{_≡_, refl, sym, _∙_, ap}
+use borrow.Author.Needs.{needs}
+use Rattle.text.proofs.refused.Statement.{statement}
+use Rattle.text.proofs.refused.Tie as tie
+
+empty-game-requires : tie.Need-empty-game-requires
+empty-game-requires c κs = search needs
+
+returns : tie.Need-returns
+unfolding refused
+returns c = ap (λ (g : Game). record { game = g; answer = Refused (c .before .args .n) }) (c .empty-game .ensures)
+
+pub refused-spec : {M : Type 1} → statement M
+refused-spec = tie.close (tie.spec empty-game-requires returns)

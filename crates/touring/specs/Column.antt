@@ -1,0 +1,48 @@
+-- Entries written in columns: for each h of a set `which`, first + more × h at place base + step × h; and blocks of such columns. What is written
+-- is judged against any list E of entries that holds the same at those places.
+--
+--   Fits n base step which first more              == the places are below n, and the entries fit 16 bits
+--   Agrees E base step which first more            == E holds those entries at those places
+--   Columned E l m base step which                 == from l to m entries of E were written, those of the places among them
+--   Column l m base step which first more          == so it is for every such E
+--   BlockFits, BlockAgrees, Blocked, Block         == the same of columns at base + x for each x < width of a set `over`, with steps of width
+use Prim.Native.Nat.{ℕ, _+_, _*_, _<_, _≤_}
+use mathlib.Core.Path.{_≡_}
+use mathlib.Core.Bool.{true}
+use mathlib.Core.List.{List}
+use lib.ListN.{length, getD}
+use Rattle.sets.specs.Member.{has}
+use Rattle.filling.specs.Grows.{Right, Grows}
+
+pub record Fits (n base step which first more : ℕ) : Type 0 where
+  pub below : (h : ℕ) → has which h ≡ true → base + step * h < n
+  pub small : (h : ℕ) → has which h ≡ true → first + more * h < 65536
+
+pub record Agrees (E : List ℕ) (base step which first more : ℕ) : Type 0 where
+  pub below : (h : ℕ) → has which h ≡ true → base + step * h < length E
+  pub entry : (h : ℕ) → has which h ≡ true → first + more * h ≡ getD E (base + step * h) 0
+
+pub record Columned (E l m : List ℕ) (base step which : ℕ) : Type 0 where
+  pub grows : Grows E l m
+  pub right : (h : ℕ) → has which h ≡ true → Right E m (base + step * h)
+
+pub record Column (l m : List ℕ) (base step which first more : ℕ) : Type 0 where
+  pub long : length m ≡ length l
+  pub fills : (E : List ℕ) → Agrees E base step which first more → length E ≤ length l → Columned E l m base step which
+
+pub record BlockFits (n base width over which first more : ℕ) : Type 0 where
+  pub narrow : width ≤ 64
+  pub inside : base + width ≤ n
+  pub columns : (x : ℕ) → x < width → has over x ≡ true → Fits n (base + x) width which first more
+
+pub record BlockAgrees (E : List ℕ) (base width over which first more : ℕ) : Type 0 where
+  pub columns : (x : ℕ) → x < width → has over x ≡ true → Agrees E (base + x) width which first more
+
+-- the columns at x below `done`
+pub record Blocked (E l m : List ℕ) (base width over which done : ℕ) : Type 0 where
+  pub grows : Grows E l m
+  pub right : (x h : ℕ) → x < done → has over x ≡ true → has which h ≡ true → Right E m (base + x + width * h)
+
+pub record Block (l m : List ℕ) (base width over which first more : ℕ) : Type 0 where
+  pub long : length m ≡ length l
+  pub fills : (E : List ℕ) → BlockAgrees E base width over which first more → length E ≤ length l → Blocked E l m base width over which width

@@ -1,0 +1,3 @@
+-- What the fillings of both tables share.
+pub mod Column
+pub mod Goal
