@@ -9,7 +9,10 @@
 --   afterAcceptance a p       == p where a is accepted; else the refusal
 --   beginning g l i           == the answer to begin
 --   stepping g l p j          == the answer to step
+--   movedOf p a               == the position after the answer a at position p, and the code: 0 where it moved
+--   Advanced p a q n          == q and n are that position and that code
 use Prim.Native.Nat.{ℕ}
+use mathlib.Core.Path.{_≡_}
 use mathlib.Core.Bool.{Bool, true, false, _&&_}
 use mathlib.Core.List.{List}
 use lib.Dec.{eqb, ltb}
@@ -25,6 +28,7 @@ use Rattle.play.specs.Play.{graphOf, separatedOf}
 use Rattle.theory.specs.Entries.{controllerCounters, controllerEntries}
 use Rattle.demands.specs.Demands.{controllerOf}
 use Rattle.player.specs.declared.Position.{Position}
+use Rattle.player.specs.declared.Moved.{Moved}
 use Rattle.player.specs.declared.Played.{Played}
 use Rattle.player.specs.declared.Played.the-variants.{At, Refused}
 
@@ -73,3 +77,13 @@ beginning g l i = afterAcceptance (acceptance g) (begun g l i)
 -- "The player keeps its place (input, output, counter) itself, and each accepted input moves that place on."
 unfoldable pub stepping : Game → List ℕ → Position → InState → Played
 stepping g l p j = afterAcceptance (acceptance g) (stepped g l p j)
+
+-- "Each returns its number only .. and changes no lent memory or player's place."
+unfoldable pub movedOf : Position → Played → Moved
+movedOf old (At p) = record { at = p; code = 0 }
+movedOf old (Refused n) = record { at = old; code = n }
+
+-- What the step in place leaves: "each accepted input moves that place on", and a refusal leaves it as it was.
+pub record Advanced (old : Position) (answer : Played) (new : Position) (code : ℕ) : Type 0 where
+  pub place : new ≡ movedOf old answer .at
+  pub number : code ≡ movedOf old answer .code

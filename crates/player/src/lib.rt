@@ -1,4 +1,5 @@
 // A controller's table run step by step.
+use crate::rows::RowIndex;
 use game::Acceptance;
 use game::Game;
 use game::InState;
@@ -14,9 +15,9 @@ ghost use Rattle.game.specs.Acceptance.{acceptance};
 ghost use Rattle.game.specs.declared.Acceptance.the-variants.{Accepted};
 ghost use Rattle.play.specs.Play.{graphOf};
 ghost use Rattle.theory.specs.Entries.{answer};
-ghost use Rattle.player.specs.Player.{arrives, hasPosition, begun, stepped, beginning, stepping};
+ghost use Rattle.player.specs.Player.{arrives, hasPosition, begun, stepped, beginning, stepping, movedOf, Advanced};
 
-mod rows; // the entries of a table
+pub mod rows; // the entries of a table
 
 // Input, output and counter after the controller's answer.
 pub struct Position {
@@ -96,6 +97,12 @@ fn arrive(counters: usize, allowed: OutSet, input: InState, entry: u16) -> Playe
     })
 }
 
+// The position that an answer gives, or else the old one, and its code: 0 for a position.
+pub struct Moved {
+    pub at: Position,
+    pub code: u8,
+}
+
 // The first position of an accepted game.
 fn begin_accepted(g: Game, table: &[u16], first: InState) -> Played
     requires { ⌜ acceptance g ≡ Accepted ⌝ }
@@ -131,8 +138,14 @@ fn step_accepted(g: Game, table: &[u16], at: Position, next: InState) -> Played
     if !moves_to(g, at.input, next) {
         return Played::Refused(14);
     }
-    let entry = rows::row(table, g.input.states, counters, at.output, at.counter, next);
-    arrive(counters, game::out_moves(g, at.output), next, entry)
+    let output = at.output;
+    let row = RowIndex {
+        output,
+        counter: at.counter,
+        input: next,
+    };
+    let entry = rows::read(table, g.input.states, counters, row);
+    arrive(counters, game::out_moves(g, output), next, entry)
 }
 
 // The first position: `first` with the output and the counter that the table's start gives.
@@ -153,4 +166,23 @@ pub fn step(g: Game, table: &[u16], at: Position, next: InState) -> Played
         Acceptance::Refused(n) => Played::Refused(n),
         Acceptance::Accepted => step_accepted(g, table, at, next),
     }
+}
+
+// The next position with code 0; a refusal gives the old one back with its code.
+pub fn step_or_stay(g: Game, table: &[u16], at: Position, next: InState) -> Moved
+    ensures { λ r. ⌜ r ≡ movedOf at (stepping g (now (table .entry)) at next) ⌝ }
+{
+    match step(g, table, at, next) {
+        Played::At(p) => Moved { at: p, code: 0 },
+        Played::Refused(n) => Moved { at, code: n },
+    }
+}
+
+// Moves the position on and answers 0; a refusal leaves it as it was and answers its code.
+pub fn advance(g: Game, table: &[u16], at: &mut Position, next: InState) -> u8
+    ensures { λ r. ⌜ Advanced (now (at .entry)) (stepping g (now (table .entry)) (now (at .entry)) next) (now (at .exit)) r ⌝ }
+{
+    let m = step_or_stay(g, table, *at, next);
+    *at = m.at;
+    m.code
 }

@@ -24,9 +24,16 @@ pub fn start(rows: &[u16], i: InState) -> u16
     entry(rows, i.0)
 }
 
+// A row: the output and the counter before it, and the new input.
+pub struct RowIndex {
+    pub output: OutState,
+    pub counter: usize,
+    pub input: InState,
+}
+
 // Whether a table with these dimensions has the row.
-pub fn in_range(inputs: usize, counters: usize, o: OutState, counter: usize, j: InState) -> bool
-    ensures { λ r. ⌜ r ≡ isRow inputs counters (o .0) counter (j .0) ⌝ }
+pub fn in_range(inputs: usize, counters: usize, at: RowIndex) -> bool
+    ensures { λ r. ⌜ r ≡ isRow inputs counters (at .output .0) (at .counter) (at .input .0) ⌝ }
 {
     if inputs > 64 {
         return false;
@@ -34,28 +41,51 @@ pub fn in_range(inputs: usize, counters: usize, o: OutState, counter: usize, j: 
     if counters > 32 {
         return false;
     }
-    if o.0 >= 64 {
+    if at.output.0 >= 64 {
         return false;
     }
-    if counter >= counters {
+    if at.counter >= counters {
         return false;
     }
-    j.0 < inputs
+    at.input.0 < inputs
 }
 
-// The entry of the row by output, counter and new input.
-pub fn row(
-    rows: &[u16],
-    inputs: usize,
-    counters: usize,
-    o: OutState,
-    counter: usize,
-    j: InState,
-) -> u16
-    ensures { λ r. ⌜ r ≡ rowEntry (now (rows .entry)) inputs counters (o .0) counter (j .0) ⌝ }
+// The entry of a row.
+pub fn lookup(rows: &[u16], inputs: usize, counters: usize, at: RowIndex) -> u16
+    ensures { λ r. ⌜ r ≡ rowEntry (now (rows .entry)) inputs counters (at .output .0) (at .counter) (at .input .0) ⌝ }
 {
-    if !in_range(inputs, counters, o, counter, j) {
+    if !in_range(inputs, counters, at) {
         return NONE;
     }
-    entry(rows, inputs + ((o.0 * counters + counter) * inputs + j.0))
+    let o = at.output.0;
+    let j = at.input.0;
+    entry(rows, inputs + ((o * counters + at.counter) * inputs + j))
+}
+
+// A table's entries with its dimensions.
+pub struct Table<'a> {
+    pub rows: &'a [u16],
+    pub inputs: usize,
+    pub counters: usize,
+}
+
+// The entry of a row of the table.
+pub fn row<'a>(t: Table<'a>, at: RowIndex) -> u16
+    ensures { λ r. ⌜ r ≡ rowEntry (now (t .entry .rows)) (t .entry .inputs) (t .entry .counters) (at .output .0) (at .counter) (at .input .0) ⌝ }
+{
+    lookup(t.rows, t.inputs, t.counters, at)
+}
+
+// The entry of a row, read through a view of the table.
+pub fn read(rows: &[u16], inputs: usize, counters: usize, at: RowIndex) -> u16
+    ensures { λ r. ⌜ r ≡ rowEntry (now (rows .entry)) inputs counters (at .output .0) (at .counter) (at .input .0) ⌝ }
+{
+    row(
+        Table {
+            rows,
+            inputs,
+            counters,
+        },
+        at,
+    )
 }

@@ -6,8 +6,7 @@ use mathlib.Core.List.{List, [], _∷_, _++_}
 use mathlib.Core.Path.{_≡_, refl, sym, _∙_, ap, subst}
 use lib.Arith.{lt-of-le-ne}
 use lib.Dec.{eqb, leb}
-use lib.ListN.{length, getD, take, drop, set, length-set, replicate, length-replicate}
-use lib.Seq.{drop-cons}
+use lib.ListN.{length, getD, set, length-set, replicate, length-replicate}
 use borrow.Author.Tests.{eqb-true, eqb-false, eq-eqb, ne-eqb, leb-true, leb-false}
 use Rattle.finite.specs.Bounded.{one}
 use Rattle.finite.proofs.Truth.{false-of, clash}
@@ -235,7 +234,7 @@ record GrownList (n r : ℕ) (qs : List Requirement) (t : List ℕ) (ps : List R
   fill : Upto emptyRequirement r qs ps
   blank : Blank emptyRequirement (r + n) ps
   each : (i : ℕ) → r ≤ i → ShapedRequirement (getD ps i emptyRequirement)
-  text : t ≡ requirementLines (take n (drop r ps))
+  text : t ≡ requirementLines n r ps
 
 grown-list-none : (r : ℕ) (qs : List Requirement) → OpenList r qs → GrownList 0 r qs [] qs
 unfolding requirementLines
@@ -246,9 +245,6 @@ grown-list-none r qs O =
       each = λ i l. rw (O .blank i l) empty-shaped;
       text = refl;
     }
-
-list-cons : (n r : ℕ) (ps : List Requirement) → r < length ps → take (suc n) (drop r ps) ≡ getD ps r emptyRequirement ∷ take n (drop (suc r) ps)
-list-cons n r ps h = ap (take (suc n)) (drop-cons ps r emptyRequirement h)
 
 grown-list-step : (n r : ℕ) (qs : List Requirement) (q : Requirement) (t u : List ℕ) (ps : List Requirement) → r < 8 → OpenList r qs
     → ShapedRequirement q → t ≡ requirementLine q → GrownList n (suc r) (set qs r q) u ps → GrownList (suc n) r qs (t ++ u) ps
@@ -265,7 +261,7 @@ grown-list-step n r qs q t u ps l O S e G =
           (λ b. let ne = eqb-false i r b in G .each i (lt-of-le-ne m (λ f. ne (sym f))));
       text =
           ap (λ (x : List ℕ). x ++ u) e ∙ ap (λ (x : List ℕ). requirementLine q ++ x) (G .text)
-          ∙ sym (ap requirementLines (list-cons n r ps (omega arith)) ∙ ap (λ (p : Requirement). requirementLine p ++ requirementLines (take n (drop (suc r) ps))) (back .1));
+          ∙ sym (ap (λ (p : Requirement). requirementLine p ++ requirementLines n (suc r) ps) (back .1));
     }
 
 requirements-grow : (n r : ℕ) (qs : List Requirement) (t : List ℕ) (ps : List Requirement) → r + n ≤ 8 → OpenList r qs → TextOf (requirementsFormat n r qs) t ps → GrownList n r qs t ps
@@ -286,7 +282,7 @@ pub record RequirementsParts (n : ℕ) (t : List ℕ) (ps : List Requirement) : 
   pub all : length ps ≡ 8
   pub each : (i : ℕ) → ShapedRequirement (getD ps i emptyRequirement)
   pub unused : (i : ℕ) → n ≤ i → getD ps i emptyRequirement ≡ emptyRequirement
-  pub text : t ≡ requirementLines (take n ps)
+  pub text : t ≡ requirementLines n 0 ps
 
 pub requirements-sound : (n : ℕ) (t : List ℕ) (ps : List Requirement) → n ≤ 8 → TextOf (requirementsFormat n 0 (replicate 8 emptyRequirement)) t ps → RequirementsParts n t ps
 requirements-sound n t ps l h =
@@ -300,7 +296,7 @@ requirements-sound n t ps l h =
 
 requirements-build : (n k r : ℕ) (qs ps : List Requirement) → r + n ≡ k → k ≤ 8 → OpenList r qs → Upto emptyRequirement r qs ps
     → ((i : ℕ) → ShapedRequirement (getD ps i emptyRequirement)) → Blank emptyRequirement k ps
-    → TextOf (requirementsFormat n r qs) (requirementLines (take n (drop r ps))) ps
+    → TextOf (requirementsFormat n r qs) (requirementLines n r ps) ps
 unfolding requirementsFormat requirementLines
 requirements-build zero k r qs ps e l O u S B =
     subst (λ (x : List Requirement). TextOf (done qs) [] x) (fill-end emptyRequirement r qs ps u (O .blank) (λ i m. B i (omega arith))) (done-text qs)
@@ -308,14 +304,13 @@ requirements-build (suc n) k r qs ps e l O u S B =
     let q = getD ps r emptyRequirement in
     let c = O .cells in
     let s = u .same-length in
-    rw (list-cons n r ps (omega arith))
-    (bind-text requirementFormat (λ q. requirementsFormat n (suc r) (set qs r q)) (requirementLine q) (requirementLines (take n (drop (suc r) ps))) q ps
+    (bind-text requirementFormat (λ q. requirementsFormat n (suc r) (set qs r q)) (requirementLine q) (requirementLines n (suc r) ps) q ps
     (requirement-complete q (S r))
     (requirements-build n k (suc r) (set qs r q) ps (omega arith) l (open-put r qs q O) (fill-step emptyRequirement r qs ps q (omega arith) refl u) S B))
 
 pub requirements-complete : (n : ℕ) (ps : List Requirement) → n ≤ 8 → length ps ≡ 8 → ((i : ℕ) → ShapedRequirement (getD ps i emptyRequirement))
     → ((i : ℕ) → n ≤ i → getD ps i emptyRequirement ≡ emptyRequirement)
-    → TextOf (requirementsFormat n 0 (replicate 8 emptyRequirement)) (requirementLines (take n ps)) ps
+    → TextOf (requirementsFormat n 0 (replicate 8 emptyRequirement)) (requirementLines n 0 ps) ps
 requirements-complete n ps l e S B =
     requirements-build n n 0 (replicate 8 emptyRequirement) ps (omega arith) l none-open (fill-none emptyRequirement 8 ps e) S B
 

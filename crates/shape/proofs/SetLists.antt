@@ -5,24 +5,24 @@ use mathlib.Core.Bool.{Bool, true, false}
 use mathlib.Core.List.{List, [], _∷_, _++_, map, append-assoc}
 use mathlib.Core.Logic.{_⊎_, inl, inr}
 use mathlib.Core.Path.{_≡_, refl, sym, _∙_, ap, subst}
-use lib.ListN.{length, getD, take, drop, set, length-set, replicate}
+use lib.ListN.{length, getD, set, length-set, replicate}
 use lib.Arith.{lt-of-le-ne}
 use lib.Dec.{eqb}
-use lib.Seq.{drop-cons}
 use borrow.Author.Tests.{eqb-true, eqb-false}
 use Rattle.sets.proofs.Membership.{zero-within}
 use Rattle.sets.specs.Member.{has, within}
 use Rattle.grammar.specs.Format.{Format, TextOf, Live, lit, alt, bind, opens, IsNode}
 use Rattle.grammar.specs.Format.Format.{done}
 use Rattle.grammar.proofs.Format.{by-cases, lit-text, lit-parts, lit-live, lit-node, alt-left, alt-right, alt-parts, alt-live, alt-node, bind-text, bind-parts, bind-live, bind-node, done-text, done-parts, done-live, opens-lit, opens-bind, Parts}
-use Rattle.shape.specs.Text.{items, gapText, bracket, setText, setsText, ShapedSets}
+use Rattle.shape.specs.Text.{items, gapText, bracket, setText, cells, setsText, ShapedSets}
 use Rattle.shape.specs.Shape.{setFormat, Sets, noSets, push, moreSets, setsFormat}
 use Rattle.shape.proofs.Members.{set-sound, set-complete, set-live, set-node}
 use Rattle.shape.proofs.Fill.{Upto, Blank, blank-replicate, blank-step, fill-none, fill-step, fill-back, fill-end}
 
 -- the sets from c on, one at a time
-pub part-cons : (m c : ℕ) (ws : List ℕ) → c < length ws → take (suc m) (drop c ws) ≡ getD ws c 0 ∷ take m (drop (suc c) ws)
-part-cons m c ws h = ap (take (suc m)) (drop-cons ws c 0 h)
+pub part-cons : (m c : ℕ) (ws : List ℕ) → cells (suc m) c ws ≡ getD ws c 0 ∷ cells m (suc c) ws
+unfolding cells
+part-cons m c ws = refl
 
 pub item-text : (gap : Bool) (w : List ℕ) (ws : List (List ℕ)) → items gap (w ∷ ws) ++ 41 ∷ [] ≡ gapText gap ++ (w ++ (items true ws ++ 41 ∷ []))
 unfolding items
@@ -31,35 +31,35 @@ item-text gap w ws = append-assoc (gapText gap) (w ++ items true ws) (41 ∷ [])
 -- a list under way: c sets are stored, and n may follow
 record Open (n : ℕ) (a : Sets) : Type 0 where
   room : a .count + n ≡ 4
-  cells : length (a .words) ≡ 4
+  places : length (a .words) ≡ 4
   blank : Blank 0 (a .count) (a .words)
 
 open-push : (n : ℕ) (a : Sets) (x : ℕ) → Open (suc n) a → Open n (push a x)
 unfolding push
 open-push n a x O =
     let r = O .room in
-    record { room = omega arith; cells = length-set (a .words) (a .count) x ∙ O .cells; blank = blank-step 0 (a .count) (a .words) x (O .blank) }
+    record { room = omega arith; places = length-set (a .words) (a .count) x ∙ O .places; blank = blank-step 0 (a .count) (a .words) x (O .blank) }
 
 -- b is a with more sets, whose text, behind a blank where gap holds, is t
 record Longer (gap : Bool) (a : Sets) (t : List ℕ) (b : Sets) : Type 0 where
   more : ℕ
   count : a .count + more ≡ b .count
   most : b .count ≤ 4
-  cells : length (b .words) ≡ 4
+  places : length (b .words) ≡ 4
   fill : Upto 0 (a .count) (a .words) (b .words)
   blank : Blank 0 (b .count) (b .words)
   sets : (i : ℕ) → a .count ≤ i → within (getD (b .words) i 0) 64 ≡ true
-  text : t ≡ items gap (map setText (take more (drop (a .count) (b .words)))) ++ 41 ∷ []
+  text : t ≡ items gap (map setText (cells more (a .count) (b .words))) ++ 41 ∷ []
 
 longer-none : (gap : Bool) (n : ℕ) (a : Sets) (t : List ℕ) (b : Sets) → Open n a → t ≡ 41 ∷ [] → b ≡ a → Longer gap a t b
-unfolding items
+unfolding items cells
 longer-none gap n a t b O e f =
     subst (λ (c : Sets). Longer gap a t c) (sym f)
     (record {
       more = 0;
       count = omega arith;
       most = (let r = O .room in omega arith);
-      cells = O .cells;
+      places = O .places;
       fill = record { same-length = refl; below = λ i l. refl };
       blank = O .blank;
       sets = λ i l. ap (λ (x : ℕ). within x 64) (O .blank i l) ∙ zero-within 64;
@@ -71,15 +71,15 @@ longer-step : (gap : Bool) (n : ℕ) (a : Sets) (x : ℕ) (t u : List ℕ) (b : 
 unfolding push
 longer-step gap n a x t u b O w e L =
     let r = O .room in
-    let c = O .cells in
+    let c = O .places in
     let s = L .count in
     let back = fill-back 0 (a .count) (a .words) (b .words) x (omega arith) (L .fill) in
-    let cellsb = L .cells in
+    let cellsb = L .places in
     record {
       more = suc (L .more);
       count = omega arith;
       most = L .most;
-      cells = L .cells;
+      places = L .places;
       fill = back .0;
       blank = L .blank;
       sets = λ i l. by-cases (eqb i (a .count))
@@ -87,9 +87,9 @@ longer-step gap n a x t u b O w e L =
           (λ h. let ne = eqb-false i (a .count) h in L .sets i (lt-of-le-ne l (λ f. ne (sym f))));
       text =
           e ∙ ap (λ (l : List ℕ). gapText gap ++ (setText x ++ l)) (L .text)
-          ∙ sym (item-text gap (setText x) (map setText (take (L .more) (drop (suc (a .count)) (b .words)))))
+          ∙ sym (item-text gap (setText x) (map setText (cells (L .more) (suc (a .count)) (b .words))))
           ∙ sym (ap (λ (ws : List ℕ). items gap (map setText ws) ++ 41 ∷ [])
-          (part-cons (L .more) (a .count) (b .words) (omega arith) ∙ ap (λ (y : ℕ). y ∷ take (L .more) (drop (suc (a .count)) (b .words))) (back .1)));
+          (part-cons (L .more) (a .count) (b .words) ∙ ap (λ (y : ℕ). y ∷ cells (L .more) (suc (a .count)) (b .words)) (back .1)));
     }
 
 sets-sound : (n : ℕ) (a : Sets) (t : List ℕ) (b : Sets) → Open n a → TextOf (moreSets n a) t b → Longer true a t b
@@ -130,7 +130,7 @@ unfolding push
 rest-push n m a b O R =
     let c = R .count in
     let r = O .room in
-    let l = O .cells in
+    let l = O .places in
     record { count = omega arith; fill = fill-step 0 (a .count) (a .words) (b .words) (getD (b .words) (a .count) 0) (omega arith) refl (R .fill) }
 
 sets-node : (n : ℕ) (a : Sets) → IsNode (moreSets n a)
@@ -139,8 +139,8 @@ sets-node zero a = lit-node 41 (done a)
 sets-node (suc n) a = alt-node 41 (done a) _
 
 sets-complete : (n m : ℕ) (a b : Sets) → Open n a → ShapedSets (b .count) (b .words) → Rest m a b
-    → TextOf (moreSets n a) (items true (map setText (take m (drop (a .count) (b .words)))) ++ 41 ∷ []) b
-unfolding moreSets gapText push items
+    → TextOf (moreSets n a) (items true (map setText (cells m (a .count) (b .words))) ++ 41 ∷ []) b
+unfolding moreSets gapText push items cells
 sets-complete zero zero a b O S R =
     subst (λ (c : Sets). TextOf (lit 41 (done a)) (41 ∷ []) c) (rest-none 0 a b O S R) (lit-text 41 (done a) [] a (done-text a))
 sets-complete zero (suc m) a b O S R = absurd (full (S .most) (R .count) (O .room))
@@ -153,14 +153,13 @@ sets-complete (suc n) zero a b O S R =
 sets-complete (suc n) (suc m) a b O S R =
     let k : ℕ → Format Sets = λ x. moreSets n (push a x) in
     let x = getD (b .words) (a .count) 0 in
-    let u = items true (map setText (take m (drop (suc (a .count)) (b .words)))) ++ 41 ∷ [] in
+    let u = items true (map setText (cells m (suc (a .count)) (b .words))) ++ 41 ∷ [] in
     let r = O .room in
     let cnt = R .count in
     let all : length (b .words) ≡ 4 = S .all in
-    let short : a .count < length (b .words) = omega arith in
-    let cells = part-cons m (a .count) (b .words) short in
-    let whole : items true (map setText (take (suc m) (drop (a .count) (b .words)))) ++ 41 ∷ [] ≡ 32 ∷ (setText x ++ u) =
-    ap (λ (ws : List ℕ). items true (map setText ws) ++ 41 ∷ []) cells ∙ item-text true (setText x) (map setText (take m (drop (suc (a .count)) (b .words)))) in
+    let next = part-cons m (a .count) (b .words) in
+    let whole : items true (map setText (cells (suc m) (a .count) (b .words))) ++ 41 ∷ [] ≡ 32 ∷ (setText x ++ u) =
+    ap (λ (ws : List ℕ). items true (map setText ws) ++ 41 ∷ []) next ∙ item-text true (setText x) (map setText (cells m (suc (a .count)) (b .words))) in
     let rest : TextOf (k x) u b = sets-complete n m (push a x) b (open-push n a x O) S (rest-push n m a b O R) in
     let one = bind-text setFormat k (setText x) u x b (set-complete x (S .set (a .count))) rest in
     let blank = lit-text 32 (bind setFormat k) (setText x ++ u) b one in
@@ -179,7 +178,7 @@ more-sets-live (suc n) a =
 -- the whole list
 no-sets-open : Open 4 noSets
 unfolding noSets
-no-sets-open = record { room = refl; cells = refl; blank = blank-replicate 0 0 4 }
+no-sets-open = record { room = refl; places = refl; blank = blank-replicate 0 0 4 }
 
 pub sets-live : Live setsFormat
 unfolding setsFormat
@@ -199,8 +198,8 @@ unfolding noSets setsText bracket
 longer-shaped t u b e L =
     let c : 0 + L .more ≡ b .count = L .count in
     let m : L .more ≡ b .count = omega arith in (
-      record { most = L .most; all = L .cells; set = λ i. L .sets i (omega arith); unused = L .blank },
-      e ∙ ap (λ (l : List ℕ). 40 ∷ l) (L .text) ∙ ap (λ (n : ℕ). 40 ∷ (items false (map setText (take n (b .words))) ++ 41 ∷ [])) m,
+      record { most = L .most; all = L .places; set = λ i. L .sets i (omega arith); unused = L .blank },
+      e ∙ ap (λ (l : List ℕ). 40 ∷ l) (L .text) ∙ ap (λ (n : ℕ). 40 ∷ (items false (map setText (cells n 0 (b .words))) ++ 41 ∷ [])) m,
     )
 
 pub list-sound : (t : List ℕ) (b : Sets) → TextOf setsFormat t b → ShapedSets (b .count) (b .words) × (t ≡ setsText (b .count) (b .words))
@@ -226,8 +225,8 @@ none-rest b S = record { count = omega arith; fill = fill-none 0 4 (b .words) (S
 
 -- behind the opening bracket
 list-rest : (n : ℕ) (b : Sets) → b .count ≡ n → ShapedSets (b .count) (b .words)
-    → TextOf (alt 41 (done noSets) (bind setFormat (λ x. moreSets 3 (push noSets x)))) (items false (map setText (take n (b .words))) ++ 41 ∷ []) b
-unfolding gapText noSets push items
+    → TextOf (alt 41 (done noSets) (bind setFormat (λ x. moreSets 3 (push noSets x)))) (items false (map setText (cells n 0 (b .words))) ++ 41 ∷ []) b
+unfolding gapText noSets push items cells
 list-rest zero b e S =
     let R = none-rest b S in
     let none : Rest 0 noSets b = subst (λ (n : ℕ). Rest n noSets b) e R in
@@ -236,12 +235,11 @@ list-rest zero b e S =
 list-rest (suc m) b e S =
     let k : ℕ → Format Sets = λ x. moreSets 3 (push noSets x) in
     let x = getD (b .words) 0 0 in
-    let u = items true (map setText (take m (drop 1 (b .words)))) ++ 41 ∷ [] in
+    let u = items true (map setText (cells m 1 (b .words))) ++ 41 ∷ [] in
     let R : Rest (suc m) noSets b = subst (λ (n : ℕ). Rest n noSets b) e (none-rest b S) in
     let all : length (b .words) ≡ 4 = S .all in
-    let short : 0 < length (b .words) = omega arith in
-    let whole : items false (map setText (take (suc m) (b .words))) ++ 41 ∷ [] ≡ setText x ++ u =
-    ap (λ (ws : List ℕ). items false (map setText ws) ++ 41 ∷ []) (part-cons m 0 (b .words) short) ∙ item-text false (setText x) (map setText (take m (drop 1 (b .words)))) in
+    let whole : items false (map setText (cells (suc m) 0 (b .words))) ++ 41 ∷ [] ≡ setText x ++ u =
+    ap (λ (ws : List ℕ). items false (map setText ws) ++ 41 ∷ []) (part-cons m 0 (b .words)) ∙ item-text false (setText x) (map setText (cells m 1 (b .words))) in
     let rest : TextOf (k x) u b = sets-complete 3 m (push noSets x) b (open-push 3 noSets x no-sets-open) S (rest-push 3 m noSets b no-sets-open R) in
     subst (λ (l : List ℕ). TextOf (alt 41 (done noSets) (bind setFormat k)) l b) (sym whole)
     (alt-right 41 (done noSets) (bind setFormat k) (setText x ++ u) b (opens-bind setFormat k 41 set-node ∙ opens-set)
@@ -250,5 +248,5 @@ list-rest (suc m) b e S =
 pub list-complete : (b : Sets) → ShapedSets (b .count) (b .words) → TextOf setsFormat (setsText (b .count) (b .words)) b
 unfolding setsFormat setsText bracket
 list-complete b S =
-    lit-text 40 (alt 41 (done noSets) (bind setFormat (λ x. moreSets 3 (push noSets x)))) (items false (map setText (take (b .count) (b .words))) ++ 41 ∷ []) b
+    lit-text 40 (alt 41 (done noSets) (bind setFormat (λ x. moreSets 3 (push noSets x)))) (items false (map setText (cells (b .count) 0 (b .words))) ++ 41 ∷ []) b
     (list-rest (b .count) b refl S)

@@ -3,7 +3,7 @@ use Prim.Native.Nat.{ℕ, zero, suc, _+_, _≤_, _<_}
 use native.Mathlib.Omega.{arith}
 use mathlib.Core.List.{List, [], _∷_, _++_, append-nil}
 use mathlib.Core.Path.{_≡_, refl, sym, _∙_, ap, subst}
-use lib.ListN.{length, getD, take, replicate}
+use lib.ListN.{length, getD, replicate}
 use Rattle.grammar.specs.Format.{Format, TextOf, Live, bind}
 use Rattle.grammar.specs.Format.Format.{done}
 use Rattle.grammar.proofs.Format.{bind-text, bind-parts, bind-live, done-text, done-parts, done-live, Parts}
@@ -47,7 +47,7 @@ game-sound t g p =
     let qs = Q .value in
     let qp = requirements-sound (h .k) (Q .front) qs (hp .most-k) (Q .is-front) in
     let D = done-parts (whole a b (h .k) qs) (Q .back) g (Q .is-back) in
-    let all : t ≡ headerLine (a .states) (b .states) (h .k) ++ (stateLines 1 (a .states) 0 a ++ (stateLines 2 (b .states) 0 b ++ requirementLines (take (h .k) qs))) =
+    let all : t ≡ headerLine (a .states) (b .states) (h .k) ++ (stateLines 1 (a .states) 0 a ++ (stateLines 2 (b .states) 0 b ++ requirementLines (h .k) 0 qs)) =
     H .whole ∙ ap (λ (l : List ℕ). l ++ H .back) (hp .text)
     ∙ ap (λ (n : ℕ). headerLine n (h .outputs) (h .k) ++ H .back) (sym (ap′ .1))
     ∙ ap (λ (n : ℕ). headerLine (a .states) n (h .k) ++ H .back) (sym (bp .1))
@@ -68,12 +68,12 @@ unfolding game-input game-output game-end whole header-of gameText
 game-complete g S =
     let h = header-of g in
     let q = bind-text (requirementsFormat (g .k) 0 (replicate 8 emptyRequirement)) (λ qs. done (whole (g .input) (g .output) (g .k) qs))
-    (requirementLines (take (g .k) (g .requirements))) [] (g .requirements) g
+    (requirementLines (g .k) 0 (g .requirements)) [] (g .requirements) g
     (requirements-complete (g .k) (g .requirements) (S .most) (S .all) (S .requirement) (S .unused)) (done-text g) in
-    let q′ : TextOf (game-end h (g .input) (g .output)) (requirementLines (take (g .k) (g .requirements))) g =
-    subst (λ (l : List ℕ). TextOf (game-end h (g .input) (g .output)) l g) (append-nil (requirementLines (take (g .k) (g .requirements)))) q in
+    let q′ : TextOf (game-end h (g .input) (g .output)) (requirementLines (g .k) 0 (g .requirements)) g =
+    subst (λ (l : List ℕ). TextOf (game-end h (g .input) (g .output)) l g) (append-nil (requirementLines (g .k) 0 (g .requirements))) q in
     let b = bind-text (statesFormat 2 (h .outputs) 0 (emptyGraph (h .outputs))) (λ b. game-end h (g .input) b)
-    (stateLines 2 (g .output .states) 0 (g .output)) (requirementLines (take (g .k) (g .requirements))) (g .output) g (graph-complete 2 (g .output) (S .output)) q′ in
+    (stateLines 2 (g .output .states) 0 (g .output)) (requirementLines (g .k) 0 (g .requirements)) (g .output) g (graph-complete 2 (g .output) (S .output)) q′ in
     let a = bind-text (statesFormat 1 (h .inputs) 0 (emptyGraph (h .inputs))) (λ a. game-output h a)
     (stateLines 1 (g .input .states) 0 (g .input)) _ (g .input) g (graph-complete 1 (g .input) (S .input)) b in
     rw game-is

@@ -7,12 +7,13 @@
 --   line ws                 == the same, and byte 10
 --   members n lo x          == the members of the set x among the n states from lo on, rising
 --   setText x               == the text of a set of moves or of a requirement
+--   cells n j xs            == n sets of xs from place j on
 --   setsText n xs           == the text of a list: the first n sets of xs
 --   headerLine i o k        == (game I O K)
 --   stateLine w s f x       == (in S F (moves)) or (out S F (moves)), by the word w
 --   stateLines w n s h      == the lines of the n states of the graph h from s on
 --   requirementLine q       == (if (sets) (sets))
---   requirementLines qs     == those of a list
+--   requirementLines n r qs == the lines of n requirements of qs from r on
 --   gameText g              == the text of the game g
 --   ShapedGraph h           == h is within the shape's limits, and empty past them
 --   ShapedRequirement q     == q is within them
@@ -23,7 +24,7 @@ use Prim.Native.Nat.{ℕ, zero, suc, _≤_, _<_}
 use mathlib.Core.Bool.{Bool, true, false}
 use mathlib.Core.List.{List, [], _∷_, _++_, map}
 use mathlib.Core.Path.{_≡_}
-use lib.ListN.{length, getD, take, replicate}
+use lib.ListN.{length, getD, replicate}
 use Rattle.finite.specs.Bounded.{one}
 use Rattle.sets.specs.Member.{has, within}
 use Rattle.grammar.specs.Number.{decimal}
@@ -76,8 +77,12 @@ unfoldable pub setText : ℕ → List ℕ
 setText x = bracket (map decimal (members 64 0 x))
 
 -- "(if (sets) (sets)), 0 to 4 sets a list"
+unfoldable pub cells : ℕ → ℕ → List ℕ → List ℕ
+cells zero j xs = []
+cells (suc n) j xs = getD xs j 0 ∷ cells n (suc j) xs
+
 unfoldable pub setsText : ℕ → List ℕ → List ℕ
-setsText n xs = bracket (map setText (take n xs))
+setsText n xs = bracket (map setText (cells n 0 xs))
 
 -- "(game I O K)"
 unfoldable pub headerLine : ℕ → ℕ → ℕ → List ℕ
@@ -101,9 +106,18 @@ unfoldable pub requirementLine : Requirement → List ℕ
 requirementLine q =
     line (word 3 ∷ setsText (q .assumed) (inWords (q .assumptions)) ∷ setsText (q .guaranteed) (outWords (q .guarantees)) ∷ [])
 
-unfoldable pub requirementLines : List Requirement → List ℕ
-requirementLines [] = []
-requirementLines (q ∷ qs) = requirementLine q ++ requirementLines qs
+unfoldable pub emptyRequirement : Requirement
+emptyRequirement =
+    record {
+      assumptions = replicate 4 (record { 0 = 0 });
+      assumed = 0;
+      guarantees = replicate 4 (record { 0 = 0 });
+      guaranteed = 0;
+    }
+
+unfoldable pub requirementLines : ℕ → ℕ → List Requirement → List ℕ
+requirementLines zero r qs = []
+requirementLines (suc n) r qs = requirementLine (getD qs r emptyRequirement) ++ requirementLines n (suc r) qs
 
 -- "Lines in order: (game I O K) ..; I lines ..; O such lines with out; K lines .."
 unfoldable pub gameText : Game → List ℕ
@@ -111,7 +125,7 @@ gameText g =
     headerLine (g .input .states) (g .output .states) (g .k)
     ++ (stateLines 1 (g .input .states) 0 (g .input)
     ++ (stateLines 2 (g .output .states) 0 (g .output)
-    ++ requirementLines (take (g .k) (g .requirements))))
+    ++ requirementLines (g .k) 0 (g .requirements)))
 
 -- "with I and O 1 to 64"; "Rows past the count are empty."
 pub record ShapedGraph (h : Graph) : Type 0 where
@@ -132,15 +146,6 @@ pub record ShapedSets (n : ℕ) (xs : List ℕ) : Type 0 where
 pub record ShapedRequirement (q : Requirement) : Type 0 where
   pub assumptions : ShapedSets (q .assumed) (inWords (q .assumptions))
   pub guarantees : ShapedSets (q .guaranteed) (outWords (q .guarantees))
-
-unfoldable pub emptyRequirement : Requirement
-emptyRequirement =
-    record {
-      assumptions = replicate 4 (record { 0 = 0 });
-      assumed = 0;
-      guarantees = replicate 4 (record { 0 = 0 });
-      guaranteed = 0;
-    }
 
 unfoldable pub emptyGame : Game
 emptyGame =

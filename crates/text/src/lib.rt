@@ -4,6 +4,7 @@ use game::Game;
 use scan::pieces::Step;
 use scan::whole;
 ghost use mathlib.Core.Path.{_≡_};
+ghost use Rattle.text.specs.Write.{Writes};
 ghost use Rattle.text.specs.Read.{Reads, refused as noGame, misshapen as noShape, judged};
 
 // The answer to a file. Misshapen is number 11, with its place; the others hold their number.
@@ -70,6 +71,32 @@ pub fn read(text: &[u8]) -> Reading
             }
             let x = g.game;
             judge(x)
+        }
+    }
+}
+
+// The answer to writing: the text's length, or a refusal's number.
+pub enum WriteAnswer {
+    Written(usize),
+    Refused(u8),
+}
+
+// The text of a game, at the front of the buffer.
+pub fn write(g: Game, buffer: &mut [u8]) -> WriteAnswer
+    ensures { λ r. ⌜ Writes g (now (buffer .entry)) r (now (buffer .exit)) ⌝ }
+{
+    let a = game::accept(g);
+    match a {
+        Acceptance::Refused(n) => WriteAnswer::Refused(n),
+        Acceptance::Accepted => {
+            // the length is found by writing into a buffer that nobody reads
+            let mut scratch = [0u8; 1];
+            let n = put::put_game(&mut scratch, 0, g);
+            if buffer.len() < n {
+                return WriteAnswer::Refused(13);
+            }
+            put::put_game(buffer, 0, g);
+            WriteAnswer::Written(n)
         }
     }
 }

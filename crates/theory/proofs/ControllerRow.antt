@@ -154,7 +154,7 @@ module _ (S : Separated) where
     pub range : counter < controllerCounters S
 
   -- some reply is won, so some home is in reach
-  answers-settles : (j o : ℕ) → nontrivial (S .input) j ≡ true → answers S (region S) j o ≡ true → settles S (region S) j o ≡ true
+  pub answers-settles : (j o : ℕ) → nontrivial (S .input) j ≡ true → answers S (region S) j o ≡ true → settles S (region S) j o ≡ true
   answers-settles j o t h =
       let v = answers-elim S (region S) j o h in
       let w = settles-elim S (region S) j (v .0)

@@ -32,12 +32,12 @@ returns-3 c =
     stepped-input _ _ _ _ _ (b .before .before .controller-counters .ensures) (fits _ _ _ (b .before .before .before .before .controller-length .ensures) (b .before .before .before .if1 .left))
     (passed (b .before .has-position .ensures) (b .if2 .left)) (failed (c .before .moves-to .ensures) (c .if3 .taken))
 
-row-requires : tie.Need-row-requires
-row-requires c κs = search needs
+read-requires : tie.Need-read-requires
+read-requires c κs = search needs
 
 out-moves-requires : tie.Need-out-moves-requires
 out-moves-requires c κs =
-    let b = c .before .before .before in
+    let b = c .before .before .before .before in
     omega (arith, position-in _ _ _ (passed (b .before .has-position .ensures) (b .if2 .left)) .1, outputs-most _ (b .before .before .before .before .before .before .pre))
 
 arrive-requires : tie.Need-arrive-requires
@@ -45,10 +45,10 @@ arrive-requires c κs = search needs
 
 returns-4 : tie.Need-returns-4
 returns-4 c =
-    let b = c .before .before .before .before .before in
+    let b = c .before .before .before .before .before .before in
     stepped-at _ _ _ _ _ (b .before .before .controller-counters .ensures) (b .before .before .before .before .before .before .pre) (fits _ _ _ (b .before .before .before .before .controller-length .ensures) (b .before .before .before .if1 .left))
-    (passed (b .before .has-position .ensures) (b .if2 .left)) (passed (c .before .before .before .before .moves-to .ensures) (c .before .before .before .if3 .left))
-    _ _ _ (c .before .before .row .ensures) (c .before .out-moves .ensures) (c .arrive .ensures)
+    (passed (b .before .has-position .ensures) (b .if2 .left)) (passed (c .before .before .before .before .before .moves-to .ensures) (c .before .before .before .before .if3 .left))
+    _ _ _ (c .before .before .read .ensures) (c .before .out-moves .ensures) (c .arrive .ensures)
 
 pub step-accepted-spec : {M : Type 1} → statement M
 step-accepted-spec =
@@ -61,7 +61,7 @@ step-accepted-spec =
     returns-2
     moves-to-requires
     returns-3
-    row-requires
+    read-requires
     out-moves-requires
     arrive-requires
     returns-4)

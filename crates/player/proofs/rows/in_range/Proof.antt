@@ -15,13 +15,13 @@ returns-3 c =
 
 returns-4 : tie.Need-returns-4
 returns-4 c =
-    let b = c .before .before .before in
-    counter-past _ _ _ _ _ (b .before .if1 .left) (b .if2 .left) (c .before .if3 .left) (c .if4 .taken)
+    let b = c .before .before .before .before in
+    counter-past _ _ _ _ _ (b .before .if1 .left) (b .if2 .left) (c .before .before .if3 .left) (c .if4 .taken)
 
 returns-5 : tie.Need-returns-5
 returns-5 c =
-    let b = c .before .before .before .before in
-    input-last _ _ _ _ _ (b .before .if1 .left) (b .if2 .left) (c .before .before .if3 .left) (c .before .if4 .left)
+    let b = c .before .before .before .before .before in
+    input-last _ _ _ _ _ (b .before .if1 .left) (b .if2 .left) (c .before .before .before .if3 .left) (c .before .if4 .left)
 
 pub in-range-spec : {M : Type 1} → statement M
 in-range-spec = tie.close (tie.spec returns returns-2 returns-3 returns-4 returns-5)

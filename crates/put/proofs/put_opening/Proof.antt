@@ -1,0 +1,65 @@
+use Rattle.put.proofs.Buffer.{Remains}
+use Rattle.shape.specs.Shape.{opening}
+use lib.ListN.{length, drop}
+use Prim.Native.Nat.{_+_, _-_, _^_, _≤_, _<_}
+use Rattle.shape.proofs.WordTable.{word-short}
+use Rattle.shape.proofs.Opening.{opening-length}
+use Rattle.put.proofs.Pieces.{bytes-step, bytes-room, bytes-end, setRest, set-open, set-take, set-skip, set-last, setsRest, sets-open, sets-take, sets-last}
+use Rattle.put.proofs.Buffer.{remains-all, remains-step, remains-none, remains-room, put-in, put-past, puts-then, puts-as, puts-length, number-room, digit-room}
+use mathlib.Core.Path.{_≡_, refl, sym, _∙_, ap}
+use native.Mathlib.Omega.{arith}
+use Rattle.put.proofs.put_opening.Statement.{statement}
+use Rattle.put.proofs.put_opening.Tie as tie
+
+abbrev Inv-loop : tie.InvT-loop
+Inv-loop buffer₀ at w n to₀ k₀ buffer to k = Remains buffer₀ at (opening w) buffer to (drop k (opening w)) × (k ≤ length (opening w)) × (n ≡ length (opening w)) × (w < 10) × (at + length (opening w) ≤ 2 ^ 32)
+
+abbrev μ-loop : tie.MeasureT-loop
+μ-loop buffer₀ at w n to₀ k₀ buffer to k = n - k
+
+letters-requires : tie.Need-letters-requires Inv-loop μ-loop
+letters-requires c κs = c .before .pre .0
+
+add-n : tie.Need-add-n Inv-loop μ-loop
+add-n c = omega (arith, c .letters .ensures, word-short (c .before .before .args .w))
+
+loop-holds : tie.Need-loop-holds Inv-loop μ-loop
+loop-holds c = (remains-all _ _ _, omega arith, omega (arith, c .letters .ensures, opening-length (c .before .before .args .w)), c .before .before .pre .0, c .before .before .pre .1)
+
+opening-byte-requires : tie.Need-opening-byte-requires Inv-loop μ-loop
+opening-byte-requires c κs = (c .before .loop .inv .3, omega (arith, c .before .loop .inv, c .loop-test .taken))
+
+put-byte-requires : tie.Need-put-byte-requires Inv-loop μ-loop
+put-byte-requires c κs = bytes-room (opening (c .before .before .before .before .before .before .args .w)) (c .before .before .before .loop .k) _ (c .before .before .before .loop .inv .0) (omega (arith, c .before .before .before .loop .inv, c .before .before .loop-test .taken)) (c .before .before .before .loop .inv .4)
+
+add-k : tie.Need-add-k Inv-loop μ-loop
+add-k c = omega (arith, c .before .before .before .before .before .before .loop .inv, c .before .before .before .before .before .loop-test .taken, opening-length (c .before .before .before .before .before .before .before .before .before .args .w), word-short (c .before .before .before .before .before .before .before .before .before .args .w))
+
+loop-less : tie.Need-loop-less Inv-loop μ-loop
+loop-less c = omega (arith, c .before .before .before .before .before .loop-test .taken)
+
+loop-again : tie.Need-loop-again Inv-loop μ-loop
+loop-again c = (bytes-step (opening (c .before .before .before .before .before .before .before .before .before .args .w)) (c .before .before .before .before .before .before .loop .k) _ (c .before .before .before .before .before .before .loop .inv .0) (omega (arith, c .before .before .before .before .before .before .loop .inv, c .before .before .before .before .before .loop-test .taken)) (c .before .before .before .before .opening-byte .ensures) (c .before .before .put-byte .ensures), omega (arith, c .before .before .before .before .before .before .loop .inv, c .before .before .before .before .before .loop-test .taken), c .before .before .before .before .before .before .loop .inv .2, c .before .before .before .before .before .before .loop .inv .3, c .before .before .before .before .before .before .loop .inv .4)
+
+same-length : tie.Need-same-length Inv-loop μ-loop
+same-length c = puts-length (bytes-end (opening (c .before .before .before .before .args .w)) (c .before .loop .k) (c .before .loop .inv .0) (omega (arith, c .before .loop .inv, c .loop-test .left)))
+
+returns : tie.Need-returns Inv-loop μ-loop
+returns c = bytes-end (opening (c .before .before .before .before .args .w)) (c .before .loop .k) (c .before .loop .inv .0) (omega (arith, c .before .loop .inv, c .loop-test .left))
+
+pub put-opening-spec : {M : Type 1} → statement M
+put-opening-spec =
+    tie.close
+    (tie.spec
+    Inv-loop
+    μ-loop
+    letters-requires
+    add-n
+    loop-holds
+    opening-byte-requires
+    put-byte-requires
+    add-k
+    loop-less
+    loop-again
+    same-length
+    returns)

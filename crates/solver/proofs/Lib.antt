@@ -1,0 +1,3 @@
+-- Laws of the solver.
+pub mod Scratch
+pub mod Made

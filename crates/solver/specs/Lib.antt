@@ -1,0 +1,3 @@
+-- What the solver promises.
+pub mod Read
+pub mod Promise

@@ -1,0 +1,43 @@
+-- What writing a game promises.
+--
+--   writeAnswer g d    == the answer to writing g into the buffer d: 1 to 7, then 13, or the length of its text
+--   writeBuffer g d    == the buffer afterwards: as it was, or the text of g and then the rest as it was
+--   Writes g d r e     == r is the answer, and e the buffer afterwards
+--   numberOf a         == document 01's number of the answer a, 0 for a text that is written
+use Prim.Native.Nat.{ℕ}
+use mathlib.Core.Bool.{Bool, true, false}
+use mathlib.Core.List.{List, _++_}
+use mathlib.Core.Path.{_≡_}
+use lib.Dec.{ltb}
+use lib.ListN.{length, drop}
+use Rattle.game.specs.Acceptance.{acceptance}
+use Rattle.game.specs.declared.Game.{Game}
+use Rattle.game.specs.declared.Acceptance.{Acceptance}
+use Rattle.game.specs.declared.Acceptance.the-variants.{Accepted, Refused}
+use Rattle.shape.specs.Text.{gameText}
+use Rattle.text.specs.declared.WriteAnswer.{WriteAnswer}
+use Rattle.text.specs.declared.WriteAnswer.the-variants.{Written, Refused as NotWritten}
+
+-- "13 text room under the text's exact length"
+unfoldable pub answerBy : Acceptance → List ℕ → List ℕ → WriteAnswer
+answerBy (Refused n) t d = NotWritten n
+answerBy Accepted t d = elim (ltb (length d) (length t)) [ true ↦ NotWritten 13 | false ↦ Written (length t) ]
+
+-- "A text fills the front of its room; the rest stays unchanged."
+unfoldable pub bufferBy : Acceptance → List ℕ → List ℕ → List ℕ
+bufferBy (Refused n) t d = d
+bufferBy Accepted t d = elim (ltb (length d) (length t)) [ true ↦ d | false ↦ t ++ drop (length t) d ]
+
+unfoldable pub writeAnswer : Game → List ℕ → WriteAnswer
+writeAnswer g d = answerBy (acceptance g) (gameText g) d
+
+unfoldable pub writeBuffer : Game → List ℕ → List ℕ
+writeBuffer g d = bufferBy (acceptance g) (gameText g) d
+
+pub record Writes (g : Game) (d : List ℕ) (r : WriteAnswer) (e : List ℕ) : Type 0 where
+  pub answer : r ≡ writeAnswer g d
+  pub buffer : e ≡ writeBuffer g d
+
+abbrev pub numberOf : WriteAnswer → ℕ
+numberOf (Written n) = 0
+numberOf (NotWritten n) = n
