@@ -1,3 +1,4 @@
 -- Laws of the solver.
 pub mod Scratch
 pub mod Made
+pub mod Verdicts

@@ -4,21 +4,30 @@
 --   cleared s                 == s with its first 512 words zero
 --   mapAnswer g s m           == the answer of the map's call, scratch being of s words and the map of m
 --   MapMade g s s′ m m′ r     == the map's call answers r and leaves scratch s as s′ and the map m as m′
-use Prim.Native.Nat.{ℕ, _<_}
+--   controllerLength g, environmentLength g    == how many entries the two tables have
+--   verdictAnswer g s c e     == the answer of the solver, scratch being of s words and the buffers of c and e entries
+--   Decided g r c e           == demand 3 for the answer r, the buffers then being c and e
+--   Solved g s s′ c c′ e e′ r == the solver answers r and leaves scratch s as s′, the controller's buffer c as c′ and the environment's e as e′
+use Prim.Native.Nat.{ℕ, _+_, _*_, _<_}
 use mathlib.Core.Path.{_≡_}
 use mathlib.Core.Bool.{Bool, true, false, _&&_}
 use mathlib.Core.List.{List, _++_}
 use mathlib.Core.Logic.{_↔_}
 use lib.Dec.{leb}
-use lib.ListN.{length, getD, drop}
+use lib.ListN.{length, getD, take, drop}
 use Rattle.finite.specs.Tabulate.{tabulate}
 use Rattle.sets.specs.Member.{has}
-use Rattle.arena.specs.Win.{Won}
+use Rattle.arena.specs.Win.{Won, system, environment, DemandThree}
 use Rattle.game.specs.declared.Game.{Game}
 use Rattle.game.specs.declared.Acceptance.{Acceptance}
 use Rattle.game.specs.declared.Acceptance.the-variants.{Accepted, Refused as Faulty}
 use Rattle.game.specs.Acceptance.{acceptance}
-use Rattle.demands.specs.Demands.{playOf}
+use Rattle.play.specs.Play.{separatedOf}
+use Rattle.theory.specs.Region.{verdict}
+use Rattle.theory.specs.Entries.{controllerCounters, environmentCounters, controllerEntries, environmentEntries}
+use Rattle.demands.specs.Demands.{playOf, controllerOf, environmentOf}
+use Rattle.solver.specs.declared.Verdict.{Verdict}
+use Rattle.solver.specs.declared.Verdict.the-variants.{System, Environment, Refused as NotSolved}
 use Rattle.solver.specs.declared.Mapped.{Mapped}
 use Rattle.solver.specs.declared.Mapped.the-variants.{Done, Refused as NotMapped}
 use Rattle.solver.specs.Read.{mapRow}
@@ -51,3 +60,63 @@ pub record MapMade (g : Game) (s s′ m m′ : List ℕ) (r : Mapped) : Type 0 w
   pub map : m′ ≡ mapAfter g r m
   pub scratch : s′ ≡ mapScratch r s
   pub won : r ≡ Done → (i o : ℕ) → i < g .input .states → o < g .output .states → (has (getD m′ i 0) o ≡ true) ↔ Won (playOf g) i o
+
+-- "inputs + outputs × max(1, G) × inputs entries"; "1 + inputs × max(1, H) × outputs entries"
+unfoldable pub controllerLength : Game → ℕ
+controllerLength g = g .input .states + g .output .states * controllerCounters (separatedOf g) * g .input .states
+
+unfoldable pub environmentLength : Game → ℕ
+environmentLength g = 1 + g .input .states * environmentCounters (separatedOf g) * g .output .states
+
+-- the side that wins, with the length of its table
+unfoldable pub named : Game → Verdict
+named g = elim (verdict (separatedOf g)) [ true ↦ System (controllerLength g) | false ↦ Environment (environmentLength g) ]
+
+-- "8 scratch under 512 words ..; 9 controller room too short and 10 panel room too short, each tried whoever wins"
+unfoldable pub tenth : Game → ℕ → Verdict
+tenth g e = elim (leb (environmentLength g) e) [ true ↦ named g | false ↦ NotSolved 10 ]
+
+unfoldable pub ninth : Game → ℕ → ℕ → Verdict
+ninth g c e = elim (leb (controllerLength g) c) [ true ↦ tenth g e | false ↦ NotSolved 9 ]
+
+unfoldable pub eighth : Game → ℕ → ℕ → ℕ → Verdict
+eighth g s c e = elim (leb 512 s) [ true ↦ ninth g c e | false ↦ NotSolved 8 ]
+
+unfoldable pub verdictAnswer : Game → ℕ → ℕ → ℕ → Verdict
+verdictAnswer g s c e = elim (acceptance g) [ Accepted ↦ eighth g s c e | Faulty n ↦ NotSolved n ]
+
+-- "On a verdict the answer is the filled front of one of two lent rooms; the rest of that room and all of the other stay unchanged."
+unfoldable pub controllerAfter : Game → Verdict → List ℕ → List ℕ
+controllerAfter g (System n) c = controllerEntries (separatedOf g) ++ drop n c
+controllerAfter g (Environment n) c = c
+controllerAfter g (NotSolved n) c = c
+
+unfoldable pub environmentAfter : Game → Verdict → List ℕ → List ℕ
+environmentAfter g (System n) e = e
+environmentAfter g (Environment n) e = environmentEntries (separatedOf g) ++ drop n e
+environmentAfter g (NotSolved n) e = e
+
+unfoldable pub verdictScratch : Verdict → List ℕ → List ℕ
+verdictScratch (System n) s = cleared s
+verdictScratch (Environment n) s = cleared s
+verdictScratch (NotSolved n) s = s
+
+-- Demand 3 for this game: the table read from the filled front wins for the side named, and no table of any finite size wins for the other.
+unfoldable pub Decided : Game → Verdict → List ℕ → List ℕ → Type 0
+Decided g (System n) c e = DemandThree (playOf g) (system (controllerOf g (take n c)))
+Decided g (Environment n) c e = DemandThree (playOf g) (environment (environmentOf g (take n e)))
+Decided g (NotSolved n) c e = Unit {0}
+
+pub record Solved (g : Game) (s s′ c c′ e e′ : List ℕ) (r : Verdict) : Type 0 where
+  pub answer : r ≡ verdictAnswer g (length s) (length c) (length e)
+  pub scratch : s′ ≡ verdictScratch r s
+  pub controller : c′ ≡ controllerAfter g r c
+  pub environment : e′ ≡ environmentAfter g r e
+  pub demand : Decided g r c′ e′
+
+-- what is written for an accepted game whose buffers are long enough
+pub record Written (g : Game) (s s′ c c′ e e′ : List ℕ) (r : Bool) : Type 0 where
+  pub wins : r ≡ verdict (separatedOf g)
+  pub scratch : s′ ≡ cleared s
+  pub controller : c′ ≡ elim r as (λ x. List ℕ) [ true ↦ controllerEntries (separatedOf g) ++ drop (length (controllerEntries (separatedOf g))) c | false ↦ c ]
+  pub environment : e′ ≡ elim r as (λ x. List ℕ) [ true ↦ e | false ↦ environmentEntries (separatedOf g) ++ drop (length (environmentEntries (separatedOf g))) e ]

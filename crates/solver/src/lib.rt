@@ -12,7 +12,8 @@ ghost use Rattle.game.proofs.Laws.{Fits};
 ghost use Rattle.play.specs.Play.{separatedOf};
 ghost use Rattle.theory.specs.Region.{region, opens as opensAt, verdict as verdictOf};
 ghost use Rattle.solver.specs.Read.{Reading, mapRow, opensWith, opensIf};
-ghost use Rattle.solver.specs.Promise.{cleared, MapMade};
+ghost use Rattle.theory.specs.Entries.{controllerEntries, environmentEntries};
+ghost use Rattle.solver.specs.Promise.{cleared, MapMade, Written, Solved};
 
 use game::Acceptance;
 use game::Game;
@@ -69,7 +70,7 @@ fn opens_with(g: Game, s: &[u64], cores: u64, i: usize, o: usize) -> bool
 }
 
 // Whether some initial output is won with i.
-pub fn opens(g: Game, s: &[u64], cores: u64, i: usize) -> bool
+fn opens(g: Game, s: &[u64], cores: u64, i: usize) -> bool
     requires { ⌜ Reading g (now s) cores × (i < g .input .states) ⌝ }
     ensures { λ r. ⌜ r ≡ opensAt (separatedOf g) i ⌝ }
 {
@@ -96,7 +97,7 @@ fn opens_if(g: Game, s: &[u64], cores: u64, i: usize) -> bool
 }
 
 // Whether the system wins.
-pub fn verdict(g: Game, s: &[u64], cores: u64) -> bool
+fn system_wins(g: Game, s: &[u64], cores: u64) -> bool
     requires { ⌜ Reading g (now s) cores ⌝ }
     ensures { λ r. ⌜ r ≡ verdictOf (separatedOf g) ⌝ }
 {
@@ -154,3 +155,11 @@ pub fn won_map(g: Game, scratch: &mut [u64], map: &mut [u64]) -> Mapped
         Acceptance::Accepted => map_accepted(g, scratch, map),
     }
 }
+
+// The answer of the solver: the side that wins, with how many entries its table has.
+pub enum Verdict {
+    System(usize),
+    Environment(usize),
+    Refused(u8),
+}
+

@@ -8,8 +8,8 @@ use Rattle.solver.proofs.Scratch.{verdict-no, verdict-yes}
 use borrow.Author.Needs.{needs}
 use mathlib.Core.Path.{_≡_, refl, sym, _∙_, ap}
 use Prim.Native.Nat.{ℕ, _+_, _-_, _≤_, _<_}
-use Rattle.solver.proofs.verdict.Statement.{statement}
-use Rattle.solver.proofs.verdict.Tie as tie
+use Rattle.solver.proofs.system_wins.Statement.{statement}
+use Rattle.solver.proofs.system_wins.Tie as tie
 
 abbrev Inv-loop : tie.InvT-loop
 Inv-loop g s cores n i₀ i = (i ≤ n) × (all i (opensIf g) ≡ true)
@@ -42,8 +42,8 @@ loop-again c =
 returns-2 : tie.Need-returns-2 Inv-loop μ-loop
 returns-2 c = verdict-yes _ (c .before .loop .i) (omega arith) (omega arith) (c .before .loop .inv .1)
 
-pub verdict-spec : {M : Type 1} → statement M
-verdict-spec =
+pub system-wins-spec : {M : Type 1} → statement M
+system-wins-spec =
     tie.close
     (tie.spec
     Inv-loop

@@ -1,0 +1,167 @@
+-- What the solver answers, case by case.
+use Prim.Native.Nat.{ℕ, suc, _+_, _*_, _≤_, _<_}
+use native.Mathlib.Numerals.{one-add}
+use mathlib.Core.Path.{_≡_, refl, sym, _∙_, ap, ap₂, subst, subst⁻¹}
+use mathlib.Core.Bool.{Bool, true, false}
+use mathlib.Core.List.{List, _∷_, _++_}
+use lib.Dec.{leb}
+use lib.ListN.{length, take, drop, length-append}
+use lib.Seq.{take-append-seam}
+use borrow.Author.Tests.{le-leb, lt-leb}
+use Rattle.finite.specs.Tabulate.{tabulate}
+use Rattle.finite.proofs.Tabulate.{length-tabulate}
+use Rattle.arena.specs.Win.{system, environment, DemandThree}
+use Rattle.game.specs.declared.Game.{Game}
+use Rattle.game.specs.declared.Acceptance.the-variants.{Accepted, Refused as Faulty}
+use Rattle.game.specs.Acceptance.{acceptance}
+use Rattle.play.specs.Play.{graphOf, separatedOf}
+use Rattle.theory.specs.Region.{verdict}
+use Rattle.theory.specs.Choice.{controllerRow, controllerStart, environmentRow, environmentStart}
+use Rattle.theory.specs.Entries.{entry, rowOf, controllerCounters, environmentCounters, controllerEntries, environmentEntries}
+use Rattle.demands.specs.Demands.{playOf, controllerOf, environmentOf}
+use Rattle.demands.proofs.Demands.{demand-three-system, demand-three-environment}
+use Rattle.solver.specs.declared.Verdict.{Verdict}
+use Rattle.solver.specs.declared.Verdict.the-variants.{System, Environment, Refused as NotSolved}
+use Rattle.solver.specs.Promise.{
+  cleared,
+  controllerLength,
+  environmentLength,
+  named,
+  tenth,
+  ninth,
+  eighth,
+  verdictAnswer,
+  controllerAfter,
+  environmentAfter,
+  verdictScratch,
+  Decided,
+  Solved,
+  Written,
+}
+
+pub controller-long : (g : Game) → length (controllerEntries (separatedOf g)) ≡ controllerLength g
+unfolding controllerEntries controllerLength separatedOf graphOf
+controller-long g =
+    length-append (tabulate (g .input .states) (λ i. entry (controllerStart (separatedOf g) i)))
+      (tabulate (g .output .states * controllerCounters (separatedOf g) * g .input .states) (rowOf (controllerCounters (separatedOf g)) (g .input .states) (controllerRow (separatedOf g))))
+    ∙ ap₂ _+_ (length-tabulate (λ i. entry (controllerStart (separatedOf g) i)) (g .input .states))
+      (length-tabulate (rowOf (controllerCounters (separatedOf g)) (g .input .states) (controllerRow (separatedOf g))) (g .output .states * controllerCounters (separatedOf g) * g .input .states))
+
+pub environment-long : (g : Game) → length (environmentEntries (separatedOf g)) ≡ environmentLength g
+unfolding environmentEntries environmentLength separatedOf graphOf
+environment-long g =
+    ap suc (length-tabulate (rowOf (environmentCounters (separatedOf g)) (g .output .states) (environmentRow (separatedOf g))) (g .input .states * environmentCounters (separatedOf g) * g .output .states))
+    ∙ sym (one-add (g .input .states * environmentCounters (separatedOf g) * g .output .states))
+
+module _ (g : Game) (s c e : List ℕ) where
+  refused : (n : ℕ) → NotSolved n ≡ verdictAnswer g (length s) (length c) (length e) → Solved g s s c c e e (NotSolved n)
+  unfolding verdictScratch controllerAfter environmentAfter Decided
+  refused n h = record { answer = h; scratch = refl; controller = refl; environment = refl; demand = tt }
+
+  pub solve-faulty : (n : ℕ) → acceptance g ≡ Faulty n → Solved g s s c c e e (NotSolved n)
+  unfolding verdictAnswer
+  solve-faulty n a = refused n (rw (a, verdictAnswer) refl)
+
+  module _ (a : acceptance g ≡ Accepted) where
+    at-eighth : verdictAnswer g (length s) (length c) (length e) ≡ eighth g (length s) (length c) (length e)
+    unfolding verdictAnswer
+    at-eighth = rw (a, verdictAnswer) refl
+
+    pub solve-scratch-short : length s < 512 → Solved g s s c c e e (NotSolved 8)
+    unfolding eighth
+    solve-scratch-short h = refused 8 (sym (at-eighth ∙ rw (lt-leb 512 (length s) h, eighth) refl))
+
+    at-ninth : 512 ≤ length s → verdictAnswer g (length s) (length c) (length e) ≡ ninth g (length c) (length e)
+    unfolding eighth
+    at-ninth h = at-eighth ∙ rw (le-leb 512 (length s) h, eighth) refl
+
+    pub solve-controller-short : 512 ≤ length s → length c < controllerLength g → Solved g s s c c e e (NotSolved 9)
+    unfolding ninth
+    solve-controller-short h k = refused 9 (sym (at-ninth h ∙ rw (lt-leb (controllerLength g) (length c) k, ninth) refl))
+
+    at-tenth : 512 ≤ length s → controllerLength g ≤ length c → verdictAnswer g (length s) (length c) (length e) ≡ tenth g (length e)
+    unfolding ninth
+    at-tenth h k = at-ninth h ∙ rw (le-leb (controllerLength g) (length c) k, ninth) refl
+
+    pub solve-environment-short : 512 ≤ length s → controllerLength g ≤ length c → length e < environmentLength g → Solved g s s c c e e (NotSolved 10)
+    unfolding tenth
+    solve-environment-short h k l = refused 10 (sym (at-tenth h k ∙ rw (lt-leb (environmentLength g) (length e) l, tenth) refl))
+
+    module _ (h : 512 ≤ length s) (k : controllerLength g ≤ length c) (l : environmentLength g ≤ length e) where
+      at-named : verdictAnswer g (length s) (length c) (length e) ≡ named g
+      unfolding tenth
+      at-named = at-tenth h k ∙ rw (le-leb (environmentLength g) (length e) l, tenth) refl
+
+      pub solved-system : (s′ c′ : List ℕ) → verdict (separatedOf g) ≡ true → s′ ≡ cleared s
+          → c′ ≡ controllerEntries (separatedOf g) ++ drop (controllerLength g) c → Solved g s s′ c c′ e e (System (controllerLength g))
+      unfolding verdictScratch controllerAfter environmentAfter Decided named
+      solved-system s′ c′ v p q = record {
+        answer = sym (at-named ∙ rw (v, named) refl);
+        scratch = p;
+        controller = q;
+        environment = refl;
+        demand = subst⁻¹ (λ (x : List ℕ). DemandThree (playOf g) (system (controllerOf g x))) front (demand-three-system g a v)
+      }
+        where
+          front : take (controllerLength g) c′ ≡ controllerEntries (separatedOf g)
+          front =
+              ap (take (controllerLength g)) q
+              ∙ ap (λ (n : ℕ). take n (controllerEntries (separatedOf g) ++ drop (controllerLength g) c)) (sym (controller-long g))
+              ∙ take-append-seam (controllerEntries (separatedOf g)) (drop (controllerLength g) c)
+
+      pub solved-environment : (s′ e′ : List ℕ) → verdict (separatedOf g) ≡ false → s′ ≡ cleared s
+          → e′ ≡ environmentEntries (separatedOf g) ++ drop (environmentLength g) e → Solved g s s′ c c e e′ (Environment (environmentLength g))
+      unfolding verdictScratch controllerAfter environmentAfter Decided named
+      solved-environment s′ e′ v p q = record {
+        answer = sym (at-named ∙ rw (v, named) refl);
+        scratch = p;
+        controller = refl;
+        environment = q;
+        demand = subst⁻¹ (λ (x : List ℕ). DemandThree (playOf g) (environment (environmentOf g x))) front (demand-three-environment g a v)
+      }
+        where
+          front : take (environmentLength g) e′ ≡ environmentEntries (separatedOf g)
+          front =
+              ap (take (environmentLength g)) q
+              ∙ ap (λ (n : ℕ). take n (environmentEntries (separatedOf g) ++ drop (environmentLength g) e)) (sym (environment-long g))
+              ∙ take-append-seam (environmentEntries (separatedOf g)) (drop (environmentLength g) e)
+
+-- ---- from what was written
+
+module _ (g : Game) (s s′ c c′ e e′ : List ℕ) {r : Bool} (W : Written g s s′ c c′ e e′ r) (a : acceptance g ≡ Accepted) (h : 512 ≤ length s)
+    (x y : ℕ) (p : x ≡ length (controllerEntries (separatedOf g))) (q : y ≡ length (environmentEntries (separatedOf g))) (k : x ≤ length c) (l : y ≤ length e) where
+  lc : x ≡ controllerLength g
+  lc = p ∙ controller-long g
+
+  le : y ≡ environmentLength g
+  le = q ∙ environment-long g
+
+  pub written-system : r ≡ true → Solved g s s′ c c′ e e′ (System x)
+  written-system v =
+      subst⁻¹ (λ (n : ℕ). Solved g s s′ c c′ e e′ (System n)) lc
+      (subst⁻¹ (λ (t : List ℕ). Solved g s s′ c c′ e t (System (controllerLength g))) same
+        (solved-system g s c e a h (subst (λ (n : ℕ). n ≤ length c) lc k) (subst (λ (n : ℕ). n ≤ length e) le l) s′ c′ (sym (W .wins) ∙ v) (W .scratch) front))
+    where
+      same : e′ ≡ e
+      same = W .environment ∙ ap (λ (b : Bool). elim b as (λ t. List ℕ) [ true ↦ e | false ↦ environmentEntries (separatedOf g) ++ drop (length (environmentEntries (separatedOf g))) e ]) v
+      front : c′ ≡ controllerEntries (separatedOf g) ++ drop (controllerLength g) c
+      front =
+          W .controller
+          ∙ ap (λ (b : Bool). elim b as (λ t. List ℕ) [ true ↦ controllerEntries (separatedOf g) ++ drop (length (controllerEntries (separatedOf g))) c | false ↦ c ]) v
+          ∙ ap (λ (n : ℕ). controllerEntries (separatedOf g) ++ drop n c) (controller-long g)
+
+  pub written-environment : r ≡ false → Solved g s s′ c c′ e e′ (Environment y)
+  written-environment v =
+      subst⁻¹ (λ (n : ℕ). Solved g s s′ c c′ e e′ (Environment n)) le
+      (subst⁻¹ (λ (t : List ℕ). Solved g s s′ c t e e′ (Environment (environmentLength g))) same
+        (solved-environment g s c e a h (subst (λ (n : ℕ). n ≤ length c) lc k) (subst (λ (n : ℕ). n ≤ length e) le l) s′ e′ (sym (W .wins) ∙ v) (W .scratch) front))
+    where
+      same : c′ ≡ c
+      same =
+          W .controller
+          ∙ ap (λ (b : Bool). elim b as (λ t. List ℕ) [ true ↦ controllerEntries (separatedOf g) ++ drop (length (controllerEntries (separatedOf g))) c | false ↦ c ]) v
+      front : e′ ≡ environmentEntries (separatedOf g) ++ drop (environmentLength g) e
+      front =
+          W .environment
+          ∙ ap (λ (b : Bool). elim b as (λ t. List ℕ) [ true ↦ e | false ↦ environmentEntries (separatedOf g) ++ drop (length (environmentEntries (separatedOf g))) e ]) v
+          ∙ ap (λ (n : ℕ). environmentEntries (separatedOf g) ++ drop n e) (environment-long g)
