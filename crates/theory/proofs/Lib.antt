@@ -7,6 +7,7 @@ pub mod Bounds
 pub mod Loop
 pub mod Sets
 pub mod ControllerRow
+pub mod Agree
 pub mod Controller
 pub mod EnvironmentRow
 pub mod Environment

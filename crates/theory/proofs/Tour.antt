@@ -105,10 +105,10 @@ module _ (G : Graph) (c : ℕ) (l : List (ℕ → Bool)) where
     ahead-below : ahead G c l g < length l
     ahead-below = omega (arith, ahead-le, distance-below (length l) g q d b)
 
-    goal-below : goal G c l g < length l
+    pub goal-below : goal G c l g < length l
     goal-below = rw (goal-at g) (around-below (length l) g (ahead G c l g) d (omega (arith, ahead-below)))
 
-    goal-meets : meetsAt G c (goalAt l (goal G c l g)) ≡ true
+    pub goal-meets : meetsAt G c (goalAt l (goal G c l g)) ≡ true
     goal-meets = ahead-meets g ahead-below
 
     -- how far the goal has come towards q

@@ -1,0 +1,95 @@
+// Games for the cases.
+use game::Game;
+use game::Graph;
+use game::InSet;
+use game::OutSet;
+use game::Requirement;
+
+// A graph of three states with initial state 0.
+fn graph(a: u64, b: u64, c: u64) -> Graph {
+    let mut moves = [0u64; 64];
+    moves[0] = a;
+    moves[1] = b;
+    moves[2] = c;
+    Graph {
+        states: 3,
+        initial: 1,
+        moves,
+    }
+}
+
+fn unused() -> Requirement {
+    Requirement {
+        assumptions: [InSet(0); 4],
+        assumed: 0,
+        guarantees: [OutSet(0); 4],
+        guaranteed: 0,
+    }
+}
+
+// If the set recurs in the input, it recurs in the output.
+fn echo(set: u64) -> Requirement {
+    Requirement {
+        assumptions: [InSet(set), InSet(0), InSet(0), InSet(0)],
+        assumed: 1,
+        guarantees: [OutSet(set), OutSet(0), OutSet(0), OutSet(0)],
+        guaranteed: 1,
+    }
+}
+
+// Inputs 0 to 1 and 2; 1, 2 to themselves. Outputs 0 to 1 and 2; 1 to 0; 2 to itself. If {s} then {s}, s = 0, 1, 2.
+pub fn eight() -> Game {
+    let mut requirements = [unused(); 8];
+    requirements[0] = echo(1);
+    requirements[1] = echo(2);
+    requirements[2] = echo(4);
+    Game {
+        input: graph(6, 2, 4),
+        output: graph(6, 1, 4),
+        k: 3,
+        requirements,
+    }
+}
+
+// The input graph with the fault of refusal code n, 1 to 4.
+fn graph_fault(mut h: Graph, n: usize) -> Graph {
+    match n {
+        1 => h.states = 65,
+        2 => h.moves[2] = 8,
+        3 => h.initial = 0,
+        4 => h.moves[1] = 0,
+        _ => (),
+    }
+    h
+}
+
+// The game with the fault of refusal code n, 1 to 7.
+pub fn fault(mut g: Game, n: usize) -> Game {
+    let h = g.input;
+    g.input = graph_fault(h, n);
+    if n == 5 {
+        g.k = 9;
+    }
+    if n == 6 {
+        let mut q = g.requirements[0];
+        q.guaranteed = 5;
+        g.requirements[0] = q;
+    }
+    if n == 7 {
+        let mut q = g.requirements[7];
+        q.assumed = 1;
+        g.requirements[7] = q;
+    }
+    g
+}
+
+// The game with the faults of all codes from n to 7.
+pub fn faults(n: usize) -> Game {
+    let mut g = eight();
+    let mut k = n;
+    while k < 8 {
+        g = fault(g, k);
+        k += 1;
+    }
+    g
+}

@@ -1,0 +1,61 @@
+// The controller's table of case 8, and the same with one entry changed.
+ghost use mathlib.Core.Path.{_≡_};
+ghost use Prim.Native.Nat.{_<_};
+ghost use lib.ListN.{length};
+
+pub const NONE: u16 = 65535;
+
+// Starts, then rows by output, counter and input. An entry is next output + 64 × next counter.
+pub const EIGHT: [u16; 30] = [
+    0,
+    NONE,
+    NONE,
+    1,
+    1,
+    2,
+    65,
+    129,
+    66,
+    129,
+    1,
+    130,
+    0,
+    64,
+    0,
+    64,
+    64,
+    64,
+    128,
+    64,
+    128,
+    NONE,
+    NONE,
+    2,
+    NONE,
+    NONE,
+    2,
+    NONE,
+    NONE,
+    2,
+];
+
+pub fn with(k: usize, entry: u16) -> [u16; 30]
+    requires { ⌜ k < 30 ⌝ }
+    ensures { λ r. ⌜ length r ≡ 30 ⌝ }
+{
+    let mut t = EIGHT;
+    t[k] = entry;
+    t
+}
+
+// One entry more.
+pub fn longer() -> [u16; 31] {
+    let t = EIGHT;
+    let mut r = [NONE; 31];
+    let mut k = 0;
+    while k < 30 {
+        r[k] = t[k];
+        k += 1;
+    }
+    r
+}
