@@ -25,6 +25,7 @@ use Rattle.theory.specs.Entries.{answer, controllerCounters, controllerEntries,
 use Rattle.demands.specs.Demands.{controllerOf}
 use Rattle.sizes.proofs.Lengths.{controller-most}
 use Rattle.player.specs.declared.Position.{Position}
+use Rattle.player.specs.declared.rows.RowIndex.{RowIndex}
 use Rattle.player.specs.declared.Played.{Played}
 use Rattle.player.specs.declared.Played.the-variants.{At, Refused}
 use Rattle.player.specs.Rows.{rowEntry}
@@ -53,21 +54,21 @@ module _ (M : ℕ) (ok : ℕ → Bool) (i : InState) (e : ℕ) where
   unfolding answer
   some h = rw (ne-eqb e 65535 h, answer)
 
-  unfoldable place : Played
-  place = At (record { input = i; output = record { 0 = e % 64 }; counter = e / 64 })
+  unfoldable there : Played
+  there = At (record { input = i; output = record { 0 = e % 64 }; counter = e / 64 })
 
   pub arrive-counter : (e ≡ 65535 → ⊥) → M ≤ e / 64 → Refused 15 ≡ arrives M ok i (answer e)
-  unfolding arrives place
-  arrive-counter h b = refused 15 place (and-false-left (ok (e % 64)) (le-ltb (e / 64) M b)) ∙ ap (arrives M ok i) (some h)
+  unfolding arrives there
+  arrive-counter h b = refused 15 there (and-false-left (ok (e % 64)) (le-ltb (e / 64) M b)) ∙ ap (arrives M ok i) (some h)
 
   pub arrive-output : (e ≡ 65535 → ⊥) → e / 64 < M → ok (e % 64) ≡ false → Refused 15 ≡ arrives M ok i (answer e)
-  unfolding arrives place
-  arrive-output h b f = refused 15 place (and-false-right (ltb (e / 64) M) f) ∙ ap (arrives M ok i) (some h)
+  unfolding arrives there
+  arrive-output h b f = refused 15 there (and-false-right (ltb (e / 64) M) f) ∙ ap (arrives M ok i) (some h)
 
   pub arrive-at : (e ≡ 65535 → ⊥) → e / 64 < M → ok (e % 64) ≡ true
       → At (record { input = i; output = record { 0 = e % 64 }; counter = e / 64 }) ≡ arrives M ok i (answer e)
-  unfolding arrives place
-  arrive-at h b f = held 15 place (and-intro (lt-ltb (e / 64) M b) f) ∙ ap (arrives M ok i) (some h)
+  unfolding arrives there
+  arrive-at h b f = held 15 there (and-intro (lt-ltb (e / 64) M b) f) ∙ ap (arrives M ok i) (some h)
 
 -- ---- the beginning
 
@@ -152,12 +153,12 @@ module _ (g : Game) (l : List ℕ) (p : Position) (j : InState) where
     stepped-position h =
         refused 16 placed (and-false-right (fitting g l) (ap (λ (k : ℕ). hasPosition g k p) (sym m) ∙ h))
 
-    in-place : fitting g l ≡ true → hasPosition g M p ≡ true → (fitting g l && hasPosition g (controllerCounters (separatedOf g)) p) ≡ true
-    in-place f h = and-intro f (ap (λ (k : ℕ). hasPosition g k p) (sym m) ∙ h)
+    both-hold : fitting g l ≡ true → hasPosition g M p ≡ true → (fitting g l && hasPosition g (controllerCounters (separatedOf g)) p) ≡ true
+    both-hold f h = and-intro f (ap (λ (k : ℕ). hasPosition g k p) (sym m) ∙ h)
 
     pub stepped-input : fitting g l ≡ true → hasPosition g M p ≡ true → edge (graphOf (g .input)) (p .input .0) (j .0) ≡ false → Refused 14 ≡ stepped g l p j
     unfolding stepped placed answered
-    stepped-input f h b = refused 14 answered b ∙ held 16 placed (in-place f h)
+    stepped-input f h b = refused 14 answered b ∙ held 16 placed (both-hold f h)
 
     -- the row that is read is the table's
     row-of : acceptance g ≡ acceptance·.Accepted → hasPosition g M p ≡ true → edge (graphOf (g .input)) (p .input .0) (j .0) ≡ true
@@ -174,17 +175,18 @@ module _ (g : Game) (l : List ℕ) (p : Position) (j : InState) where
 
     pub stepped-at : acceptance g ≡ acceptance·.Accepted → fitting g l ≡ true → hasPosition g M p ≡ true
         → edge (graphOf (g .input)) (p .input .0) (j .0) ≡ true
-        → (e : ℕ) (x : OutSet) (r : Played) → e ≡ rowEntry l (g .input .states) M (p .output .0) (p .counter) (j .0) → x ≡ outMoves g (p .output)
+        → (w : RowIndex) (e : ℕ) (x : OutSet) (r : Played) → w ≡ record { output = p .output; counter = p .counter; input = j }
+        → e ≡ rowEntry l (g .input .states) M (w .output .0) (w .counter) (w .input .0) → x ≡ outMoves g (p .output)
         → r ≡ arrives M (has (x .0)) j (answer e) → r ≡ stepped g l p j
     unfolding stepped placed answered
-    stepped-at a f h b e x r q t s =
+    stepped-at a f h b w e x r z q t s =
         s
         ∙ ap (λ (y : OutSet). arrives M (has (y .0)) j (answer e)) t
         ∙ ap (λ (k : ℕ). arrives k (has (getD (g .output .moves) (p .output .0) 0)) j (answer e)) m
         ∙ ap (λ (ok : ℕ → Bool). arrives (controllerCounters (separatedOf g)) ok j (answer e)) (output-moves g a (p .output .0) (position-in g M p h .1))
-        ∙ ap (arrives (controllerCounters (separatedOf g)) (edge (graphOf (g .output)) (p .output .0)) j) (ap answer q ∙ row-of a h b)
+        ∙ ap (arrives (controllerCounters (separatedOf g)) (edge (graphOf (g .output)) (p .output .0)) j) (ap answer (q ∙ ap (λ (y : RowIndex). rowEntry l (g .input .states) M (y .output .0) (y .counter) (y .input .0)) z) ∙ row-of a h b)
         ∙ held 14 answered b
-        ∙ held 16 placed (in-place f h)
+        ∙ held 16 placed (both-hold f h)
 
 -- ---- acceptance first
 

@@ -2,9 +2,9 @@
 --
 --   first-of      : the position that begin gives is a first configuration of the table
 --   turn-of       : the position that step gives is made by a turn of the table
---   walk-of       : so the positions of a run are a walk, whatever the table
+--   ran           : so the positions of a run are a walk from a first configuration, whatever the table
 --   wins-run      : with a table that wins, a player begun with an initial input and stepped with moves is never refused
---   round-meets   : and where it comes back to a position, what it passed meets all requirements
+--   cycle-meets   : and where it comes back to a position, what it passed meets all requirements
 use Prim.Native.Nat.{ℕ}
 use mathlib.Core.Path.{_≡_, refl, sym, _∙_, ap, subst}
 use mathlib.Core.Bool.{true}
@@ -35,7 +35,7 @@ use Rattle.player.specs.declared.Position.{Position}
 use Rattle.player.specs.declared.Played.{Played}
 use Rattle.player.specs.declared.Played.the-variants.{At, Refused}
 use Rattle.player.specs.Player.{provided, arrives, fitting, hasPosition, begun, stepped, beginning, stepping}
-use Rattle.player.specs.Runs.{configuration, along, next, runOf, placeOf, trailOf, run, trail, Reached, Ran}
+use Rattle.player.specs.Runs.{configuration, along, next, runOf, positionOf, trailOf, run, trail, Reached, Ran}
 use Rattle.player.proofs.Answers.{held, counter-last, beginning-accepted, stepping-accepted}
 use Rattle.player.proofs.Inverse.{arrives-some, began, turned}
 
@@ -69,7 +69,7 @@ module _ (g : Game) (l : List ℕ) where
   alone p = record { walk = stay; passes = refl }
 
   pub walk-of : (js : List InState) (p q : Position) → runOf g l js (At p) ≡ At q → Passes (trailOf g l js (At p)) p q
-  unfolding runOf trailOf placeOf next passed
+  unfolding runOf trailOf positionOf next passed
   walk-of [] p q e = let h : p ≡ q = cc in subst (Passes (p ∷ []) p) h (alone p)
   walk-of (j ∷ js) p q e = go (stepping g l p j) refl e (walk-of js)
     where
@@ -83,16 +83,35 @@ module _ (g : Game) (l : List ℕ) where
           }
       go (Refused n) d f rec = absurd (let z : _≡_ {A = ℕ} 0 1 = cc (ended g l js n) in omega arith)
 
-  -- what a player comes to is reachable
-  pub reached : (i : InState) (js : List InState) (q : Position) → run g l i js ≡ At q
-      → Reached g l q
+  ran-from : (i : InState) (js : List InState) (p q : Position) → beginning g l i ≡ At p → runOf g l js (At p) ≡ At q → Ran g l i js
+  unfolding run trail
+  ran-from i js p q b e =
+      let w = walk-of js p q e in
+      record {
+        first = p;
+        last = q;
+        starts = first-of i p b;
+        ends = ap (runOf g l js) b ∙ e;
+        walk = w .walk;
+        passes = w .passes ∙ ap (λ (x : Played). map configuration (trailOf g l js x)) (sym b);
+      }
+
+  -- Whatever the table: the positions of a run that is not refused are a walk of it from a first configuration.
+  pub ran : (i : InState) (js : List InState) (q : Position) → run g l i js ≡ At q → Ran g l i js
   unfolding run
-  reached i js q e = go (beginning g l i) refl e
+  ran i js q e = go (beginning g l i) refl e
     where
-      go : (x : Played) → beginning g l i ≡ x → runOf g l js x ≡ At q
-          → Reached g l q
-      go (At p) d f = record { origin = configuration p; first = first-of i p d; walk = walk-of js p q f .walk }
+      go : (x : Played) → beginning g l i ≡ x → runOf g l js x ≡ At q → Ran g l i js
+      go (At p) d f = ran-from i js p q d f
       go (Refused n) d f = absurd (let z : _≡_ {A = ℕ} 0 1 = cc (ended g l js n) in omega arith)
+
+  -- what a player comes to is reachable
+  pub reached : (i : InState) (js : List InState) (q : Position) → run g l i js ≡ At q → Reached g l q
+  unfolding run
+  reached i js q e =
+      let v = ran i js q e in
+      let h : v .last ≡ q = cc (v .ends, e) in
+      subst (Reached g l) h (record { origin = configuration (v .first); first = v .starts; walk = v .walk })
 
   module _ (a : acceptance g ≡ Accepted) (f : fitting g l ≡ true) (W : ControllerWins (playOf g) (controllerOf g l)) where
     pub wins-begin : (i : InState) → begins (graphOf (g .input)) (i .0) ≡ true → (p : Position) × (beginning g l i ≡ At p)
@@ -147,35 +166,26 @@ module _ (g : Game) (l : List ℕ) where
     -- The theorem over runs: begun with an initial input and stepped with moves, a player whose table wins is never refused, and the positions that it
     -- passes are a walk of that table from a first configuration.
     pub wins-run : (i : InState) (js : List InState) → begins (graphOf (g .input)) (i .0) ≡ true → along g (i .0) js ≡ true → Ran g l i js
-    unfolding run trail
     wins-run i js b h =
         let v = wins-begin i b in
         let s = began g l i (v .0) (v .1) in
         let first = first-of i (v .0) (v .1) in
         let w = wins-on js (v .0) (record { origin = configuration (v .0); first = first; walk = stay })
         (ap (λ (k : InState). along g (k .0) js) (s .arrived .input) ∙ h) in
-        let u = walk-of js (v .0) (w .0) (w .1) in
-        record {
-          first = v .0;
-          last = w .0;
-          starts = first;
-          ends = ap (runOf g l js) (v .1) ∙ w .1;
-          walk = u .walk;
-          passes = u .passes ∙ ap (λ (x : Played). map configuration (trailOf g l js x)) (sym (v .1));
-        }
+        ran-from i js (v .0) (w .0) (v .1) (w .1)
 
-    -- What demand 3 says of rounds holds of what the player does: where it comes back to a position, the positions that it passed meet all requirements.
-    pub round-meets : (i : InState) (js : List InState) (p : Position) → run g l i js ≡ At p
+    -- What demand 3 says of cycles holds of what the player does: where it comes back to a position, the positions that it passed meet all requirements.
+    pub cycle-meets : (i : InState) (js : List InState) (p : Position) → run g l i js ≡ At p
         → (j : InState) (ks : List InState) → runOf g l (j ∷ ks) (At p) ≡ At p
         → allOf (λ q. meets q (map configuration (trailOf g l (j ∷ ks) (At p)))) (playOf g .requirements) ≡ true
-    unfolding runOf trailOf placeOf next configurations
-    round-meets i js p e j ks back = go (stepping g l p j) refl back
+    unfolding runOf trailOf positionOf next configurations
+    cycle-meets i js p e j ks back = go (stepping g l p j) refl back
       where
         go : (x : Played) → stepping g l p j ≡ x → runOf g l ks x ≡ At p
             → allOf (λ q. meets q (map configuration (p ∷ trailOf g l ks (stepping g l p j)))) (playOf g .requirements) ≡ true
         go (At r) d h =
             let w = walk-of ks r p h in
-            let round : Cycle (ControllerFirst (playOf g) (controllerOf g l)) (ControllerTurn (playOf g) (controllerOf g l)) = record {
+            let cycle : Cycle (ControllerFirst (playOf g) (controllerOf g l)) (ControllerTurn (playOf g) (controllerOf g l)) = record {
               at = configuration p;
               next = configuration r;
               last = configuration p;
@@ -186,7 +196,7 @@ module _ (g : Game) (l : List ℕ) where
             } in
             ap (λ (x : Played). allOf (λ q. meets q (map configuration (p ∷ trailOf g l ks x))) (playOf g .requirements)) d
             ∙ ap (λ (cs : List Configuration). allOf (λ q. meets q (configuration p ∷ cs)) (playOf g .requirements)) (sym (w .passes))
-            ∙ W .rounds round
+            ∙ W .rounds cycle
         go (Refused n) d h = absurd (let z : _≡_ {A = ℕ} 0 1 = cc (ended g l ks n) in omega arith)
 
 -- The solver's front: where the verdict names the system, its table's entries are such a table.

@@ -1,4 +1,4 @@
--- What the contracts of the player cite.
+-- What the contracts of the player cite, and its runs.
 pub mod Rows
 pub mod Player
 pub mod Runs

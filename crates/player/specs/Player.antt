@@ -85,5 +85,5 @@ movedOf old (Refused n) = record { at = old; code = n }
 
 -- What the step in place leaves: "each accepted input moves that place on", and a refusal leaves it as it was.
 pub record Advanced (old : Position) (answer : Played) (new : Position) (code : ℕ) : Type 0 where
-  pub place : new ≡ movedOf old answer .at
+  pub position : new ≡ movedOf old answer .at
   pub number : code ≡ movedOf old answer .code

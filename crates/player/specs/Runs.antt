@@ -4,7 +4,7 @@
 --   along g i js       == the inputs js are moves, the first from input i
 --   next g l a j       == the answer to input j after the answer a: a refusal ends the run
 --   runOf g l js a     == the player's last answer, from the answer a on, over the inputs js
---   placeOf a          == the position that the answer a gives, if it gives one
+--   positionOf a       == the position that the answer a gives, if it gives one
 --   trailOf g l js a   == the positions that it passes
 --   run g l i js       == the last answer of a player begun with input i and stepped with js
 --   trail g l i js     == the positions that it passes
@@ -44,13 +44,13 @@ runOf g l [] a = a
 runOf g l (j ∷ js) a = runOf g l js (next g l a j)
 
 -- the position that an answer gives
-unfoldable pub placeOf : Played → List Position
-placeOf (At p) = p ∷ []
-placeOf (Refused n) = []
+unfoldable pub positionOf : Played → List Position
+positionOf (At p) = p ∷ []
+positionOf (Refused n) = []
 
 unfoldable pub trailOf : Game → List ℕ → List InState → Played → List Position
-trailOf g l [] a = placeOf a
-trailOf g l (j ∷ js) a = placeOf a ++ trailOf g l js (next g l a j)
+trailOf g l [] a = positionOf a
+trailOf g l (j ∷ js) a = positionOf a ++ trailOf g l js (next g l a j)
 
 unfoldable pub run : Game → List ℕ → InState → List InState → Played
 run g l i js = runOf g l js (beginning g l i)

@@ -32,6 +32,12 @@ pub enum Played {
     Refused(u8),
 }
 
+// A position, and a refusal's code or 0.
+pub struct Moved {
+    pub at: Position,
+    pub code: u8,
+}
+
 // Whether s is below n and belongs to x.
 fn holds(x: u64, n: usize, s: usize) -> bool
     requires { ⌜ n ≤ 64 ⌝ }
@@ -75,6 +81,18 @@ fn has_position(g: Game, counters: usize, at: Position) -> bool
     at.counter < counters
 }
 
+// The row that answers the next input.
+fn row_of(at: Position, next: InState) -> RowIndex
+    ensures { λ r. ⌜ r ≡ record { output = at .output; counter = at .counter; input = next } ⌝ }
+{
+    let output = at.output;
+    RowIndex {
+        output,
+        counter: at.counter,
+        input: next,
+    }
+}
+
 // The position that an entry gives after an input, the outputs allowed being those of a set.
 fn arrive(counters: usize, allowed: OutSet, input: InState, entry: u16) -> Played
     ensures { λ r. ⌜ r ≡ arrives counters (has (allowed .0)) input (answer entry) ⌝ }
@@ -95,12 +113,6 @@ fn arrive(counters: usize, allowed: OutSet, input: InState, entry: u16) -> Playe
         output: OutState(state),
         counter,
     })
-}
-
-// The position that an answer gives, or else the old one, and its code: 0 for a position.
-pub struct Moved {
-    pub at: Position,
-    pub code: u8,
 }
 
 // The first position of an accepted game.
@@ -138,14 +150,8 @@ fn step_accepted(g: Game, table: &[u16], at: Position, next: InState) -> Played
     if !moves_to(g, at.input, next) {
         return Played::Refused(14);
     }
-    let output = at.output;
-    let row = RowIndex {
-        output,
-        counter: at.counter,
-        input: next,
-    };
-    let entry = rows::read(table, g.input.states, counters, row);
-    arrive(counters, game::out_moves(g, output), next, entry)
+    let entry = rows::read(table, g.input.states, counters, row_of(at, next));
+    arrive(counters, game::out_moves(g, at.output), next, entry)
 }
 
 // The first position: `first` with the output and the counter that the table's start gives.

@@ -14,7 +14,7 @@ mod runs; // runs.rt: runs of a player
 mod show; // show.rt: the line of a case
 mod tables; // tables.rt: the tables
 
-fn place(input: usize, output: usize, counter: usize) -> Position {
+fn position(input: usize, output: usize, counter: usize) -> Position {
     Position {
         input: InState(input),
         output: OutState(output),
@@ -80,7 +80,7 @@ fn steps_longer(name: &[u8]) {
     let t = tables::longer();
     show(
         name,
-        player::step(games::eight(), &t, place(0, 0, 0), InState(1)),
+        player::step(games::eight(), &t, position(0, 0, 0), InState(1)),
     );
 }
 
@@ -88,48 +88,55 @@ fn lengths() {
     begins(b"begin on a short table", 29, 1, NONE, 0);
     begins_longer(b"begin on a long table");
     begins(b"begin on an empty table", 0, 1, NONE, 0);
-    steps(b"step on a short table", 29, 1, NONE, place(0, 0, 0), 1);
+    steps(b"step on a short table", 29, 1, NONE, position(0, 0, 0), 1);
     steps_longer(b"step on a long table");
-    steps(b"step on an empty table", 0, 1, NONE, place(0, 0, 0), 1);
+    steps(b"step on an empty table", 0, 1, NONE, position(0, 0, 0), 1);
 }
 
 fn moves() {
-    steps_whole(b"step to input 1", place(0, 0, 0), 1);
-    steps_whole(b"step to input 2", place(0, 0, 0), 2);
-    steps_whole(b"step from input 1", place(1, 1, 2), 1);
-    steps_whole(b"step to an input that is no move", place(0, 0, 0), 0);
-    steps_whole(b"step to input 3 of 3", place(0, 0, 0), 3);
-    steps_whole(b"step to input 64", place(0, 0, 0), 64);
+    steps_whole(b"step to input 1", position(0, 0, 0), 1);
+    steps_whole(b"step to input 2", position(0, 0, 0), 2);
+    steps_whole(b"step from input 1", position(1, 1, 2), 1);
+    steps_whole(b"step to an input that is no move", position(0, 0, 0), 0);
+    steps_whole(b"step to input 3 of 3", position(0, 0, 0), 3);
+    steps_whole(b"step to input 64", position(0, 0, 0), 64);
     steps_whole(
         b"step to the largest number",
-        place(0, 0, 0),
+        position(0, 0, 0),
         0xffff_ffff_ffff_ffff,
     );
 }
 
-fn places() {
-    steps_whole(b"input 3 of 3 in the position", place(3, 0, 0), 1);
-    steps_whole(b"output 3 of 3 in the position", place(0, 3, 0), 1);
-    steps_whole(b"counter 3 of 3 in the position", place(0, 0, 3), 1);
-    steps_whole(b"input 64 in the position", place(64, 0, 0), 1);
-    steps_whole(b"output 64 in the position", place(0, 64, 0), 1);
+fn positions() {
+    steps_whole(b"input 3 of 3 in the position", position(3, 0, 0), 1);
+    steps_whole(b"output 3 of 3 in the position", position(0, 3, 0), 1);
+    steps_whole(b"counter 3 of 3 in the position", position(0, 0, 3), 1);
+    steps_whole(b"input 64 in the position", position(64, 0, 0), 1);
+    steps_whole(b"output 64 in the position", position(0, 64, 0), 1);
     steps_whole(
         b"largest counter in the position",
-        place(0, 0, 0xffff_ffff_ffff_ffff),
+        position(0, 0, 0xffff_ffff_ffff_ffff),
         1,
     );
 }
 
 // The row of output 0, counter 0 and input 1 is entry 4.
 fn rows() {
-    steps(b"row of none", 30, 4, NONE, place(0, 0, 0), 1);
-    steps(b"row with the last counter", 30, 4, 129, place(0, 0, 0), 1);
+    steps(b"row of none", 30, 4, NONE, position(0, 0, 0), 1);
+    steps(
+        b"row with the last counter",
+        30,
+        4,
+        129,
+        position(0, 0, 0),
+        1,
+    );
     steps(
         b"row with a counter out of range",
         30,
         4,
         193,
-        place(0, 0, 0),
+        position(0, 0, 0),
         1,
     );
     steps(
@@ -137,17 +144,17 @@ fn rows() {
         30,
         4,
         0,
-        place(0, 0, 0),
+        position(0, 0, 0),
         1,
     );
-    steps(b"row with output 3 of 3", 30, 4, 3, place(0, 0, 0), 1);
-    steps(b"row with output 63", 30, 4, 63, place(0, 0, 0), 1);
+    steps(b"row with output 3 of 3", 30, 4, 3, position(0, 0, 0), 1);
+    steps(b"row with output 63", 30, 4, 63, position(0, 0, 0), 1);
     steps(
         b"row of none for another input",
         30,
         5,
         NONE,
-        place(0, 0, 0),
+        position(0, 0, 0),
         1,
     );
     steps(
@@ -155,7 +162,7 @@ fn rows() {
         30,
         7,
         NONE,
-        place(0, 0, 0),
+        position(0, 0, 0),
         1,
     );
     steps(
@@ -163,7 +170,7 @@ fn rows() {
         30,
         13,
         NONE,
-        place(0, 0, 0),
+        position(0, 0, 0),
         1,
     );
 }
@@ -172,10 +179,10 @@ fn rows() {
 fn order() {
     begins(b"length before input, at the start", 29, 1, NONE, 1);
     begins(b"input before row, at the start", 30, 1, NONE, 1);
-    steps(b"length before input", 29, 1, NONE, place(0, 0, 0), 0);
-    steps(b"position before input", 30, 1, NONE, place(0, 0, 3), 0);
-    steps(b"position before row", 30, 4, NONE, place(3, 0, 0), 1);
-    steps(b"input before row", 30, 3, NONE, place(0, 0, 0), 0);
+    steps(b"length before input", 29, 1, NONE, position(0, 0, 0), 0);
+    steps(b"position before input", 30, 1, NONE, position(0, 0, 3), 0);
+    steps(b"position before row", 30, 4, NONE, position(3, 0, 0), 1);
+    steps(b"input before row", 30, 3, NONE, position(0, 0, 0), 0);
 }
 
 // A fault of the game alone, and with every later fault of game, table, position and input.
@@ -185,7 +192,7 @@ fn refused(n: usize) {
     show(b"begin in a refused game", player::begin(g, &t, InState(0)));
     show(
         b"step in a refused game",
-        player::step(g, &t, place(0, 0, 0), InState(1)),
+        player::step(g, &t, position(0, 0, 0), InState(1)),
     );
     let f = games::faults(n);
     show(
@@ -194,7 +201,7 @@ fn refused(n: usize) {
     );
     show(
         b"step with all later faults",
-        player::step(f, &t[..29], place(3, 0, 0), InState(0)),
+        player::step(f, &t[..29], position(3, 0, 0), InState(0)),
     );
 }
 
@@ -235,7 +242,7 @@ fn main() {
     starts();
     lengths();
     moves();
-    places();
+    positions();
     rows();
     order();
     refusals();

@@ -82,16 +82,16 @@ fn begins(lo: usize, hi: usize, v: usize) -> bool
     meets(lo, hi, 100 * v, 100 * v + 99)
 }
 
-// Whether the byte b may follow the digits of v.
-fn extends(lo: usize, hi: usize, v: usize, b: usize) -> bool
-    requires { ⌜ v < 1000 ⌝ }
-    ensures { λ r. ⌜ r ≡ further lo hi v b ⌝ }
+// Whether the byte b may follow the digits of front.
+fn extends(lo: usize, hi: usize, front: usize, b: usize) -> bool
+    requires { ⌜ front < 1000 ⌝ }
+    ensures { λ r. ⌜ r ≡ further lo hi front b ⌝ }
 {
-    if v == 0 {
+    if front == 0 {
         return false;
     }
     if is_digit(b) {
-        return begins(lo, hi, 10 * v + (b - 48));
+        return begins(lo, hi, 10 * front + (b - 48));
     }
     false
 }

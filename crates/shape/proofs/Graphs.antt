@@ -215,7 +215,7 @@ empty-sets =
     record {
       most = omega arith;
       all = refl;
-      set = λ i. ap (λ (x : ℕ). within x 64) (blank-replicate 0 0 4 i (omega arith)) ∙ zero-within 64;
+      each = λ i. ap (λ (x : ℕ). within x 64) (blank-replicate 0 0 4 i (omega arith)) ∙ zero-within 64;
       unused = blank-replicate 0 0 4;
     }
 

@@ -161,7 +161,7 @@ sets-complete (suc n) (suc m) a b O S R =
     let whole : items true (map setText (cells (suc m) (a .count) (b .words))) ++ 41 ∷ [] ≡ 32 ∷ (setText x ++ u) =
     ap (λ (ws : List ℕ). items true (map setText ws) ++ 41 ∷ []) next ∙ item-text true (setText x) (map setText (cells m (suc (a .count)) (b .words))) in
     let rest : TextOf (k x) u b = sets-complete n m (push a x) b (open-push n a x O) S (rest-push n m a b O R) in
-    let one = bind-text setFormat k (setText x) u x b (set-complete x (S .set (a .count))) rest in
+    let one = bind-text setFormat k (setText x) u x b (set-complete x (S .each (a .count))) rest in
     let blank = lit-text 32 (bind setFormat k) (setText x ++ u) b one in
     subst (λ (l : List ℕ). TextOf (alt 41 (done a) (lit 32 (bind setFormat k))) l b) (sym whole)
     (alt-right 41 (done a) (lit 32 (bind setFormat k)) (32 ∷ (setText x ++ u)) b (opens-lit 32 (bind setFormat k) 41) blank (lit-node 32 (bind setFormat k)))
@@ -198,7 +198,7 @@ unfolding noSets setsText bracket
 longer-shaped t u b e L =
     let c : 0 + L .more ≡ b .count = L .count in
     let m : L .more ≡ b .count = omega arith in (
-      record { most = L .most; all = L .places; set = λ i. L .sets i (omega arith); unused = L .blank },
+      record { most = L .most; all = L .places; each = λ i. L .sets i (omega arith); unused = L .blank },
       e ∙ ap (λ (l : List ℕ). 40 ∷ l) (L .text) ∙ ap (λ (n : ℕ). 40 ∷ (items false (map setText (cells n 0 (b .words))) ++ 41 ∷ [])) m,
     )
 
@@ -243,7 +243,7 @@ list-rest (suc m) b e S =
     let rest : TextOf (k x) u b = sets-complete 3 m (push noSets x) b (open-push 3 noSets x no-sets-open) S (rest-push 3 m noSets b no-sets-open R) in
     subst (λ (l : List ℕ). TextOf (alt 41 (done noSets) (bind setFormat k)) l b) (sym whole)
     (alt-right 41 (done noSets) (bind setFormat k) (setText x ++ u) b (opens-bind setFormat k 41 set-node ∙ opens-set)
-    (bind-text setFormat k (setText x) u x b (set-complete x (S .set 0)) rest) (bind-node setFormat k set-node))
+    (bind-text setFormat k (setText x) u x b (set-complete x (S .each 0)) rest) (bind-node setFormat k set-node))
 
 pub list-complete : (b : Sets) → ShapedSets (b .count) (b .words) → TextOf setsFormat (setsText (b .count) (b .words)) b
 unfolding setsFormat setsText bracket

@@ -140,7 +140,7 @@ pub record ShapedGraph (h : Graph) : Type 0 where
 pub record ShapedSets (n : ℕ) (xs : List ℕ) : Type 0 where
   pub most : n ≤ 4
   pub all : length xs ≡ 4
-  pub set : (i : ℕ) → within (getD xs i 0) 64 ≡ true
+  pub each : (i : ℕ) → within (getD xs i 0) 64 ≡ true
   pub unused : (i : ℕ) → n ≤ i → getD xs i 0 ≡ 0
 
 pub record ShapedRequirement (q : Requirement) : Type 0 where

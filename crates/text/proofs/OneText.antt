@@ -70,7 +70,7 @@ sets-shaped n a ws m h l below past =
     record {
       most = h;
       all = l;
-      set = λ j. by-cases (ltb j n)
+      each = λ j. by-cases (ltb j n)
           (λ b. has-within (getD ws j 0) 64 (λ s t. let q = below j s (ltb-true j n b) t in omega arith))
           (λ b. ap (λ (x : ℕ). within x 64) (rest j (ltb-false j n b)) ∙ zero-within 64);
       unused = rest;

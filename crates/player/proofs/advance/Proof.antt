@@ -125,7 +125,7 @@ module _ {M : Type 1} (𝓤 : URA M) (H : Heap 𝓤) (A : Atoms 𝓤) (W : Given
   exits m e fits =
       qed W (‵ (fobs γ (P.the-row .coded .code (m .at))) ∷ ‵ (fbor κ′ (Body (mem P.the-row) b o γ)) ∷ ‵ (flft κ′ q′) ∷ (‵ (flft κ q) ⊛ ‵ ftrue) ∷ ‵ OwnS ∷ []) ∵
       suffices ! _ (ends-at 𝓤 H A advance.ended stayed (advance.clauses 𝓤 H A at-mem run) W ((κs, (q, (q′, tt)), tt, x, at), tt) (vint w8 (m .code)) (m .code) (tt, (tt, (m .at, (tt, tt)))) (tt, (tt, (tt, (tt, tt))))) $
-      says ! (record { place = ap (λ (z : Moved). z .at) e; number = ap (λ (z : Moved). z .code) e }) $
+      says ! (record { position = ap (λ (z : Moved). z .at) e; number = ap (λ (z : Moved). z .code) e }) $
       -- [obs; the borrow; 'b's token; 'a's token and true; what the slice owns]
       move ! (3 ∷ []) $ split ! $ move ! (4 ∷ 1 ∷ []) $ join ! $ move ! (1 ∷ 0 ∷ []) $ join ! $ frame ! $
       feqI ! (List Val) (vptr b o ∷ []) (vptr b o ∷ []) refl $ fjoin3 ! $ nothing ! $ owned ! N.the-row (Is N.the-row) ((LL.makes N.the-type N′.the-plain) 𝓤 H A) n _ isn $ fjoin ! $ move ! (1 ∷ 0 ∷ []) $ fjoin ! $

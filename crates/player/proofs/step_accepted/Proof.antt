@@ -32,6 +32,9 @@ returns-3 c =
     stepped-input _ _ _ _ _ (b .before .before .controller-counters .ensures) (fits _ _ _ (b .before .before .before .before .controller-length .ensures) (b .before .before .before .if1 .left))
     (passed (b .before .has-position .ensures) (b .if2 .left)) (failed (c .before .moves-to .ensures) (c .if3 .taken))
 
+row-of-requires : tie.Need-row-of-requires
+row-of-requires c κs = search needs
+
 read-requires : tie.Need-read-requires
 read-requires c κs = search needs
 
@@ -48,7 +51,7 @@ returns-4 c =
     let b = c .before .before .before .before .before .before in
     stepped-at _ _ _ _ _ (b .before .before .controller-counters .ensures) (b .before .before .before .before .before .before .pre) (fits _ _ _ (b .before .before .before .before .controller-length .ensures) (b .before .before .before .if1 .left))
     (passed (b .before .has-position .ensures) (b .if2 .left)) (passed (c .before .before .before .before .before .moves-to .ensures) (c .before .before .before .before .if3 .left))
-    _ _ _ (c .before .before .read .ensures) (c .before .out-moves .ensures) (c .arrive .ensures)
+    _ _ _ _ (c .before .before .before .row-of .ensures) (c .before .before .read .ensures) (c .before .out-moves .ensures) (c .arrive .ensures)
 
 pub step-accepted-spec : {M : Type 1} → statement M
 step-accepted-spec =
@@ -61,6 +64,7 @@ step-accepted-spec =
     returns-2
     moves-to-requires
     returns-3
+    row-of-requires
     read-requires
     out-moves-requires
     arrive-requires

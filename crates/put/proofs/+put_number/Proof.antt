@@ -1,17 +1,18 @@
-use Rattle.grammar.proofs.Number.{decimal-one, decimal-step}
+-- `put_number` meets its contract.
 use borrow.Author.Needs.{needs}
-use Rattle.put.proofs.Buffer.{remains-all, remains-step, remains-none, remains-room, put-in, put-past, puts-then, puts-as, puts-length, number-room, digit-room}
-use mathlib.Core.Path.{_≡_, refl, sym, _∙_, ap}
+use mathlib.Core.Path.{sym, _∙_}
 use native.Mathlib.Omega.{arith}
 use Prim.Native.Nat.{ℕ, _<_}
 use borrow.Fn.Kinds.{In}
 use borrow.Fn.PlainCycle.{Measures, is, falls, and}
+use Rattle.grammar.proofs.Number.{decimal-one, decimal-step}
+use Rattle.put.proofs.Buffer.{puts-then, puts-as, puts-length, number-room, digit-room}
+use Rattle.put.proofs.+put_number.{statement}
+use Rattle.put.proofs.+put_number.Tie.{close}
 use Rattle.put.proofs.put_number.Reads as put-number
 use Rattle.put.proofs.put_number.Kinds as put-number-kinds
 use Rattle.put.proofs.+put_number.Lts-put_number as put-number-lts
 use Rattle.put.proofs.put_byte.Reads as put-byte-reads
-use Rattle.put.proofs.+put_number.{statement}
-use Rattle.put.proofs.+put_number.Tie.{close}
 
 abbrev μ-put-number : Measures 1 put-number-kinds.ps ℕ
 μ-put-number κs a = a .1 .1 .0

@@ -1,6 +1,7 @@
-use Rattle.finite.specs.Bounded.{one}
-use mathlib.Core.Path.{_≡_, refl, sym, _∙_, ap}
+-- `flag` meets its contract.
+use mathlib.Core.Path.{sym, _∙_, ap}
 use borrow.Author.Needs.{needs}
+use Rattle.finite.specs.Bounded.{one}
 use Rattle.put.proofs.flag.Statement.{statement}
 use Rattle.put.proofs.flag.Tie as tie
 

@@ -1,5 +1,6 @@
-use Rattle.put.proofs.Buffer.{remains-all, remains-step, remains-none, remains-room, put-in, put-past, puts-then, puts-as, puts-length, number-room, digit-room}
+-- `put_end` meets its contract.
 use borrow.Author.Needs.{needs}
+use Rattle.put.proofs.Buffer.{puts-then}
 use Rattle.put.proofs.put_end.Statement.{statement}
 use Rattle.put.proofs.put_end.Tie as tie
 

@@ -1,8 +1,9 @@
-use Rattle.put.proofs.Pieces.{game-length}
-use Rattle.shape.specs.Text.{gameText}
-use Rattle.put.proofs.Buffer.{remains-all, remains-step, remains-none, remains-room, put-in, put-past, puts-then, puts-as, puts-length, number-room, digit-room}
+-- `put_game` meets its contract.
 use native.Mathlib.Omega.{arith}
 use borrow.Author.Needs.{needs}
+use Rattle.put.proofs.Pieces.{game-length}
+use Rattle.shape.specs.Text.{gameText}
+use Rattle.put.proofs.Buffer.{puts-then}
 use Rattle.put.proofs.put_game.Statement.{statement}
 use Rattle.put.proofs.put_game.Tie as tie
 

@@ -1,16 +1,13 @@
-use Rattle.put.proofs.Pieces.{out-word}
-use Rattle.shape.specs.Text.{outWords}
+-- `put_guarantees` meets its contract. The invariant: what is left, with what is done, makes the whole.
 use lib.ListN.{length}
 use mathlib.Core.List.{[], _∷_}
 use mathlib.Core.Bool.{false}
-use Prim.Native.Nat.{_+_, _-_, _^_, _≤_, _<_}
-use Rattle.put.proofs.Pieces.{member-room, item-room, state-room, requirement-room}
-use Rattle.put.proofs.Pieces.{set-room, sets-room}
-use Rattle.put.proofs.Pieces.{bytes-step, bytes-room, bytes-end, setRest, set-open, set-take, set-skip, set-last, setsRest, sets-open, sets-take, sets-last}
-use Rattle.put.proofs.Buffer.{Remains, remains-as}
-use Rattle.put.proofs.Buffer.{remains-all, remains-step, remains-none, remains-room, put-in, put-past, puts-then, puts-as, puts-length, number-room, digit-room}
-use mathlib.Core.Path.{_≡_, refl, sym, _∙_, ap}
+use Prim.Native.Nat.{_+_, _-_, _^_, _≤_}
+use mathlib.Core.Path.{_≡_, refl, _∙_}
 use native.Mathlib.Omega.{arith}
+use Rattle.put.proofs.Pieces.{out-word, item-room, sets-room, setsRest, sets-open, sets-take, sets-last}
+use Rattle.shape.specs.Text.{outWords}
+use Rattle.put.proofs.Buffer.{Remains, remains-all, remains-step, remains-none, remains-room, puts-then, puts-as, puts-length}
 use Rattle.put.proofs.put_guarantees.Statement.{statement}
 use Rattle.put.proofs.put_guarantees.Tie as tie
 

@@ -1,7 +1,8 @@
-use Rattle.put.proofs.Pieces.{gap-on, gap-off, gap-room, gap-rest, gap-none}
-use Rattle.put.proofs.Buffer.{remains-all, remains-step, remains-none, remains-room, put-in, put-past, puts-then, puts-as, puts-length, number-room, digit-room}
+-- `put_member` meets its contract.
 use native.Mathlib.Omega.{arith}
 use borrow.Author.Needs.{needs}
+use Rattle.put.proofs.Pieces.{gap-on, gap-off, gap-room, gap-rest, gap-none}
+use Rattle.put.proofs.Buffer.{puts-then, puts-as}
 use Rattle.put.proofs.put_member.Statement.{statement}
 use Rattle.put.proofs.put_member.Tie as tie
 

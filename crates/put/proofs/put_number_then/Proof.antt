@@ -1,9 +1,10 @@
-use Rattle.grammar.specs.Number.{decimal}
+-- `put_number_then` meets its contract.
 use mathlib.Core.List.{_∷_, []}
-use lib.ListN.{length, length-append}
-use Rattle.put.proofs.Buffer.{remains-all, remains-step, remains-none, remains-room, put-in, put-past, puts-then, puts-as, puts-length, number-room, digit-room}
+use lib.ListN.{length-append}
 use native.Mathlib.Omega.{arith}
 use borrow.Author.Needs.{needs}
+use Rattle.grammar.specs.Number.{decimal}
+use Rattle.put.proofs.Buffer.{puts-then}
 use Rattle.put.proofs.put_number_then.Statement.{statement}
 use Rattle.put.proofs.put_number_then.Tie as tie
 

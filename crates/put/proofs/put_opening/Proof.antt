@@ -1,13 +1,13 @@
-use Rattle.put.proofs.Buffer.{Remains}
-use Rattle.shape.specs.Shape.{opening}
+-- `put_opening` meets its contract. The invariant: what is left, with what is done, makes the whole.
 use lib.ListN.{length, drop}
 use Prim.Native.Nat.{_+_, _-_, _^_, _≤_, _<_}
+use mathlib.Core.Path.{_≡_}
+use native.Mathlib.Omega.{arith}
+use Rattle.put.proofs.Buffer.{Remains, remains-all, puts-length}
+use Rattle.shape.specs.Shape.{opening}
 use Rattle.shape.proofs.WordTable.{word-short}
 use Rattle.shape.proofs.Opening.{opening-length}
-use Rattle.put.proofs.Pieces.{bytes-step, bytes-room, bytes-end, setRest, set-open, set-take, set-skip, set-last, setsRest, sets-open, sets-take, sets-last}
-use Rattle.put.proofs.Buffer.{remains-all, remains-step, remains-none, remains-room, put-in, put-past, puts-then, puts-as, puts-length, number-room, digit-room}
-use mathlib.Core.Path.{_≡_, refl, sym, _∙_, ap}
-use native.Mathlib.Omega.{arith}
+use Rattle.put.proofs.Pieces.{bytes-step, bytes-room, bytes-end}
 use Rattle.put.proofs.put_opening.Statement.{statement}
 use Rattle.put.proofs.put_opening.Tie as tie
 

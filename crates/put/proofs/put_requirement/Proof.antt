@@ -1,7 +1,8 @@
-use Rattle.put.proofs.Pieces.{header-pieces, header-length, state-pieces, state-length, requirement-pieces, requirement-length}
-use Rattle.put.proofs.Buffer.{remains-all, remains-step, remains-none, remains-room, put-in, put-past, puts-then, puts-as, puts-length, number-room, digit-room}
+-- `put_requirement` meets its contract.
 use native.Mathlib.Omega.{arith}
 use borrow.Author.Needs.{needs}
+use Rattle.put.proofs.Pieces.{requirement-pieces, requirement-length}
+use Rattle.put.proofs.Buffer.{puts-then, puts-as}
 use Rattle.put.proofs.put_requirement.Statement.{statement}
 use Rattle.put.proofs.put_requirement.Tie as tie
 

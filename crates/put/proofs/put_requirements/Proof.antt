@@ -1,14 +1,12 @@
-use Rattle.put.proofs.Pieces.{requirements-none, requirements-take, requirements-last, requirement-past}
+-- `put_requirements` meets its contract. The invariant: what is left, with what is done, makes the whole.
+use lib.ListN.{length}
+use Prim.Native.Nat.{_+_, _-_, _^_, _≤_}
+use mathlib.Core.Path.{_≡_, refl}
+use native.Mathlib.Omega.{arith}
+use Rattle.put.proofs.Pieces.{requirements-none, requirements-take, requirements-last, requirement-past, requirement-room}
 use Rattle.put.specs.Put.{Writable}
 use Rattle.shape.specs.Text.{requirementLines}
-use borrow.Author.Needs.{needs}
-use lib.ListN.{length}
-use Prim.Native.Nat.{_+_, _-_, _^_, _≤_, _<_}
-use Rattle.put.proofs.Pieces.{member-room, item-room, state-room, requirement-room}
-use Rattle.put.proofs.Buffer.{Remains, remains-as}
-use Rattle.put.proofs.Buffer.{remains-all, remains-step, remains-none, remains-room, put-in, put-past, puts-then, puts-as, puts-length, number-room, digit-room}
-use mathlib.Core.Path.{_≡_, refl, sym, _∙_, ap}
-use native.Mathlib.Omega.{arith}
+use Rattle.put.proofs.Buffer.{Remains, remains-as, remains-all, remains-step, remains-none, puts-length}
 use Rattle.put.proofs.put_requirements.Statement.{statement}
 use Rattle.put.proofs.put_requirements.Tie as tie
 

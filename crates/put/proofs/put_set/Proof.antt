@@ -1,14 +1,12 @@
-use Rattle.put.proofs.Pieces.{member-room, item-room, state-room, requirement-room}
+-- `put_set` meets its contract. The invariant: what is left, with what is done, makes the whole.
 use lib.ListN.{length}
 use mathlib.Core.List.{[], _∷_}
 use mathlib.Core.Bool.{false}
-use Prim.Native.Nat.{_+_, _-_, _^_, _≤_, _<_}
-use Rattle.put.proofs.Pieces.{set-room, sets-room}
-use Rattle.put.proofs.Pieces.{bytes-step, bytes-room, bytes-end, setRest, set-open, set-take, set-skip, set-last, setsRest, sets-open, sets-take, sets-last}
-use Rattle.put.proofs.Buffer.{Remains, remains-as}
-use Rattle.put.proofs.Buffer.{remains-all, remains-step, remains-none, remains-room, put-in, put-past, puts-then, puts-as, puts-length, number-room, digit-room}
-use mathlib.Core.Path.{_≡_, refl, sym, _∙_, ap}
+use Prim.Native.Nat.{_+_, _-_, _^_, _≤_}
+use mathlib.Core.Path.{sym, _∙_}
 use native.Mathlib.Omega.{arith}
+use Rattle.put.proofs.Pieces.{member-room, set-room, setRest, set-open, set-take, set-skip, set-last}
+use Rattle.put.proofs.Buffer.{Remains, remains-as, remains-all, remains-step, remains-none, remains-room, puts-then, puts-as, puts-length}
 use Rattle.put.proofs.put_set.Statement.{statement}
 use Rattle.put.proofs.put_set.Tie as tie
 

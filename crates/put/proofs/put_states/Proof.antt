@@ -1,13 +1,11 @@
-use Rattle.put.proofs.Pieces.{states-none, states-take, states-last}
-use Rattle.shape.specs.Text.{stateLines}
-use borrow.Author.Needs.{needs}
+-- `put_states` meets its contract. The invariant: what is left, with what is done, makes the whole.
 use lib.ListN.{length}
 use Prim.Native.Nat.{_+_, _-_, _^_, _≤_, _<_}
-use Rattle.put.proofs.Pieces.{member-room, item-room, state-room, requirement-room}
-use Rattle.put.proofs.Buffer.{Remains, remains-as}
-use Rattle.put.proofs.Buffer.{remains-all, remains-step, remains-none, remains-room, put-in, put-past, puts-then, puts-as, puts-length, number-room, digit-room}
-use mathlib.Core.Path.{_≡_, refl, sym, _∙_, ap}
+use mathlib.Core.Path.{_≡_, refl}
 use native.Mathlib.Omega.{arith}
+use Rattle.put.proofs.Pieces.{states-none, states-take, states-last, state-room}
+use Rattle.shape.specs.Text.{stateLines}
+use Rattle.put.proofs.Buffer.{Remains, remains-as, remains-all, remains-step, remains-none, puts-length}
 use Rattle.put.proofs.put_states.Statement.{statement}
 use Rattle.put.proofs.put_states.Tie as tie
 

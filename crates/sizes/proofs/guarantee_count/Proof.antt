@@ -3,19 +3,20 @@ use Prim.Native.Nat.{_*_, _≤_, _-_}
 use mathlib.Core.Path.{_≡_}
 use native.Mathlib.Omega.{arith}
 use lib.ListN.{length}
-use Rattle.sizes.specs.Below.{guaranteesBelow}
-use Rattle.sizes.proofs.Below.{guarantees-none, guarantees-more, guarantees-all, few, guaranteed-few}
+use Rattle.theory.specs.Choice.{guarantees}
+use Rattle.sizes.specs.Below.{guaranteeSide, setsBelow, setsIn}
+use Rattle.sizes.proofs.Below.{guarantees-listed, below-none, below-more, below-all, few, guaranteed-few}
 use Rattle.sizes.proofs.guarantee_count.Statement.{statement}
 use Rattle.sizes.proofs.guarantee_count.Tie as tie
 
 abbrev Inv-loop : tie.InvT-loop
-Inv-loop g n₀ r₀ n r = (r ≤ g .k) × (g .k ≤ 8) × (n ≤ 4 * r) × (n ≡ length (guaranteesBelow g r))
+Inv-loop g n₀ r₀ n r = (r ≤ g .k) × (g .k ≤ 8) × (n ≤ 4 * r) × (n ≡ length (setsBelow guaranteeSide g r))
 
 abbrev μ-loop : tie.MeasureT-loop
 μ-loop g n₀ r₀ n r = g .k - r
 
 loop-holds : tie.Need-loop-holds Inv-loop μ-loop
-loop-holds c = (omega arith, few _ (c .pre), omega arith, guarantees-none _)
+loop-holds c = (omega arith, few _ (c .pre), omega arith, below-none guaranteeSide guarantees-listed _)
 
 mul-q : tie.Need-mul-q Inv-loop μ-loop
 mul-q c = omega arith
@@ -35,16 +36,18 @@ loop-less : tie.Need-loop-less Inv-loop μ-loop
 loop-less c = omega arith
 
 loop-again : tie.Need-loop-again Inv-loop μ-loop
+unfolding guaranteeSide
 loop-again c =
     let b = c .before .before .before in (
       omega arith,
       b .loop .inv .1,
       omega (arith, guaranteed-few _ (b .before .pre) (b .loop .r) (c .before .before .loop-test .taken)),
-      guarantees-more _ (b .loop .r) (b .loop .n) (b .loop .inv .3),
+      below-more guaranteeSide guarantees-listed _ (b .loop .r) (b .loop .n) (b .loop .inv .3),
     )
 
 returns : tie.Need-returns Inv-loop μ-loop
-returns c = guarantees-all _ _ _ (c .before .loop .inv .0) (c .loop-test .left) (c .before .loop .inv .3)
+unfolding guaranteeSide setsIn guarantees
+returns c = below-all guaranteeSide guarantees-listed _ _ _ (c .before .loop .inv .0) (c .loop-test .left) (c .before .loop .inv .3)
 
 pub guarantee-count-spec : {M : Type 1} → statement M
 guarantee-count-spec =

@@ -3,19 +3,20 @@ use Prim.Native.Nat.{_+_, _≤_, _-_}
 use mathlib.Core.Path.{_≡_}
 use native.Mathlib.Omega.{arith}
 use lib.ListN.{length}
-use Rattle.sizes.specs.Below.{guaranteesBelow}
-use Rattle.sizes.proofs.Below.{guarantee-first, guarantee-next, guarantee-found, guarantee-past, few, guaranteed-few}
+use Rattle.theory.specs.Choice.{guarantees}
+use Rattle.sizes.specs.Below.{guaranteeSide, setsBelow, setsIn}
+use Rattle.sizes.proofs.Below.{guarantees-listed, set-first, set-next, set-found, set-past, few, guaranteed-few}
 use Rattle.sizes.proofs.guarantee_set.Statement.{statement}
 use Rattle.sizes.proofs.guarantee_set.Tie as tie
 
 abbrev Inv-loop : tie.InvT-loop
-Inv-loop a g left₀ r₀ left r = (r ≤ g .k) × (g .k ≤ 8) × (a ≡ length (guaranteesBelow g r) + left)
+Inv-loop a g left₀ r₀ left r = (r ≤ g .k) × (g .k ≤ 8) × (a ≡ length (setsBelow guaranteeSide g r) + left)
 
 abbrev μ-loop : tie.MeasureT-loop
 μ-loop a g left₀ r₀ left r = g .k - r
 
 loop-holds : tie.Need-loop-holds Inv-loop μ-loop
-loop-holds c = (omega arith, few _ (c .pre), guarantee-first _ _)
+loop-holds c = (omega arith, few _ (c .pre), set-first guaranteeSide guarantees-listed _ _)
 
 mul-q : tie.Need-mul-q Inv-loop μ-loop
 mul-q c = omega arith
@@ -34,9 +35,10 @@ element-copy-out-result c =
     omega (arith, guaranteed-few _ (b .before .pre) (b .loop .r) (c .before .before .loop-test .taken))
 
 returns : tie.Need-returns Inv-loop μ-loop
+unfolding guaranteeSide setsIn guarantees
 returns c =
     let b = c .before .before .before .before in
-    guarantee-found _ (b .loop .r) _ (b .loop .left) (c .before .before .before .loop-test .taken) (b .loop .inv .2) (c .before .if1 .taken)
+    set-found guaranteeSide guarantees-listed _ (b .loop .r) _ (b .loop .left) (c .before .before .before .loop-test .taken) (b .loop .inv .2) (c .before .if1 .taken)
 
 sub-left : tie.Need-sub-left Inv-loop μ-loop
 sub-left c = omega arith
@@ -48,12 +50,14 @@ loop-less : tie.Need-loop-less Inv-loop μ-loop
 loop-less c = omega arith
 
 loop-again : tie.Need-loop-again Inv-loop μ-loop
+unfolding guaranteeSide
 loop-again c =
     let b = c .before .before .before in
-    (omega arith, b .loop .inv .1, guarantee-next _ (b .loop .r) _ (b .loop .left) (c .if1 .left) (b .loop .inv .2))
+    (omega arith, b .loop .inv .1, set-next guaranteeSide guarantees-listed _ (b .loop .r) _ (b .loop .left) (c .if1 .left) (b .loop .inv .2))
 
 returns-2 : tie.Need-returns-2 Inv-loop μ-loop
-returns-2 c = guarantee-past _ _ _ _ (c .before .loop .inv .0) (c .loop-test .left) (c .before .loop .inv .2)
+unfolding guaranteeSide setsIn guarantees
+returns-2 c = set-past guaranteeSide guarantees-listed _ _ _ _ (c .before .loop .inv .0) (c .loop-test .left) (c .before .loop .inv .2)
 
 pub guarantee-set-spec : {M : Type 1} → statement M
 guarantee-set-spec =

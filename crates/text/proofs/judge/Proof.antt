@@ -1,9 +1,8 @@
-use Rattle.text.proofs.Reader.{judged-refused, judged-accepted}
-use Rattle.text.specs.declared.Answer.the-variants.{Misshapen, Refused}
-use Rattle.game.specs.declared.Game.{Game}
-use Rattle.text.specs.Read.{refused, misshapen, judged, judgedBy}
-use mathlib.Core.Path.{_≡_, refl, sym, _∙_, ap}
+-- `judge` meets its contract.
+use mathlib.Core.Path.{sym, _∙_}
 use borrow.Author.Needs.{needs}
+use Rattle.text.proofs.Reader.{judged-refused, judged-accepted}
+use Rattle.text.specs.Read.{refused}
 use Rattle.text.proofs.judge.Statement.{statement}
 use Rattle.text.proofs.judge.Tie as tie
 

@@ -1,7 +1,7 @@
+-- `read` meets its contract.
+use borrow.Author.Needs.{needs}
 use Rattle.scan.proofs.WholeSteps.{got-game, fault-game}
 use Rattle.text.proofs.Reader.{reads-long, reads-place, reads-extra, reads-game}
-use mathlib.Core.Path.{_≡_, refl, sym, _∙_, ap}
-use borrow.Author.Needs.{needs}
 use Rattle.text.proofs.read.Statement.{statement}
 use Rattle.text.proofs.read.Tie as tie
 

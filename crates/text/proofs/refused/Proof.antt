@@ -1,8 +1,9 @@
-use Rattle.text.specs.declared.Answer.the-variants.{Misshapen, Refused}
-use Rattle.game.specs.declared.Game.{Game}
-use Rattle.text.specs.Read.{refused, misshapen, judged, judgedBy}
-use mathlib.Core.Path.{_≡_, refl, sym, _∙_, ap}
+-- `refused` meets its contract.
+use mathlib.Core.Path.{ap}
 use borrow.Author.Needs.{needs}
+use Rattle.text.specs.declared.Answer.the-variants.{Refused}
+use Rattle.game.specs.declared.Game.{Game}
+use Rattle.text.specs.Read.{refused}
 use Rattle.text.proofs.refused.Statement.{statement}
 use Rattle.text.proofs.refused.Tie as tie
 

@@ -1,8 +1,9 @@
-use Rattle.text.proofs.Writer.{accepted-room, writes-refused, writes-short, writes-text}
+-- `write` meets its contract.
 use native.Mathlib.Nat.{zero-add}
-use mathlib.Core.Path.{_≡_, refl, sym, _∙_, ap}
+use mathlib.Core.Path.{sym, _∙_}
 use native.Mathlib.Omega.{arith}
 use borrow.Author.Needs.{needs}
+use Rattle.text.proofs.Writer.{accepted-room, writes-refused, writes-short, writes-text}
 use Rattle.text.proofs.write.Statement.{statement}
 use Rattle.text.proofs.write.Tie as tie
 

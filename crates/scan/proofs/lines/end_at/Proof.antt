@@ -1,9 +1,10 @@
-use Rattle.scan.proofs.LineSteps.{end-first, end-second, end-both}
-use Rattle.grammar.proofs.Place.{byte-within}
-use Rattle.scan.proofs.Outcomes.{step-at, step-fault, at-step, fault-step, number-value, number-fault, value-number, fault-number, set-members, set-fault, members-set, fault-set}
-use mathlib.Core.Path.{_≡_, refl, sym, _∙_, ap}
+-- `end_at` meets its contract.
+use mathlib.Core.Path.{sym, _∙_}
 use native.Mathlib.Omega.{arith}
 use borrow.Author.Needs.{needs}
+use Rattle.scan.proofs.LineSteps.{end-first, end-second, end-both}
+use Rattle.grammar.proofs.Place.{byte-within}
+use Rattle.scan.proofs.Outcomes.{step-at, step-fault}
 use Rattle.scan.proofs.lines.end_at.Statement.{statement}
 use Rattle.scan.proofs.lines.end_at.Tie as tie
 

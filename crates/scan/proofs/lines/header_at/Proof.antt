@@ -1,9 +1,9 @@
+-- `header_at` meets its contract.
+use mathlib.Core.Path.{sym, _∙_, ap}
+use borrow.Author.Needs.{needs}
 use Rattle.scan.proofs.LineSteps.{header-fault, header-no-word, header-no-inputs, header-on}
 use Rattle.scan.specs.Scan.{headerOf}
-use Rattle.scan.proofs.Outcomes.{step-at, step-fault, at-step, fault-step, number-value, number-fault, value-number, fault-number, set-members, set-fault, members-set, fault-set}
-use mathlib.Core.Path.{_≡_, refl, sym, _∙_, ap}
-use native.Mathlib.Omega.{arith}
-use borrow.Author.Needs.{needs}
+use Rattle.scan.proofs.Outcomes.{at-step, fault-step, value-number, fault-number}
 use Rattle.scan.proofs.lines.header_at.Statement.{statement}
 use Rattle.scan.proofs.lines.header_at.Tie as tie
 

@@ -1,16 +1,17 @@
-use Rattle.shape.proofs.WordTable.{word-short}
+-- `opening_at` meets its contract. The invariant: what is left, with what is done, makes the whole.
 use borrow.Author.Needs.{needs}
+use lib.ListN.{length, drop}
+use Prim.Native.Nat.{_≤_, _<_, _-_}
+use mathlib.Core.Path.{_≡_, refl, sym, _∙_}
+use native.Mathlib.Omega.{arith}
+use Rattle.shape.proofs.WordTable.{word-short}
 use Rattle.scan.proofs.LineSteps.{chars-turn, chars-miss, chars-end}
 use Rattle.shape.proofs.Opening.{opening-length}
 use Rattle.shape.specs.Shape.{opening}
 use Rattle.grammar.specs.Place.{bytes}
 use Rattle.grammar.specs.Format.{run, chars}
-use lib.ListN.{length, drop}
-use Prim.Native.Nat.{_≤_, _<_, _-_}
 use Rattle.grammar.proofs.Place.{byte-within}
-use Rattle.scan.proofs.Outcomes.{step-at, step-fault, at-step, fault-step, number-value, number-fault, value-number, fault-number, set-members, set-fault, members-set, fault-set}
-use mathlib.Core.Path.{_≡_, refl, sym, _∙_, ap}
-use native.Mathlib.Omega.{arith}
+use Rattle.scan.proofs.Outcomes.{step-at, step-fault}
 use Rattle.scan.proofs.lines.opening_at.Statement.{statement}
 use Rattle.scan.proofs.lines.opening_at.Tie as tie
 

@@ -1,9 +1,10 @@
-use Rattle.scan.proofs.LineSteps.{header-fault, header-counts, outputs-none, outputs-no-k, outputs-no-end, outputs-got}
-use Rattle.grammar.proofs.Place.{byte-within}
-use Rattle.scan.proofs.Outcomes.{step-at, step-fault, at-step, fault-step, number-value, number-fault, value-number, fault-number, set-members, set-fault, members-set, fault-set}
-use mathlib.Core.Path.{_≡_, refl, sym, _∙_, ap}
+-- `outputs_at` meets its contract.
+use mathlib.Core.Path.{sym, _∙_}
 use native.Mathlib.Omega.{arith}
 use borrow.Author.Needs.{needs}
+use Rattle.scan.proofs.LineSteps.{header-fault, header-counts, outputs-none, outputs-no-k, outputs-no-end, outputs-got}
+use Rattle.grammar.proofs.Place.{byte-within}
+use Rattle.scan.proofs.Outcomes.{value-number, fault-number}
 use Rattle.scan.proofs.lines.outputs_at.Statement.{statement}
 use Rattle.scan.proofs.lines.outputs_at.Tie as tie
 

@@ -1,9 +1,8 @@
-use Rattle.scan.proofs.LineSteps.{state-fault, state-moves, row-no-flag, row-no-set, row-no-end, row-got}
-use Rattle.grammar.proofs.Place.{byte-within}
-use Rattle.scan.proofs.Outcomes.{step-at, step-fault, at-step, fault-step, number-value, number-fault, value-number, fault-number, set-members, set-fault, members-set, fault-set}
-use mathlib.Core.Path.{_≡_, refl, sym, _∙_, ap}
-use native.Mathlib.Omega.{arith}
+-- `row_at` meets its contract.
+use mathlib.Core.Path.{sym, _∙_}
 use borrow.Author.Needs.{needs}
+use Rattle.scan.proofs.LineSteps.{state-fault, state-moves, row-no-flag, row-no-set, row-no-end, row-got}
+use Rattle.scan.proofs.Outcomes.{at-step, fault-step, value-number, fault-number, members-set, fault-set}
 use Rattle.scan.proofs.lines.row_at.Statement.{statement}
 use Rattle.scan.proofs.lines.row_at.Tie as tie
 

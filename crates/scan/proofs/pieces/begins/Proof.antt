@@ -1,6 +1,7 @@
-use Rattle.grammar.proofs.Number.{begins-inside, begins-zero, begins-ten, begins-hundred}
+-- `begins` meets its contract.
 use mathlib.Core.Path.{sym, _∙_}
 use borrow.Author.Needs.{needs}
+use Rattle.grammar.proofs.Number.{begins-inside, begins-zero, begins-ten, begins-hundred}
 use Rattle.scan.proofs.pieces.begins.Statement.{statement}
 use Rattle.scan.proofs.pieces.begins.Tie as tie
 

@@ -1,7 +1,7 @@
-use Rattle.grammar.proofs.Place.{bytes-in, bytes-past}
-use Rattle.grammar.specs.Place.{bytes}
+-- `byte_at` meets its contract.
 use native.Mathlib.Omega.{arith}
 use borrow.Author.Needs.{needs}
+use Rattle.grammar.proofs.Place.{bytes-in, bytes-past}
 use Rattle.scan.proofs.pieces.byte_at.Statement.{statement}
 use Rattle.scan.proofs.pieces.byte_at.Tie as tie
 

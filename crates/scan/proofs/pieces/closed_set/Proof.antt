@@ -1,10 +1,11 @@
-use Rattle.scan.proofs.Steps.{lit-got}
-use Rattle.scan.proofs.Outcomes.{set-members, set-fault}
-use Rattle.grammar.proofs.Place.{byte-within}
-use Rattle.grammar.proofs.Format.{run-lit, run-lit-fault, run-done}
+-- `closed_set` meets its contract.
 use mathlib.Core.Path.{sym, _∙_}
 use native.Mathlib.Omega.{arith}
 use borrow.Author.Needs.{needs}
+use Rattle.scan.proofs.Steps.{lit-got}
+use Rattle.scan.proofs.Outcomes.{set-members, set-fault}
+use Rattle.grammar.proofs.Place.{byte-within}
+use Rattle.grammar.proofs.Format.{run-lit-fault}
 use Rattle.scan.proofs.pieces.closed_set.Statement.{statement}
 use Rattle.scan.proofs.pieces.closed_set.Tie as tie
 

@@ -1,7 +1,8 @@
-use Rattle.grammar.proofs.Number.{digit-bounds, extends-zero, extends-by, extends-digit}
+-- `extends` meets its contract.
 use mathlib.Core.Path.{sym, _∙_}
 use native.Mathlib.Omega.{arith}
 use borrow.Author.Needs.{needs}
+use Rattle.grammar.proofs.Number.{digit-bounds, extends-zero, extends-by, extends-digit}
 use Rattle.scan.proofs.pieces.extends.Statement.{statement}
 use Rattle.scan.proofs.pieces.extends.Tie as tie
 

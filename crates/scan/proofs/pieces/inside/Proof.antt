@@ -1,5 +1,6 @@
-use borrow.Author.Tests.{le-leb, lt-leb, lt-ltb}
-use Rattle.grammar.specs.Number.{digit, inside, meets, begins, extends, starts}
+-- `inside` meets its contract.
+use borrow.Author.Tests.{le-leb, lt-leb}
+use Rattle.grammar.specs.Number.{inside}
 use Rattle.scan.proofs.pieces.inside.Statement.{statement}
 use Rattle.scan.proofs.pieces.inside.Tie as tie
 

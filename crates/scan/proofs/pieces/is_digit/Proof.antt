@@ -1,5 +1,6 @@
-use borrow.Author.Tests.{le-leb, lt-leb, lt-ltb}
-use Rattle.grammar.specs.Number.{digit, inside, meets, begins, extends, starts}
+-- `is_digit` meets its contract.
+use borrow.Author.Tests.{le-leb, lt-leb}
+use Rattle.grammar.specs.Number.{digit}
 use Rattle.scan.proofs.pieces.is_digit.Statement.{statement}
 use Rattle.scan.proofs.pieces.is_digit.Tie as tie
 

@@ -1,6 +1,7 @@
-use borrow.Author.Tests.{le-leb, lt-leb, lt-ltb}
-use Rattle.grammar.proofs.Number.{meets-on, meets-off}
+-- `meets` meets its contract.
+use borrow.Author.Tests.{le-leb, lt-leb}
 use mathlib.Core.Path.{sym, _∙_}
+use Rattle.grammar.proofs.Number.{meets-on, meets-off}
 use Rattle.scan.proofs.pieces.meets.Statement.{statement}
 use Rattle.scan.proofs.pieces.meets.Tie as tie
 

@@ -1,11 +1,12 @@
+-- `members_at` meets its contract.
+use mathlib.Core.Path.{sym, _∙_, ap}
+use native.Mathlib.Omega.{arith}
+use borrow.Author.Needs.{needs}
 use Rattle.scan.proofs.Steps.{members-none, members-begun, members-wrong}
 use Rattle.scan.specs.Scan.{setOf}
 use Rattle.grammar.proofs.Number.{number-range}
 use Rattle.grammar.proofs.Place.{byte-within}
-use Rattle.scan.proofs.Outcomes.{number-value, number-fault, value-number, fault-number, set-members, set-fault, members-set, fault-set}
-use mathlib.Core.Path.{_≡_, refl, sym, _∙_, ap}
-use native.Mathlib.Omega.{arith}
-use borrow.Author.Needs.{needs}
+use Rattle.scan.proofs.Outcomes.{value-number, fault-number, set-members, set-fault}
 use Rattle.scan.proofs.pieces.members_at.Statement.{statement}
 use Rattle.scan.proofs.pieces.members_at.Tie as tie
 

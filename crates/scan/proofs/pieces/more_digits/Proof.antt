@@ -1,11 +1,12 @@
+-- `more_digits` meets its contract. The invariant: what is left, with what is done, makes the whole.
+use mathlib.Core.Path.{_≡_, refl, sym, _∙_, ap}
+use Prim.Native.Nat.{_<_}
+use native.Mathlib.Omega.{arith}
 use Rattle.scan.specs.Scan.{numberOf}
 use Rattle.grammar.proofs.Place.{byte-within}
 use Rattle.grammar.proofs.Number.{digits-go, digits-stop, digits-done, extended-digit, extended-small}
-use mathlib.Core.Path.{_≡_, refl, sym, _∙_, ap}
 use Rattle.grammar.specs.Place.{bytes}
 use Rattle.grammar.specs.Number.{digitsAt}
-use Prim.Native.Nat.{_<_}
-use native.Mathlib.Omega.{arith}
 use Rattle.scan.proofs.pieces.more_digits.Statement.{statement}
 use Rattle.scan.proofs.pieces.more_digits.Tie as tie
 

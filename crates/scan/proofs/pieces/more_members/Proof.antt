@@ -1,14 +1,14 @@
-use Rattle.scan.proofs.Steps.{members-next}
-use Rattle.scan.proofs.Steps.{members-past, members-end, members-closed, members-fault, members-more}
+-- `more_members` meets its contract. The invariant: what is left, with what is done, makes the whole.
+use Prim.Native.Nat.{_≤_}
+use borrow.Author.Needs.{needs}
+use mathlib.Core.Path.{_≡_, refl, sym, _∙_, ap}
+use native.Mathlib.Omega.{arith}
+use Rattle.scan.proofs.Steps.{members-next, members-past, members-end, members-closed, members-fault, members-more}
 use Rattle.scan.specs.Scan.{setOf}
 use Rattle.shape.specs.Shape.{moreMembers}
 use Rattle.grammar.specs.Place.{bytes}
 use Rattle.grammar.specs.Format.{run}
-use Prim.Native.Nat.{ℕ, _≤_}
-use borrow.Author.Needs.{needs}
-use Rattle.scan.proofs.Outcomes.{number-value, number-fault, value-number, fault-number, set-members, set-fault, members-set, fault-set}
-use mathlib.Core.Path.{_≡_, refl, sym, _∙_, ap}
-use native.Mathlib.Omega.{arith}
+use Rattle.scan.proofs.Outcomes.{set-members, set-fault}
 use Rattle.scan.proofs.pieces.more_members.Statement.{statement}
 use Rattle.scan.proofs.pieces.more_members.Tie as tie
 

@@ -1,10 +1,11 @@
+-- `number_at` meets its contract.
+use mathlib.Core.Path.{sym, _∙_, ap}
+use native.Mathlib.Omega.{arith}
+use borrow.Author.Needs.{needs}
 use Rattle.scan.proofs.Outcomes.{number-fault}
 use Rattle.scan.specs.Scan.{numberOf}
 use Rattle.grammar.proofs.Place.{byte-within}
 use Rattle.grammar.proofs.Number.{started-digit, number-first, number-never}
-use mathlib.Core.Path.{_≡_, refl, sym, _∙_, ap}
-use native.Mathlib.Omega.{arith}
-use borrow.Author.Needs.{needs}
 use Rattle.scan.proofs.pieces.number_at.Statement.{statement}
 use Rattle.scan.proofs.pieces.number_at.Tie as tie
 

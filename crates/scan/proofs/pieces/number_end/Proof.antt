@@ -1,7 +1,8 @@
-use Rattle.scan.proofs.Outcomes.{number-value, number-fault}
-use Rattle.grammar.proofs.Number.{number-end, number-out}
+-- `number_end` meets its contract.
 use mathlib.Core.Path.{sym, _∙_}
 use borrow.Author.Needs.{needs}
+use Rattle.scan.proofs.Outcomes.{number-value, number-fault}
+use Rattle.grammar.proofs.Number.{number-end, number-out}
 use Rattle.scan.proofs.pieces.number_end.Statement.{statement}
 use Rattle.scan.proofs.pieces.number_end.Tie as tie
 

@@ -1,9 +1,10 @@
-use Rattle.grammar.proofs.Place.{byte-within}
-use Rattle.scan.proofs.Steps.{then-got, then-miss, then-fault}
-use Rattle.scan.proofs.Outcomes.{number-value, number-fault, value-number, fault-number, set-members, set-fault, members-set, fault-set}
-use mathlib.Core.Path.{_≡_, refl, sym, _∙_, ap}
+-- `number_then` meets its contract.
+use mathlib.Core.Path.{sym, _∙_}
 use native.Mathlib.Omega.{arith}
 use borrow.Author.Needs.{needs}
+use Rattle.grammar.proofs.Place.{byte-within}
+use Rattle.scan.proofs.Steps.{then-got, then-miss, then-fault}
+use Rattle.scan.proofs.Outcomes.{number-value, number-fault, value-number, fault-number}
 use Rattle.scan.proofs.pieces.number_then.Statement.{statement}
 use Rattle.scan.proofs.pieces.number_then.Tie as tie
 

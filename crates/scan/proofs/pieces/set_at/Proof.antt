@@ -1,10 +1,11 @@
+-- `set_at` meets its contract.
+use mathlib.Core.Path.{sym, _∙_, ap}
+use native.Mathlib.Omega.{arith}
+use borrow.Author.Needs.{needs}
 use Rattle.scan.proofs.Steps.{set-on, set-off}
 use Rattle.scan.specs.Scan.{setOf}
 use Rattle.grammar.proofs.Place.{byte-within}
-use Rattle.scan.proofs.Outcomes.{number-value, number-fault, value-number, fault-number, set-members, set-fault, members-set, fault-set}
-use mathlib.Core.Path.{_≡_, refl, sym, _∙_, ap}
-use native.Mathlib.Omega.{arith}
-use borrow.Author.Needs.{needs}
+use Rattle.scan.proofs.Outcomes.{set-fault}
 use Rattle.scan.proofs.pieces.set_at.Statement.{statement}
 use Rattle.scan.proofs.pieces.set_at.Tie as tie
 

@@ -1,7 +1,8 @@
+-- `starts` meets its contract.
 use native.Mathlib.Omega.{arith}
-use Rattle.grammar.proofs.Number.{digit-bounds, starts-by, starts-not}
 use mathlib.Core.Path.{sym, _∙_}
 use borrow.Author.Needs.{needs}
+use Rattle.grammar.proofs.Number.{digit-bounds, starts-by, starts-not}
 use Rattle.scan.proofs.pieces.starts.Statement.{statement}
 use Rattle.scan.proofs.pieces.starts.Tie as tie
 

@@ -1,5 +1,6 @@
-use Rattle.shape.specs.Text.{emptyRequirement}
+-- `empty_requirement` meets its contract.
 use mathlib.Core.Path.{refl}
+use Rattle.shape.specs.Text.{emptyRequirement}
 use Rattle.scan.proofs.set_lists.empty_requirement.Statement.{statement}
 use Rattle.scan.proofs.set_lists.empty_requirement.Tie as tie
 

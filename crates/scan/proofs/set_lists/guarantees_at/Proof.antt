@@ -1,10 +1,10 @@
-use Rattle.scan.proofs.SetListSteps.{requirement-got, requirement-fault, got-list, fault-list, if-no-blank, if-no-list, if-no-end, if-got, if-no-word, if-no-first, if-on}
-use Rattle.scan.specs.Scan.{requirementOf}
-use Rattle.grammar.proofs.Place.{byte-within}
-use Rattle.scan.proofs.Outcomes.{step-at, step-fault, at-step, fault-step, number-value, number-fault, value-number, fault-number, set-members, set-fault, members-set, fault-set}
-use mathlib.Core.Path.{_≡_, refl, sym, _∙_, ap}
+-- `guarantees_at` meets its contract.
+use mathlib.Core.Path.{sym, _∙_}
 use native.Mathlib.Omega.{arith}
 use borrow.Author.Needs.{needs}
+use Rattle.scan.proofs.SetListSteps.{requirement-got, requirement-fault, got-list, fault-list, if-no-blank, if-no-list, if-no-end, if-got}
+use Rattle.grammar.proofs.Place.{byte-within}
+use Rattle.scan.proofs.Outcomes.{at-step, fault-step}
 use Rattle.scan.proofs.set_lists.guarantees_at.Statement.{statement}
 use Rattle.scan.proofs.set_lists.guarantees_at.Tie as tie
 

@@ -1,5 +1,6 @@
-use Rattle.scan.proofs.SetListSteps.{four-in}
+-- `in_sets` meets its contract.
 use borrow.Author.Needs.{needs}
+use Rattle.scan.proofs.SetListSteps.{four-in}
 use Rattle.scan.proofs.set_lists.in_sets.Statement.{statement}
 use Rattle.scan.proofs.set_lists.in_sets.Tie as tie
 

@@ -1,15 +1,15 @@
-use lib.ListN.{length-set}
+-- `more_sets` meets its contract. The invariant: what is left, with what is done, makes the whole.
+use lib.ListN.{length-set, length}
+use Prim.Native.Nat.{_≤_, _-_}
+use borrow.Author.Needs.{needs}
+use mathlib.Core.Path.{_≡_, refl, sym, _∙_}
+use native.Mathlib.Omega.{arith}
 use Rattle.scan.proofs.SetListSteps.{list-got, list-fault, sets-closed, sets-wrong, sets-full, sets-bad, sets-turn, sets-first}
 use Rattle.shape.specs.Shape.{moreSets, push, noSets}
 use Rattle.grammar.specs.Place.{bytes}
 use Rattle.grammar.specs.Format.{run}
-use lib.ListN.{length}
-use Prim.Native.Nat.{_≤_, _<_, _-_}
-use borrow.Author.Needs.{needs}
 use Rattle.grammar.proofs.Place.{byte-within}
-use Rattle.scan.proofs.Outcomes.{step-at, step-fault, at-step, fault-step, number-value, number-fault, value-number, fault-number, set-members, set-fault, members-set, fault-set}
-use mathlib.Core.Path.{_≡_, refl, sym, _∙_, ap}
-use native.Mathlib.Omega.{arith}
+use Rattle.scan.proofs.Outcomes.{members-set, fault-set}
 use Rattle.scan.proofs.set_lists.more_sets.Statement.{statement}
 use Rattle.scan.proofs.set_lists.more_sets.Tie as tie
 

@@ -1,5 +1,6 @@
-use Rattle.scan.specs.Scan.{setsOf}
+-- `no_list` meets its contract.
 use mathlib.Core.Path.{refl}
+use Rattle.scan.specs.Scan.{setsOf}
 use Rattle.scan.proofs.set_lists.no_list.Statement.{statement}
 use Rattle.scan.proofs.set_lists.no_list.Tie as tie
 

@@ -1,8 +1,9 @@
+-- `no_requirement` meets its contract.
+use mathlib.Core.Path.{ap}
+use borrow.Author.Needs.{needs}
 use Rattle.scan.specs.Scan.{requirementOf}
 use Rattle.scan.specs.declared.pieces.Step.the-variants.{Fault}
 use Rattle.game.specs.declared.Requirement.{Requirement}
-use mathlib.Core.Path.{_≡_, refl, sym, _∙_, ap}
-use borrow.Author.Needs.{needs}
 use Rattle.scan.proofs.set_lists.no_requirement.Statement.{statement}
 use Rattle.scan.proofs.set_lists.no_requirement.Tie as tie
 

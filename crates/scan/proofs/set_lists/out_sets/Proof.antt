@@ -1,5 +1,6 @@
-use Rattle.scan.proofs.SetListSteps.{four-out}
+-- `out_sets` meets its contract.
 use borrow.Author.Needs.{needs}
+use Rattle.scan.proofs.SetListSteps.{four-out}
 use Rattle.scan.proofs.set_lists.out_sets.Statement.{statement}
 use Rattle.scan.proofs.set_lists.out_sets.Tie as tie
 

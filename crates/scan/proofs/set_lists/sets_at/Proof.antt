@@ -1,10 +1,11 @@
+-- `sets_at` meets its contract.
+use mathlib.Core.Path.{sym, _∙_, ap}
+use native.Mathlib.Omega.{arith}
+use borrow.Author.Needs.{needs}
 use Rattle.scan.proofs.SetListSteps.{list-got, list-fault, list-closed, list-empty, list-bad, list-on}
 use Rattle.scan.specs.Scan.{setsOf}
 use Rattle.grammar.proofs.Place.{byte-within}
-use Rattle.scan.proofs.Outcomes.{step-at, step-fault, at-step, fault-step, number-value, number-fault, value-number, fault-number, set-members, set-fault, members-set, fault-set}
-use mathlib.Core.Path.{_≡_, refl, sym, _∙_, ap}
-use native.Mathlib.Omega.{arith}
-use borrow.Author.Needs.{needs}
+use Rattle.scan.proofs.Outcomes.{members-set, fault-set}
 use Rattle.scan.proofs.set_lists.sets_at.Statement.{statement}
 use Rattle.scan.proofs.set_lists.sets_at.Tie as tie
 

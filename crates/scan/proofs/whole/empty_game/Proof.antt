@@ -1,6 +1,7 @@
+-- `empty_game` meets its contract.
+use borrow.Author.Needs.{needs}
 use Rattle.shape.specs.Shape.{emptyGraph}
 use Rattle.shape.specs.Text.{emptyGame}
-use borrow.Author.Needs.{needs}
 use Rattle.scan.proofs.whole.empty_game.Statement.{statement}
 use Rattle.scan.proofs.whole.empty_game.Tie as tie
 

@@ -1,5 +1,6 @@
+-- `empty_graph` meets its contract.
+use mathlib.Core.Path.{refl}
 use Rattle.shape.specs.Shape.{emptyGraph}
-use mathlib.Core.Path.{_≡_, refl, sym, _∙_, ap}
 use Rattle.scan.proofs.whole.empty_graph.Statement.{statement}
 use Rattle.scan.proofs.whole.empty_graph.Tie as tie
 

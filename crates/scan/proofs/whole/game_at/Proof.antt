@@ -1,8 +1,9 @@
-use Rattle.scan.specs.Scan.{gameOf}
-use Rattle.scan.proofs.WholeSteps.{got-graph, fault-graph, got-requirements, fault-requirements, counts-header, fault-header, header-range, game-got, game-fault, output-none, output-bad, output-got, game-no-header, game-no-input, game-on}
-use mathlib.Core.Path.{_≡_, refl, sym, _∙_, ap}
+-- `game_at` meets its contract.
+use mathlib.Core.Path.{sym, _∙_, ap}
 use native.Mathlib.Omega.{arith}
 use borrow.Author.Needs.{needs}
+use Rattle.scan.specs.Scan.{gameOf}
+use Rattle.scan.proofs.WholeSteps.{got-graph, fault-graph, counts-header, fault-header, header-range, game-fault, game-no-header, game-no-input, game-on}
 use Rattle.scan.proofs.whole.game_at.Statement.{statement}
 use Rattle.scan.proofs.whole.game_at.Tie as tie
 

@@ -1,11 +1,12 @@
+-- `graph_at` meets its contract. The invariant: what is left, with what is done, makes the whole.
+use Prim.Native.Nat.{_≤_, _<_, _-_}
+use borrow.Author.Needs.{needs}
+use mathlib.Core.Path.{_≡_, refl, sym, _∙_}
+use native.Mathlib.Omega.{arith}
 use Rattle.scan.proofs.WholeSteps.{moves-state, fault-state, graph-got, graph-fault, states-begin, states-fault, states-turn, states-end}
 use Rattle.shape.specs.Shape.{statesFormat, emptyGraph}
 use Rattle.grammar.specs.Place.{bytes}
 use Rattle.grammar.specs.Format.{run}
-use Prim.Native.Nat.{_≤_, _<_, _-_}
-use borrow.Author.Needs.{needs}
-use mathlib.Core.Path.{_≡_, refl, sym, _∙_, ap}
-use native.Mathlib.Omega.{arith}
 use Rattle.scan.proofs.whole.graph_at.Statement.{statement}
 use Rattle.scan.proofs.whole.graph_at.Tie as tie
 

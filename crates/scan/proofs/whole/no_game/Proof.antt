@@ -1,8 +1,9 @@
+-- `no_game` meets its contract.
+use mathlib.Core.Path.{ap}
+use borrow.Author.Needs.{needs}
 use Rattle.scan.specs.Scan.{gameOf}
 use Rattle.scan.specs.declared.pieces.Step.the-variants.{Fault}
 use Rattle.game.specs.declared.Game.{Game}
-use mathlib.Core.Path.{_≡_, refl, sym, _∙_, ap}
-use borrow.Author.Needs.{needs}
 use Rattle.scan.proofs.whole.no_game.Statement.{statement}
 use Rattle.scan.proofs.whole.no_game.Tie as tie
 

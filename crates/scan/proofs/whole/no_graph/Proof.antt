@@ -1,8 +1,9 @@
+-- `no_graph` meets its contract.
+use mathlib.Core.Path.{ap}
+use borrow.Author.Needs.{needs}
 use Rattle.scan.specs.Scan.{graphOf}
 use Rattle.scan.specs.declared.pieces.Step.the-variants.{Fault}
 use Rattle.game.specs.declared.Graph.{Graph}
-use mathlib.Core.Path.{_≡_, refl, sym, _∙_, ap}
-use borrow.Author.Needs.{needs}
 use Rattle.scan.proofs.whole.no_graph.Statement.{statement}
 use Rattle.scan.proofs.whole.no_graph.Tie as tie
 

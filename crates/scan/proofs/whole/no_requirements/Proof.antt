@@ -1,5 +1,6 @@
+-- `no_requirements` meets its contract.
 use lib.ListN.{replicate}
-use mathlib.Core.Path.{_≡_, refl, sym, _∙_, ap}
+use mathlib.Core.Path.{ap}
 use borrow.Author.Needs.{needs}
 use Rattle.scan.proofs.whole.no_requirements.Statement.{statement}
 use Rattle.scan.proofs.whole.no_requirements.Tie as tie

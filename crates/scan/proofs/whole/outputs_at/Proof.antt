@@ -1,7 +1,6 @@
-use Rattle.scan.proofs.WholeSteps.{got-graph, fault-graph, got-requirements, fault-requirements, counts-header, fault-header, header-range, game-got, game-fault, output-none, output-bad, output-got, game-no-header, game-no-input, game-on}
-use mathlib.Core.Path.{_≡_, refl, sym, _∙_, ap}
-use native.Mathlib.Omega.{arith}
+-- `outputs_at` meets its contract.
 use borrow.Author.Needs.{needs}
+use Rattle.scan.proofs.WholeSteps.{got-graph, fault-graph, got-requirements, fault-requirements, game-got, game-fault, output-none, output-bad, output-got}
 use Rattle.scan.proofs.whole.outputs_at.Statement.{statement}
 use Rattle.scan.proofs.whole.outputs_at.Tie as tie
 

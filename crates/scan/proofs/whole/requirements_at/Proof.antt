@@ -1,14 +1,15 @@
+-- `requirements_at` meets its contract. The invariant: what is left, with what is done, makes the whole.
+use lib.ListN.{replicate}
+use Prim.Native.Nat.{_≤_, _-_}
+use borrow.Author.Needs.{needs}
+use mathlib.Core.Path.{_≡_}
+use native.Mathlib.Omega.{arith}
 use Rattle.scan.proofs.WholeSteps.{requirements-got, requirements-fault, requirements-begin, requirements-bad, requirements-turn, requirements-end}
 use Rattle.scan.proofs.SetListSteps.{got-requirement, fault-requirement}
 use Rattle.shape.specs.Shape.{requirementsFormat}
 use Rattle.shape.specs.Text.{emptyRequirement}
 use Rattle.grammar.specs.Place.{bytes}
 use Rattle.grammar.specs.Format.{run}
-use lib.ListN.{replicate}
-use Prim.Native.Nat.{_≤_, _<_, _-_}
-use borrow.Author.Needs.{needs}
-use mathlib.Core.Path.{_≡_, refl, sym, _∙_, ap}
-use native.Mathlib.Omega.{arith}
 use Rattle.scan.proofs.whole.requirements_at.Statement.{statement}
 use Rattle.scan.proofs.whole.requirements_at.Tie as tie
 

@@ -1,8 +1,9 @@
+-- `letter` meets its contract.
 use mathlib.Core.List.{map}
 use native.Mathlib.Omega.{arith}
+use borrow.Author.Needs.{needs}
 use Rattle.shape.specs.Text.{word, words}
 use Rattle.shape.proofs.WordTable.{entry, agree, same-letter, short, words-short}
-use borrow.Author.Needs.{needs}
 use Rattle.shape.proofs.words.letter.Statement.{statement}
 use Rattle.shape.proofs.words.letter.Tie as tie
 

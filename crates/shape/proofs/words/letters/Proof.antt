@@ -1,7 +1,8 @@
+-- `letters` meets its contract.
 use mathlib.Core.List.{map}
+use borrow.Author.Needs.{needs}
 use Rattle.shape.specs.Text.{word, words}
 use Rattle.shape.proofs.WordTable.{entry, agree, same-length}
-use borrow.Author.Needs.{needs}
 use Rattle.shape.proofs.words.letters.Statement.{statement}
 use Rattle.shape.proofs.words.letters.Tie as tie
 

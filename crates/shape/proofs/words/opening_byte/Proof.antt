@@ -1,7 +1,8 @@
-use Rattle.shape.proofs.Opening.{opening-first, opening-letter, opening-last}
-use mathlib.Core.Path.{_≡_, refl, sym, _∙_, ap}
+-- `opening_byte` meets its contract.
+use mathlib.Core.Path.{_∙_}
 use native.Mathlib.Omega.{arith}
 use borrow.Author.Needs.{needs}
+use Rattle.shape.proofs.Opening.{opening-first, opening-letter, opening-last}
 use Rattle.shape.proofs.words.opening_byte.Statement.{statement}
 use Rattle.shape.proofs.words.opening_byte.Tie as tie
 
