@@ -2,3 +2,4 @@
 pub mod Scratch
 pub mod Made
 pub mod Verdicts
+pub mod Handed

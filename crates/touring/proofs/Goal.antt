@@ -9,11 +9,12 @@ use lib.Dec.{eqb, ltb}
 use borrow.Author.Tests.{le-ltb, ltb-false}
 use Rattle.finite.specs.Bounded.{least}
 use Rattle.finite.proofs.Truth.{clash, false-of, and-intro, and-left, and-right, not-true}
-use Rattle.finite.proofs.Bounded.{least-before, least-unique}
+use Rattle.finite.proofs.Bounded.{least-below, least-member, least-before, least-unique}
 use Rattle.sets.specs.Member.{has}
 use Rattle.sets.proofs.Membership.{has-zero, within-has}
+use Rattle.sets.proofs.Compare.{nonzero-member}
 use Rattle.theory.specs.Tour.{around}
-use Rattle.theory.proofs.Around.{around-cases}
+use Rattle.theory.proofs.Around.{around-cases, around-below, distance, distance-below, around-distance}
 use Rattle.touring.specs.Goal.{Goals, firstFrom, passed, aimedAt}
 use Rattle.touring.proofs.Columns.{lowest-in}
 
@@ -105,3 +106,21 @@ aimed-at m q a h x e = ap (λ (y : ℕ). eqb y a) e
 
 pub goals-at : (q m g h : ℕ) → Goals q m g → h < m → Goals q m h
 goals-at q m g h G b = record { some = G .some; members = G .members; few = G .few; below = b }
+
+-- the first member is one, so it is below m
+pub first-member : (q m g : ℕ) → Goals q m g → has q (firstFrom m q g) ≡ true
+unfolding firstFrom
+first-member q m g G =
+    let v = nonzero-member q (G .some) in
+    let b = within-has q m (v .0) (G .members) (v .1) in
+    least-member m (λ k. has q (around m g k))
+    (least-below m (λ k. has q (around m g k)) (distance m g (v .0)) (distance-below m g (v .0) (G .below) b)
+    (ap (has q) (around-distance m g (v .0) (G .below) b) ∙ v .1))
+
+pub first-below : (q m g : ℕ) → Goals q m g → firstFrom m q g < m
+first-below q m g G = within-has q m (firstFrom m q g) (G .members) (first-member q m g G)
+
+pub passed-below : (m a : ℕ) (b : Bool) → a < m → passed m b a < m
+unfolding passed
+passed-below m a true h = around-below m a 1 h (omega arith)
+passed-below m a false h = h

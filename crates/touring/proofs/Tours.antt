@@ -27,6 +27,7 @@ use Rattle.graphs.proofs.Component.{joined-to, meetsAt-elim}
 use Rattle.arena.specs.Table.{Answer, gives}
 use Rattle.theory.specs.Tour.{goalAt, around, inside, ahead, goal, hasGoal, target, arrive, tour}
 use Rattle.theory.proofs.Around.{around-below}
+use Rattle.graphs.proofs.Way.{Leads, toward-move}
 use Rattle.theory.proofs.Tour.{inside-intro, inside-edge, inside-to, inside-move, inside-leads}
 use Rattle.ways.specs.Kept.{kept}
 use Rattle.ways.specs.Search.{Toward}
@@ -115,13 +116,23 @@ module _ (G : Graph) (c : ℕ) (rows : List ℕ) (comp : ℕ)
     unfolding target
     target-word = fun-ext (λ t. f t ∙ ap₂ _&&_ (ap (λ (p : ℕ → Bool). p t) set) (ap (λ (p : ℕ → Bool). p t) comp-has))
 
+    pub target-leads : meetsAt G c (goalAt l a) ≡ true → (s : ℕ) → joined G c s ≡ true → nontrivial G s ≡ true → Leads (G .states) (inside G c) (target G c l a) s
+    unfolding target
+    target-leads m s j n =
+        let v = meetsAt-elim G c (goalAt l a) m in
+        inside-leads G c (target G c l a) s (v .0) j n (and-intro (v .1) (v .2)) (v .2)
+
     pub toward-target : (next : List ℕ) → meetsAt G c (goalAt l a) ≡ true → Toward rows (G .states) comp y next → (s : ℕ) → joined G c s ≡ true → nontrivial G s ≡ true
         → getD next s 0 ≡ toward (G .states) (inside G c) (target G c l a) s
-    unfolding target
     toward-target next m w s j n =
-        let v = meetsAt-elim G c (goalAt l a) m in
-        toward-along (inside G c) (target G c l a) inside-kept target-word w s (joined-to G c s j)
-        (inside-leads G c (target G c l a) s (v .0) j n (and-intro (v .1) (v .2)) (v .2))
+        toward-along (inside G c) (target G c l a) inside-kept target-word w s (joined-to G c s j) (target-leads m s j n)
+
+    -- the next state is one of the component
+    pub target-next : (next : List ℕ) → meetsAt G c (goalAt l a) ≡ true → Toward rows (G .states) comp y next → (s : ℕ) → joined G c s ≡ true → nontrivial G s ≡ true
+        → joined G c (getD next s 0) ≡ true
+    target-next next m w s j n =
+        ap (joined G c) (toward-target next m w s j n)
+        ∙ inside-to G c s (toward (G .states) (inside G c) (target G c l a) s) (toward-move (G .states) (inside G c) (target G c l a) s (target-leads m s j n))
 
 -- the moves of a tour
 

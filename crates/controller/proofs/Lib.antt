@@ -1,0 +1,13 @@
+-- Each: loops that change a buffer. Writes: what the loops write. Cells: the places of the table. Fills: so they fill it.
+-- Told: what scratch tells. Entries: each entry is the right one. Loops: so each loop fills its rows.
+pub mod Each
+pub mod Writes
+pub mod Cells
+pub mod Fills
+pub mod Told
+pub mod Entries
+pub mod Loops
+pub mod Setting
+pub mod Phases
+pub mod Homes
+pub mod Table

@@ -1,0 +1,72 @@
+// Who has a home where, and the rows outside it: the way home.
+use crate::Home;
+use crate::Size;
+use crate::rows;
+use game::Game;
+use game::InSet;
+use game::InState;
+use game::OutSet;
+use game::OutState;
+ghost use mathlib.Core.Path.{_≡_};
+ghost use Prim.Native.Nat.{_+_, _≤_, _<_};
+ghost use lib.ListN.{length};
+ghost use Rattle.play.specs.Play.{separatedOf};
+ghost use Rattle.theory.specs.Entries.{controllerEntries};
+ghost use Rattle.sets.specs.Member.{pack};
+ghost use Rattle.controller.specs.Writes.{Table, homeAt, residesAt, Away};
+ghost use Rattle.controller.specs.Filled.{Filled, Away as AwayRow, Given, HomeOf};
+
+// Whether the lowest home of input j in reach is d.
+fn home_is(cores: InSet, j: InState, row: OutSet, reach: OutSet, d: OutState) -> bool
+    requires { ⌜ j .0 < 64 ⌝ }
+    ensures { λ r. ⌜ r ≡ homeAt (cores .0) (j .0) (row .0) (reach .0) (d .0) ⌝ }
+{
+    if sets::member(cores.0, j.0) {
+        return sets::lowest(row.0 & reach.0) == d.0;
+    }
+    false
+}
+
+// The inputs whose home at output o is d.
+pub fn residents(s: &[u64], n: usize, cores: InSet, o: OutState, d: OutState) -> InSet
+    requires { ⌜ (n ≤ 64) × (o .0 < 64) × (n + n + o .0 < length (now s)) ⌝ }
+    ensures { λ r. ⌜ r .0 ≡ pack n (residesAt (now (s .entry)) n (cores .0) (o .0) (d .0)) ⌝ }
+{
+    let reach = s[n + n + o.0];
+    let mut x: u64 = 0;
+    let mut j = 0;
+    while j < n {
+        x = sets::insert_if(x, j, home_is(cores, InState(j), OutSet(s[n + j]), OutSet(reach), d));
+        j += 1;
+    }
+    InSet(x)
+}
+
+// The rows of the outputs outside the component of home d, for the inputs whose home there is d: next is the way home.
+fn away(room: &mut [u16], s: &[u64], z: Size, cores: InSet, d: OutState, comp: OutSet, next: &[u8; 64])
+    requires { ⌜ Table z (length (now room)) × (z .inputs + z .inputs + z .outputs ≤ length (now s)) ⌝ }
+    ensures { λ r. ⌜ Away z (now (s .entry)) (cores .0) (d .0) (comp .0) (now (next .entry)) (z .outputs) (now (room .entry)) (now (room .exit)) ⌝ }
+{
+    let m = z.outputs;
+    let mut o = 0;
+    while o < m {
+        if !sets::member(comp.0, o) {
+            let inputs = residents(s, z.inputs, cores, OutState(o), d);
+            rows::write_rows(room, z, OutState(o), inputs, rows::wide(next[o]));
+        }
+        o += 1;
+    }
+}
+
+// The rows outside a home: the way to it, searched once for all outputs.
+pub fn approach(g: Game, s: &[u64], room: &mut [u16], z: Size, cores: InSet, w: Home)
+    requires { ⌜ Given g z (now s) (cores .0) × HomeOf (separatedOf g) w × (length (controllerEntries (separatedOf g)) ≤ length (now room)) ⌝ }
+    ensures { λ r. ⌜ Filled (separatedOf g) (AwayRow (separatedOf g) (w .state .0)) (now (room .entry)) (now (room .exit)) ⌝ }
+{
+    let h = g.output;
+    let m = z.outputs;
+    let component = w.component;
+    let found = ways::toward(&h.moves, m, sets::below(m), component.0);
+    let next = found.next;
+    away(room, s, z, cores, w.state, component, &next);
+}

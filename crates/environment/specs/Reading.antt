@@ -1,0 +1,38 @@
+-- What is read of scratch l with n inputs and m outputs.
+--
+--   Shaped k n m                       == scratch of k words holds n inputs and m outputs
+--   anyWon l n m cores j set           == some output of the set makes a won position with j
+--   openAt l n m cores from set j      == j is an input of `from` with which none does
+--   unansweredAt l n m cores from set  == the lowest such input; n where there is none
+--   lostAt l n cores o j               == (j, o) is not won
+--   plain g i o                        == (i, o) is won, or the component of i is trivial
+use Prim.Native.Nat.{ℕ, _+_, _≤_}
+use mathlib.Core.Bool.{Bool, _&&_, _||_, not}
+use mathlib.Core.List.{List}
+use Rattle.finite.specs.Bounded.{any, least}
+use Rattle.sets.specs.Member.{has}
+use Rattle.graphs.specs.Component.{nontrivial}
+use Rattle.game.specs.declared.Game.{Game}
+use Rattle.play.specs.Play.{separatedOf}
+use Rattle.theory.specs.Region.{region}
+use Rattle.stored.specs.Stored.{wonAt}
+
+pub record Shaped (k n m : ℕ) : Type 0 where
+  pub inputs : n ≤ 64
+  pub outputs : m ≤ 64
+  pub long : n + n + m ≤ k
+
+unfoldable pub anyWon : List ℕ → ℕ → ℕ → ℕ → ℕ → ℕ → Bool
+anyWon l n m cores j set = any m (λ p. has set p && wonAt l n cores j p)
+
+unfoldable pub openAt : List ℕ → ℕ → ℕ → ℕ → ℕ → ℕ → ℕ → Bool
+openAt l n m cores from set j = has from j && not (anyWon l n m cores j set)
+
+unfoldable pub unansweredAt : List ℕ → ℕ → ℕ → ℕ → ℕ → ℕ → ℕ
+unansweredAt l n m cores from set = least n (openAt l n m cores from set)
+
+unfoldable pub lostAt : List ℕ → ℕ → ℕ → ℕ → ℕ → Bool
+lostAt l n cores o j = not (wonAt l n cores j o)
+
+unfoldable pub plain : Game → ℕ → ℕ → Bool
+plain g i o = region (separatedOf g) i o || not (nontrivial (separatedOf g .input) i)

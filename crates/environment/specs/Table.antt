@@ -1,0 +1,67 @@
+-- The environment's table as it is filled, row after row in any order.
+--
+--   entriesOf g                 == the entries of the environment's table
+--   place M O i h o             == the place of the row of input i, counter h and output o, of M counters and O outputs
+--   Solved g s n                == the game is accepted, scratch s holds its region, and n entries hold the table
+--   Known g s cores             == the game is accepted, scratch s holds its region, and cores are the inputs in nontrivial components
+--   Roomy g counters n          == the table has so many counters, and fits n entries
+--   Filled g P l m              == from l to m rows were written, those with P among them
+--   Same g counters i o first more   == the rows of i and o hold first + more × h
+--   Spread g i over which first more == so do those of i and the outputs of `over`, for the counters of `which`
+use Prim.Native.Nat.{ℕ, _+_, _*_, _<_, _≤_}
+use mathlib.Core.Path.{_≡_}
+use mathlib.Core.Bool.{true}
+use mathlib.Core.List.{List}
+use lib.ListN.{length}
+use Rattle.sets.specs.Member.{has, pack}
+use Rattle.graphs.specs.Component.{nontrivial}
+use Rattle.game.specs.declared.Game.{Game}
+use Rattle.game.specs.declared.Acceptance.the-variants.{Accepted}
+use Rattle.game.specs.Acceptance.{acceptance}
+use Rattle.play.specs.Play.{graphOf, separatedOf}
+use Rattle.theory.specs.Choice.{environmentRow}
+use Rattle.theory.specs.Entries.{entry, environmentCounters, environmentEntries}
+use Rattle.stored.specs.Stored.{Ready}
+use Rattle.filling.specs.Grows.{Right, Grows}
+
+unfoldable pub entriesOf : Game → List ℕ
+entriesOf g = environmentEntries (separatedOf g)
+
+-- "Panel: one start entry, then rows by input, counter, output"
+unfoldable pub place : ℕ → ℕ → ℕ → ℕ → ℕ → ℕ
+place M O i h o = 1 + ((i * M + h) * O + o)
+
+pub record Solved (g : Game) (s : List ℕ) (n : ℕ) : Type 0 where
+  pub accepted : acceptance g ≡ Accepted
+  pub ready : Ready g s
+  pub room : length (environmentEntries (separatedOf g)) ≤ n
+
+pub record Known (g : Game) (s : List ℕ) (x : ℕ) : Type 0 where
+  pub accepted : acceptance g ≡ Accepted
+  pub ready : Ready g s
+  pub cores : x ≡ pack (g .input .states) (nontrivial (graphOf (g .input)))
+  pub inputs : g .input .states ≤ 64
+  pub outputs : g .output .states ≤ 64
+
+pub record Roomy (g : Game) (M n : ℕ) : Type 0 where
+  pub accepted : acceptance g ≡ Accepted
+  pub counters : M ≡ environmentCounters (separatedOf g)
+  pub few : M ≤ 32
+  pub inputs : g .input .states ≤ 64
+  pub outputs : g .output .states ≤ 64
+  pub room : length (entriesOf g) ≤ n
+
+pub record Filled (g : Game) (P : ℕ → ℕ → ℕ → Type 0) (l m : List ℕ) : Type 0 where
+  pub grows : Grows (entriesOf g) l m
+  pub rows : (i h o : ℕ) → i < g .input .states → h < environmentCounters (separatedOf g) → o < g .output .states → P i h o
+      → Right (entriesOf g) m (place (environmentCounters (separatedOf g)) (g .output .states) i h o)
+
+pub record Same (g : Game) (counters i o first more : ℕ) : Type 0 where
+  pub input : i < g .input .states
+  pub output : o < g .output .states
+  pub entry : (h : ℕ) → h < counters → first + more * h ≡ entry (environmentRow (separatedOf g) i h o)
+
+pub record Spread (g : Game) (i over which first more : ℕ) : Type 0 where
+  pub input : i < g .input .states
+  pub counter : (h : ℕ) → has which h ≡ true → h < environmentCounters (separatedOf g)
+  pub entry : (h o : ℕ) → has which h ≡ true → o < g .output .states → has over o ≡ true → first + more * h ≡ entry (environmentRow (separatedOf g) i h o)

@@ -1,0 +1,60 @@
+// Rows written for several counters at once. A row of input i and output o lies outputs entries after that of the counter before.
+use game::Game;
+use game::InState;
+use game::OutSet;
+use game::OutState;
+ghost use mathlib.Core.Path.{_≡_};
+ghost use mathlib.Core.Bool.{true};
+ghost use lib.ListN.{length};
+ghost use Rattle.sets.specs.Member.{has};
+ghost use Rattle.environment.specs.Table.{Roomy, Same, Spread, Filled};
+
+// first + more × h in the row of every counter h.
+pub fn put(
+    g: Game,
+    counters: usize,
+    i: InState,
+    o: OutState,
+    first: u16,
+    more: u16,
+    room: &mut [u16],
+)
+    requires { ⌜ Roomy g counters (length (now room)) × Same g counters (i .0) (o .0) first more ⌝ }
+    ensures { λ r. ⌜ Filled g (λ a h b. (a ≡ i .0) × (b ≡ o .0)) (now (room .entry)) (now (room .exit)) ⌝ }
+{
+    let outputs = g.output.states;
+    touring::column(
+        room,
+        1 + i.0 * counters * outputs + o.0,
+        outputs,
+        sets::below(counters),
+        first,
+        more,
+    );
+}
+
+// The same for each output of `over` and each counter of `which`.
+pub fn spread(
+    g: Game,
+    counters: usize,
+    i: InState,
+    over: OutSet,
+    which: u64,
+    first: u16,
+    more: u16,
+    room: &mut [u16],
+)
+    requires { ⌜ Roomy g counters (length (now room)) × Spread g (i .0) (over .0) which first more ⌝ }
+    ensures { λ r. ⌜ Filled g (λ a h b. (a ≡ i .0) × (has which h ≡ true) × (has (over .0) b ≡ true)) (now (room .entry)) (now (room .exit)) ⌝ }
+{
+    let outputs = g.output.states;
+    touring::block(
+        room,
+        1 + i.0 * counters * outputs,
+        outputs,
+        over.0,
+        which,
+        first,
+        more,
+    );
+}

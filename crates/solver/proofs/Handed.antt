@@ -1,0 +1,132 @@
+-- The table handed over as a part of its buffer.
+use Prim.Native.Nat.{ℕ}
+use mathlib.Core.Path.{_≡_, refl, sym, _∙_, ap, subst}
+use mathlib.Core.Bool.{Bool, true, false}
+use mathlib.Core.List.{List, _++_}
+use lib.Dec.{leb}
+use lib.ListN.{length, take, drop}
+use lib.Seq.{take-append-seam}
+use Rattle.game.specs.declared.Game.{Game}
+use Rattle.game.specs.declared.Acceptance.{Acceptance}
+use Rattle.game.specs.declared.Acceptance.the-variants.{Accepted, Refused as Faulty}
+use Rattle.game.specs.Acceptance.{acceptance}
+use Rattle.play.specs.Play.{separatedOf}
+use Rattle.theory.specs.Region.{verdict}
+use Rattle.theory.specs.Entries.{controllerEntries, environmentEntries}
+use Rattle.solver.specs.declared.Verdict.{Verdict}
+use Rattle.solver.specs.declared.Verdict.the-variants.{System, Environment, Refused as NotSolved}
+use Rattle.solver.specs.Promise.{
+  controllerLength,
+  environmentLength,
+  named,
+  tenth,
+  ninth,
+  eighth,
+  verdictAnswer,
+  controllerAfter,
+  environmentAfter,
+  Decided,
+  Solved,
+  number,
+  side,
+  chosen,
+  front,
+  Beaten,
+  Handed,
+}
+use Rattle.solver.proofs.Verdicts.{controller-long, environment-long}
+
+-- ---- a verdict's length is its table's
+
+Told : Game → Verdict → Type 0
+Told g (System n) = n ≡ controllerLength g
+Told g (Environment n) = n ≡ environmentLength g
+Told g (NotSolved n) = Unit {0}
+
+module _ (g : Game) (s c e : ℕ) where
+  told-named : (b : Bool) → Told g (elim b as (λ x. Verdict) [ true ↦ System (controllerLength g) | false ↦ Environment (environmentLength g) ])
+  unfolding Told
+  told-named true = refl
+  told-named false = refl
+
+  told-tenth : (b : Bool) → Told g (elim b as (λ x. Verdict) [ true ↦ named g | false ↦ NotSolved 10 ])
+  unfolding Told named
+  told-tenth true = told-named (verdict (separatedOf g))
+  told-tenth false = tt
+
+  told-ninth : (b : Bool) → Told g (elim b as (λ x. Verdict) [ true ↦ tenth g e | false ↦ NotSolved 9 ])
+  unfolding Told tenth
+  told-ninth true = told-tenth (leb (environmentLength g) e)
+  told-ninth false = tt
+
+  told-eighth : (b : Bool) → Told g (elim b as (λ x. Verdict) [ true ↦ ninth g c e | false ↦ NotSolved 8 ])
+  unfolding Told ninth
+  told-eighth true = told-ninth (leb (controllerLength g) c)
+  told-eighth false = tt
+
+  told-acceptance : (a : Acceptance) → Told g (elim a as (λ x. Verdict) [ Accepted ↦ eighth g s c e | Faulty n ↦ NotSolved n ])
+  unfolding Told eighth
+  told-acceptance Accepted = told-eighth (leb 512 s)
+  told-acceptance (Faulty n) = tt
+
+  told-answer : Told g (verdictAnswer g s c e)
+  unfolding verdictAnswer
+  told-answer = told-acceptance (acceptance g)
+
+-- ---- what is handed over
+
+module _ (g : Game) (s s′ c c′ e e′ : List ℕ) where
+  -- the filled front of a buffer is as long as the table
+  told : {v : Verdict} → Solved g s s′ c c′ e e′ v → Told g v
+  told S = subst (Told g) (sym (S .answer)) (told-answer g (length s) (length c) (length e))
+
+  as-told : {v w : Verdict} → Solved g s s′ c c′ e e′ v → v ≡ w → Solved g s s′ c c′ e e′ w
+  as-told S q = subst (Solved g s s′ c c′ e e′) q S
+
+  system-part : {n : ℕ} → Solved g s s′ c c′ e e′ (System n) → take n c′ ≡ controllerEntries (separatedOf g)
+  unfolding Told controllerAfter
+  system-part {n} S =
+      ap (take n) (S .controller) ∙ ap (λ (k : ℕ). take k (controllerEntries (separatedOf g) ++ drop n c)) (told S ∙ sym (controller-long g))
+      ∙ take-append-seam (controllerEntries (separatedOf g)) (drop n c)
+
+  environment-part : {n : ℕ} → Solved g s s′ c c′ e e′ (Environment n) → take n e′ ≡ environmentEntries (separatedOf g)
+  unfolding Told environmentAfter
+  environment-part {n} S =
+      ap (take n) (S .environment) ∙ ap (λ (k : ℕ). take k (environmentEntries (separatedOf g) ++ drop n e)) (told S ∙ sym (environment-long g))
+      ∙ take-append-seam (environmentEntries (separatedOf g)) (drop n e)
+
+  pub system-count : {v : Verdict} {n : ℕ} → Solved g s s′ c c′ e e′ v → v ≡ System n → n ≡ length (take n c′)
+  unfolding Told
+  system-count S q = let T = as-told S q in told T ∙ sym (controller-long g) ∙ sym (ap length (system-part T))
+
+  pub environment-count : {v : Verdict} {n : ℕ} → Solved g s s′ c c′ e e′ v → v ≡ Environment n → n ≡ length (take n e′)
+  unfolding Told
+  environment-count S q = let T = as-told S q in told T ∙ sym (environment-long g) ∙ sym (ap length (environment-part T))
+
+  module _ (b : Bool) (p q : ℕ × ℕ) where
+    abbrev Hands : Verdict → ℕ → Bool → ℕ × ℕ → List ℕ → Type 0
+    Hands v n b′ r t = Handed g v s s′ n b b′ p q r t
+
+    abbrev Answers : ℕ → Bool → ℕ × ℕ → List ℕ → Type 0
+    Answers n b′ r t = Hands (verdictAnswer g (length s) (length c) (length e)) n b′ r t
+
+    answers : {v w : Verdict} {n : ℕ} {b′ : Bool} {r : ℕ × ℕ} {t : List ℕ} → Solved g s s′ c c′ e e′ v → v ≡ w → Hands w n b′ r t → Answers n b′ r t
+    answers {n = n} {b′} {r} {t} S h H = subst (λ (x : Verdict). Hands x n b′ r t) (sym h ∙ S .answer) H
+
+    pub hands-system : {v : Verdict} {n : ℕ} → Solved g s s′ c c′ e e′ v → v ≡ System n → Answers 0 true p (take n c′)
+    unfolding Decided number side chosen front Beaten
+    hands-system S h =
+        let T = as-told S h in
+        answers S h record { scratch = T .scratch; refusal = refl; system = refl; buffer = refl; part = system-part T; demand = T .demand }
+
+    pub hands-environment : {v : Verdict} {n : ℕ} → Solved g s s′ c c′ e e′ v → v ≡ Environment n → Answers 0 false q (take n e′)
+    unfolding Decided number side chosen front Beaten
+    hands-environment S h =
+        let T = as-told S h in
+        answers S h record { scratch = T .scratch; refusal = refl; system = refl; buffer = refl; part = environment-part T; demand = T .demand }
+
+    pub hands-nothing : {v : Verdict} {n : ℕ} → Solved g s s′ c c′ e e′ v → v ≡ NotSolved n → Answers n b p (take 0 c′)
+    unfolding number side chosen front Beaten
+    hands-nothing S h =
+        let T = as-told S h in
+        answers S h record { scratch = T .scratch; refusal = refl; system = refl; buffer = refl; part = refl; demand = tt }
