@@ -5,6 +5,8 @@
 --   no-gates           : without gates the component tours
 --   gates-within       : gates are states
 --   rows-outward       : with gates, the rows
+--   same-outward       : what they ask of the entries
+--   whole-*            : the states of the component
 --   escape-won, escape-tours, escape-leaves : what one output's part ensures
 use Prim.Native.Nat.{ℕ, _+_, _*_, _<_}
 use mathlib.Core.Path.{_≡_, refl, sym, _∙_, ap, subst, fun-ext}

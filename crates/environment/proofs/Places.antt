@@ -5,6 +5,7 @@
 --   filled-none, filled-join  : nothing written, and one writing after the other
 --   filled-same               : fewer rows than were written
 --   put-*, spread-*           : what the columns and blocks of rows ask and give
+--   filled-skip, filled-next  : the states of a set, one after the other
 use Prim.Native.Nat.{ℕ, suc, _+_, _-_, _*_, _<_, _≤_}
 use native.Mathlib.Nat.{mul-comm, mul-zero, add-mul, mul-le-mul, le-max-left}
 use native.Mathlib.Numerals.{one-add}

@@ -1,10 +1,8 @@
--- What is read of scratch, loop by loop, and what it is where scratch is ready.
+-- What is read of scratch, loop by loop.
 --
---   any-*              : whether a set has a won output, state by state
---   open-*             : the lowest input that no output answers
---   known-won          : what is read is the region
---   start-*            : the start
---   same-none, same-push : rows that need no walk
+--   any-*      : whether a set has a won output, state by state
+--   Answered   == every input before j is answered or not asked about
+--   open-*     : the lowest input that no output answers
 use Prim.Native.Nat.{ℕ, _+_, _<_, _≤_}
 use native.Mathlib.Numerals.{add-one}
 use mathlib.Core.Path.{_≡_, refl, sym, _∙_, ap}

@@ -5,6 +5,7 @@
 --   rests-rows, aims-rows   : so are the rows that are written, with no goal and with goals
 --   spread-rest, spread-tour : what these ask of the entries
 --   aims-goals, aims-below  : the counters of a tour
+--   aims-next, aims-skip    : one goal after the other
 use Prim.Native.Nat.{ℕ, _+_, _*_, _<_, _≤_}
 use native.Mathlib.Nat.{le-max-right, max-eq-right, zero-mul}
 use mathlib.Core.Path.{_≡_, refl, sym, _∙_, ap, ap₂, subst}

@@ -4,6 +4,7 @@
 --   whole-of-number  : a state that is the lowest of its nontrivial component is its number
 --   skip-trivial, skip-other : a state that is not
 --   walked-join      : ways out and tours together are all rows of the component
+--   number-in        : the states whose component has a number
 use Prim.Native.Nat.{ℕ, _<_}
 use mathlib.Core.Path.{_≡_, refl, sym, _∙_, ap, subst}
 use mathlib.Core.Bool.{Bool, true, false, not}

@@ -42,6 +42,7 @@ pub record Outward (g : Game) (M c o out : ℕ) (next : List ℕ) : Type 0 where
   pub row : (k h : ℕ) → k < g .input .states → has c k ≡ true → h < M
       → environmentRow (separatedOf g) k h o ≡ gives h (wayFrom (getD (g .input .moves) k 0) out (getD next k 0))
 
+-- "Some move leaves the component to a j with (j, o) not won: .."; "Otherwise tour the input sets inside the component"
 unfoldable pub leavingAt : Game → ℕ → ℕ → Bool
 leavingAt g k o = not (region (separatedOf g) k o) && escapes (separatedOf g) k o
 

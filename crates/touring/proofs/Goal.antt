@@ -1,4 +1,8 @@
 -- Laws of a tour's counters.
+--
+--   goal-later, goal-wrapped   : the first member from g on, where one is left and where none is
+--   first-member, first-below  : it is a member, and below m
+--   passed-*                   : the counter after a move
 use Prim.Native.Nat.{ℕ, _+_, _-_, _≤_, _<_, _^_}
 use mathlib.Core.Path.{_≡_, refl, sym, _∙_, ap}
 use mathlib.Core.Bool.{Bool, true, false, _&&_, not}

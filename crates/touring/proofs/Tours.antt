@@ -4,7 +4,9 @@
 --   goals-from             : a counter, with the word of the sets that meet the component
 --   goal-word              : the first member from g on is the goal
 --   inside-kept            : moves inside the component
+--   prefer-inside          : the choice from the moves inside
 --   target-word            : a goal's members in the component
+--   toward-target, target-next : the next state on the way to a goal, and that it is one of the component
 --   tour-rests             : with no goal, the choice from the moves inside
 --   tour-aims              : else the move towards the goal
 use Prim.Native.Nat.{ℕ, _≤_, _<_}

@@ -1,0 +1,52 @@
+-- `answer`.
+use native.Mathlib.Omega.{arith}
+use mathlib.Core.Path.{_≡_, refl, sym, _∙_, ap}
+use borrow.Author.Needs.{needs}
+use Rattle.text.proofs.OneText.{written-read}
+use Rattle.solve.proofs.answer.Statement.{statement}
+use Rattle.solve.proofs.answer.Tie as tie
+
+read-requires : tie.Need-read-requires
+read-requires c κs = search needs
+
+enum-known-a : tie.Need-enum-known-a
+enum-known-a c = search needs
+
+print-misshapen-requires : tie.Need-print-misshapen-requires
+print-misshapen-requires c κs = search needs
+
+enum-known-a-2 : tie.Need-enum-known-a-2
+enum-known-a-2 c = search needs
+
+print-refused-requires : tie.Need-print-refused-requires
+print-refused-requires c κs = search needs
+
+enum-told : tie.Need-enum-told
+enum-told c = search needs
+
+solve-requires : tie.Need-solve-requires
+solve-requires c κs = written-read _ _ (c .before .before .before .read .ensures) (c .before .enum-told .given .1) .accepted
+
+returns : tie.Need-returns
+returns c = search needs
+
+returns-2 : tie.Need-returns-2
+returns-2 c = search needs
+
+returns-3 : tie.Need-returns-3
+returns-3 c = search needs
+
+pub answer-spec : {M : Type 1} → statement M
+answer-spec =
+    tie.close
+    (tie.spec
+    read-requires
+    enum-known-a
+    print-misshapen-requires
+    enum-known-a-2
+    print-refused-requires
+    enum-told
+    solve-requires
+    returns
+    returns-2
+    returns-3)
