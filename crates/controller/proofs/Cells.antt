@@ -38,8 +38,8 @@ module _ (S : Separated) where
   unfolding controllerEntries
   start-at i b =
       List·getD-append (tabulate (S .input .states) (λ k. entry (controllerStart S k)))
-        (tabulate (S .output .states * controllerCounters S * S .input .states) (rowOf (controllerCounters S) (S .input .states) (controllerRow S))) 0 i
-        (rw starts-length b)
+      (tabulate (S .output .states * controllerCounters S * S .input .states) (rowOf (controllerCounters S) (S .input .states) (controllerRow S))) 0 i
+      (rw starts-length b)
       ∙ getD-tabulate (λ k. entry (controllerStart S k)) (S .input .states) i 0 b
 
   module _ (o c j : ℕ) (a : o < S .output .states) (b : c < controllerCounters S) (d : j < S .input .states) where
@@ -57,10 +57,13 @@ module _ (S : Separated) where
       where
         f : ℕ → ℕ
         f = rowOf (controllerCounters S) (S .input .states) (controllerRow S)
+
         starts : List ℕ
         starts = tabulate (S .input .states) (λ i. entry (controllerStart S i))
+
         rows : List ℕ
         rows = tabulate (S .output .states * controllerCounters S * S .input .states) f
+
         r : ℕ
         r = (o * controllerCounters S + c) * S .input .states + j
 
@@ -83,19 +86,24 @@ module _ (S : Separated) where
     output-below = div-lt-iff-lt-mul some-counter .1 (div-lt-iff-lt-mul pos .1 below);
     counter-below = mod-lt (r / n) some-counter;
     input-below = mod-lt r pos;
-    is = omega (arith, a) ∙ ap (λ (x : ℕ). n + x) (sym (div-add-mod' r n) ∙ ap (λ (x : ℕ). x * n + r % n) (sym (div-add-mod' (r / n) m)))
+    is = omega (arith, a) ∙ ap (λ (x : ℕ). n + x) (sym (div-add-mod' r n) ∙ ap (λ (x : ℕ). x * n + r % n) (sym (div-add-mod' (r / n) m)));
   }
     where
       n : ℕ
       n = S .input .states
+
       m : ℕ
       m = controllerCounters S
+
       r : ℕ
       r = k - S .input .states
+
       below : k - S .input .states < S .output .states * controllerCounters S * S .input .states
       below = omega (arith, table-length)
+
       some : (x : ℕ) → k - S .input .states < S .output .states * controllerCounters S * x → 0 < x
       some zero h = absurd (omega (arith, mul-zero (S .output .states * controllerCounters S)))
       some (suc x) h = omega arith
+
       pos : 0 < S .input .states
       pos = some (S .input .states) below

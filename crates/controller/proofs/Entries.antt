@@ -111,10 +111,13 @@ module _ (S : Separated) (s : List ℕ) (n cores : ℕ) (rows : List ℕ) (T : T
       where
         p : ℕ
         p = least 64 (has (bitAnd (getD rows o 0) (getD s (n + j) 0)))
+
         q : ℕ → Bool
         q k = edge (S .output) o k && region S j k
+
         same : (k : ℕ) → k < S .output .states → has (bitAnd (getD rows o 0) (getD s (n + j) 0)) k ≡ (edge (S .output) o k && region S j k)
         same k l = moved k ∙ ap (λ (x : Bool). edge (S .output) o k && x) (T .wins j k a t)
+
         go : (answers S (region S) j o ≡ true) ⊎ (answers S (region S) j o ≡ false)
             → first (least 64 (has (bitAnd (getD rows o 0) (getD s (n + j) 0)))) + more (least 64 (has (bitAnd (getD rows o 0) (getD s (n + j) 0)))) * c ≡ entry (controllerRow S o c j)
         go (inl h) =
@@ -125,28 +128,28 @@ module _ (S : Separated) (s : List ℕ) (n cores : ℕ) (rows : List ℕ) (T : T
         go (inr h) =
             rw (row-none S o c j h)
             (entry-none p c
-              (lowest-none (S .output .states) (bitAnd (getD rows o 0) (getD s (n + j) 0)) q (T .few-outputs) same moved-below
-                (λ k l. false-of (q k) (λ e. clash (and-right (edge (S .output) o k) (region S j k) e) (answers-false S (region S) j o k h (and-left (edge (S .output) o k) (region S j k) e))))))
+            (lowest-none (S .output .states) (bitAnd (getD rows o 0) (getD s (n + j) 0)) q (T .few-outputs) same moved-below
+            (λ k l. false-of (q k) (λ e. clash (and-right (edge (S .output) o k) (region S j k) e) (answers-false S (region S) j o k h (and-left (edge (S .output) o k) (region S j k) e))))))
 
     plain-nontrivial : nontrivial (S .input) j ≡ true → settles S (region S) j o ≡ false → (c : ℕ)
         → first (least 64 (has (bitAnd (getD rows o 0) (getD s (n + j) 0)))) + more (least 64 (has (bitAnd (getD rows o 0) (getD s (n + j) 0)))) * c ≡ entry (controllerRow S o c j)
     plain-nontrivial t h c =
         rw (row-none S o c j (false-of (answers S (region S) j o) (λ e. clash (answers-settles S j o t e) h)))
         (entry-none (least 64 (has (bitAnd (getD rows o 0) (getD s (n + j) 0)))) c
-          (lowest-none (S .output .states) (bitAnd (getD rows o 0) (getD s (n + j) 0)) (λ k. edge (S .output) o k && homeFor S (region S) j k) (T .few-outputs)
-            (λ k l. moved k ∙ ap (λ (x : Bool). edge (S .output) o k && x) (T .homes j k a t)) moved-below
-            (λ k l. false-of (edge (S .output) o k && homeFor S (region S) j k)
-              (λ e. clash
-                (settles-intro S (region S) j o k (reaches-edge (S .output) o k (and-left (edge (S .output) o k) (homeFor S (region S) j k) e))
-                  (and-right (edge (S .output) o k) (homeFor S (region S) j k) e))
-                h))))
+        (lowest-none (S .output .states) (bitAnd (getD rows o 0) (getD s (n + j) 0)) (λ k. edge (S .output) o k && homeFor S (region S) j k) (T .few-outputs)
+        (λ k l. moved k ∙ ap (λ (x : Bool). edge (S .output) o k && x) (T .homes j k a t)) moved-below
+        (λ k l. false-of (edge (S .output) o k && homeFor S (region S) j k)
+        (λ e. clash
+        (settles-intro S (region S) j o k (reaches-edge (S .output) o k (and-left (edge (S .output) o k) (homeFor S (region S) j k) e))
+        (and-right (edge (S .output) o k) (homeFor S (region S) j k) e))
+        h))))
 
     pub plain-entry : settlesAt cores j (getD s (n + j) 0) (getD s (n + n + o) 0) ≡ false → (c : ℕ)
         → first (least 64 (has (bitAnd (getD rows o 0) (getD s (n + j) 0)))) + more (least 64 (has (bitAnd (getD rows o 0) (getD s (n + j) 0)))) * c ≡ entry (controllerRow S o c j)
     plain-entry h c =
         elim (decide (nontrivial (S .input) j)) [
-          inl t ↦ plain-nontrivial t (unsettled S s n cores rows T j o a b h t) c
-        | inr t ↦ plain-trivial t c
+          | inl t ↦ plain-nontrivial t (unsettled S s n cores rows T j o a b h t) c
+          | inr t ↦ plain-trivial t c
         ]
 
   -- ---- starts
@@ -184,6 +187,7 @@ module _ (S : Separated) (s : List ℕ) (n cores : ℕ) (rows : List ℕ) (T : T
       where
         q : ℕ → Bool
         q o = begins (S .output) o && region S i o
+
         go : (begins (S .input) i ≡ true) ⊎ (begins (S .input) i ≡ false) → (opens S i ≡ true) ⊎ (opens S i ≡ false) → startOf z s cores ins outs i ≡ entry (controllerStart S i)
         go (inr f) h = start-out (is ∙ f) ∙ rw (start-none S i (and-false-left (opens S i) f)) refl
         go (inl t) (inl h) =
@@ -197,8 +201,8 @@ module _ (S : Separated) (s : List ℕ) (n cores : ℕ) (rows : List ℕ) (T : T
             start-in (is ∙ t) ∙ first-only (least 64 (has word))
             ∙ rw (start-none S i (and-false-right (begins (S .input) i) h))
             (entry-none (least 64 (has word)) 0
-              (lowest-none (S .output .states) word q (T .few-outputs) word-has word-below
-                (λ o b. false-of (q o) (λ k. clash (and-right (begins (S .output) o) (region S i o) k) (opens-false S i o h (and-left (begins (S .output) o) (region S i o) k))))))
+            (lowest-none (S .output .states) word q (T .few-outputs) word-has word-below
+            (λ o b. false-of (q o) (λ k. clash (and-right (begins (S .output) o) (region S i o) k) (opens-false S i o h (and-left (begins (S .output) o) (region S i o) k))))))
 
 -- ---- residents
 

@@ -60,8 +60,8 @@ module _ (S : Separated) where
     last : (k o c j : ℕ) → (i : ℕ) × (i < suc k) × (p i ≡ true) × P i o c j → ((i : ℕ) × (i < k) × (p i ≡ true) × P i o c j) ⊎ ((p k ≡ true) × P k o c j)
     last k o c j h =
         elim (below-suc (h .0) k (h .1)) [
-          inl e ↦ inr (subst (λ (i : ℕ). p i ≡ true) e (h .2), subst (λ (i : ℕ). P i o c j) e (h .3))
-        | inr b ↦ inl (h .0, b, h .2, h .3)
+          | inl e ↦ inr (subst (λ (i : ℕ). p i ≡ true) e (h .2), subst (λ (i : ℕ). P i o c j) e (h .3))
+          | inr b ↦ inl (h .0, b, h .2, h .3)
         ]
 
     each-filled : (k : ℕ) {l m : List ℕ} → Each p F k l m → ((i : ℕ) → i < k → p i ≡ true → Fills S (F i) (P i)) → length (controllerEntries S) ≤ length l
@@ -71,7 +71,7 @@ module _ (S : Separated) where
         let before = each-filled k e (λ i b h. f i (omega arith) h) long in
         let now = f k (omega arith) t .fills m r s (omega (arith, before .grows .long)) in
         filled-part (λ o c j a b d h. elim (last k o c j h) [ inl x ↦ inl x | inr x ↦ inr (x .1) ]) (filled-more before now)
-    each-filled (suc k) (miss e t) f long = 
+    each-filled (suc k) (miss e t) f long =
         filled-part (λ o c j a b d h. elim (last k o c j h) [ inl x ↦ x | inr x ↦ clash (x .0) t ]) (each-filled k e (λ i b h. f i (omega arith) h) long)
 
     pub fills-each : (k : ℕ) → ((i : ℕ) → i < k → p i ≡ true → Fills S (F i) (P i)) → Fills S (Each p F k) (λ o c j. (i : ℕ) × (i < k) × (p i ≡ true) × P i o c j)
@@ -91,7 +91,7 @@ module _ (S : Separated) (z : Size) (Z : Sizes S z) where
         → ((c : ℕ) → has which c ≡ true → f + m * c ≡ entry (controllerRow S o c j)) → Agrees (controllerEntries S) (base z o + j) (z .inputs) which f m
     agrees j which f m d r e = record {
       below = λ c h. rw (place-base o c j) (place-in S o c j b (r c h) d);
-      entry = λ c h. e c h ∙ sym (row-entry S o c j b (r c h) d) ∙ ap (λ (k : ℕ). getD (controllerEntries S) k 0) (sym (place-base o c j))
+      entry = λ c h. e c h ∙ sym (row-entry S o c j b (r c h) d) ∙ ap (λ (k : ℕ). getD (controllerEntries S) k 0) (sym (place-base o c j));
     }
 
     pub fills-block : (w which f m : ℕ) → ((c : ℕ) → has which c ≡ true → c < controllerCounters S)
@@ -101,6 +101,7 @@ module _ (S : Separated) (z : Size) (Z : Sizes S z) where
       where
         agree : BlockAgrees (controllerEntries S) (base z o) (z .inputs) w which f m
         agree = record { columns = λ j d i. agrees j which f m (rw (Z .inputs) at d) r (λ c h. e c j h (rw (Z .inputs) at d) i) }
+
         go : (l k : List ℕ) → Blocked (controllerEntries S) l k (base z o) (z .inputs) w which (z .inputs) → Filled S (λ o′ c j. (o′ ≡ o) × (has w j ≡ true) × (has which c ≡ true)) l k
         go l k s = record { grows = s .grows; right = λ o′ c j a x d h. rw (h .0, ← place-base o c j) (s .right j c (rw (Z .inputs) d) (h .1) (h .2)) }
 
@@ -122,7 +123,7 @@ module _ (S : Separated) (z : Size) (Z : Sizes S z) where
     fills-rows w p e = record {
       fills = λ l k s long.
           filled-part S (λ o′ c j a x y h. (h .0, h .1, below-all c x))
-          (fills-block w (z .all) (first p) (more p) all-below (λ c j h. e c j (all-below c h)) .fills l k (s .block) long)
+          (fills-block w (z .all) (first p) (more p) all-below (λ c j h. e c j (all-below c h)) .fills l k (s .block) long);
     }
 
     pub fills-aimed : (goal a w which p : ℕ) → ((c : ℕ) → has which c ≡ true → c < controllerCounters S)
@@ -130,5 +131,5 @@ module _ (S : Separated) (z : Size) (Z : Sizes S z) where
         → Fills S (Aimed z goal a w which o p) (λ o′ c j. (o′ ≡ o) × (has w j ≡ true) × (has which c ≡ true))
     fills-aimed goal a w which p r e = record {
       fills = λ l k s long.
-          fills-block w which (p + 64 * passed (z .counters) (has goal p) a) 0 r (λ c j h d i. rw (zero-mul c) (add-zero (p + 64 * passed (z .counters) (has goal p) a) ∙ e c j h d i)) .fills l k (s .block) long
+          fills-block w which (p + 64 * passed (z .counters) (has goal p) a) 0 r (λ c j h d i. rw (zero-mul c) (add-zero (p + 64 * passed (z .counters) (has goal p) a) ∙ e c j h d i)) .fills l k (s .block) long;
     }

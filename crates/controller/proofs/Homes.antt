@@ -49,7 +49,7 @@ module _ (g : Game) (z : Size) (s : List ℕ) (cores : ℕ) (G : Given g z s cor
   part-closes = record {
     row = λ o b.
         getD-take (length s - (z .inputs + z .inputs)) (drop (z .inputs + z .inputs) s) o 0 (omega (arith, scratch-long G, G .sized .outputs))
-        ∙ getD-drop (z .inputs + z .inputs) s o 0 ∙ rw (G .sized .inputs) (G .ready .laid .outputs o b)
+        ∙ getD-drop (z .inputs + z .inputs) s o 0 ∙ rw (G .sized .inputs) (G .ready .laid .outputs o b);
   }
 
   module _ (d : ℕ) (b : d < z .outputs) where
@@ -84,7 +84,7 @@ module _ (g : Game) (z : Size) (s : List ℕ) (cores : ℕ) (G : Given g z s cor
             core = home-core (separatedOf g) d d (v .0) (of-word (v .0) (v .1) .1);
             component = q ∙ rw (G .sized .outputs) (component-closed (g .output) (take (length s - (z .inputs + z .inputs)) (drop (z .inputs + z .inputs) s)) part-closes d d-below);
             resides = λ j a h. of-word j h .1;
-            resident = in-word
+            resident = in-word;
           }
 
 -- the rows of one home
@@ -92,9 +92,9 @@ pub settled-here : (S : Separated) (d : ℕ) {l m r : List ℕ} → Filled S (Aw
 settled-here S d p q =
     filled-part S
     (λ o c j x y a h. elim (decide (joined (S .output) d o)) [
-        inl e ↦ inr (record { resides = h .resides; within = e })
+      | inl e ↦ inr (record { resides = h .resides; within = e })
       | inr e ↦ inl (record { resides = h .resides; apart = e })
-      ])
+    ])
     (filled-more S p q)
 
 -- the loop over the homes
@@ -105,7 +105,7 @@ pub homes-next : (S : Separated) (d : ℕ) {l m r : List ℕ} → Filled S (Belo
 homes-next S d p q =
     filled-part S
     (λ o c j x y a h. elim (below-suc (home S j o) d (rw add-one at (h .below))) [
-        inl e ↦ inr (record { resides = subst (λ (k : ℕ). Resides S o k j) e (h .resides) })
+      | inl e ↦ inr (record { resides = subst (λ (k : ℕ). Resides S o k j) e (h .resides) })
       | inr e ↦ inl (record { resides = h .resides; below = e })
-      ])
+    ])
     (filled-more S p q)

@@ -1,5 +1,6 @@
--- Each: loops that change a buffer. Writes: what the loops write. Cells: the places of the table. Fills: so they fill it.
--- Told: what scratch tells. Entries: each entry is the right one. Loops: so each loop fills its rows.
+-- Each: loops that change a buffer. Writes: what the loops write. Cells: the places of the table. Fills: writing right entries fills it.
+-- Told: what scratch tells. Entries: each entry is the right one. Loops: so each loop fills its rows. Setting: what an accepted game gives to
+-- these. Phases: the way home and the tour of one home. Homes: all homes. Table: the whole table.
 pub mod Each
 pub mod Writes
 pub mod Cells

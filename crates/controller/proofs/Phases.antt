@@ -74,7 +74,7 @@ module _ (g : Game) (z : Size) (Z : Sized g z) (w : Home) (H : HomeOf (separated
     members =
         rw (sizes-of g z Z .outputs, H .component)
         (lt-within (pack (separatedOf g .output .states) (joined (separatedOf g .output) (w .state .0))) (separatedOf g .output .states)
-          (pack-lt (separatedOf g .output .states) (joined (separatedOf g .output) (w .state .0))))
+        (pack-lt (separatedOf g .output .states) (joined (separatedOf g .output) (w .state .0))));
   }
 
   all-states : (all : ℕ) → ((t : ℕ) → has all t ≡ ltb t (z .outputs)) → all ≡ pack (separatedOf g .output .states) (λ t. true)
@@ -108,8 +108,8 @@ module _ (g : Game) (z : Size) (Z : Sized g z) (w : Home) (H : HomeOf (separated
       fills-rest (separatedOf g) z (sizes-of g z Z) w H (few-outputs g z Z) (g .output .moves)
       (goals-none (separatedOf g .output) (w .state .0) (guarantees (separatedOf g)) q (Q .is) none)
       (λ o h. prefer-inside (separatedOf g .output) (w .state .0) (g .output .moves) (w .component .0) (same-moves g) (H .component) o
-        (bitAnd (getD (g .output .moves) o 0) (w .component .0)) (few-outputs g z Z) h (here o h)
-        (λ t. has-and (getD (g .output .moves) o 0) (w .component .0) t))
+      (bitAnd (getD (g .output .moves) o 0) (w .component .0)) (few-outputs g z Z) h (here o h)
+      (λ t. has-and (getD (g .output .moves) o 0) (w .component .0) t))
       .fills l m e long
 
   -- ---- the way to one goal
@@ -128,7 +128,7 @@ module _ (g : Game) (z : Size) (Z : Sized g z) (w : Home) (H : HomeOf (separated
       seek-goals =
           rw (counters-are a (some-goal a i))
           (goals-from (separatedOf g .output) (w .state .0) (guarantees (separatedOf g)) q (Q .is) 0 (member-nonzero q a i)
-            (omega (arith, guarantees-few g (fits-of g z Z))) (omega (arith, some-goal a i)))
+          (omega (arith, guarantees-few g (fits-of g z Z))) (omega (arith, some-goal a i)))
 
       pub seek-bounds : (y x : ℕ) → ((t : ℕ) → has y t ≡ (has x t && has (w .component .0) t)) → Bounds (z .outputs) y
       seek-bounds y x f = record {
@@ -136,7 +136,7 @@ module _ (g : Game) (z : Size) (Z : Sized g z) (w : Home) (H : HomeOf (separated
         members =
             has-within y (z .outputs)
             (λ t h. rw (sizes-of g z Z .outputs)
-              (joined-to (separatedOf g .output) (w .state .0) t (sym (comp-in (separatedOf g) w H t) ∙ and-right (has x t) (has (w .component .0) t) (sym (f t) ∙ h))))
+            (joined-to (separatedOf g .output) (w .state .0) t (sym (comp-in (separatedOf g) w H t) ∙ and-right (has x t) (has (w .component .0) t) (sym (f t) ∙ h))));
       }
 
       module _ (x y : ℕ) (next : List ℕ) (e : has x ≡ goalAt (guarantees (separatedOf g)) a) (f : (t : ℕ) → has y t ≡ (has x t && has (w .component .0) t))
@@ -160,9 +160,13 @@ module _ (g : Game) (z : Size) (Z : Sized g z) (w : Home) (H : HomeOf (separated
           below = λ o b h.
               let k = sym (comp-in (separatedOf g) w H o) ∙ h in
               let v = meetsAt-elim (separatedOf g .output) (w .state .0) (goalAt (guarantees (separatedOf g)) a) meets-goal in
-              omega (arith, way o k, few-outputs g z Z,
+              omega (
+                arith,
+                way o k,
+                few-outputs g z Z,
                 toward-below (separatedOf g .output .states) (inside (separatedOf g .output) (w .state .0)) (target (separatedOf g .output) (w .state .0) (guarantees (separatedOf g)) a) o
-                (inside-leads (separatedOf g .output) (w .state .0) (target (separatedOf g .output) (w .state .0) (guarantees (separatedOf g)) a) o (v .0) k (here o k) (target-at (v .0) (v .1) (v .2)) (v .2)))
+                    (inside-leads (separatedOf g .output) (w .state .0) (target (separatedOf g .output) (w .state .0) (guarantees (separatedOf g)) a) o (v .0) k (here o k) (target-at (v .0) (v .1) (v .2)) (v .2)),
+              );
         }
 
         module _ (which : ℕ) (k : which ≡ pack (z .counters) (aimedAt (z .counters) q a)) where
@@ -217,22 +221,22 @@ module _ (g : Game) (z : Size) (Z : Sized g z) (w : Home) (H : HomeOf (separated
     sought-next a p e r =
         rw e
         (filled-part (separatedOf g)
-          (λ o c j x y d h. elim (below-suc (goal (separatedOf g .output) (w .state .0) (guarantees (separatedOf g)) c) a (rw add-one at (h .goal))) [
-              inl u ↦ inr (record { there = h .there; goal = u })
-            | inr u ↦ inl (record { there = h .there; goal = u })
-            ])
-          (filled-more (separatedOf g) p r))
+        (λ o c j x y d h. elim (below-suc (goal (separatedOf g .output) (w .state .0) (guarantees (separatedOf g)) c) a (rw add-one at (h .goal))) [
+          | inl u ↦ inr (record { there = h .there; goal = u })
+          | inr u ↦ inl (record { there = h .there; goal = u })
+        ])
+        (filled-more (separatedOf g) p r))
 
     pub sought-past : (a : ℕ) {l m k : List ℕ} → Filled (separatedOf g) (Before (separatedOf g) (w .state .0) a) l m → q ≢ 0 → has q a ≡ false → k ≡ m
         → Filled (separatedOf g) (Before (separatedOf g) (w .state .0) (a + 1)) l k
     sought-past a p n f e =
         rw e
         (filled-part (separatedOf g)
-          (λ o c j x y d h. elim (below-suc (goal (separatedOf g .output) (w .state .0) (guarantees (separatedOf g)) c) a (rw add-one at (h .goal))) [
-              inl u ↦ clash (ap (has q) (sym u) ∙ goal-in c y n) f
-            | inr u ↦ record { there = h .there; goal = u }
-            ])
-          p)
+        (λ o c j x y d h. elim (below-suc (goal (separatedOf g .output) (w .state .0) (guarantees (separatedOf g)) c) a (rw add-one at (h .goal))) [
+          | inl u ↦ clash (ap (has q) (sym u) ∙ goal-in c y n) f
+          | inr u ↦ record { there = h .there; goal = u }
+        ])
+        p)
 
     pub sought-all : {l m : List ℕ} → q ≢ 0 → Filled (separatedOf g) (Before (separatedOf g) (w .state .0) (z .counters)) l m → Filled (separatedOf g) (There (separatedOf g) (w .state .0)) l m
     sought-all n p =
@@ -248,19 +252,20 @@ pub met-goals : (g : Game) (z : Size) → Sized g z → (w : Home) → HomeOf (s
     → q ≡ pack (length (guarantees (separatedOf g))) (metBy (separatedOf g) (w .component .0)) → Goals (separatedOf g) w q
 unfolding metBy
 met-goals g z Z w H q e = record {
-  is = e ∙ pack-ext (length l) (metBy (separatedOf g) (w .component .0)) (λ k. meetsAt (separatedOf g .output) (w .state .0) (goalAt (guarantees (separatedOf g)) k)) (λ k b. at k)
+  is = e ∙ pack-ext (length l) (metBy (separatedOf g) (w .component .0)) (λ k. meetsAt (separatedOf g .output) (w .state .0) (goalAt (guarantees (separatedOf g)) k)) (λ k b. at k);
 }
   where
     l : List (ℕ → Bool)
     l = guarantees (separatedOf g)
+
     at : (k : ℕ) → any 64 (λ t. goalAt (guarantees (separatedOf g)) k t && has (w .component .0) t) ≡ meetsAt (separatedOf g .output) (w .state .0) (goalAt (guarantees (separatedOf g)) k)
     at k =
         same-test (any 64 (λ t. goalAt (guarantees (separatedOf g)) k t && has (w .component .0) t)) (meetsAt (separatedOf g .output) (w .state .0) (goalAt (guarantees (separatedOf g)) k))
         (λ h. let v = any-elim 64 (λ t. goalAt (guarantees (separatedOf g)) k t && has (w .component .0) t) h in
-          meetsAt-intro (separatedOf g .output) (w .state .0) (goalAt (guarantees (separatedOf g)) k) (v .0)
-          (and-left (goalAt (guarantees (separatedOf g)) k (v .0)) (has (w .component .0) (v .0)) (v .2))
-          (sym (comp-in (separatedOf g) w H (v .0)) ∙ and-right (goalAt (guarantees (separatedOf g)) k (v .0)) (has (w .component .0) (v .0)) (v .2)))
+        meetsAt-intro (separatedOf g .output) (w .state .0) (goalAt (guarantees (separatedOf g)) k) (v .0)
+        (and-left (goalAt (guarantees (separatedOf g)) k (v .0)) (has (w .component .0) (v .0)) (v .2))
+        (sym (comp-in (separatedOf g) w H (v .0)) ∙ and-right (goalAt (guarantees (separatedOf g)) k (v .0)) (has (w .component .0) (v .0)) (v .2)))
         (λ h. let v = meetsAt-elim (separatedOf g .output) (w .state .0) (goalAt (guarantees (separatedOf g)) k) h in
-          any-intro 64 (λ t. goalAt (guarantees (separatedOf g)) k t && has (w .component .0) t) (v .0)
-          (omega (arith, joined-to (separatedOf g .output) (w .state .0) (v .0) (v .2), few-outputs g z Z))
-          (and-intro (v .1) (comp-in (separatedOf g) w H (v .0) ∙ v .2)))
+        any-intro 64 (λ t. goalAt (guarantees (separatedOf g)) k t && has (w .component .0) t) (v .0)
+        (omega (arith, joined-to (separatedOf g .output) (w .state .0) (v .0) (v .2), few-outputs g z Z))
+        (and-intro (v .1) (comp-in (separatedOf g) w H (v .0) ∙ v .2)))

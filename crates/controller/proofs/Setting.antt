@@ -2,7 +2,7 @@
 --
 --   sizes-of, table-of    : the size of the table
 --   told-of               : what scratch tells
---   counters-goal         : where there is a goal, the counters are the guarantees
+--   scratch-long          : scratch has all its rows
 use Prim.Native.Nat.{ℕ, _+_, _≤_, _<_}
 use mathlib.Core.Path.{_≡_, refl, _∙_, ap}
 use mathlib.Core.Bool.{true, false}
@@ -56,7 +56,7 @@ module _ (g : Game) (z : Size) (Z : Sized g z) where
     some = rw (Z .counters) (some-counter (separatedOf g));
     counters = omega (arith, Z .counters, controller-few g fits-of);
     all = Z .all;
-    room = rw (Z .inputs, Z .outputs, Z .counters) (omega (arith, table-length (separatedOf g)))
+    room = rw (Z .inputs, Z .outputs, Z .counters) (omega (arith, table-length (separatedOf g)));
   }
 
 module _ (S : Separated) (j : ℕ) where
@@ -93,15 +93,16 @@ told-of g z s cores G = record {
   reach = λ o d b.
       rw (G .sized .inputs)
       (ap (λ (x : ℕ). has x d) (G .ready .laid .outputs o b)
-        ∙ has-pack-all (g .output .states) (reaches (graphOf (g .output)) o) (λ t r. reaches-to (graphOf (g .output)) o t r) d);
+      ∙ has-pack-all (g .output .states) (reaches (graphOf (g .output)) o) (λ t r. reaches-to (graphOf (g .output)) o t r) d);
   moves = λ o p b. moved-edge (g .output) (F .output) o p b;
   same = λ o p a b. refl;
   won = λ i o a b.
-      rw (G .sized .inputs) (won-region g s cores i o (F .output .most) a b (G .core) (G .ready .rows i a) (G .ready .laid .outputs o b))
+      rw (G .sized .inputs) (won-region g s cores i o (F .output .most) a b (G .core) (G .ready .rows i a) (G .ready .laid .outputs o b));
 }
   where
     F : Fits g
     F = accepted-fits g (G .sized .accepted)
+
     row : (j d : ℕ) → j < g .input .states → has (getD s (z .inputs + j) 0) d ≡ has (storedRow (separatedOf g) j) d
     row j d a = rw (G .sized .inputs) (ap (λ (x : ℕ). has x d) (G .ready .rows j a))
 

@@ -40,7 +40,7 @@ pub given-of : (g : Game) (z : Size) (s : List ℕ) (cores : ℕ) → Sized g z 
 given-of g z s cores Z R e = record {
   sized = Z;
   ready = R;
-  core = e ∙ cores-closed (g .input) s (record { row = R .laid .inputs }) (fits-of g z Z .input .most)
+  core = e ∙ cores-closed (g .input) s (record { row = R .laid .inputs }) (fits-of g z Z .input .most);
 }
 
 -- an initial state, told by the word
@@ -74,7 +74,7 @@ module _ (g : Game) (z : Size) (s : List ℕ) (cores : ℕ) (G : Given g z s cor
   start-stands k b a =
       three .grows .kept k b
       (plains-filled .grows .kept k b
-        (starts-right (separatedOf g) z (sizes-of g z (G .sized) .inputs) s cores (g .input .initial) (g .output .initial) start-value one long k a))
+      (starts-right (separatedOf g) z (sizes-of g z (G .sized) .inputs) s cores (g .input .initial) (g .output .initial) start-value one long k a))
 
   row-stands : (o c j : ℕ) → o < separatedOf g .output .states → c < controllerCounters (separatedOf g) → j < separatedOf g .input .states
       → Right (controllerEntries (separatedOf g)) l₃ (place (separatedOf g) o c j)
@@ -88,7 +88,7 @@ module _ (g : Game) (z : Size) (s : List ℕ) (cores : ℕ) (G : Given g z s cor
           three .right o c j a b d
           (record {
             resides = record { core = settled-core (separatedOf g) s (z .inputs) cores (g .output .moves) (told-of g z s cores G) j o d a h; settled = e; is = refl };
-            below = rw (sizes-of g z (G .sized) .outputs) (reaches-to (separatedOf g .output) o (home (separatedOf g) j o) r)
+            below = rw (sizes-of g z (G .sized) .outputs) (reaches-to (separatedOf g .output) o (home (separatedOf g) j o) r);
           })
       go (inr h) = three .grows .kept (place (separatedOf g) o c j) (place-in (separatedOf g) o c j a b d) (plains-filled .right o c j a b d h)
 

@@ -65,11 +65,11 @@ module _ (S : Separated) (s : List ℕ) (n cores : ℕ) (rows : List ℕ) (T : T
     unsettled h t =
         false-of (settles S (region S) j o)
         (λ e. let v = settles-elim S (region S) j o e in
-          clash
-          (and-intro (T .core j a ∙ t)
-            (meets-intro 64 (getD s (n + j) 0) (getD s (n + n + o) 0) (v .0) (omega (arith, reaches-to (S .output) o (v .0) (v .1), T .few-outputs))
-              (T .homes j (v .0) a t ∙ v .2) (T .reach o (v .0) b ∙ v .1)))
-          h)
+        clash
+        (and-intro (T .core j a ∙ t)
+        (meets-intro 64 (getD s (n + j) 0) (getD s (n + n + o) 0) (v .0) (omega (arith, reaches-to (S .output) o (v .0) (v .1), T .few-outputs))
+        (T .homes j (v .0) a t ∙ v .2) (T .reach o (v .0) b ∙ v .1)))
+        h)
 
     -- the homes in reach, as a word
     both : nontrivial (S .input) j ≡ true → (d : ℕ) → has (bitAnd (getD s (n + j) 0) (getD s (n + n + o) 0)) d ≡ (homeFor S (region S) j d && reaches (S .output) o d)
@@ -94,24 +94,27 @@ module _ (S : Separated) (s : List ℕ) (n cores : ℕ) (rows : List ℕ) (T : T
         is =
             home-least
             ∙ least-unique (S .output .states) (λ k. reaches (S .output) o k && homeFor S (region S) j k) d l (and-intro reached inside)
-            (λ k b. swap (homeFor S (region S) j k) (reaches (S .output) o k) (sym (both t k) ∙ before k b))
+            (λ k b. swap (homeFor S (region S) j k) (reaches (S .output) o k) (sym (both t k) ∙ before k b));
       }
         where
-          x : ℕ
-          x = bitAnd (getD s (n + j) 0) (getD s (n + n + o) 0)
           t : nontrivial (S .input) j ≡ true
           t = sym (T .core j a) ∙ and-left (has cores j) (eqb (least 64 (has (bitAnd (getD s (n + j) 0) (getD s (n + n + o) 0)))) d) h
+
           low : least 64 (has (bitAnd (getD s (n + j) 0) (getD s (n + n + o) 0))) ≡ d
           low = eqb-true (least 64 (has (bitAnd (getD s (n + j) 0) (getD s (n + n + o) 0)))) d (and-right (has cores j) (eqb (least 64 (has (bitAnd (getD s (n + j) 0) (getD s (n + n + o) 0)))) d) h)
+
           found : (homeFor S (region S) j d && reaches (S .output) o d) ≡ true
           found =
               sym (both t d)
               ∙ ap (has (bitAnd (getD s (n + j) 0) (getD s (n + n + o) 0))) (sym low)
               ∙ least-member 64 (has (bitAnd (getD s (n + j) 0) (getD s (n + n + o) 0))) (omega (arith, low, T .few-outputs))
+
           inside : homeFor S (region S) j d ≡ true
           inside = and-left (homeFor S (region S) j d) (reaches (S .output) o d) found
+
           reached : reaches (S .output) o d ≡ true
           reached = and-right (homeFor S (region S) j d) (reaches (S .output) o d) found
+
           before : (k : ℕ) → k < d → has (bitAnd (getD s (n + j) 0) (getD s (n + n + o) 0)) k ≡ false
           before k b = least-before 64 (has (bitAnd (getD s (n + j) 0) (getD s (n + n + o) 0))) k (omega (arith, low))
 
@@ -120,13 +123,14 @@ module _ (S : Separated) (s : List ℕ) (n cores : ℕ) (rows : List ℕ) (T : T
       resides-at r =
           and-intro (T .core j a ∙ r .core)
           (eq-eqb (least 64 (has (bitAnd (getD s (n + j) 0) (getD s (n + n + o) 0)))) d
-            (least-unique 64 (has (bitAnd (getD s (n + j) 0) (getD s (n + n + o) 0))) (home S j o) (omega (arith, reaches-to (S .output) o (home S j o) reached, T .few-outputs))
-              (both (r .core) (home S j o) ∙ and-intro (home-homeFor S j o (r .settled)) reached)
-              (λ k b. both (r .core) k ∙ swap (reaches (S .output) o k) (homeFor S (region S) j k) (before k b))
-            ∙ r .is))
+          (least-unique 64 (has (bitAnd (getD s (n + j) 0) (getD s (n + n + o) 0))) (home S j o) (omega (arith, reaches-to (S .output) o (home S j o) reached, T .few-outputs))
+          (both (r .core) (home S j o) ∙ and-intro (home-homeFor S j o (r .settled)) reached)
+          (λ k b. both (r .core) k ∙ swap (reaches (S .output) o k) (homeFor S (region S) j k) (before k b))
+          ∙ r .is))
         where
           reached : reaches (S .output) o (home S j o) ≡ true
           reached = home-reached S j o (r .settled)
+
           before : (k : ℕ) → k < home S j o → (reaches (S .output) o k && homeFor S (region S) j k) ≡ false
           before k b = least-before (S .output .states) (λ d. reaches (S .output) o d && homeFor S (region S) j d) k (omega (arith, home-least))
 
@@ -161,10 +165,10 @@ module _ (S : Separated) (o d j : ℕ) (r : Resides S o d j) where
     is =
         least-unique (S .output .states) (λ k. reaches (S .output) d k && homeFor S (region S) j k) d (reaches-to (S .output) o d home-reached-at) (and-intro self home-at)
         (λ k b. false-of (reaches (S .output) d k && homeFor S (region S) j k)
-          (λ e. clash
-            (and-intro (reaches-trans (S .output) o d k home-reached-at (and-left (reaches (S .output) d k) (homeFor S (region S) j k) e))
-              (and-right (reaches (S .output) d k) (homeFor S (region S) j k) e))
-            (least-before (S .output .states) (λ i. reaches (S .output) o i && homeFor S (region S) j i) k (omega (arith, r .is)))))
+        (λ e. clash
+        (and-intro (reaches-trans (S .output) o d k home-reached-at (and-left (reaches (S .output) d k) (homeFor S (region S) j k) e))
+        (and-right (reaches (S .output) d k) (homeFor S (region S) j k) e))
+        (least-before (S .output .states) (λ i. reaches (S .output) o i && homeFor S (region S) j i) k (omega (arith, r .is)))));
   }
     where
       self : reaches (S .output) d d ≡ true
@@ -175,5 +179,5 @@ pub resides-same : (S : Separated) (o o′ d j : ℕ) → j < S .input .states �
 resides-same S o o′ d j a e r = record {
   core = r .core;
   settled = settles-intro S (region S) j o′ d (reaches-trans (S .output) o′ o d (joined-back (S .output) o o′ e) (home-reached-at S o d j r)) (home-at S o d j r);
-  is = sym (home-same S j j o o′ (joined-self (S .input) j a) e) ∙ r .is
+  is = sym (home-same S j j o o′ (joined-self (S .input) j a) e) ∙ r .is;
 }

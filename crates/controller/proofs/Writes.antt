@@ -80,8 +80,14 @@ module _ (z : Size) (long : ℕ) (t : Table z long) where
   pub rows-below : (o : ℕ) → o < z .outputs → base z o + z .inputs * z .counters ≤ long
   unfolding base
   rows-below o b =
-      omega (arith, t .room, mul-le-mul-right (z .inputs) (mul-le-mul-right (z .counters) b), ap (λ (k : ℕ). k * z .inputs) (suc-mul o (z .counters)),
-        add-mul (o * z .counters) (z .counters) (z .inputs), mul-comm (z .inputs) (z .counters))
+      omega (
+        arith,
+        t .room,
+        mul-le-mul-right (z .inputs) (mul-le-mul-right (z .counters) b),
+        ap (λ (k : ℕ). k * z .inputs) (suc-mul o (z .counters)),
+        add-mul (o * z .counters) (z .counters) (z .inputs),
+        mul-comm (z .inputs) (z .counters),
+      )
 
   pub cell-below : (o j h : ℕ) → o < z .outputs → j < z .inputs → h < z .counters → base z o + j + z .inputs * h < long
   cell-below o j h a b c = omega (arith, rows-below o a, mul-le-mul-left (z .inputs) c, mul-suc (z .inputs) h)
@@ -92,14 +98,14 @@ module _ (z : Size) (long : ℕ) (t : Table z long) where
     column-fits j e l = rw e
         (record {
           below = λ h i. cell-below o j h b l (in-range h i);
-          small = λ h i. small h (in-range h i)
+          small = λ h i. small h (in-range h i);
         })
 
     pub block-fits : {at : ℕ} (over : ℕ) → at ≡ base z o → BlockFits long at (z .inputs) over which f m
     block-fits {at} over e = record {
       narrow = t .inputs;
       inside = omega (arith, rows-below o b, mul-le-mul-left (z .inputs) (t .some), mul-suc (z .inputs) 0);
-      columns = λ x l i. column-fits x e l
+      columns = λ x l i. column-fits x e l;
     }
 
   pub all-small : (p f m : ℕ) → Stays p f m → (h : ℕ) → h < z .counters → f + m * h < 65536

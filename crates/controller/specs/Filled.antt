@@ -44,7 +44,7 @@ place S o c j = S .input .states + ((o * controllerCounters S + c) * S .input .s
 pub record Filled (S : Separated) (P : ℕ → ℕ → ℕ → Type 0) (l m : List ℕ) : Type 0 where
   pub grows : Grows (controllerEntries S) l m
   pub right : (o c j : ℕ) → o < S .output .states → c < controllerCounters S → j < S .input .states → P o c j
-    → Right (controllerEntries S) m (place S o c j)
+      → Right (controllerEntries S) m (place S o c j)
 
 pub record Resides (S : Separated) (o d j : ℕ) : Type 0 where
   pub core : nontrivial (S .input) j ≡ true

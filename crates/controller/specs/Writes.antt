@@ -74,8 +74,8 @@ residesAt s n cores o d j = homeAt cores j (getD s (n + j) 0) (getD s (n + n + o
 
 pub record Plain (z : Size) (s : List ℕ) (cores o moves k : ℕ) (l m : List ℕ) : Type 0 where
   pub each :
-    Each (λ j. not (settlesAt cores j (getD s (z .inputs + j) 0) (getD s (z .inputs + z .inputs + o) 0)))
-    (λ j. Row z o j (least 64 (has (bitAnd moves (getD s (z .inputs + j) 0))))) k l m
+      Each (λ j. not (settlesAt cores j (getD s (z .inputs + j) 0) (getD s (z .inputs + z .inputs + o) 0)))
+      (λ j. Row z o j (least 64 (has (bitAnd moves (getD s (z .inputs + j) 0))))) k l m
 
 pub record Plains (z : Size) (s : List ℕ) (cores : ℕ) (rows : List ℕ) (k : ℕ) (l m : List ℕ) : Type 0 where
   pub each : Each (λ o. true) (λ o. Plain z s cores o (getD rows o 0) (z .inputs)) k l m

@@ -36,14 +36,26 @@ pub fn residents(s: &[u64], n: usize, cores: InSet, o: OutState, d: OutState) ->
     let mut x: u64 = 0;
     let mut j = 0;
     while j < n {
-        x = sets::insert_if(x, j, home_is(cores, InState(j), OutSet(s[n + j]), OutSet(reach), d));
+        x = sets::insert_if(
+            x,
+            j,
+            home_is(cores, InState(j), OutSet(s[n + j]), OutSet(reach), d),
+        );
         j += 1;
     }
     InSet(x)
 }
 
 // The rows of the outputs outside the component of home d, for the inputs whose home there is d: next is the way home.
-fn away(room: &mut [u16], s: &[u64], z: Size, cores: InSet, d: OutState, comp: OutSet, next: &[u8; 64])
+fn away(
+    room: &mut [u16],
+    s: &[u64],
+    z: Size,
+    cores: InSet,
+    d: OutState,
+    comp: OutSet,
+    next: &[u8; 64],
+)
     requires { ⌜ Table z (length (now room)) × (z .inputs + z .inputs + z .outputs ≤ length (now s)) ⌝ }
     ensures { λ r. ⌜ Away z (now (s .entry)) (cores .0) (d .0) (comp .0) (now (next .entry)) (z .outputs) (now (room .entry)) (now (room .exit)) ⌝ }
 {

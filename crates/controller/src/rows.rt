@@ -61,7 +61,15 @@ pub fn write_rows(room: &mut [u16], z: Size, o: OutState, inputs: InSet, p: usiz
     ensures { λ r. ⌜ Rows z (o .0) (inputs .0) p (now (room .entry)) (now (room .exit)) ⌝ }
 {
     let e = staying(p);
-    touring::block(room, base(z, o.0), z.inputs, inputs.0, z.all, e.first, e.more);
+    touring::block(
+        room,
+        base(z, o.0),
+        z.inputs,
+        inputs.0,
+        z.all,
+        e.first,
+        e.more,
+    );
 }
 
 // The rows of output o for the inputs at home there and the counters of `which`, whose goal is a: state p. The counter goes on where p is in the

@@ -29,14 +29,29 @@ fn rest(room: &mut [u16], z: Size, comp: OutSet, inputs: InSet, moves: &[u64; 64
     let mut o = 0;
     while o < m {
         if sets::member(comp.0, o) {
-            rows::write_rows(room, z, OutState(o), inputs, ways::prefer(o, moves[o] & comp.0));
+            rows::write_rows(
+                room,
+                z,
+                OutState(o),
+                inputs,
+                ways::prefer(o, moves[o] & comp.0),
+            );
         }
         o += 1;
     }
 }
 
 // The rows of the outputs of a component where the inputs are at home, for the counters of `which`, whose goal is a: next is the way there.
-fn aim(room: &mut [u16], z: Size, comp: OutSet, inputs: InSet, which: u64, goal: OutSet, a: usize, next: &[u8; 64])
+fn aim(
+    room: &mut [u16],
+    z: Size,
+    comp: OutSet,
+    inputs: InSet,
+    which: u64,
+    goal: OutSet,
+    a: usize,
+    next: &[u8; 64],
+)
     requires { ⌜ Table z (length (now room)) × Aims z which a × States z (comp .0) (now next) ⌝ }
     ensures { λ r. ⌜ Aim z (goal .0) a (comp .0) (inputs .0) which (now (next .entry)) (z .outputs) (now (room .entry)) (now (room .exit)) ⌝ }
 {
@@ -44,7 +59,16 @@ fn aim(room: &mut [u16], z: Size, comp: OutSet, inputs: InSet, which: u64, goal:
     let mut o = 0;
     while o < m {
         if sets::member(comp.0, o) {
-            rows::write_aimed(room, z, OutState(o), inputs, which, goal, a, rows::wide(next[o]));
+            rows::write_aimed(
+                room,
+                z,
+                OutState(o),
+                inputs,
+                which,
+                goal,
+                a,
+                rows::wide(next[o]),
+            );
         }
         o += 1;
     }
@@ -59,8 +83,8 @@ fn met(g: Game, x: OutSet) -> u64
     let mut q: u64 = 0;
     let mut a = 0;
     while a < count {
-        let goal = sizes::guarantee_set(g, a);
-        q = sets::insert_if(q, a, sets::meets(goal.0, x.0));
+        let set = sizes::guarantee_set(g, a);
+        q = sets::insert_if(q, a, sets::meets(set.0, x.0));
         a += 1;
     }
     q
@@ -74,7 +98,12 @@ fn seek(g: Game, room: &mut [u16], z: Size, w: Home, q: u64, a: usize)
     let h = g.output;
     let component = w.component;
     let goal = sizes::guarantee_set(g, a);
-    let found = ways::toward(&h.moves, z.outputs, component.0, sets::intersection(goal.0, component.0));
+    let found = ways::toward(
+        &h.moves,
+        z.outputs,
+        component.0,
+        sets::intersection(goal.0, component.0),
+    );
     let next = found.next;
     let which = touring::counters_toward(q, z.counters, a);
     aim(room, z, component, w.inputs, which, goal, a, &next);
