@@ -75,8 +75,9 @@ pub data Outcome : Type 0 where
   system : ControllerTable → Outcome
   environment : EnvironmentTable → Outcome
 
--- Demand 3: "For every accepted game exactly one side holds a winning table, tables of every finite size counted", and the side named holds the
--- table handed over. "Demand 3 is a single claim about all tables and all walks of a game".
+-- Demand 3 of one game: the table handed over wins for the side named, and no table of any finite size wins for the other, so exactly one side
+-- holds a winning table. "Demand 3 is a single claim about all tables and all walks of a game, not one for each turn; won positions and components
+-- have no part in it."
 unfoldable pub DemandThree : Arena → Outcome → Type 0
 DemandThree A (system T) = ControllerWins A T × ((P : EnvironmentTable) → EnvironmentWins A P → ⊥)
 DemandThree A (environment P) = EnvironmentWins A P × ((T : ControllerTable) → ControllerWins A T → ⊥)

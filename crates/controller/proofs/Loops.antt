@@ -165,7 +165,7 @@ module _ (S : Separated) (z : Size) (n : z .inputs ≡ S .input .states) (s : Li
       let in-table : k < length (controllerEntries S) = omega (arith, table-length S) in
       let in-room : k < length m = omega (arith, before .grows .long) in
       let step = grows-set (controllerEntries S) m k (startOf z s cores ins outs k) in-table in-room is in
-      rw (f .set)
+      rw (f .written)
       (record {
         grows = grows-more (controllerEntries S) (before .grows) step;
         right = λ i c. elim (below-suc i k c) [

@@ -140,7 +140,7 @@ module _ {z : Size} {o : ℕ} {l m : List ℕ} where
   aimed-at e r = rw (← e) r
 
 pub start-of : {z : Size} {s : List ℕ} {cores ins outs i v : ℕ} {l : List ℕ} → v ≡ startOf z s cores ins outs i → Start z s cores ins outs i l (set l i v)
-start-of {i = i} {l = l} e = record { set = ap (set l i) e }
+start-of {i = i} {l = l} e = record { written = ap (set l i) e }
 
 pub starts-at : {z : Size} {s : List ℕ} {cores ins ins′ outs outs′ k : ℕ} {l m : List ℕ} → ins ≡ ins′ → outs ≡ outs′
     → Starts z s cores ins outs k l m → Starts z s cores ins′ outs′ k l m
@@ -153,7 +153,7 @@ module _ {z : Size} {l m : List ℕ} where
   long-plain e = each-long (λ j a b r. r .column .long) (e .each)
 
   pub long-starts : {s : List ℕ} {cores ins outs k : ℕ} → Starts z s cores ins outs k l m → length m ≡ length l
-  long-starts e = each-long (λ i a b r. ap length (r .set) ∙ length-set a i _) (e .each)
+  long-starts e = each-long (λ i a b r. ap length (r .written) ∙ length-set a i _) (e .each)
 
   pub long-away : {s : List ℕ} {cores d comp k : ℕ} {next : List ℕ} → Away z s cores d comp next k l m → length m ≡ length l
   long-away e = each-long (λ o a b r. r .block .long) (e .each)

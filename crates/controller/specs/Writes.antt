@@ -105,7 +105,7 @@ startOf z s cores ins outs i =
     elim (has ins i) [ true ↦ first (least 64 (has (bitAnd outs (pack (z .outputs) (wonAt s (z .inputs) cores i))))) | false ↦ 65535 ]
 
 pub record Start (z : Size) (s : List ℕ) (cores ins outs i : ℕ) (l m : List ℕ) : Type 0 where
-  pub set : m ≡ set l i (startOf z s cores ins outs i)
+  pub written : m ≡ set l i (startOf z s cores ins outs i)
 
 pub record Starts (z : Size) (s : List ℕ) (cores ins outs k : ℕ) (l m : List ℕ) : Type 0 where
   pub each : Each (λ i. true) (Start z s cores ins outs) k l m

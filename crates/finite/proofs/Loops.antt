@@ -3,7 +3,7 @@ use Prim.Native.Nat.{ℕ, suc, _+_, _≤_, _<_}
 use native.Mathlib.Nat.{le-antisymm}
 use native.Mathlib.Numerals.{add-one}
 use mathlib.Core.Path.{_≡_, refl, sym, _∙_, ap}
-use mathlib.Core.Bool.{Bool, true, false, not}
+use mathlib.Core.Bool.{Bool, true, false, not, _&&_}
 use Rattle.finite.specs.Bounded.{all, any}
 use Rattle.finite.proofs.Truth.{not-true, not-false, or-false}
 use Rattle.finite.proofs.Bounded.{all-fails, any-intro}
@@ -42,3 +42,10 @@ failed {r} e n = sym e ∙ not-true r n
 
 pub passed : {r t : Bool} → r ≡ t → not r ≡ false → t ≡ true
 passed {r} e n = sym e ∙ not-false r n
+
+-- two tests, one after the other
+pub and-stop : {a : Bool} (b : Bool) → a ≡ false → false ≡ (a && b)
+and-stop b e = sym (ap (λ (t : Bool). t && b) e)
+
+pub and-next : {a b r : Bool} → a ≡ true → r ≡ b → r ≡ (a && b)
+and-next {a} {b} e q = q ∙ sym (ap (λ (t : Bool). t && b) e)

@@ -3,13 +3,11 @@ use mathlib.Core.Path.{_≡_, refl, sym, ap, _∙_}
 use mathlib.Core.Bool.{Bool, true, false, not, _&&_}
 use mathlib.Core.List.{List, [], _∷_}
 use Prim.Native.Nat.{ℕ, suc, _+_, _≤_, _<_}
-use native.Mathlib.Nat.{le-antisymm}
-use native.Mathlib.Numerals.{add-one}
 use lib.Dec.{eqb, leb}
 use lib.ListN.{getD}
-use borrow.Author.Tests.{not-true, not-false, lt-ltb, le-ltb, le-leb, lt-leb, eq-eqb, ne-eqb}
+use borrow.Author.Tests.{lt-ltb, le-ltb, le-leb, lt-leb, eq-eqb, ne-eqb}
 use Rattle.finite.specs.Bounded.{all}
-use Rattle.finite.proofs.Bounded.{all-fails}
+use Rattle.finite.proofs.Loops.{all-stop, all-end, and-stop, and-next}
 use Rattle.sets.specs.Member.{within}
 use Rattle.game.specs.declared.Graph.{Graph}
 use Rattle.game.specs.declared.Requirement.{Requirement}
@@ -18,38 +16,6 @@ use Rattle.game.specs.declared.Acceptance.{Acceptance}
 use Rattle.game.specs.declared.Acceptance.the-variants.{Accepted, Refused}
 use Rattle.game.specs.Access.{noInput, noOutput, requirementAt}
 use Rattle.game.specs.Acceptance.{limit, countFits, rowFits, statesFit, hasInitial, hasMove, allMove, fewSets, inSetFits, outSetFits, inUse, requirementFits, fewSetsAt, requirementFitsAt, countsFit, statesInCount, initialsExist, movesExist, fewRequirements, lengthsFit, setsFit, tests, firstFailing, acceptance}
-
--- ---- a loop over `all`
-
-pub all-start : (p : ℕ → Bool) → all 0 p ≡ true
-unfolding all
-all-start p = refl
-
-pub all-turn : (i : ℕ) (p : ℕ → Bool) → all i p ≡ true → p i ≡ true → all (i + 1) p ≡ true
-unfolding all
-all-turn i p h e = rw add-one (rw e h)
-
-pub all-stop : (n i : ℕ) (p : ℕ → Bool) → i < n → p i ≡ false → false ≡ all n p
-all-stop n i p l e = sym (all-fails n p i l e)
-
-pub all-end : (n i : ℕ) (p : ℕ → Bool) → i ≤ n → n ≤ i → all i p ≡ true → true ≡ all n p
-all-end n i p l g h = sym (ap (λ (m : ℕ). all m p) (le-antisymm g l) ∙ h)
-
--- ---- a call's result in `if !f(..)`
-
-pub failed : {r t : Bool} → r ≡ t → not r ≡ true → t ≡ false
-failed {r} e n = sym e ∙ not-true r n
-
-pub passed : {r t : Bool} → r ≡ t → not r ≡ false → t ≡ true
-passed {r} e n = sym e ∙ not-false r n
-
--- ---- two tests, one after the other
-
-pub and-stop : {a : Bool} (b : Bool) → a ≡ false → false ≡ (a && b)
-and-stop b e = sym (ap (λ (t : Bool). t && b) e)
-
-pub and-next : {a b r : Bool} → a ≡ true → r ≡ b → r ≡ (a && b)
-and-next {a} {b} e q = q ∙ sym (ap (λ (t : Bool). t && b) e)
 
 -- ---- a graph
 

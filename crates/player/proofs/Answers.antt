@@ -19,7 +19,7 @@ use Rattle.game.specs.declared.Acceptance.{Acceptance}
 use Rattle.game.specs.declared.Acceptance.the-variants as acceptance·
 use Rattle.game.specs.Access.{outInitial, outMoves}
 use Rattle.game.specs.Acceptance.{acceptance}
-use Rattle.game.proofs.Steps.{and-stop, and-next}
+use Rattle.finite.proofs.Loops.{and-stop, and-next}
 use Rattle.play.specs.Play.{graphOf, separatedOf}
 use Rattle.theory.specs.Entries.{answer, controllerCounters, controllerEntries, controllerTable}
 use Rattle.demands.specs.Demands.{controllerOf}

@@ -14,7 +14,7 @@ use Rattle.game.specs.declared.Graph.{Graph}
 use Rattle.game.specs.declared.Acceptance.the-variants.{Accepted}
 use Rattle.game.specs.Acceptance.{acceptance}
 use Rattle.game.proofs.Laws.{accepted-fits}
-use Rattle.game.proofs.Steps.{and-next}
+use Rattle.finite.proofs.Loops.{and-next}
 use Rattle.play.specs.Play.{graphOf}
 
 pub begins-of : (h : Graph) (s : ℕ) (r : Bool) → r ≡ (ltb s (h .states) && has (h .initial) s) → r ≡ begins (graphOf h) s

@@ -9,7 +9,7 @@ use lib.Dec.{ltb, leb}
 use lib.ListN.{length, getD}
 use borrow.Author.Tests.{ltb-true, leb-true, lt-ltb, le-ltb, le-leb, lt-leb}
 use Rattle.finite.proofs.Truth.{and-left, and-right}
-use Rattle.game.proofs.Steps.{and-stop, and-next}
+use Rattle.finite.proofs.Loops.{and-stop, and-next}
 use Rattle.player.specs.Rows.{inRange, rowEntry}
 
 -- what is read inside a list does not depend on what is read past it

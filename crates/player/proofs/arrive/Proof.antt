@@ -1,6 +1,6 @@
 -- `arrive` tests the entry, its counter and its state in order.
 use Rattle.player.proofs.Answers.{arrive-none, arrive-counter, arrive-output, arrive-at}
-use Rattle.game.proofs.Steps.{failed, passed}
+use Rattle.finite.proofs.Loops.{failed, passed}
 use borrow.Author.Needs.{needs}
 use Rattle.player.proofs.arrive.Statement.{statement}
 use Rattle.player.proofs.arrive.Tie as tie

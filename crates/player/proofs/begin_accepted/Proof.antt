@@ -1,5 +1,5 @@
 -- `begin_accepted` tests the length, the input and the entry in order.
-use Rattle.game.proofs.Steps.{failed, passed}
+use Rattle.finite.proofs.Loops.{failed, passed}
 use Rattle.player.proofs.Answers.{fits, fits-not, begun-length, begun-input, begun-at}
 use borrow.Author.Needs.{needs}
 use Rattle.player.proofs.begin_accepted.Statement.{statement}

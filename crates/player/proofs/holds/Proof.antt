@@ -1,5 +1,5 @@
 -- `holds` compares first, so that the set is asked of its states only.
-use Rattle.game.proofs.Steps.{and-stop, and-next}
+use Rattle.finite.proofs.Loops.{and-stop, and-next}
 use borrow.Author.Tests.{lt-ltb, le-ltb}
 use borrow.Author.Needs.{needs}
 use Rattle.player.proofs.holds.Statement.{statement}

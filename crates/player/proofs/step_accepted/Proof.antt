@@ -1,6 +1,6 @@
 -- `step_accepted` tests the length, the position, the input and the entry in order.
 use native.Mathlib.Omega.{arith}
-use Rattle.game.proofs.Steps.{failed, passed}
+use Rattle.finite.proofs.Loops.{failed, passed}
 use Rattle.player.proofs.Moves.{inputs-most, outputs-most}
 use Rattle.player.proofs.Answers.{fits, fits-not, position-in, stepped-length, stepped-position, stepped-input, stepped-at}
 use borrow.Author.Needs.{needs}

@@ -4,7 +4,8 @@ use mathlib.Core.Bool.{true}
 use Prim.Native.Nat.{_≤_, _-_}
 use native.Mathlib.Omega.{arith}
 use Rattle.finite.specs.Bounded.{all}
-use Rattle.game.proofs.Steps.{all-start, all-turn, moves-stop, moves-end, failed, passed}
+use Rattle.finite.proofs.Loops.{all-start, all-turn, failed, passed}
+use Rattle.game.proofs.Steps.{moves-stop, moves-end}
 use Rattle.game.specs.Acceptance.{hasMove}
 use Rattle.game.proofs.graphs.all_move.Statement.{statement}
 use Rattle.game.proofs.graphs.all_move.Tie as tie

@@ -5,7 +5,8 @@ use Prim.Native.Nat.{_≤_, _-_}
 use borrow.Author.Needs.{needs}
 use native.Mathlib.Omega.{arith}
 use Rattle.finite.specs.Bounded.{all}
-use Rattle.game.proofs.Steps.{all-start, all-turn, states-initial, states-row, states-end, failed, passed}
+use Rattle.finite.proofs.Loops.{all-start, all-turn, failed, passed}
+use Rattle.game.proofs.Steps.{states-initial, states-row, states-end}
 use Rattle.game.specs.Acceptance.{rowFits}
 use Rattle.game.proofs.graphs.states_fit.Statement.{statement}
 use Rattle.game.proofs.graphs.states_fit.Tie as tie

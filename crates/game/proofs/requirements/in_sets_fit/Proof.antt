@@ -4,7 +4,7 @@ use mathlib.Core.Bool.{true}
 use Prim.Native.Nat.{_≤_, _-_}
 use native.Mathlib.Omega.{arith}
 use Rattle.finite.specs.Bounded.{all}
-use Rattle.game.proofs.Steps.{all-start, all-turn, all-stop, all-end, failed, passed}
+use Rattle.finite.proofs.Loops.{all-start, all-turn, all-stop, all-end, failed, passed}
 use Rattle.game.specs.Acceptance.{inSetFits}
 use Rattle.game.proofs.requirements.in_sets_fit.Statement.{statement}
 use Rattle.game.proofs.requirements.in_sets_fit.Tie as tie

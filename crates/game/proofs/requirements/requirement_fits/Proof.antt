@@ -1,5 +1,6 @@
 -- `requirement_fits` by its three parts.
-use Rattle.game.proofs.Steps.{failed, passed, fits-unused, fits-in, fits-out}
+use Rattle.finite.proofs.Loops.{failed, passed}
+use Rattle.game.proofs.Steps.{fits-unused, fits-in, fits-out}
 use borrow.Author.Needs.{needs}
 use Rattle.game.proofs.requirements.requirement_fits.Statement.{statement}
 use Rattle.game.proofs.requirements.requirement_fits.Tie as tie

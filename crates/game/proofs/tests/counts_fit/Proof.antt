@@ -1,5 +1,6 @@
 -- `counts_fit` looks at both counts.
-use Rattle.game.proofs.Steps.{counts-stop, counts-next, failed, passed}
+use Rattle.finite.proofs.Loops.{failed, passed}
+use Rattle.game.proofs.Steps.{counts-stop, counts-next}
 use borrow.Author.Needs.{needs}
 use Rattle.game.proofs.tests.counts_fit.Statement.{statement}
 use Rattle.game.proofs.tests.counts_fit.Tie as tie

@@ -1,5 +1,6 @@
 -- `initials_exist` looks at both sets of initial states.
-use Rattle.game.proofs.Steps.{initials-stop, initials-next, failed, passed}
+use Rattle.finite.proofs.Loops.{failed, passed}
+use Rattle.game.proofs.Steps.{initials-stop, initials-next}
 use borrow.Author.Needs.{needs}
 use Rattle.game.proofs.tests.initials_exist.Statement.{statement}
 use Rattle.game.proofs.tests.initials_exist.Tie as tie

@@ -5,7 +5,8 @@ use mathlib.Core.Bool.{true}
 use Prim.Native.Nat.{_≤_, _-_}
 use native.Mathlib.Omega.{arith}
 use Rattle.finite.specs.Bounded.{all}
-use Rattle.game.proofs.Steps.{all-start, all-turn, failed, passed, lengths-stop, lengths-end, few-at}
+use Rattle.finite.proofs.Loops.{all-start, all-turn, failed, passed}
+use Rattle.game.proofs.Steps.{lengths-stop, lengths-end, few-at}
 use Rattle.game.specs.Acceptance.{fewSetsAt}
 use Rattle.game.proofs.tests.lengths_fit.Statement.{statement}
 use Rattle.game.proofs.tests.lengths_fit.Tie as tie

@@ -1,5 +1,6 @@
 -- `moves_exist` looks at the rows of both graphs.
-use Rattle.game.proofs.Steps.{exist-stop, exist-next, failed, passed}
+use Rattle.finite.proofs.Loops.{failed, passed}
+use Rattle.game.proofs.Steps.{exist-stop, exist-next}
 use borrow.Author.Needs.{needs}
 use Rattle.game.proofs.tests.moves_exist.Statement.{statement}
 use Rattle.game.proofs.tests.moves_exist.Tie as tie

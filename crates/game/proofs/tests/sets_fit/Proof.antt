@@ -5,7 +5,8 @@ use mathlib.Core.Bool.{true}
 use Prim.Native.Nat.{_≤_, _-_}
 use native.Mathlib.Omega.{arith}
 use Rattle.finite.specs.Bounded.{all}
-use Rattle.game.proofs.Steps.{all-start, all-turn, failed, passed, sets-stop, sets-end, fits-at}
+use Rattle.finite.proofs.Loops.{all-start, all-turn, failed, passed}
+use Rattle.game.proofs.Steps.{sets-stop, sets-end, fits-at}
 use Rattle.game.specs.Acceptance.{requirementFitsAt}
 use Rattle.game.proofs.tests.sets_fit.Statement.{statement}
 use Rattle.game.proofs.tests.sets_fit.Tie as tie

@@ -1,5 +1,6 @@
 -- `states_in_count` looks at the states of both graphs.
-use Rattle.game.proofs.Steps.{states-stop, states-next, failed, passed}
+use Rattle.finite.proofs.Loops.{failed, passed}
+use Rattle.game.proofs.Steps.{states-stop, states-next}
 use borrow.Author.Needs.{needs}
 use Rattle.game.proofs.tests.states_in_count.Statement.{statement}
 use Rattle.game.proofs.tests.states_in_count.Tie as tie

@@ -1,6 +1,6 @@
 -- `lookup` computes the row's place, which fits a word where the row is in range.
 use native.Mathlib.Omega.{arith}
-use Rattle.game.proofs.Steps.{failed, passed}
+use Rattle.finite.proofs.Loops.{failed, passed}
 use Rattle.player.proofs.Range.{range-bounds, row-none, row-read}
 use borrow.Author.Needs.{needs}
 use Rattle.player.proofs.rows.lookup.Statement.{statement}
