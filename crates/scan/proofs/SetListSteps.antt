@@ -16,12 +16,12 @@ use Rattle.game.specs.declared.Requirement.{Requirement}
 use Rattle.shape.specs.Text.{emptyRequirement}
 use Rattle.shape.specs.Shape.{setFormat, Sets, noSets, push, moreSets, setsFormat, inSets, outSets, opening, requirement, guaranteesFormat, requirementFormat}
 use Rattle.scan.specs.Scan.{setsOf, requirementOf}
-use Rattle.scan.specs.declared.pieces.Step.{Step}
-use Rattle.scan.specs.declared.pieces.Step.the-variants.{At, Fault}
+use Rattle.pieces.specs.declared.Step.{Step}
+use Rattle.pieces.specs.declared.Step.the-variants.{At, Fault}
 use Rattle.scan.specs.declared.set_lists.SetList.{SetList}
 use Rattle.scan.specs.declared.set_lists.RequirementScan.{RequirementScan}
 use Rattle.shape.proofs.Members.{set-node}
-use Rattle.scan.proofs.Steps.{lit-got, lit-on, bind-got, bind-fault}
+use Rattle.pieces.proofs.Steps.{lit-got, lit-on, bind-got, bind-fault}
 
 -- four words as sets
 pub four-in : (w : List ℕ) → length w ≡ 4 → _≡_ {A = List InSet} (record { 0 = getD w 0 0 } ∷ record { 0 = getD w 1 0 } ∷ record { 0 = getD w 2 0 } ∷ record { 0 = getD w 3 0 } ∷ []) (inSets w)

@@ -14,15 +14,16 @@ use Rattle.game.specs.declared.Requirement.{Requirement}
 use Rattle.game.specs.declared.Game.{Game}
 use Rattle.shape.specs.Text.{emptyRequirement, emptyGame}
 use Rattle.shape.specs.Shape.{mark, store, Header, headerFormat, StateRow, stateFormat, statesFormat, emptyGraph, requirementFormat, requirementsFormat, outputFormat, gameFormat}
-use Rattle.scan.specs.Scan.{headerOf, stateOf, graphOf, requirementsOf, gameOf}
-use Rattle.scan.specs.declared.pieces.Step.{Step}
-use Rattle.scan.specs.declared.pieces.Step.the-variants.{At, Fault}
-use Rattle.scan.specs.declared.lines.Header.the-variants.{Counts, Fault as NoHeader}
-use Rattle.scan.specs.declared.lines.Row.the-variants.{Moves, Fault as NoRow}
+use Rattle.lines.specs.Lines.{headerOf, stateOf}
+use Rattle.scan.specs.Scan.{graphOf, requirementsOf, gameOf}
+use Rattle.pieces.specs.declared.Step.{Step}
+use Rattle.pieces.specs.declared.Step.the-variants.{At, Fault}
+use Rattle.lines.specs.declared.Header.the-variants.{Counts, Fault as NoHeader}
+use Rattle.lines.specs.declared.Row.the-variants.{Moves, Fault as NoRow}
 use Rattle.scan.specs.declared.whole.GraphScan.{GraphScan}
 use Rattle.scan.specs.declared.whole.RequirementsScan.{RequirementsScan}
 use Rattle.scan.specs.declared.whole.GameScan.{GameScan}
-use Rattle.scan.proofs.Steps.{bind-got, bind-fault}
+use Rattle.pieces.proofs.Steps.{bind-got, bind-fault}
 use Rattle.shape.proofs.LineTexts.{HeaderParts, header-sound}
 
 -- the answers

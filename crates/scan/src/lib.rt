@@ -1,5 +1,3 @@
 // The text of a game, read piece by piece: what stands at a place, or the place of the fault.
-pub mod pieces; // numbers and sets
-pub mod lines; // lines
 pub mod set_lists; // lists of sets, and requirements
 pub mod whole; // graphs, requirements, the game

@@ -1,8 +1,6 @@
 // Lists of sets, and the lines that have them, read from a place on.
-use crate::lines;
-use crate::pieces;
-use crate::pieces::Set;
-use crate::pieces::Step;
+use pieces::Set;
+use pieces::Step;
 use game::InSet;
 use game::OutSet;
 use game::Requirement;

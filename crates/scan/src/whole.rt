@@ -1,8 +1,7 @@
 // A whole text: its graphs, its requirements, the game.
-use crate::lines;
-use crate::lines::Header;
-use crate::lines::Row;
-use crate::pieces::Step;
+use lines::Header;
+use lines::Row;
+use pieces::Step;
 use crate::set_lists;
 use game::Game;
 use game::Graph;

@@ -1,7 +1,7 @@
 // The text of a game: read, written, and the lines of an answer.
 use game::Acceptance;
 use game::Game;
-use scan::pieces::Step;
+use pieces::Step;
 use scan::whole;
 ghost use mathlib.Core.Path.{_≡_};
 ghost use Rattle.text.specs.Write.{Writes};

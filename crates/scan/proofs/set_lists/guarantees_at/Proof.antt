@@ -4,7 +4,7 @@ use native.Mathlib.Omega.{arith}
 use borrow.Author.Needs.{needs}
 use Rattle.scan.proofs.SetListSteps.{requirement-got, requirement-fault, got-list, fault-list, if-no-blank, if-no-list, if-no-end, if-got}
 use Rattle.grammar.proofs.Place.{byte-within}
-use Rattle.scan.proofs.Outcomes.{at-step, fault-step}
+use Rattle.pieces.proofs.Outcomes.{at-step, fault-step}
 use Rattle.scan.proofs.set_lists.guarantees_at.Statement.{statement}
 use Rattle.scan.proofs.set_lists.guarantees_at.Tie as tie
 

@@ -9,7 +9,7 @@ use Rattle.shape.specs.Shape.{moreSets, push, noSets}
 use Rattle.grammar.specs.Place.{bytes}
 use Rattle.grammar.specs.Format.{run}
 use Rattle.grammar.proofs.Place.{byte-within}
-use Rattle.scan.proofs.Outcomes.{members-set, fault-set}
+use Rattle.pieces.proofs.Outcomes.{members-set, fault-set}
 use Rattle.scan.proofs.set_lists.more_sets.Statement.{statement}
 use Rattle.scan.proofs.set_lists.more_sets.Tie as tie
 

@@ -2,7 +2,7 @@
 use mathlib.Core.Path.{ap}
 use borrow.Author.Needs.{needs}
 use Rattle.scan.specs.Scan.{requirementOf}
-use Rattle.scan.specs.declared.pieces.Step.the-variants.{Fault}
+use Rattle.pieces.specs.declared.Step.the-variants.{Fault}
 use Rattle.game.specs.declared.Requirement.{Requirement}
 use Rattle.scan.proofs.set_lists.no_requirement.Statement.{statement}
 use Rattle.scan.proofs.set_lists.no_requirement.Tie as tie

@@ -3,7 +3,7 @@ use mathlib.Core.Path.{sym, _∙_, ap}
 use borrow.Author.Needs.{needs}
 use Rattle.scan.proofs.SetListSteps.{requirement-fault, got-list, fault-list, if-no-word, if-no-first, if-on}
 use Rattle.scan.specs.Scan.{requirementOf}
-use Rattle.scan.proofs.Outcomes.{at-step, fault-step}
+use Rattle.pieces.proofs.Outcomes.{at-step, fault-step}
 use Rattle.scan.proofs.set_lists.requirement_at.Statement.{statement}
 use Rattle.scan.proofs.set_lists.requirement_at.Tie as tie
 

@@ -5,7 +5,7 @@ use borrow.Author.Needs.{needs}
 use Rattle.scan.proofs.SetListSteps.{list-got, list-fault, list-closed, list-empty, list-bad, list-on}
 use Rattle.scan.specs.Scan.{setsOf}
 use Rattle.grammar.proofs.Place.{byte-within}
-use Rattle.scan.proofs.Outcomes.{members-set, fault-set}
+use Rattle.pieces.proofs.Outcomes.{members-set, fault-set}
 use Rattle.scan.proofs.set_lists.sets_at.Statement.{statement}
 use Rattle.scan.proofs.set_lists.sets_at.Tie as tie
 

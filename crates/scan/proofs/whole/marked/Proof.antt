@@ -1,7 +1,7 @@
 -- `marked` meets its contract.
 use mathlib.Core.Path.{sym, _∙_}
 use borrow.Author.Needs.{needs}
-use Rattle.scan.proofs.Steps.{insert-is}
+use Rattle.pieces.proofs.Steps.{insert-is}
 use Rattle.shape.proofs.Graphs.{mark-on, mark-off}
 use Rattle.scan.proofs.whole.marked.Statement.{statement}
 use Rattle.scan.proofs.whole.marked.Tie as tie

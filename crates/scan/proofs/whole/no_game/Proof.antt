@@ -2,7 +2,7 @@
 use mathlib.Core.Path.{ap}
 use borrow.Author.Needs.{needs}
 use Rattle.scan.specs.Scan.{gameOf}
-use Rattle.scan.specs.declared.pieces.Step.the-variants.{Fault}
+use Rattle.pieces.specs.declared.Step.the-variants.{Fault}
 use Rattle.game.specs.declared.Game.{Game}
 use Rattle.scan.proofs.whole.no_game.Statement.{statement}
 use Rattle.scan.proofs.whole.no_game.Tie as tie

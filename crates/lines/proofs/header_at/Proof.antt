@@ -1,0 +1,53 @@
+-- `header_at` meets its contract.
+use mathlib.Core.Path.{sym, _∙_, ap}
+use borrow.Author.Needs.{needs}
+use Rattle.lines.proofs.LineSteps.{header-fault, header-no-word, header-no-inputs, header-on}
+use Rattle.lines.specs.Lines.{headerOf}
+use Rattle.pieces.proofs.Outcomes.{at-step, fault-step, value-number, fault-number}
+use Rattle.lines.proofs.header_at.Statement.{statement}
+use Rattle.lines.proofs.header_at.Tie as tie
+
+opening-at-requires : tie.Need-opening-at-requires
+opening-at-requires c κs = search needs
+
+enum-known-o : tie.Need-enum-known-o
+enum-known-o c = search needs
+
+enum-known-o-2 : tie.Need-enum-known-o-2
+enum-known-o-2 c = search needs
+
+number-then-requires : tie.Need-number-then-requires
+number-then-requires c κs = search needs
+
+enum-known-n : tie.Need-enum-known-n
+enum-known-n c = search needs
+
+enum-known-n-2 : tie.Need-enum-known-n-2
+enum-known-n-2 c = search needs
+
+outputs-at-requires : tie.Need-outputs-at-requires
+outputs-at-requires c κs = search needs
+
+returns : tie.Need-returns
+returns c = header-fault (header-no-word _ _ _ (fault-step _ (sym (c .before .o .given .1) ∙ c .before .before .before .opening-at .ensures)))
+
+returns-2 : tie.Need-returns-2
+returns-2 c = header-fault (header-no-inputs _ _ _ (at-step _ (sym (c .before .before .before .before .before .o2 .given .1) ∙ c .before .before .before .before .before .before .before .opening-at .ensures)) _ (fault-number _ (sym (c .before .n .given .1) ∙ c .before .before .before .number-then .ensures)))
+
+returns-3 : tie.Need-returns-3
+returns-3 c = c .outputs-at .ensures ∙ sym (ap headerOf (header-on _ _ _ (at-step _ (sym (c .before .before .before .before .before .before .o2 .given .1) ∙ c .before .before .before .before .before .before .before .before .opening-at .ensures)) _ _ (value-number _ (sym (c .before .before .n2 .given .1) ∙ c .before .before .before .before .number-then .ensures))))
+
+pub header-at-spec : {M : Type 1} → statement M
+header-at-spec =
+    tie.close
+    (tie.spec
+    opening-at-requires
+    enum-known-o
+    enum-known-o-2
+    number-then-requires
+    enum-known-n
+    enum-known-n-2
+    outputs-at-requires
+    returns
+    returns-2
+    returns-3)

@@ -1,0 +1,77 @@
+-- `opening_at` meets its contract. The invariant: what is left, with what is done, makes the whole.
+use borrow.Author.Needs.{needs}
+use lib.ListN.{length, drop}
+use Prim.Native.Nat.{_≤_, _<_, _-_}
+use mathlib.Core.Path.{_≡_, refl, sym, _∙_}
+use native.Mathlib.Omega.{arith}
+use Rattle.shape.proofs.WordTable.{word-short}
+use Rattle.lines.proofs.LineSteps.{chars-turn, chars-miss, chars-end}
+use Rattle.shape.proofs.Opening.{opening-length}
+use Rattle.shape.specs.Shape.{opening}
+use Rattle.grammar.specs.Place.{bytes}
+use Rattle.grammar.specs.Format.{run, chars}
+use Rattle.grammar.proofs.Place.{byte-within}
+use Rattle.pieces.proofs.Outcomes.{step-at, step-fault}
+use Rattle.lines.proofs.opening_at.Statement.{statement}
+use Rattle.lines.proofs.opening_at.Tie as tie
+
+abbrev Inv-loop : tie.InvT-loop
+Inv-loop s i w n at₀ k₀ at k = (run (chars (opening w)) (bytes s) i ≡ run (chars (drop k (opening w))) (bytes s) at) × (k ≤ length (opening w)) × (n ≡ length (opening w)) × (w < 10)
+
+abbrev μ-loop : tie.MeasureT-loop
+μ-loop s i w n at₀ k₀ at k = n - k
+
+letters-requires : tie.Need-letters-requires Inv-loop μ-loop
+letters-requires c κs = c .before .pre
+
+add-n : tie.Need-add-n Inv-loop μ-loop
+add-n c = omega (arith, c .letters .ensures, word-short (c .before .before .args .w))
+
+loop-holds : tie.Need-loop-holds Inv-loop μ-loop
+loop-holds c = (refl, omega (arith), omega (arith, c .letters .ensures, opening-length (c .before .before .args .w)), c .before .before .pre)
+
+opening-byte-requires : tie.Need-opening-byte-requires Inv-loop μ-loop
+opening-byte-requires c κs = (c .before .loop .inv .3, omega (arith, c .before .loop .inv, c .loop-test .taken))
+
+byte-at-requires : tie.Need-byte-at-requires Inv-loop μ-loop
+byte-at-requires c κs = tt
+
+cast-if1 : tie.Need-cast-if1 Inv-loop μ-loop
+cast-if1 c = search needs
+
+returns : tie.Need-returns Inv-loop μ-loop
+returns c = step-fault (chars-miss _ (opening (c .before .before .before .before .before .before .before .args .w)) (c .before .before .before .before .loop .k) _ _ _ (c .before .before .before .before .loop .inv .0) (omega (arith, c .before .before .before .before .loop .inv, c .before .before .before .loop-test .taken)) (c .before .before .opening-byte .ensures) (λ e. c .if1 .taken (c .before .byte-at .ensures ∙ e)))
+
+add-at : tie.Need-add-at Inv-loop μ-loop
+add-at c = omega (arith, byte-within _ _ _ (sym (c .before .byte-at .ensures) ∙ c .if1 .left) (omega (arith, c .before .before .opening-byte .ok)))
+
+add-k : tie.Need-add-k Inv-loop μ-loop
+add-k c = omega (arith, word-short (c .before .before .before .before .before .before .before .args .w), opening-length (c .before .before .before .before .before .before .before .args .w), c .before .before .before .before .loop .inv, c .before .before .before .loop-test .taken)
+
+loop-less : tie.Need-loop-less Inv-loop μ-loop
+loop-less c = omega (arith, c .before .before .before .loop-test .taken)
+
+loop-again : tie.Need-loop-again Inv-loop μ-loop
+loop-again c = (chars-turn _ (opening (c .before .before .before .before .before .before .before .args .w)) (c .before .before .before .before .loop .k) _ _ _ (c .before .before .before .before .loop .inv .0) (omega (arith, c .before .before .before .before .loop .inv, c .before .before .before .loop-test .taken)) (c .before .before .opening-byte .ensures) (sym (c .before .byte-at .ensures) ∙ c .if1 .left), omega (arith, c .before .before .before .before .loop .inv, c .before .before .before .loop-test .taken), c .before .before .before .before .loop .inv .2, c .before .before .before .before .loop .inv .3)
+
+returns-2 : tie.Need-returns-2 Inv-loop μ-loop
+returns-2 c = step-at (chars-end _ (opening (c .before .before .before .before .args .w)) (c .before .loop .k) _ _ (c .before .loop .inv .0) (omega (arith, c .before .loop .inv, c .loop-test .left)))
+
+pub opening-at-spec : {M : Type 1} → statement M
+opening-at-spec =
+    tie.close
+    (tie.spec
+    Inv-loop
+    μ-loop
+    letters-requires
+    add-n
+    loop-holds
+    opening-byte-requires
+    byte-at-requires
+    cast-if1
+    returns
+    add-at
+    add-k
+    loop-less
+    loop-again
+    returns-2)

@@ -1,0 +1,139 @@
+// Lines of a text, read from a place on.
+use pieces::Number;
+use pieces::Set;
+use pieces::Step;
+use shape::words;
+ghost use mathlib.Core.Path.{_≡_};
+ghost use mathlib.Core.List.{[], _∷_};
+ghost use Prim.Native.Nat.{_+_, _<_, _≤_};
+ghost use lib.ListN.{length, getD};
+ghost use Rattle.grammar.specs.Format.{run, chars};
+ghost use Rattle.grammar.specs.Place.{bytes};
+ghost use Rattle.shape.specs.Shape.{opening, outputsFormat, headerFormat, rowFormat, stateFormat};
+ghost use Rattle.pieces.specs.Pieces.{stepOf};
+ghost use Rattle.lines.specs.Lines.{headerOf, stateOf};
+
+// The counts of the header and the place behind it.
+pub enum Header {
+    Counts(usize, usize, usize, usize),
+    Fault(usize),
+}
+
+// A state's flag and moves, and the place behind its line.
+pub enum Row {
+    Moves(usize, u64, usize),
+    Fault(usize),
+}
+
+// The opening bracket, the word w and a blank, at place i.
+pub fn opening_at(s: &[u8], i: usize, w: usize) -> Step
+    requires { ⌜ w < 10 ⌝ }
+    ensures { λ r. ⌜ r ≡ stepOf (run (chars (opening w)) (bytes (now (s .entry))) i) ⌝ }
+{
+    let n = words::letters(w) + 2;
+    let mut at = i;
+    let mut k = 0;
+    while k < n {
+        let b = words::opening_byte(w, k);
+        if pieces::byte_at(s, at) != b as usize {
+            return Step::Fault(at);
+        }
+        at += 1;
+        k += 1;
+    }
+    Step::At(at)
+}
+
+// The closing bracket and the line's end, at place i.
+pub fn end_at(s: &[u8], i: usize) -> Step
+    ensures { λ r. ⌜ r ≡ stepOf (run (chars (41 ∷ 10 ∷ [])) (bytes (now (s .entry))) i) ⌝ }
+{
+    if pieces::byte_at(s, i) != 41 {
+        return Step::Fault(i);
+    }
+    let j = i + 1;
+    if pieces::byte_at(s, j) != 10 {
+        return Step::Fault(j);
+    }
+    Step::At(j + 1)
+}
+
+// The header's line at place i, behind the count a of inputs.
+fn outputs_at(s: &[u8], i: usize, a: usize) -> Header
+    ensures { λ r. ⌜ r ≡ headerOf (run (outputsFormat a) (bytes (now (s .entry))) i) ⌝ }
+{
+    let o = pieces::number_then(s, i, 1, 64, 32);
+    match o {
+        Number::Fault(p) => Header::Fault(p),
+        Number::Value(b, j) => {
+            let n = pieces::number_then(s, j, 0, 8, 41);
+            match n {
+                Number::Fault(p) => Header::Fault(p),
+                Number::Value(k, m) => {
+                    if pieces::byte_at(s, m) != 10 {
+                        return Header::Fault(m);
+                    }
+                    Header::Counts(a, b, k, m + 1)
+                }
+            }
+        }
+    }
+}
+
+// The header's line.
+pub fn header_at(s: &[u8], i: usize) -> Header
+    ensures { λ r. ⌜ r ≡ headerOf (run headerFormat (bytes (now (s .entry))) i) ⌝ }
+{
+    let o = opening_at(s, i, 0);
+    match o {
+        Step::Fault(p) => Header::Fault(p),
+        Step::At(j) => {
+            let n = pieces::number_then(s, j, 1, 64, 32);
+            match n {
+                Number::Fault(p) => Header::Fault(p),
+                Number::Value(a, m) => outputs_at(s, m, a),
+            }
+        }
+    }
+}
+
+// A state's line at place i, behind its number.
+fn row_at(s: &[u8], i: usize) -> Row
+    ensures { λ r. ⌜ r ≡ stateOf (run rowFormat (bytes (now (s .entry))) i) ⌝ }
+{
+    let n = pieces::number_then(s, i, 0, 1, 32);
+    match n {
+        Number::Fault(p) => Row::Fault(p),
+        Number::Value(f, j) => {
+            let t = pieces::set_at(s, j);
+            match t {
+                Set::Fault(p) => Row::Fault(p),
+                Set::Members(x, m) => {
+                    let e = end_at(s, m);
+                    match e {
+                        Step::Fault(p) => Row::Fault(p),
+                        Step::At(next) => Row::Moves(f, x, next),
+                    }
+                }
+            }
+        }
+    }
+}
+
+// The line of the given state at place i, by the word w.
+pub fn state_at(s: &[u8], i: usize, w: usize, state: usize) -> Row
+    requires { ⌜ (w < 10) × (state < 1000) ⌝ }
+    ensures { λ r. ⌜ r ≡ stateOf (run (stateFormat w state) (bytes (now (s .entry))) i) ⌝ }
+{
+    let o = opening_at(s, i, w);
+    match o {
+        Step::Fault(p) => Row::Fault(p),
+        Step::At(j) => {
+            let n = pieces::number_then(s, j, state, state, 32);
+            match n {
+                Number::Fault(p) => Row::Fault(p),
+                Number::Value(_, m) => row_at(s, m),
+            }
+        }
+    }
+}
