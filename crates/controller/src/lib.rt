@@ -1,5 +1,9 @@
 // The controller's table, filled in any order: every entry that is written is the right one. Functions that take one sort of states alone take plain
 // numbers and words.
+use controller_rows::Home;
+use controller_rows::Size;
+use controller_rows::opening;
+use controller_rows::unsettled;
 use game::Game;
 use game::InSet;
 use game::OutSet;
@@ -13,28 +17,10 @@ ghost use Rattle.game.specs.declared.Acceptance.the-variants.{Accepted};
 ghost use Rattle.play.specs.Play.{separatedOf};
 ghost use Rattle.theory.specs.Entries.{controllerEntries};
 ghost use mathlib.Core.List.{_++_};
-ghost use Rattle.controller.specs.Filled.{Filled, At, Below, Sized, Given};
+ghost use Rattle.controller_table.specs.Filled.{Filled, At, Below, Sized, Given};
 
-mod rows; // rows of the table, for many counters or inputs at once
-mod opening; // the start entries
-mod unsettled; // the rows of inputs with no home in reach
 mod resident; // who has a home where, and the rows outside it: the way home
 mod visit; // the rows at a home: the tour past the guarantees
-
-// The size of a table, with the set of its counters.
-struct Size {
-    pub inputs: usize,
-    pub outputs: usize,
-    pub counters: usize,
-    pub all: u64,
-}
-
-// A home: its number, the states of its component, and the inputs whose home is there.
-struct Home {
-    pub state: OutState,
-    pub component: OutSet,
-    pub inputs: InSet,
-}
 
 // The rows whose home is d.
 fn settle(g: Game, s: &[u64], room: &mut [u16], z: Size, cores: InSet, d: usize)

@@ -1,7 +1,7 @@
 // Who has a home where, and the rows outside it: the way home.
-use crate::Home;
-use crate::Size;
-use crate::rows;
+use controller_rows::Home;
+use controller_rows::Size;
+use controller_rows::rows;
 use game::Game;
 use game::InSet;
 use game::InState;
@@ -13,8 +13,8 @@ ghost use lib.ListN.{length};
 ghost use Rattle.play.specs.Play.{separatedOf};
 ghost use Rattle.theory.specs.Entries.{controllerEntries};
 ghost use Rattle.sets.specs.Member.{pack};
-ghost use Rattle.controller.specs.Writes.{Table, homeAt, residesAt, Away};
-ghost use Rattle.controller.specs.Filled.{Filled, Away as AwayRow, Given, HomeOf};
+ghost use Rattle.controller_rows.specs.Writes.{Table, homeAt, residesAt, Away};
+ghost use Rattle.controller_table.specs.Filled.{Filled, Away as AwayRow, Given, HomeOf};
 
 // Whether the lowest home of input j in reach is d.
 fn home_is(cores: InSet, j: InState, row: OutSet, reach: OutSet, d: OutState) -> bool

@@ -1,7 +1,7 @@
 // The rows at a home: the tour past the guarantees.
-use crate::Home;
-use crate::Size;
-use crate::rows;
+use controller_rows::Home;
+use controller_rows::Size;
+use controller_rows::rows;
 use game::Game;
 use game::InSet;
 use game::OutSet;
@@ -17,8 +17,8 @@ ghost use Rattle.theory.specs.Entries.{controllerEntries};
 ghost use mathlib.Core.Bool.{true};
 ghost use mathlib.Core.Logic.{_≢_};
 ghost use Rattle.sets.specs.Member.{has, pack};
-ghost use Rattle.controller.specs.Writes.{Table, Rest, Aims, States, Aim};
-ghost use Rattle.controller.specs.Filled.{Filled, There, Toward, Before, metBy, Sized, HomeOf, Goals};
+ghost use Rattle.controller_rows.specs.Writes.{Table, Rest, Aims, States, Aim};
+ghost use Rattle.controller_table.specs.Filled.{Filled, There, Toward, Before, metBy, Sized, HomeOf, Goals};
 
 // The rows of the outputs of a component where the inputs are at home and no guarantee is to be visited.
 fn rest(room: &mut [u16], z: Size, comp: OutSet, inputs: InSet, moves: &[u64; 64])

@@ -12,9 +12,9 @@ ghost use mathlib.Core.Bool.{true};
 ghost use Prim.Native.Nat.{_+_, _<_, _≤_};
 ghost use lib.ListN.{length};
 ghost use Rattle.sets.specs.Member.{has, pack};
-ghost use Rattle.environment.specs.Table.{Known, Roomy, Filled};
-ghost use Rattle.environment.specs.Reading.{lostAt};
-ghost use Rattle.environment.specs.Pressing.{Whole, Outward, Escape, Escaped, exitsAt, wayFrom};
+ghost use Rattle.environment_table.specs.Table.{Known, Roomy, Filled};
+ghost use Rattle.environment_table.specs.Reading.{lostAt};
+ghost use Rattle.environment_table.specs.Pressing.{Whole, Outward, Escape, Escaped, exitsAt, wayFrom};
 
 // The inputs below n that make no won position with o.
 fn lost(s: &[u64], n: usize, cores: InSet, o: OutState) -> InSet

@@ -10,8 +10,8 @@ ghost use lib.ListN.{length, drop};
 ghost use Rattle.graphs.specs.Component.{number};
 ghost use Rattle.play.specs.Play.{graphOf, separatedOf};
 ghost use Rattle.theory.specs.Entries.{environmentEntries};
-ghost use Rattle.environment.specs.Table.{Solved, Known, Roomy, Filled};
-ghost use Rattle.environment.specs.Reading.{plain};
+ghost use Rattle.environment_table.specs.Table.{Solved, Known, Roomy, Filled};
+ghost use Rattle.environment_table.specs.Reading.{plain};
 
 mod escape; // ways out of a component
 mod plain; // the start, and the rows that need no walk

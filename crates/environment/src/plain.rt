@@ -12,8 +12,8 @@ ghost use lib.ListN.{length};
 ghost use Rattle.play.specs.Play.{separatedOf};
 ghost use Rattle.theory.specs.Choice.{environmentStart};
 ghost use Rattle.theory.specs.Entries.{entry};
-ghost use Rattle.environment.specs.Table.{Known, Roomy, Filled};
-ghost use Rattle.environment.specs.Reading.{Shaped, anyWon, unansweredAt, plain};
+ghost use Rattle.environment_table.specs.Table.{Known, Roomy, Filled};
+ghost use Rattle.environment_table.specs.Reading.{Shaped, anyWon, unansweredAt, plain};
 
 // Whether some output of the set makes a won position with j, from scratch for n inputs and m outputs.
 fn some_won(s: &[u64], n: usize, m: usize, cores: InSet, j: InState, set: OutSet) -> bool

@@ -7,7 +7,7 @@ ghost use mathlib.Core.Path.{_≡_};
 ghost use mathlib.Core.Bool.{true};
 ghost use lib.ListN.{length};
 ghost use Rattle.sets.specs.Member.{has};
-ghost use Rattle.environment.specs.Table.{Roomy, Same, Spread, Filled};
+ghost use Rattle.environment_table.specs.Table.{Roomy, Same, Spread, Filled};
 
 // first + more × h in the row of every counter h.
 pub fn put(

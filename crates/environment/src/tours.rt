@@ -11,8 +11,8 @@ ghost use Prim.Native.Nat.{_<_};
 ghost use lib.ListN.{length};
 ghost use Rattle.sets.specs.Member.{has, pack, within};
 ghost use Rattle.touring.specs.Goal.{firstFrom};
-ghost use Rattle.environment.specs.Table.{Roomy, Filled};
-ghost use Rattle.environment.specs.Touring.{metIn, Count, Rests, Tours, Left, Aims};
+ghost use Rattle.environment_table.specs.Table.{Roomy, Filled};
+ghost use Rattle.environment_table.specs.Touring.{metIn, Count, Rests, Tours, Left, Aims};
 
 // The numbers of the assumptions, of which there are count, that have a state in c.
 fn goals(g: Game, count: usize, c: InSet) -> u64

@@ -4,11 +4,11 @@ use lib.ListN.{length}
 use Rattle.game.specs.declared.InSet.{InSet}
 use Rattle.game.specs.declared.OutSet.{OutSet}
 use Rattle.game.proofs.Laws.{accepted-fits}
-use Rattle.controller.specs.Writes.{Table}
-use Rattle.controller.specs.Filled.{Given}
-use Rattle.controller.proofs.Writes.{table-long, starts-at, long-starts, long-plains}
-use Rattle.controller.proofs.Setting.{table-of, scratch-long}
-use Rattle.controller.proofs.Table.{given-of, table-filled}
+use Rattle.controller_rows.specs.Writes.{Table}
+use Rattle.controller_table.specs.Filled.{Given}
+use Rattle.controller_rows.proofs.Writes.{table-long, starts-at, long-starts, long-plains}
+use Rattle.controller_table.proofs.Setting.{table-of, scratch-long}
+use Rattle.controller_table.proofs.Table.{given-of, table-filled}
 use native.Mathlib.Omega.{arith}
 use borrow.Author.Needs.{needs}
 use Rattle.controller.proofs.fill.Statement.{statement}

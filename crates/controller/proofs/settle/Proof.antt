@@ -1,6 +1,6 @@
 -- `settle`: no resident, or the way home and the tour.
-use Rattle.controller.proofs.Setting.{table-of, scratch-long}
-use Rattle.controller.proofs.Homes.{part-long, no-home, home-given, settled-here}
+use Rattle.controller_table.proofs.Setting.{table-of, scratch-long}
+use Rattle.controller_table.proofs.Homes.{part-long, no-home, home-given, settled-here}
 use native.Mathlib.Omega.{arith}
 use borrow.Author.Needs.{needs}
 use Rattle.controller.proofs.settle.Statement.{statement}

@@ -2,8 +2,8 @@
 use Prim.Native.Nat.{_-_, _≤_}
 use mathlib.Core.Path.{_≡_}
 use Rattle.play.specs.Play.{separatedOf}
-use Rattle.controller.specs.Filled.{Filled, Below}
-use Rattle.controller.proofs.Homes.{homes-none, homes-next}
+use Rattle.controller_table.specs.Filled.{Filled, Below}
+use Rattle.controller_table.proofs.Homes.{homes-none, homes-next}
 use native.Mathlib.Omega.{arith}
 use Rattle.controller.proofs.settle_all.Statement.{statement}
 use Rattle.controller.proofs.settle_all.Tie as tie

@@ -3,9 +3,9 @@ use native.Mathlib.Omega.{arith}
 use borrow.Author.Needs.{needs}
 use mathlib.Core.Path.{sym, _∙_}
 use Rattle.finite.proofs.Truth.{not-true, not-false}
-use Rattle.environment.specs.Pressing.{Whole}
-use Rattle.environment.proofs.Places.{roomy-more}
-use Rattle.environment.proofs.Walked.{component-word, skip-trivial, skip-other, whole-of-number, walked-join, left-of}
+use Rattle.environment_table.specs.Pressing.{Whole}
+use Rattle.environment_table.proofs.Places.{roomy-more}
+use Rattle.environment_table.proofs.Walked.{component-word, skip-trivial, skip-other, whole-of-number, walked-join, left-of}
 use Rattle.environment.proofs.component_rows.Statement.{statement}
 use Rattle.environment.proofs.component_rows.Tie as tie
 

@@ -1,8 +1,8 @@
 -- `fill` writes the start, then the rows that need no walk, then the others.
 use mathlib.Core.Path.{refl}
 use lib.ListN.{length-set}
-use Rattle.environment.proofs.Places.{roomy-more}
-use Rattle.environment.proofs.Filling.{inputs-bounds, known-of, roomy-of, start-length, filled-all, same-long}
+use Rattle.environment_table.proofs.Places.{roomy-more}
+use Rattle.environment_table.proofs.Filling.{inputs-bounds, known-of, roomy-of, start-length, filled-all, same-long}
 use Rattle.environment.proofs.fill.Statement.{statement}
 use Rattle.environment.proofs.fill.Tie as tie
 

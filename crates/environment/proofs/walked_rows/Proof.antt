@@ -5,10 +5,10 @@ use mathlib.Core.Path.{_≡_}
 use mathlib.Core.Bool.{false}
 use Rattle.graphs.specs.Component.{number}
 use Rattle.play.specs.Play.{graphOf}
-use Rattle.environment.specs.Table.{Filled}
-use Rattle.environment.specs.Reading.{plain}
-use Rattle.environment.proofs.Places.{filled-none, filled-join, filled-same, roomy-more, below-next}
-use Rattle.environment.proofs.Walked.{number-within}
+use Rattle.environment_table.specs.Table.{Filled}
+use Rattle.environment_table.specs.Reading.{plain}
+use Rattle.environment_table.proofs.Places.{filled-none, filled-join, filled-same, roomy-more, below-next}
+use Rattle.environment_table.proofs.Walked.{number-within}
 use Rattle.environment.proofs.walked_rows.Statement.{statement}
 use Rattle.environment.proofs.walked_rows.Tie as tie
 

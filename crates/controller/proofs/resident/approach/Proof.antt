@@ -1,6 +1,6 @@
 -- `approach`: the way home is searched over all outputs.
-use Rattle.controller.proofs.Setting.{table-of, scratch-long}
-use Rattle.controller.proofs.Phases.{approach-bounds, approached}
+use Rattle.controller_table.proofs.Setting.{table-of, scratch-long}
+use Rattle.controller_table.proofs.Phases.{approach-bounds, approached}
 use borrow.Author.Needs.{needs}
 use Rattle.controller.proofs.resident.approach.Statement.{statement}
 use Rattle.controller.proofs.resident.approach.Tie as tie

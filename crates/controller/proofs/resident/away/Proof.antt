@@ -3,10 +3,10 @@ use Prim.Native.Nat.{_-_, _≤_}
 use mathlib.Core.Path.{sym, _∙_, ap}
 use mathlib.Core.Logic.{⊎-elim}
 use mathlib.Core.Bool.{not}
-use Rattle.controller.specs.Each.{none}
-use Rattle.controller.specs.Writes.{Away}
-use Rattle.controller.proofs.Each.{each-hit, each-miss, each-end}
-use Rattle.controller.proofs.Writes.{table-long, rows-at, long-away}
+use Rattle.controller_rows.specs.Each.{none}
+use Rattle.controller_rows.specs.Writes.{Away}
+use Rattle.controller_rows.proofs.Each.{each-hit, each-miss, each-end}
+use Rattle.controller_rows.proofs.Writes.{table-long, rows-at, long-away}
 use native.Mathlib.Omega.{arith}
 use borrow.Author.Needs.{needs}
 use Rattle.controller.proofs.resident.away.Statement.{statement}

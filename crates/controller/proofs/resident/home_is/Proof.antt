@@ -1,7 +1,7 @@
 -- `home_is`: one of cores, and d the lowest home in reach.
 use mathlib.Core.Path.{sym, _∙_}
 use borrow.Author.Needs.{needs}
-use Rattle.controller.proofs.Writes.{home-in, home-out}
+use Rattle.controller_rows.proofs.Writes.{home-in, home-out}
 use Rattle.controller.proofs.resident.home_is.Statement.{statement}
 use Rattle.controller.proofs.resident.home_is.Tie as tie
 

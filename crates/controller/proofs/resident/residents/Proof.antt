@@ -4,7 +4,7 @@ use mathlib.Core.Path.{_≡_}
 use lib.ListN.{getD}
 use Rattle.sets.specs.Member.{pack}
 use Rattle.sets.proofs.Collect.{collect-none, collect-next, collect-end}
-use Rattle.controller.specs.Writes.{homeAt, residesAt}
+use Rattle.controller_rows.specs.Writes.{homeAt, residesAt}
 use native.Mathlib.Omega.{arith}
 use Rattle.controller.proofs.resident.residents.Statement.{statement}
 use Rattle.controller.proofs.resident.residents.Tie as tie

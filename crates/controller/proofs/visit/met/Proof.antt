@@ -8,8 +8,8 @@ use Rattle.game.proofs.Laws.{accepted-fits}
 use Rattle.play.specs.Play.{separatedOf}
 use Rattle.demands.proofs.Sizes.{guarantees-few}
 use Rattle.theory.specs.Choice.{guarantees}
-use Rattle.controller.specs.Filled.{metBy}
-use Rattle.controller.proofs.Phases.{met-at}
+use Rattle.controller_table.specs.Filled.{metBy}
+use Rattle.controller_table.proofs.Phases.{met-at}
 use native.Mathlib.Omega.{arith}
 use borrow.Author.Needs.{needs}
 use Rattle.controller.proofs.visit.met.Statement.{statement}

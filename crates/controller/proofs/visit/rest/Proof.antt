@@ -2,10 +2,10 @@
 use Prim.Native.Nat.{_-_, _≤_}
 use mathlib.Core.Path.{refl, sym, _∙_}
 use mathlib.Core.Logic.{⊎-elim}
-use Rattle.controller.specs.Each.{none}
-use Rattle.controller.specs.Writes.{Rest}
-use Rattle.controller.proofs.Each.{each-hit, each-miss, each-end}
-use Rattle.controller.proofs.Writes.{table-long, rows-at, long-rest}
+use Rattle.controller_rows.specs.Each.{none}
+use Rattle.controller_rows.specs.Writes.{Rest}
+use Rattle.controller_rows.proofs.Each.{each-hit, each-miss, each-end}
+use Rattle.controller_rows.proofs.Writes.{table-long, rows-at, long-rest}
 use native.Mathlib.Omega.{arith}
 use borrow.Author.Needs.{needs}
 use Rattle.controller.proofs.visit.rest.Statement.{statement}

@@ -1,6 +1,6 @@
 -- `seek`: the way to a goal is searched inside the component.
-use Rattle.controller.proofs.Setting.{table-of}
-use Rattle.controller.proofs.Phases.{seek-bounds, seek-goals, seek-aims, seek-states, sought}
+use Rattle.controller_table.proofs.Setting.{table-of}
+use Rattle.controller_table.proofs.Phases.{seek-bounds, seek-goals, seek-aims, seek-states, sought}
 use borrow.Author.Needs.{needs}
 use Rattle.controller.proofs.visit.seek.Statement.{statement}
 use Rattle.controller.proofs.visit.seek.Tie as tie

@@ -3,9 +3,9 @@ use Prim.Native.Nat.{_-_, _≤_}
 use mathlib.Core.Path.{_≡_, sym, _∙_}
 use mathlib.Core.Logic.{⊎-elim}
 use Rattle.play.specs.Play.{separatedOf}
-use Rattle.controller.specs.Filled.{Filled, Before}
-use Rattle.controller.proofs.Setting.{table-of}
-use Rattle.controller.proofs.Phases.{sought-none, sought-next, sought-past}
+use Rattle.controller_table.specs.Filled.{Filled, Before}
+use Rattle.controller_table.proofs.Setting.{table-of}
+use Rattle.controller_table.proofs.Phases.{sought-none, sought-next, sought-past}
 use native.Mathlib.Omega.{arith}
 use Rattle.controller.proofs.visit.seek_all.Statement.{statement}
 use Rattle.controller.proofs.visit.seek_all.Tie as tie

@@ -1,6 +1,6 @@
 -- `tour`: with no goal, or with some.
-use Rattle.controller.proofs.Setting.{table-of}
-use Rattle.controller.proofs.Phases.{met-goals, rested, sought-all}
+use Rattle.controller_table.proofs.Setting.{table-of}
+use Rattle.controller_table.proofs.Phases.{met-goals, rested, sought-all}
 use borrow.Author.Needs.{needs}
 use Rattle.controller.proofs.visit.tour.Statement.{statement}
 use Rattle.controller.proofs.visit.tour.Tie as tie

@@ -2,7 +2,7 @@
 use native.Mathlib.Omega.{arith}
 use borrow.Author.Needs.{needs}
 use mathlib.Core.Path.{sym, _∙_}
-use Rattle.environment.proofs.Outward.{Words, gates-within, rows-outward, escape-won, escape-tours, escape-leaves}
+use Rattle.environment_table.proofs.Outward.{Words, gates-within, rows-outward, escape-won, escape-tours, escape-leaves}
 use Rattle.environment.proofs.escape.escape.Statement.{statement}
 use Rattle.environment.proofs.escape.escape.Tie as tie
 

@@ -7,9 +7,9 @@ use mathlib.Core.Bool.{true}
 use mathlib.Core.Logic.{⊎-elim}
 use Rattle.finite.proofs.Truth.{clash}
 use Rattle.sets.specs.Member.{has}
-use Rattle.environment.specs.Table.{Filled}
-use Rattle.environment.proofs.Places.{filled-none, filled-same, roomy-more, filled-skip, filled-next, same-small}
-use Rattle.environment.proofs.Outward.{same-outward}
+use Rattle.environment_table.specs.Table.{Filled}
+use Rattle.environment_table.proofs.Places.{filled-none, filled-same, roomy-more, filled-skip, filled-next, same-small}
+use Rattle.environment_table.proofs.Outward.{same-outward}
 use Rattle.environment.proofs.escape.escape_rows.Statement.{statement}
 use Rattle.environment.proofs.escape.escape_rows.Tie as tie
 

@@ -7,9 +7,9 @@ use Rattle.sets.specs.Member.{pack}
 use Rattle.sets.proofs.Collect.{collect-none, collect-next, collect-end}
 use Rattle.graphs.specs.Component.{joined}
 use Rattle.play.specs.Play.{graphOf}
-use Rattle.environment.specs.Table.{Filled}
-use Rattle.environment.specs.Pressing.{leavingAt, touringAt}
-use Rattle.environment.proofs.Places.{filled-none, filled-join, filled-same, roomy-more, below-next}
+use Rattle.environment_table.specs.Table.{Filled}
+use Rattle.environment_table.specs.Pressing.{leavingAt, touringAt}
+use Rattle.environment_table.proofs.Places.{filled-none, filled-join, filled-same, roomy-more, below-next}
 use Rattle.environment.proofs.escape.escapes.Statement.{statement}
 use Rattle.environment.proofs.escape.escapes.Tie as tie
 

@@ -5,8 +5,8 @@ use Prim.Native.Nat.{_≤_, _-_}
 use mathlib.Core.Path.{_≡_}
 use Rattle.sets.specs.Member.{pack}
 use Rattle.sets.proofs.Collect.{collect-none, collect-next, collect-end}
-use Rattle.environment.specs.Pressing.{exitsAt}
-use Rattle.environment.proofs.Outward.{exits-at}
+use Rattle.environment_table.specs.Pressing.{exitsAt}
+use Rattle.environment_table.proofs.Outward.{exits-at}
 use Rattle.environment.proofs.escape.exits.Statement.{statement}
 use Rattle.environment.proofs.escape.exits.Tie as tie
 

@@ -4,8 +4,8 @@ use Prim.Native.Nat.{_≤_, _-_}
 use mathlib.Core.Path.{_≡_}
 use Rattle.sets.specs.Member.{pack}
 use Rattle.sets.proofs.Collect.{collect-none, collect-next, collect-end}
-use Rattle.environment.specs.Reading.{lostAt}
-use Rattle.environment.proofs.Outward.{lost-at}
+use Rattle.environment_table.specs.Reading.{lostAt}
+use Rattle.environment_table.proofs.Outward.{lost-at}
 use Rattle.environment.proofs.escape.lost.Statement.{statement}
 use Rattle.environment.proofs.escape.lost.Tie as tie
 

@@ -1,7 +1,7 @@
 -- `way_from` by its test.
 use borrow.Author.Needs.{needs}
 use mathlib.Core.Path.{sym, _∙_}
-use Rattle.environment.proofs.Outward.{way-open, way-next}
+use Rattle.environment_table.proofs.Outward.{way-open, way-next}
 use Rattle.environment.proofs.escape.way_from.Statement.{statement}
 use Rattle.environment.proofs.escape.way_from.Tie as tie
 

@@ -2,9 +2,9 @@
 use native.Mathlib.Omega.{arith}
 use borrow.Author.Needs.{needs}
 use mathlib.Core.Path.{sym, _∙_}
-use Rattle.environment.proofs.Places.{filled-none, filled-same}
-use Rattle.environment.proofs.Reading.{unanswered-most}
-use Rattle.environment.proofs.Known.{shaped, same-none, same-push, plain-none, unanswered-of}
+use Rattle.environment_table.proofs.Places.{filled-none, filled-same}
+use Rattle.environment_table.proofs.Reading.{unanswered-most}
+use Rattle.environment_table.proofs.Known.{shaped, same-none, same-push, plain-none, unanswered-of}
 use Rattle.environment.proofs.plain.plain_at.Statement.{statement}
 use Rattle.environment.proofs.plain.plain_at.Tie as tie
 

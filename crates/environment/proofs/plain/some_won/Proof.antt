@@ -4,8 +4,8 @@ use mathlib.Core.Path.{_≡_, sym, _∙_}
 use mathlib.Core.Bool.{false}
 use mathlib.Core.Logic.{⊎-elim}
 use native.Mathlib.Omega.{arith}
-use Rattle.environment.specs.Reading.{anyWon}
-use Rattle.environment.proofs.Reading.{any-start, any-past, any-lost, any-won, any-end}
+use Rattle.environment_table.specs.Reading.{anyWon}
+use Rattle.environment_table.proofs.Reading.{any-start, any-past, any-lost, any-won, any-end}
 use Rattle.environment.proofs.plain.some_won.Statement.{statement}
 use Rattle.environment.proofs.plain.some_won.Tie as tie
 

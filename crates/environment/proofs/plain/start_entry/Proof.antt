@@ -1,7 +1,7 @@
 -- `start_entry` is the lowest input that is refused, or none.
 use native.Mathlib.Omega.{arith}
 use borrow.Author.Needs.{needs}
-use Rattle.environment.proofs.Known.{shaped, start-found, start-none, unanswered-of}
+use Rattle.environment_table.proofs.Known.{shaped, start-found, start-none, unanswered-of}
 use Rattle.environment.proofs.plain.start_entry.Statement.{statement}
 use Rattle.environment.proofs.plain.start_entry.Tie as tie
 

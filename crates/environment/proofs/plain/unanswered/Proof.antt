@@ -4,7 +4,7 @@ use mathlib.Core.Path.{sym, _∙_}
 use mathlib.Core.Logic.{⊎-elim}
 use native.Mathlib.Omega.{arith}
 use Rattle.finite.proofs.Truth.{not-true, not-false}
-use Rattle.environment.proofs.Reading.{Answered, open-start, open-past, open-answered, open-found, open-end}
+use Rattle.environment_table.proofs.Reading.{Answered, open-start, open-past, open-answered, open-found, open-end}
 use Rattle.environment.proofs.plain.unanswered.Statement.{statement}
 use Rattle.environment.proofs.plain.unanswered.Tie as tie
 

@@ -2,7 +2,7 @@
 use native.Mathlib.Omega.{arith}
 use borrow.Author.Needs.{needs}
 use mathlib.Core.Path.{refl}
-use Rattle.environment.proofs.Places.{rows-small, entries-small, put-fits, put-filled}
+use Rattle.environment_table.proofs.Places.{rows-small, entries-small, put-fits, put-filled}
 use Rattle.environment.proofs.rows.put.Statement.{statement}
 use Rattle.environment.proofs.rows.put.Tie as tie
 

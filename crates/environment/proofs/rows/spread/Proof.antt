@@ -2,7 +2,7 @@
 use native.Mathlib.Omega.{arith}
 use borrow.Author.Needs.{needs}
 use mathlib.Core.Path.{refl}
-use Rattle.environment.proofs.Places.{rows-small, entries-small, spread-fits, spread-filled}
+use Rattle.environment_table.proofs.Places.{rows-small, entries-small, spread-fits, spread-filled}
 use Rattle.environment.proofs.rows.spread.Statement.{statement}
 use Rattle.environment.proofs.rows.spread.Tie as tie
 

@@ -1,7 +1,7 @@
 -- `aim` searches once for all states and counters.
 use borrow.Author.Needs.{needs}
-use Rattle.environment.proofs.Places.{filled-same}
-use Rattle.environment.proofs.Toured.{aims-goals, some-goal, aims-counter, target-within, into-aimed, aims-rows}
+use Rattle.environment_table.proofs.Places.{filled-same}
+use Rattle.environment_table.proofs.Toured.{aims-goals, some-goal, aims-counter, target-within, into-aimed, aims-rows}
 use Rattle.environment.proofs.tours.aim.Statement.{statement}
 use Rattle.environment.proofs.tours.aim.Tie as tie
 

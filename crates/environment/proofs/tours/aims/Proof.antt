@@ -6,9 +6,9 @@ use mathlib.Core.Bool.{true}
 use mathlib.Core.Logic.{⊎-elim}
 use Rattle.sets.specs.Member.{has}
 use Rattle.touring.specs.Goal.{firstFrom}
-use Rattle.environment.specs.Table.{Filled}
-use Rattle.environment.proofs.Places.{filled-none, filled-same, roomy-more}
-use Rattle.environment.proofs.Toured.{aims-below, aims-counter, aims-skip, aims-next}
+use Rattle.environment_table.specs.Table.{Filled}
+use Rattle.environment_table.proofs.Places.{filled-none, filled-same, roomy-more}
+use Rattle.environment_table.proofs.Toured.{aims-below, aims-counter, aims-skip, aims-next}
 use Rattle.environment.proofs.tours.aims.Statement.{statement}
 use Rattle.environment.proofs.tours.aims.Tie as tie
 

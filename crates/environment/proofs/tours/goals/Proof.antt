@@ -5,8 +5,8 @@ use Prim.Native.Nat.{_≤_, _-_}
 use mathlib.Core.Path.{_≡_}
 use Rattle.sets.specs.Member.{pack}
 use Rattle.sets.proofs.Collect.{collect-none, collect-next, collect-end}
-use Rattle.environment.specs.Touring.{metIn}
-use Rattle.environment.proofs.Toured.{met-at}
+use Rattle.environment_table.specs.Touring.{metIn}
+use Rattle.environment_table.proofs.Toured.{met-at}
 use Rattle.environment.proofs.tours.goals.Statement.{statement}
 use Rattle.environment.proofs.tours.goals.Tie as tie
 

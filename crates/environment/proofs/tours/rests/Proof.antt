@@ -9,9 +9,9 @@ use lib.ListN.{getD}
 use lib.Bits.{bitAnd}
 use Rattle.finite.proofs.Truth.{clash}
 use Rattle.sets.specs.Member.{has}
-use Rattle.environment.specs.Table.{Filled}
-use Rattle.environment.proofs.Places.{filled-none, filled-same, roomy-more, filled-skip, filled-next, every-counter}
-use Rattle.environment.proofs.Toured.{prefer-most, spread-rest}
+use Rattle.environment_table.specs.Table.{Filled}
+use Rattle.environment_table.proofs.Places.{filled-none, filled-same, roomy-more, filled-skip, filled-next, every-counter}
+use Rattle.environment_table.proofs.Toured.{prefer-most, spread-rest}
 use Rattle.environment.proofs.tours.rests.Statement.{statement}
 use Rattle.environment.proofs.tours.rests.Tie as tie
 

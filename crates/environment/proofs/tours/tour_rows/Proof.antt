@@ -6,9 +6,9 @@ use mathlib.Core.Bool.{true}
 use mathlib.Core.Logic.{⊎-elim}
 use Rattle.finite.proofs.Truth.{clash}
 use Rattle.sets.specs.Member.{has}
-use Rattle.environment.specs.Table.{Filled}
-use Rattle.environment.proofs.Places.{filled-none, filled-same, roomy-more, filled-skip, filled-next}
-use Rattle.environment.proofs.Toured.{counter-small, spread-tour}
+use Rattle.environment_table.specs.Table.{Filled}
+use Rattle.environment_table.proofs.Places.{filled-none, filled-same, roomy-more, filled-skip, filled-next}
+use Rattle.environment_table.proofs.Toured.{counter-small, spread-tour}
 use Rattle.environment.proofs.tours.tour_rows.Statement.{statement}
 use Rattle.environment.proofs.tours.tour_rows.Tie as tie
 

@@ -1,6 +1,6 @@
 -- `tours` by its test.
 use borrow.Author.Needs.{needs}
-use Rattle.environment.proofs.Toured.{count-of, whole-within, rests-rows, aims-of}
+use Rattle.environment_table.proofs.Toured.{count-of, whole-within, rests-rows, aims-of}
 use Rattle.environment.proofs.tours.tours.Statement.{statement}
 use Rattle.environment.proofs.tours.tours.Tie as tie
 

@@ -1,0 +1,199 @@
+-- Laws of what the loops write.
+--
+--   stays-state, stays-none          : the two kinds of entries for every counter
+--   passed-below                     : the next counter is one
+--   base-small, cell-below           : the place of a row is small, and lies in the buffer
+--   column-fits, block-fits          : so what is written fits
+--   row-of, rows-of, aim-of          : what was written
+--   long-..                          : lengths are kept
+--   table-long                       : the table fits any buffer of the length
+--   settles-in, settles-out, home-in, home-out, start-in, start-out : the tests by cases
+use Prim.Native.Nat.{ℕ, _+_, _*_, _≤_, _<_}
+use native.Mathlib.Nat.{mul-le-mul, mul-le-mul-left, mul-le-mul-right, mul-suc, suc-mul, mul-comm, add-mul, zero-mul}
+use mathlib.Core.Path.{_≡_, refl, sym, _∙_, ap}
+use mathlib.Core.Bool.{Bool, true, false}
+use mathlib.Core.List.{List}
+use native.Mathlib.Omega.{arith}
+use native.Mathlib.Decide.{decLt}
+use lib.Dec.{eqb}
+use lib.Bits.{bitAnd}
+use lib.ListN.{length, set, length-set}
+use borrow.Author.Tests.{lt-ltb, le-ltb, ltb-true}
+use Rattle.finite.specs.Bounded.{least}
+use Rattle.sets.specs.Member.{has, pack, meets}
+use Rattle.stored.specs.Stored.{wonAt}
+use Rattle.theory.proofs.Around.{around-below}
+use Rattle.touring.specs.Column.{Fits, Column, BlockFits, Block}
+use Rattle.touring.specs.Goal.{passed}
+use Rattle.controller_rows.specs.declared.Size.{Size}
+use Rattle.controller_rows.specs.Writes.{first, more, Stays, base, Table, Row, Rows, settlesAt, homeAt, Plain, Plains, Away, Rest, Aimed, Aim, startOf, Start, Starts}
+use Rattle.controller_rows.proofs.Each.{each-long}
+
+-- ---- entries for every counter
+
+pub stays-state : (p : ℕ) → p < 64 → Stays p p 64
+unfolding first more
+stays-state p h = record { first = rw (lt-ltb p 64 h, first) refl; more = rw (lt-ltb p 64 h, more) refl }
+
+pub stays-none : (p : ℕ) → 64 ≤ p → Stays p 65535 0
+unfolding first more
+stays-none p h = record { first = rw (le-ltb p 64 h, first) refl; more = rw (le-ltb p 64 h, more) refl }
+
+pub stays-small : (p f m h : ℕ) → Stays p f m → h < 32 → f + m * h < 65536
+stays-small p f m h e b = go (decLt p 64)
+  where
+    go : Dec (p < 64) → f + m * h < 65536
+    go (yes l) =
+        let v = stays-state p l in
+        let x : f ≡ p = e .first ∙ sym (v .first) in
+        let y : m ≡ 64 = e .more ∙ sym (v .more) in
+        rw (x, y) (omega arith)
+    go (no l) =
+        let v = stays-none p (omega arith) in
+        let x : f ≡ 65535 = e .first ∙ sym (v .first) in
+        let y : m ≡ 0 = e .more ∙ sym (v .more) in
+        rw (x, y, zero-mul h) (omega arith)
+
+pub passed-below : (m : ℕ) (b : Bool) (a : ℕ) → a < m → passed m b a < m
+unfolding passed
+passed-below m true a l = around-below m a 1 l (omega arith)
+passed-below m false a l = l
+
+-- ---- places
+
+pub counters-small : (M o : ℕ) → M ≤ 32 → o < 64 → o * M ≤ 2016
+counters-small M o b d =
+    let a : o ≤ 63 = omega arith in
+    mul-le-mul a b
+
+pub base-small : (n M o : ℕ) → n ≤ 64 → M ≤ 32 → o < 64 → o * M * n ≤ 129024
+base-small n M o a b d = mul-le-mul (counters-small M o b d) a
+
+pub base-at : (z : Size) (o : ℕ) → z .inputs + o * z .counters * z .inputs ≡ base z o
+unfolding base
+base-at z o = refl
+
+module _ (z : Size) (long : ℕ) (t : Table z long) where
+  pub counter-below : (h : ℕ) → has (z .all) h ≡ true → h < z .counters
+  counter-below h e = ltb-true h (z .counters) (sym (t .all h) ∙ e)
+
+  pub rows-below : (o : ℕ) → o < z .outputs → base z o + z .inputs * z .counters ≤ long
+  unfolding base
+  rows-below o b =
+      omega (
+        arith,
+        t .room,
+        mul-le-mul-right (z .inputs) (mul-le-mul-right (z .counters) b),
+        ap (λ (k : ℕ). k * z .inputs) (suc-mul o (z .counters)),
+        add-mul (o * z .counters) (z .counters) (z .inputs),
+        mul-comm (z .inputs) (z .counters),
+      )
+
+  pub cell-below : (o j h : ℕ) → o < z .outputs → j < z .inputs → h < z .counters → base z o + j + z .inputs * h < long
+  cell-below o j h a b c = omega (arith, rows-below o a, mul-le-mul-left (z .inputs) c, mul-suc (z .inputs) h)
+
+  module _ (o which f m : ℕ) (b : o < z .outputs) (in-range : (h : ℕ) → has which h ≡ true → h < z .counters)
+      (small : (h : ℕ) → h < z .counters → f + m * h < 65536) where
+    pub column-fits : {at : ℕ} (j : ℕ) → at ≡ base z o → j < z .inputs → Fits long (at + j) (z .inputs) which f m
+    column-fits j e l = rw e
+        (record {
+          below = λ h i. cell-below o j h b l (in-range h i);
+          small = λ h i. small h (in-range h i);
+        })
+
+    pub block-fits : {at : ℕ} (over : ℕ) → at ≡ base z o → BlockFits long at (z .inputs) over which f m
+    block-fits {at} over e = record {
+      narrow = t .inputs;
+      inside = omega (arith, rows-below o b, mul-le-mul-left (z .inputs) (t .some), mul-suc (z .inputs) 0);
+      columns = λ x l i. column-fits x e l;
+    }
+
+  pub all-small : (p f m : ℕ) → Stays p f m → (h : ℕ) → h < z .counters → f + m * h < 65536
+  all-small p f m e h b = stays-small p f m h e (omega (arith, t .counters))
+
+pub table-long : {z : Size} {a b : ℕ} → Table z a → b ≡ a → Table z b
+table-long t e = record { inputs = t .inputs; outputs = t .outputs; some = t .some; counters = t .counters; all = t .all; room = omega (arith, t .room) }
+
+-- ---- what was written
+
+module _ (z : Size) (o : ℕ) where
+  pub row-of : (j p : ℕ) {at f m : ℕ} {l r : List ℕ} → at ≡ base z o → Stays p f m → Column l r (at + j) (z .inputs) (z .all) f m → Row z o j p l r
+  row-of j p e s c = record { column = rw (← e, ← s .first, ← s .more) c }
+
+  pub rows-of : (w p : ℕ) {at f m : ℕ} {l r : List ℕ} → at ≡ base z o → Stays p f m → Block l r at (z .inputs) w (z .all) f m → Rows z o w p l r
+  rows-of w p e s c = record { block = rw (← e, ← s .first, ← s .more) c }
+
+  pub aimed-of : (goal a w which p : ℕ) {at c : ℕ} {b : Bool} {l r : List ℕ} → at ≡ base z o → b ≡ has goal p → c ≡ passed (z .counters) b a
+      → Block l r at (z .inputs) w which (p + 64 * c) 0 → Aimed z goal a w which o p l r
+  aimed-of goal a w which p e h q k =
+      let x = q ∙ ap (λ (y : Bool). passed (z .counters) y a) h in
+      record { block = rw (← e, ← x) k }
+
+module _ {z : Size} {o : ℕ} {l m : List ℕ} where
+  pub row-at : {j p p′ : ℕ} → p ≡ p′ → Row z o j p l m → Row z o j p′ l m
+  row-at e r = rw (← e) r
+
+  pub rows-at : {w w′ p p′ : ℕ} → w ≡ w′ → p ≡ p′ → Rows z o w p l m → Rows z o w′ p′ l m
+  rows-at d e r = rw (← d, ← e) r
+
+  pub aimed-at : {goal a w which p p′ : ℕ} → p ≡ p′ → Aimed z goal a w which o p l m → Aimed z goal a w which o p′ l m
+  aimed-at e r = rw (← e) r
+
+pub start-of : {z : Size} {s : List ℕ} {cores ins outs i v : ℕ} {l : List ℕ} → v ≡ startOf z s cores ins outs i → Start z s cores ins outs i l (set l i v)
+start-of {i = i} {l = l} e = record { written = ap (set l i) e }
+
+pub starts-at : {z : Size} {s : List ℕ} {cores ins ins′ outs outs′ k : ℕ} {l m : List ℕ} → ins ≡ ins′ → outs ≡ outs′
+    → Starts z s cores ins outs k l m → Starts z s cores ins′ outs′ k l m
+starts-at d e r = rw (← d, ← e) r
+
+-- ---- lengths
+
+module _ {z : Size} {l m : List ℕ} where
+  pub long-plain : {s : List ℕ} {cores o moves k : ℕ} → Plain z s cores o moves k l m → length m ≡ length l
+  long-plain e = each-long (λ j a b r. r .column .long) (e .each)
+
+  pub long-starts : {s : List ℕ} {cores ins outs k : ℕ} → Starts z s cores ins outs k l m → length m ≡ length l
+  long-starts e = each-long (λ i a b r. ap length (r .written) ∙ length-set a i _) (e .each)
+
+  pub long-away : {s : List ℕ} {cores d comp k : ℕ} {next : List ℕ} → Away z s cores d comp next k l m → length m ≡ length l
+  long-away e = each-long (λ o a b r. r .block .long) (e .each)
+
+  pub long-rest : {rows : List ℕ} {comp w k : ℕ} → Rest z rows comp w k l m → length m ≡ length l
+  long-rest e = each-long (λ o a b r. r .block .long) (e .each)
+
+  pub long-aim : {goal a comp w which k : ℕ} {next : List ℕ} → Aim z goal a comp w which next k l m → length m ≡ length l
+  long-aim e = each-long (λ o x y r. r .block .long) (e .each)
+
+module _ {z : Size} {l m : List ℕ} where
+  pub long-plains : {s : List ℕ} {cores : ℕ} {rows : List ℕ} {k : ℕ} → Plains z s cores rows k l m → length m ≡ length l
+  long-plains e = each-long (λ o a b r. long-plain r) (e .each)
+
+-- ---- tests
+
+module _ (cores j row reach : ℕ) where
+  pub settles-in : {r : Bool} → has cores j ≡ true → r ≡ meets 64 row reach → r ≡ settlesAt cores j row reach
+  unfolding settlesAt
+  settles-in h e = rw h e
+
+  pub settles-out : has cores j ≡ false → false ≡ settlesAt cores j row reach
+  unfolding settlesAt
+  settles-out h = rw h refl
+
+  pub home-in : (d : ℕ) {x : ℕ} → has cores j ≡ true → x ≡ least 64 (has (bitAnd row reach)) → eqb x d ≡ homeAt cores j row reach d
+  unfolding homeAt
+  home-in d {x} h e = rw h (ap (λ (k : ℕ). eqb k d) e)
+
+  pub home-out : (d : ℕ) → has cores j ≡ false → false ≡ homeAt cores j row reach d
+  unfolding homeAt
+  home-out d h = rw h refl
+
+module _ (z : Size) (s : List ℕ) (cores ins outs i : ℕ) where
+  pub start-in : {p x f m : ℕ} → has ins i ≡ true → x ≡ pack (z .outputs) (wonAt s (z .inputs) cores i) → p ≡ least 64 (has (bitAnd outs x)) → Stays p f m
+      → f ≡ startOf z s cores ins outs i
+  unfolding startOf
+  start-in {p} {x} h a b e =
+      rw (h, startOf) (e .first ∙ ap (λ (k : ℕ). first k) (b ∙ ap (λ (y : ℕ). least 64 (has (bitAnd outs y))) a))
+
+  pub start-out : has ins i ≡ false → 65535 ≡ startOf z s cores ins outs i
+  unfolding startOf
+  start-out h = rw (h, startOf) refl

@@ -1,0 +1,36 @@
+-- `write_row`: a column of entries.
+use native.Mathlib.Omega.{arith}
+use Rattle.controller_rows.proofs.Writes.{counter-below, cell-below, all-small, column-fits, row-of}
+use borrow.Author.Needs.{needs}
+use Rattle.controller_rows.proofs.rows.write_row.Statement.{statement}
+use Rattle.controller_rows.proofs.rows.write_row.Tie as tie
+
+staying-requires : tie.Need-staying-requires
+staying-requires c κs = search needs
+
+base-requires : tie.Need-base-requires
+base-requires c κs = search needs
+
+add-column : tie.Need-add-column
+add-column c =
+    let b = c .before .before .before .before .before in
+    omega (arith, c .before .base .ensures, cell-below (b .args .z) _ (b .pre .0) (b .args .o .0) (b .args .j .0) 0 (b .pre .1) (b .pre .2) (b .pre .0 .some))
+
+column-requires : tie.Need-column-requires
+column-requires c κs =
+    let b = c .before .before .before .before .before in
+    column-fits (b .args .z) _ (b .pre .0) (b .args .o .0) _ _ _ (b .pre .1) (counter-below (b .args .z) _ (b .pre .0))
+    (all-small (b .args .z) _ (b .pre .0) (b .args .p) _ _ (c .before .before .before .staying .ensures)) (b .args .j .0) (c .before .base .ensures) (b .pre .2)
+
+same-length : tie.Need-same-length
+same-length c = search needs
+
+returns : tie.Need-returns
+returns c =
+    let b = c .before .before .before .before .before .before .before .before in
+    row-of (b .args .z) (b .args .o .0) (b .args .j .0) (b .args .p) (c .before .before .before .before .base .ensures) (c .before .before .before .before .before .before .staying .ensures) (c .before .before .column .ensures)
+
+pub write-row-spec : {M : Type 1} → statement M
+write-row-spec =
+    tie.close
+    (tie.spec staying-requires base-requires add-column column-requires same-length returns)

@@ -1,0 +1,3 @@
+-- What the contracts of the writing functions cite.
+pub mod Each
+pub mod Writes

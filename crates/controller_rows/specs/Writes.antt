@@ -1,0 +1,111 @@
+-- What the loops write into the buffer of the controller's table, of the size z.
+--
+--   first p, more p                == first p + more p × c is the entry for state p and counter c, and none where p is no state
+--   base z o                       == where the rows of output o begin
+--   Table z long                   == a buffer of that length has the table
+--   Row z o j p l m                == the rows of (o, j) were written: state p, the counter stays
+--   Rows z o w p l m               == the same for each input of the set w
+--
+-- told from scratch s, cores being the inputs in nontrivial components:
+--   settlesAt cores j row reach    == j is in a nontrivial component, and one of its homes, the row, is in reach
+--   homeAt cores j row reach d     == and the lowest such home is d
+--   residesAt s n cores o d j      == the home of j at output o is d
+--   Plain z s cores o moves k      == for each input j < k with no home in reach of o: the lowest of the moves to a member of the row of j, or none
+--   Plains z s cores rows k        == the same for each output o < k
+--   Away z s cores d comp next k   == for each output o < k outside the set comp the inputs that reside at d go on by next
+--   Rest z rows comp w k           == for each output o < k of the set comp the inputs of w make the preferred move inside
+--   Aims z which a                 == a and the members of `which` are counters
+--   States z comp next             == next has a state for each of comp
+--   Aim z goal a comp w which next k == the same by next, for the counters of `which`; the counter goes on from a where the set is entered
+--   startOf .. i, Starts .. k      == the start entries
+use Prim.Native.Nat.{ℕ, _+_, _*_, _≤_, _<_}
+use mathlib.Core.Path.{_≡_}
+use mathlib.Core.Bool.{Bool, true, false, _&&_, not}
+use mathlib.Core.List.{List}
+use lib.Dec.{ltb, eqb}
+use lib.Bits.{bitAnd}
+use lib.ListN.{getD, set}
+use Rattle.finite.specs.Bounded.{least}
+use Rattle.sets.specs.Member.{has, pack, meets}
+use Rattle.graphs.specs.Way.{prefer}
+use Rattle.stored.specs.Stored.{wonAt}
+use Rattle.touring.specs.Column.{Column, Block}
+use Rattle.touring.specs.Goal.{passed}
+use Rattle.controller_rows.specs.declared.Size.{Size}
+use Rattle.controller_rows.specs.Each.{Each}
+
+-- "Entries are 16 bits: next state + 64 × next counter; none is 65,535."
+unfoldable pub first : ℕ → ℕ
+first p = elim (ltb p 64) [ true ↦ p | false ↦ 65535 ]
+
+unfoldable pub more : ℕ → ℕ
+more p = elim (ltb p 64) [ true ↦ 64 | false ↦ 0 ]
+
+pub record Stays (p f m : ℕ) : Type 0 where
+  pub first : f ≡ first p
+  pub more : m ≡ more p
+
+-- "one start entry an input, then rows by output, counter, input, the last running fastest"
+unfoldable pub base : Size → ℕ → ℕ
+base z o = z .inputs + o * z .counters * z .inputs
+
+pub record Table (z : Size) (long : ℕ) : Type 0 where
+  pub inputs : z .inputs ≤ 64
+  pub outputs : z .outputs ≤ 64
+  pub some : 0 < z .counters
+  pub counters : z .counters ≤ 32
+  pub all : (c : ℕ) → has (z .all) c ≡ ltb c (z .counters)
+  pub room : z .inputs + z .outputs * z .counters * z .inputs ≤ long
+
+pub record Row (z : Size) (o j p : ℕ) (l m : List ℕ) : Type 0 where
+  pub column : Column l m (base z o + j) (z .inputs) (z .all) (first p) (more p)
+
+pub record Rows (z : Size) (o w p : ℕ) (l m : List ℕ) : Type 0 where
+  pub block : Block l m (base z o) (z .inputs) w (z .all) (first p) (more p)
+
+unfoldable pub settlesAt : ℕ → ℕ → ℕ → ℕ → Bool
+settlesAt cores j row reach = has cores j && meets 64 row reach
+
+unfoldable pub homeAt : ℕ → ℕ → ℕ → ℕ → ℕ → Bool
+homeAt cores j row reach d = has cores j && eqb (least 64 (has (bitAnd row reach))) d
+
+unfoldable pub residesAt : List ℕ → ℕ → ℕ → ℕ → ℕ → ℕ → Bool
+residesAt s n cores o d j = homeAt cores j (getD s (n + j) 0) (getD s (n + n + o) 0) d
+
+pub record Plain (z : Size) (s : List ℕ) (cores o moves k : ℕ) (l m : List ℕ) : Type 0 where
+  pub each :
+      Each (λ j. not (settlesAt cores j (getD s (z .inputs + j) 0) (getD s (z .inputs + z .inputs + o) 0)))
+      (λ j. Row z o j (least 64 (has (bitAnd moves (getD s (z .inputs + j) 0))))) k l m
+
+pub record Plains (z : Size) (s : List ℕ) (cores : ℕ) (rows : List ℕ) (k : ℕ) (l m : List ℕ) : Type 0 where
+  pub each : Each (λ o. true) (λ o. Plain z s cores o (getD rows o 0) (z .inputs)) k l m
+
+pub record Away (z : Size) (s : List ℕ) (cores d comp : ℕ) (next : List ℕ) (k : ℕ) (l m : List ℕ) : Type 0 where
+  pub each : Each (λ o. not (has comp o)) (λ o. Rows z o (pack (z .inputs) (residesAt s (z .inputs) cores o d)) (getD next o 0)) k l m
+
+pub record Rest (z : Size) (rows : List ℕ) (comp w k : ℕ) (l m : List ℕ) : Type 0 where
+  pub each : Each (has comp) (λ o. Rows z o w (prefer 64 o (has (bitAnd (getD rows o 0) comp)))) k l m
+
+pub record Aims (z : Size) (which a : ℕ) : Type 0 where
+  pub goal : a < z .counters
+  pub counters : (c : ℕ) → has which c ≡ true → c < z .counters
+
+pub record States (z : Size) (comp : ℕ) (next : List ℕ) : Type 0 where
+  pub below : (o : ℕ) → o < z .outputs → has comp o ≡ true → getD next o 0 < 64
+
+-- the rows of output o for the goal a: state p
+pub record Aimed (z : Size) (goal a w which o p : ℕ) (l m : List ℕ) : Type 0 where
+  pub block : Block l m (base z o) (z .inputs) w which (p + 64 * passed (z .counters) (has goal p) a) 0
+
+pub record Aim (z : Size) (goal a comp w which : ℕ) (next : List ℕ) (k : ℕ) (l m : List ℕ) : Type 0 where
+  pub each : Each (has comp) (λ o. Aimed z goal a w which o (getD next o 0)) k l m
+
+unfoldable pub startOf : Size → List ℕ → ℕ → ℕ → ℕ → ℕ → ℕ
+startOf z s cores ins outs i =
+    elim (has ins i) [ true ↦ first (least 64 (has (bitAnd outs (pack (z .outputs) (wonAt s (z .inputs) cores i))))) | false ↦ 65535 ]
+
+pub record Start (z : Size) (s : List ℕ) (cores ins outs i : ℕ) (l m : List ℕ) : Type 0 where
+  pub written : m ≡ set l i (startOf z s cores ins outs i)
+
+pub record Starts (z : Size) (s : List ℕ) (cores ins outs k : ℕ) (l m : List ℕ) : Type 0 where
+  pub each : Each (λ i. true) (Start z s cores ins outs) k l m

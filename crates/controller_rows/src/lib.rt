@@ -1,0 +1,24 @@
+// Rows and starts of the controller's table, written into the lent buffer. Functions that take one sort of states alone take plain numbers and
+// words.
+use game::InSet;
+use game::OutSet;
+use game::OutState;
+
+pub mod rows; // rows of the table, for many counters or inputs at once
+pub mod opening; // the start entries
+pub mod unsettled; // the rows of inputs with no home in reach
+
+// The size of a table, with the set of its counters.
+pub struct Size {
+    pub inputs: usize,
+    pub outputs: usize,
+    pub counters: usize,
+    pub all: u64,
+}
+
+// A home: its number, the states of its component, and the inputs whose home is there.
+pub struct Home {
+    pub state: OutState,
+    pub component: OutSet,
+    pub inputs: InSet,
+}

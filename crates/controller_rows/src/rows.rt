@@ -1,0 +1,93 @@
+// Rows of the table, for many counters or inputs at once.
+use crate::Size;
+use game::InSet;
+use game::InState;
+use game::OutSet;
+use game::OutState;
+ghost use mathlib.Core.Path.{_≡_};
+ghost use Prim.Native.Nat.{_≤_, _<_};
+ghost use lib.ListN.{length};
+ghost use Rattle.controller_rows.specs.Writes.{Stays, base as baseOf, Table, Row, Rows, Aims, Aimed};
+
+// A pattern of entries: first + more × counter for each counter.
+pub struct Pattern {
+    pub first: u16,
+    pub more: u16,
+}
+
+// The state is p and the counter stays; none where p is no state, as the lowest of an empty set.
+pub fn staying(p: usize) -> Pattern
+    ensures { λ r. ⌜ Stays p (r .first) (r .more) ⌝ }
+{
+    if p < 64 {
+        return Pattern {
+            first: p as u16,
+            more: 64,
+        };
+    }
+    Pattern {
+        first: 65535,
+        more: 0,
+    }
+}
+
+// A state that was kept in a byte.
+pub fn wide(x: u8) -> usize
+    ensures { λ r. ⌜ r ≡ x ⌝ }
+{
+    x as usize
+}
+
+// Where the rows of output o begin.
+fn base(z: Size, o: usize) -> usize
+    requires { ⌜ (z .inputs ≤ 64) × (z .counters ≤ 32) × (o < 64) ⌝ }
+    ensures { λ r. ⌜ r ≡ baseOf z o ⌝ }
+{
+    z.inputs + o * z.counters * z.inputs
+}
+
+// The rows of (o, j): state p, the counter stays.
+pub fn write_row(room: &mut [u16], z: Size, o: OutState, j: InState, p: usize)
+    requires { ⌜ Table z (length (now room)) × (o .0 < z .outputs) × (j .0 < z .inputs) ⌝ }
+    ensures { λ r. ⌜ Row z (o .0) (j .0) p (now (room .entry)) (now (room .exit)) ⌝ }
+{
+    let e = staying(p);
+    touring::column(room, base(z, o.0) + j.0, z.inputs, z.all, e.first, e.more);
+}
+
+// The same for each input of a set.
+pub fn write_rows(room: &mut [u16], z: Size, o: OutState, inputs: InSet, p: usize)
+    requires { ⌜ Table z (length (now room)) × (o .0 < z .outputs) ⌝ }
+    ensures { λ r. ⌜ Rows z (o .0) (inputs .0) p (now (room .entry)) (now (room .exit)) ⌝ }
+{
+    let e = staying(p);
+    touring::block(
+        room,
+        base(z, o.0),
+        z.inputs,
+        inputs.0,
+        z.all,
+        e.first,
+        e.more,
+    );
+}
+
+// The rows of output o for the inputs at home there and the counters of `which`, whose goal is a: state p. The counter goes on where p is in the
+// goal.
+pub fn write_aimed(
+    room: &mut [u16],
+    z: Size,
+    o: OutState,
+    inputs: InSet,
+    which: u64,
+    goal: OutSet,
+    a: usize,
+    p: usize,
+)
+    requires { ⌜ Table z (length (now room)) × (o .0 < z .outputs) × Aims z which a × (p < 64) ⌝ }
+    ensures { λ r. ⌜ Aimed z (goal .0) a (inputs .0) which (o .0) p (now (room .entry)) (now (room .exit)) ⌝ }
+{
+    let c = touring::next_counter(z.counters, a, sets::member(goal.0, p));
+    let e = p + 64 * c;
+    touring::block(room, base(z, o.0), z.inputs, inputs.0, which, e as u16, 0);
+}

@@ -1,0 +1,109 @@
+-- The places of the controller's table.
+--
+--   table-length          : how many entries the table has
+--   start-at, row-entry   : what stands at a place
+--   place-in              : a row's place is one of the table
+--   cell-of               : every place past the starts is a row's
+use Prim.Native.Nat.{ℕ, zero, suc, _+_, _-_, _*_, _/_, _%_, _≤_, _<_}
+use native.Mathlib.Nat.{div-add-mod', mod-lt, div-lt-iff-lt-mul, mul-zero, le-max-left}
+use mathlib.Core.Path.{_≡_, sym, _∙_, ap, ap₂}
+use mathlib.Core.List.{List, _++_}
+use native.Mathlib.Omega.{arith}
+use lib.ListN.{length, getD, length-append, List·getD-append}
+use lib.Seq.{getD-append-add}
+use Rattle.finite.specs.Tabulate.{tabulate}
+use Rattle.finite.proofs.Tabulate.{length-tabulate, getD-tabulate}
+use Rattle.arena.specs.Arena.{Separated}
+use Rattle.theory.specs.Choice.{guarantees, controllerRow, controllerStart}
+use Rattle.theory.specs.Entries.{entry, controllerCounters, rowOf, controllerEntries}
+use Rattle.theory.proofs.Entries.{place-below, row-at}
+use Rattle.controller_table.specs.Filled.{place}
+
+module _ (S : Separated) where
+  pub some-counter : 0 < controllerCounters S
+  unfolding controllerCounters
+  some-counter = le-max-left 1 (length (guarantees S))
+
+  starts-length : length (tabulate (S .input .states) (λ i. entry (controllerStart S i))) ≡ S .input .states
+  starts-length = length-tabulate (λ i. entry (controllerStart S i)) (S .input .states)
+
+  pub table-length : length (controllerEntries S) ≡ S .input .states + S .output .states * controllerCounters S * S .input .states
+  unfolding controllerEntries
+  table-length =
+      length-append (tabulate (S .input .states) (λ i. entry (controllerStart S i)))
+      (tabulate (S .output .states * controllerCounters S * S .input .states) (rowOf (controllerCounters S) (S .input .states) (controllerRow S)))
+      ∙ ap₂ _+_ starts-length (length-tabulate (rowOf (controllerCounters S) (S .input .states) (controllerRow S)) (S .output .states * controllerCounters S * S .input .states))
+
+  pub start-at : (i : ℕ) → i < S .input .states → getD (controllerEntries S) i 0 ≡ entry (controllerStart S i)
+  unfolding controllerEntries
+  start-at i b =
+      List·getD-append (tabulate (S .input .states) (λ k. entry (controllerStart S k)))
+      (tabulate (S .output .states * controllerCounters S * S .input .states) (rowOf (controllerCounters S) (S .input .states) (controllerRow S))) 0 i
+      (rw starts-length b)
+      ∙ getD-tabulate (λ k. entry (controllerStart S k)) (S .input .states) i 0 b
+
+  module _ (o c j : ℕ) (a : o < S .output .states) (b : c < controllerCounters S) (d : j < S .input .states) where
+    pub place-in : place S o c j < length (controllerEntries S)
+    unfolding place
+    place-in = omega (arith, table-length, place-below (S .output .states) (controllerCounters S) (S .input .states) o c j a b d)
+
+    pub row-entry : getD (controllerEntries S) (place S o c j) 0 ≡ entry (controllerRow S o c j)
+    unfolding place controllerEntries
+    row-entry =
+        ap (λ (k : ℕ). getD (starts ++ rows) (k + r) 0) (sym starts-length)
+        ∙ getD-append-add starts rows r 0
+        ∙ getD-tabulate f (S .output .states * controllerCounters S * S .input .states) r 0 (place-below (S .output .states) (controllerCounters S) (S .input .states) o c j a b d)
+        ∙ row-at (S .output .states) (controllerCounters S) (S .input .states) o c j a b d (controllerRow S)
+      where
+        f : ℕ → ℕ
+        f = rowOf (controllerCounters S) (S .input .states) (controllerRow S)
+
+        starts : List ℕ
+        starts = tabulate (S .input .states) (λ i. entry (controllerStart S i))
+
+        rows : List ℕ
+        rows = tabulate (S .output .states * controllerCounters S * S .input .states) f
+
+        r : ℕ
+        r = (o * controllerCounters S + c) * S .input .states + j
+
+  -- a place past the starts
+  pub record Cell (k : ℕ) : Type 0 where
+    pub output : ℕ
+    pub counter : ℕ
+    pub input : ℕ
+    pub output-below : output < S .output .states
+    pub counter-below : counter < controllerCounters S
+    pub input-below : input < S .input .states
+    pub is : k ≡ place S output counter input
+
+  pub cell-of : (k : ℕ) → S .input .states ≤ k → k < length (controllerEntries S) → Cell k
+  unfolding place
+  cell-of k a b = record {
+    output = r / n / m;
+    counter = r / n % m;
+    input = r % n;
+    output-below = div-lt-iff-lt-mul some-counter .1 (div-lt-iff-lt-mul pos .1 below);
+    counter-below = mod-lt (r / n) some-counter;
+    input-below = mod-lt r pos;
+    is = omega (arith, a) ∙ ap (λ (x : ℕ). n + x) (sym (div-add-mod' r n) ∙ ap (λ (x : ℕ). x * n + r % n) (sym (div-add-mod' (r / n) m)));
+  }
+    where
+      n : ℕ
+      n = S .input .states
+
+      m : ℕ
+      m = controllerCounters S
+
+      r : ℕ
+      r = k - S .input .states
+
+      below : k - S .input .states < S .output .states * controllerCounters S * S .input .states
+      below = omega (arith, table-length)
+
+      some : (x : ℕ) → k - S .input .states < S .output .states * controllerCounters S * x → 0 < x
+      some zero h = absurd (omega (arith, mul-zero (S .output .states * controllerCounters S)))
+      some (suc x) h = omega arith
+
+      pos : 0 < S .input .states
+      pos = some (S .input .states) below

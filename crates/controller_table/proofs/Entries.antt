@@ -1,0 +1,236 @@
+-- The entries that are written are those of the table.
+--
+--   plain-entry     : the rows with no home in reach
+--   away-entry      : the way home
+--   rest-entry      : at home with no goal
+--   aim-entry       : at home with a goal
+--   start-entry     : the starts
+use Prim.Native.Nat.{ℕ, _+_, _*_, _≤_, _<_}
+use native.Mathlib.Nat.{zero-mul, mul-zero, add-zero}
+use mathlib.Core.Path.{_≡_, refl, sym, _∙_, ap, ap₂}
+use mathlib.Core.Bool.{Bool, true, false, _&&_}
+use mathlib.Core.List.{List}
+use mathlib.Core.Logic.{_⊎_, inl, inr}
+use native.Mathlib.Omega.{arith}
+use native.Mathlib.Decide.{decLt}
+use lib.Bits.{bitAnd}
+use lib.ListN.{length, getD}
+use Rattle.finite.specs.Bounded.{least}
+use Rattle.finite.proofs.Truth.{decide, clash, false-of, and-intro, and-left, and-right, and-false-left, and-false-right}
+use Rattle.finite.proofs.Bounded.{least-below, least-member, least-before, least-unique}
+use Rattle.sets.specs.Member.{has, pack}
+use Rattle.sets.proofs.Membership.{has-and, has-pack-below}
+use Rattle.graphs.specs.Graph.{edge, begins}
+use Rattle.graphs.specs.Component.{joined, nontrivial}
+use Rattle.graphs.specs.Way.{prefer, toward}
+use Rattle.graphs.proofs.Graph.{edge-to, begins-below}
+use Rattle.graphs.proofs.Closure.{reaches-edge}
+use Rattle.graphs.proofs.Component.{joined-to, nontrivial-same}
+use Rattle.graphs.proofs.Way.{prefer-below, toward-below}
+use Rattle.arena.specs.Arena.{Separated}
+use Rattle.arena.specs.Table.{none, gives}
+use Rattle.stored.specs.Stored.{wonAt}
+use Rattle.theory.specs.Region.{homeFor, settles, answers, region, opens}
+use Rattle.theory.specs.Tour.{goalAt, inside, goal, hasGoal, target, tour}
+use Rattle.theory.specs.Choice.{guarantees, settled, controllerRow, controllerStart}
+use Rattle.theory.specs.Entries.{entry}
+use Rattle.theory.proofs.Region.{answers-elim, answers-false, settles-intro, opens-elim, opens-false}
+use Rattle.theory.proofs.Tour.{inside-move, inside-to}
+use Rattle.theory.proofs.ControllerRow.{row-answers, answers-settles, homeward-at, homeward-away, home-leads}
+use Rattle.touring.specs.Goal.{passed}
+use Rattle.touring.proofs.Tours.{tour-rests, tour-aims}
+use Rattle.controller_rows.specs.declared.Size.{Size}
+use Rattle.controller_rows.specs.Writes.{first, more, settlesAt, startOf}
+use Rattle.controller_table.specs.Filled.{Resides}
+use Rattle.controller_rows.proofs.Writes.{stays-state, stays-none}
+use Rattle.controller_table.proofs.Told.{Told, unsettled, home-reached-at, home-core, row-home}
+
+-- ---- an answer whose counter stays
+
+pub entry-state : (p c : ℕ) → p < 64 → first p + more p * c ≡ entry (gives c p)
+unfolding entry
+entry-state p c l =
+    let v = stays-state p l in
+    rw (← v .first, ← v .more) refl
+
+pub entry-none : (p c : ℕ) → 64 ≤ p → first p + more p * c ≡ entry none
+unfolding entry
+entry-none p c l =
+    let v = stays-none p l in
+    rw (← v .first, ← v .more) (ap (λ (k : ℕ). 65535 + k) (zero-mul c))
+
+-- the lowest member of a word, and of the test that it stands for
+module _ (m x : ℕ) (q : ℕ → Bool) (few : m ≤ 64) (same : (k : ℕ) → k < m → has x k ≡ q k) (below : (k : ℕ) → has x k ≡ true → k < m) where
+  lowest-some : (k : ℕ) → k < m → q k ≡ true → least 64 (has x) ≡ least m q
+  lowest-some k b h =
+      let l = least-below m q k b h in
+      least-unique 64 (has x) (least m q) (omega arith) (same (least m q) l ∙ least-member m q l) (λ i c. same i (omega arith) ∙ least-before m q i c)
+
+  lowest-none : ((k : ℕ) → k < m → q k ≡ false) → 64 ≤ least 64 (has x)
+  lowest-none f = go (decLt (least 64 (has x)) 64)
+    where
+      go : Dec (least 64 (has x) < 64) → 64 ≤ least 64 (has x)
+      go (yes l) =
+          let h = least-member 64 (has x) l in
+          let b = below (least 64 (has x)) h in
+          clash h (same (least 64 (has x)) b ∙ f (least 64 (has x)) b)
+      go (no l) = omega arith
+
+module _ (S : Separated) where
+  row-none : (o c j : ℕ) → answers S (region S) j o ≡ false → controllerRow S o c j ≡ none
+  unfolding controllerRow
+  row-none o c j h = rw (h, controllerRow) refl
+
+  row-trivial : (o c j : ℕ) → answers S (region S) j o ≡ true → nontrivial (S .input) j ≡ false
+      → controllerRow S o c j ≡ gives c (least (S .output .states) (λ p. edge (S .output) o p && region S j p))
+  unfolding settled
+  row-trivial o c j h t = row-answers S o c j h ∙ rw (t, settled) refl
+
+  start-none : (i : ℕ) → (begins (S .input) i && opens S i) ≡ false → controllerStart S i ≡ none
+  unfolding controllerStart
+  start-none i h = rw (h, controllerStart) refl
+
+  start-some : (i : ℕ) → (begins (S .input) i && opens S i) ≡ true
+      → controllerStart S i ≡ gives 0 (least (S .output .states) (λ o. begins (S .output) o && region S i o))
+  unfolding controllerStart
+  start-some i h = rw (h, controllerStart) refl
+
+module _ (S : Separated) (s : List ℕ) (n cores : ℕ) (rows : List ℕ) (T : Told S s n cores rows) where
+  -- ---- no home in reach
+
+  module _ (j o : ℕ) (a : j < S .input .states) (b : o < S .output .states) where
+    moved : (k : ℕ) → has (bitAnd (getD rows o 0) (getD s (n + j) 0)) k ≡ (edge (S .output) o k && has (getD s (n + j) 0) k)
+    moved k = has-and (getD rows o 0) (getD s (n + j) 0) k ∙ ap (λ (x : Bool). x && has (getD s (n + j) 0) k) (T .moves o k b)
+
+    moved-below : (k : ℕ) → has (bitAnd (getD rows o 0) (getD s (n + j) 0)) k ≡ true → k < S .output .states
+    moved-below k h = edge-to (S .output) o k (and-left (edge (S .output) o k) (has (getD s (n + j) 0) k) (sym (moved k) ∙ h))
+
+    plain-trivial : nontrivial (S .input) j ≡ false → (c : ℕ)
+        → first (least 64 (has (bitAnd (getD rows o 0) (getD s (n + j) 0)))) + more (least 64 (has (bitAnd (getD rows o 0) (getD s (n + j) 0)))) * c ≡ entry (controllerRow S o c j)
+    plain-trivial t c = go (decide (answers S (region S) j o))
+      where
+        p : ℕ
+        p = least 64 (has (bitAnd (getD rows o 0) (getD s (n + j) 0)))
+
+        q : ℕ → Bool
+        q k = edge (S .output) o k && region S j k
+
+        same : (k : ℕ) → k < S .output .states → has (bitAnd (getD rows o 0) (getD s (n + j) 0)) k ≡ (edge (S .output) o k && region S j k)
+        same k l = moved k ∙ ap (λ (x : Bool). edge (S .output) o k && x) (T .wins j k a t)
+
+        go : (answers S (region S) j o ≡ true) ⊎ (answers S (region S) j o ≡ false)
+            → first (least 64 (has (bitAnd (getD rows o 0) (getD s (n + j) 0)))) + more (least 64 (has (bitAnd (getD rows o 0) (getD s (n + j) 0)))) * c ≡ entry (controllerRow S o c j)
+        go (inl h) =
+            let v = answers-elim S (region S) j o h in
+            let l = edge-to (S .output) o (v .0) (v .1) in
+            let e = lowest-some (S .output .states) (bitAnd (getD rows o 0) (getD s (n + j) 0)) q (T .few-outputs) same moved-below (v .0) l (and-intro (v .1) (v .2)) in
+            rw (e, row-trivial S o c j h t) (entry-state (least (S .output .states) q) c (omega (arith, least-below (S .output .states) q (v .0) l (and-intro (v .1) (v .2)), T .few-outputs)))
+        go (inr h) =
+            rw (row-none S o c j h)
+            (entry-none p c
+            (lowest-none (S .output .states) (bitAnd (getD rows o 0) (getD s (n + j) 0)) q (T .few-outputs) same moved-below
+            (λ k l. false-of (q k) (λ e. clash (and-right (edge (S .output) o k) (region S j k) e) (answers-false S (region S) j o k h (and-left (edge (S .output) o k) (region S j k) e))))))
+
+    plain-nontrivial : nontrivial (S .input) j ≡ true → settles S (region S) j o ≡ false → (c : ℕ)
+        → first (least 64 (has (bitAnd (getD rows o 0) (getD s (n + j) 0)))) + more (least 64 (has (bitAnd (getD rows o 0) (getD s (n + j) 0)))) * c ≡ entry (controllerRow S o c j)
+    plain-nontrivial t h c =
+        rw (row-none S o c j (false-of (answers S (region S) j o) (λ e. clash (answers-settles S j o t e) h)))
+        (entry-none (least 64 (has (bitAnd (getD rows o 0) (getD s (n + j) 0)))) c
+        (lowest-none (S .output .states) (bitAnd (getD rows o 0) (getD s (n + j) 0)) (λ k. edge (S .output) o k && homeFor S (region S) j k) (T .few-outputs)
+        (λ k l. moved k ∙ ap (λ (x : Bool). edge (S .output) o k && x) (T .homes j k a t)) moved-below
+        (λ k l. false-of (edge (S .output) o k && homeFor S (region S) j k)
+        (λ e. clash
+        (settles-intro S (region S) j o k (reaches-edge (S .output) o k (and-left (edge (S .output) o k) (homeFor S (region S) j k) e))
+        (and-right (edge (S .output) o k) (homeFor S (region S) j k) e))
+        h))))
+
+    pub plain-entry : settlesAt cores j (getD s (n + j) 0) (getD s (n + n + o) 0) ≡ false → (c : ℕ)
+        → first (least 64 (has (bitAnd (getD rows o 0) (getD s (n + j) 0)))) + more (least 64 (has (bitAnd (getD rows o 0) (getD s (n + j) 0)))) * c ≡ entry (controllerRow S o c j)
+    plain-entry h c =
+        elim (decide (nontrivial (S .input) j)) [
+          | inl t ↦ plain-nontrivial t (unsettled S s n cores rows T j o a b h t) c
+          | inr t ↦ plain-trivial t c
+        ]
+
+  -- ---- starts
+
+  module _ (z : Size) (e : z .inputs ≡ n) (m : z .outputs ≡ S .output .states) (ins outs i : ℕ) (a : i < S .input .states)
+      (is : has ins i ≡ begins (S .input) i) (os : (o : ℕ) → has outs o ≡ begins (S .output) o) where
+    word : ℕ
+    word = bitAnd outs (pack (S .output .states) (wonAt s n cores i))
+
+    word-has : (o : ℕ) → o < S .output .states → has word o ≡ (begins (S .output) o && region S i o)
+    unfolding word
+    word-has o b =
+        has-and outs (pack (S .output .states) (wonAt s n cores i)) o
+        ∙ ap₂ _&&_ (os o) (has-pack-below (S .output .states) (wonAt s n cores i) o b ∙ T .won i o a b)
+
+    word-below : (o : ℕ) → has word o ≡ true → o < S .output .states
+    unfolding word
+    word-below o h =
+        begins-below (S .output) o (sym (os o) ∙ and-left (has outs o) (has (pack (S .output .states) (wonAt s n cores i)) o) (sym (has-and outs (pack (S .output .states) (wonAt s n cores i)) o) ∙ h))
+
+    start-out : has ins i ≡ false → startOf z s cores ins outs i ≡ 65535
+    unfolding startOf
+    start-out h = rw (h, startOf) refl
+
+    start-in : has ins i ≡ true → startOf z s cores ins outs i ≡ first (least 64 (has word))
+    unfolding startOf word
+    start-in h = rw (h, startOf, e, m) refl
+
+    first-only : (p : ℕ) → first p ≡ first p + more p * 0
+    first-only p = rw (mul-zero (more p), add-zero (first p)) refl
+
+    pub start-entry : startOf z s cores ins outs i ≡ entry (controllerStart S i)
+    unfolding entry
+    start-entry = go (decide (begins (S .input) i)) (decide (opens S i))
+      where
+        q : ℕ → Bool
+        q o = begins (S .output) o && region S i o
+
+        go : (begins (S .input) i ≡ true) ⊎ (begins (S .input) i ≡ false) → (opens S i ≡ true) ⊎ (opens S i ≡ false) → startOf z s cores ins outs i ≡ entry (controllerStart S i)
+        go (inr f) h = start-out (is ∙ f) ∙ rw (start-none S i (and-false-left (opens S i) f)) refl
+        go (inl t) (inl h) =
+            let v = opens-elim S i h in
+            let l = begins-below (S .output) (v .0) (v .1) in
+            let k = and-intro (v .1) (v .2) in
+            let u = lowest-some (S .output .states) word q (T .few-outputs) word-has word-below (v .0) l k in
+            start-in (is ∙ t) ∙ first-only (least 64 (has word))
+            ∙ rw (u, start-some S i (and-intro t h)) (entry-state (least (S .output .states) q) 0 (omega (arith, least-below (S .output .states) q (v .0) l k, T .few-outputs)))
+        go (inl t) (inr h) =
+            start-in (is ∙ t) ∙ first-only (least 64 (has word))
+            ∙ rw (start-none S i (and-false-right (begins (S .input) i) h))
+            (entry-none (least 64 (has word)) 0
+            (lowest-none (S .output .states) word q (T .few-outputs) word-has word-below
+            (λ o b. false-of (q o) (λ k. clash (and-right (begins (S .output) o) (region S i o) k) (opens-false S i o h (and-left (begins (S .output) o) (region S i o) k))))))
+
+-- ---- residents
+
+module _ (S : Separated) (o d j : ℕ) (r : Resides S o d j) (a : j < S .input .states) (few : S .output .states ≤ 64) where
+  pub away-entry : (p c : ℕ) → joined (S .output) d o ≡ false → p ≡ toward (S .output .states) (edge (S .output)) (joined (S .output) d) o
+      → first p + more p * c ≡ entry (controllerRow S o c j)
+  away-entry p c h e =
+      let b = toward-below (S .output .states) (edge (S .output)) (joined (S .output) d) o (home-leads (S .output) d o (home-reached-at S o d j r) (home-core S o d j r)) in
+      rw (row-home S o d j r a c, homeward-away S d o c h, ← e) (entry-state p c (omega arith))
+
+  module _ (h : joined (S .output) d o ≡ true) where
+    here : nontrivial (S .output) o ≡ true
+    here = sym (nontrivial-same (S .output) d o h) ∙ home-core S o d j r
+
+    at-home : (c : ℕ) → controllerRow S o c j ≡ tour (S .output) d (guarantees S) o c
+    at-home c = row-home S o d j r a c ∙ homeward-at S d o c h
+
+    pub rest-entry : (p c : ℕ) → hasGoal (S .output) d (guarantees S) ≡ false → p ≡ prefer (S .output .states) o (inside (S .output) d o)
+        → first p + more p * c ≡ entry (controllerRow S o c j)
+    rest-entry p c g e =
+        let v = inside-move (S .output) d o h here in
+        let b = prefer-below (S .output .states) o (inside (S .output) d o) (v .0) (joined-to (S .output) d (v .0) (inside-to (S .output) d o (v .0) (v .1))) (v .1) in
+        rw (at-home c, tour-rests (S .output) d (guarantees S) o c p g e) (entry-state p c (omega arith))
+
+    pub aim-entry : (x p c g : ℕ) → hasGoal (S .output) d (guarantees S) ≡ true → g ≡ goal (S .output) d (guarantees S) c → has x ≡ goalAt (guarantees S) g
+        → p ≡ toward (S .output .states) (inside (S .output) d) (target (S .output) d (guarantees S) g) o
+        → p + 64 * passed (length (guarantees S)) (has x p) g ≡ entry (controllerRow S o c j)
+    unfolding entry
+    aim-entry x p c g y e f q =
+        rw (at-home c, tour-aims (S .output) d (guarantees S) o c g p y e q)
+        (ap (λ (b : Bool). p + 64 * passed (length (guarantees S)) b g) (ap (λ (k : ℕ → Bool). k p) f))

@@ -1,0 +1,183 @@
+-- What scratch tells of the game: who resides where.
+--
+--   Told S s n cores rows    == what the words of scratch and the rows of moves hold
+--   settled, unsettled       : whether some home is in reach
+--   resides-word, resides-at : the words of residents
+--   row-home                 : the row of a resident
+--   resides-there            : who resides at d resides there also at d
+use Prim.Native.Nat.{ℕ, _+_, _≤_, _<_}
+use mathlib.Core.Path.{_≡_, refl, sym, _∙_, ap, ap₂}
+use mathlib.Core.Bool.{Bool, true, false, _&&_}
+use mathlib.Core.List.{List}
+use native.Mathlib.Omega.{arith}
+use lib.Dec.{eqb}
+use lib.Bits.{bitAnd}
+use lib.ListN.{getD}
+use borrow.Author.Tests.{eqb-true, eq-eqb}
+use Rattle.finite.specs.Bounded.{least}
+use Rattle.finite.proofs.Truth.{clash, false-of, and-intro, and-left, and-right}
+use Rattle.finite.proofs.Bounded.{least-member, least-before, least-unique}
+use Rattle.sets.specs.Member.{has, meets}
+use Rattle.sets.proofs.Membership.{has-and}
+use Rattle.sets.proofs.Compare.{meets-intro, meets-elim}
+use Rattle.graphs.specs.Graph.{edge}
+use Rattle.graphs.specs.Closure.{reaches}
+use Rattle.graphs.specs.Component.{joined, nontrivial}
+use Rattle.graphs.proofs.Graph.{edge-to}
+use Rattle.graphs.proofs.Component.{joined-self, joined-back}
+use Rattle.graphs.proofs.Closure.{reaches-to, reaches-self, reaches-trans, reaches-path}
+use Rattle.arena.specs.Arena.{Separated}
+use Rattle.stored.specs.Stored.{wonAt}
+use Rattle.theory.specs.Region.{homeFor, settles, answers, region}
+use Rattle.theory.specs.Choice.{home, homeward, controllerRow}
+use Rattle.theory.proofs.Region.{answers-intro, settles-intro, settles-elim, homeFor-nontrivial, region-settles}
+use Rattle.theory.proofs.Delay.{first-move}
+use Rattle.theory.proofs.ControllerRow.{home-reached, home-homeFor, home-same, row-answers, settled-nontrivial}
+use Rattle.controller_rows.specs.Writes.{settlesAt, homeAt, residesAt}
+use Rattle.controller_table.specs.Filled.{Resides}
+
+pub record Told (S : Separated) (s : List ℕ) (n cores : ℕ) (rows : List ℕ) : Type 0 where
+  pub few-inputs : S .input .states ≤ 64
+  pub few-outputs : S .output .states ≤ 64
+  pub core : (j : ℕ) → j < S .input .states → has cores j ≡ nontrivial (S .input) j
+  pub homes : (j d : ℕ) → j < S .input .states → nontrivial (S .input) j ≡ true → has (getD s (n + j) 0) d ≡ homeFor S (region S) j d
+  pub wins : (j o : ℕ) → j < S .input .states → nontrivial (S .input) j ≡ false → has (getD s (n + j) 0) o ≡ region S j o
+  pub reach : (o d : ℕ) → o < S .output .states → has (getD s (n + n + o) 0) d ≡ reaches (S .output) o d
+  pub moves : (o p : ℕ) → o < S .output .states → has (getD rows o 0) p ≡ edge (S .output) o p
+  pub same : (o p : ℕ) → o < S .output .states → p < S .output .states → S .output .moves o p ≡ has (getD rows o 0) p
+  pub won : (i o : ℕ) → i < S .input .states → o < S .output .states → wonAt s n cores i o ≡ region S i o
+
+module _ (S : Separated) (s : List ℕ) (n cores : ℕ) (rows : List ℕ) (T : Told S s n cores rows) where
+  module _ (j o : ℕ) (a : j < S .input .states) (b : o < S .output .states) where
+    pub settled-core : settlesAt cores j (getD s (n + j) 0) (getD s (n + n + o) 0) ≡ true → nontrivial (S .input) j ≡ true
+    unfolding settlesAt
+    settled-core h = sym (T .core j a) ∙ and-left (has cores j) (meets 64 (getD s (n + j) 0) (getD s (n + n + o) 0)) h
+
+    pub settled : settlesAt cores j (getD s (n + j) 0) (getD s (n + n + o) 0) ≡ true → settles S (region S) j o ≡ true
+    unfolding settlesAt
+    settled h =
+        let v = meets-elim 64 (getD s (n + j) 0) (getD s (n + n + o) 0) (and-right (has cores j) (meets 64 (getD s (n + j) 0) (getD s (n + n + o) 0)) h) in
+        settles-intro S (region S) j o (v .0) (sym (T .reach o (v .0) b) ∙ v .3)
+        (sym (T .homes j (v .0) a (settled-core h)) ∙ v .2)
+
+    pub unsettled : settlesAt cores j (getD s (n + j) 0) (getD s (n + n + o) 0) ≡ false → nontrivial (S .input) j ≡ true → settles S (region S) j o ≡ false
+    unfolding settlesAt
+    unsettled h t =
+        false-of (settles S (region S) j o)
+        (λ e. let v = settles-elim S (region S) j o e in
+        clash
+        (and-intro (T .core j a ∙ t)
+        (meets-intro 64 (getD s (n + j) 0) (getD s (n + n + o) 0) (v .0) (omega (arith, reaches-to (S .output) o (v .0) (v .1), T .few-outputs))
+        (T .homes j (v .0) a t ∙ v .2) (T .reach o (v .0) b ∙ v .1)))
+        h)
+
+    -- the homes in reach, as a word
+    both : nontrivial (S .input) j ≡ true → (d : ℕ) → has (bitAnd (getD s (n + j) 0) (getD s (n + n + o) 0)) d ≡ (homeFor S (region S) j d && reaches (S .output) o d)
+    both t d = has-and (getD s (n + j) 0) (getD s (n + n + o) 0) d ∙ ap₂ _&&_ (T .homes j d a t) (T .reach o d b)
+
+    home-least : home S j o ≡ least (S .output .states) (λ d. reaches (S .output) o d && homeFor S (region S) j d)
+    unfolding home
+    home-least = refl
+
+    swap : (x y : Bool) → (x && y) ≡ false → (y && x) ≡ false
+    swap true true h = h
+    swap true false h = refl
+    swap false true h = refl
+    swap false false h = refl
+
+    module _ (d : ℕ) where
+      pub resides-word : d < S .output .states → residesAt s n cores o d j ≡ true → Resides S o d j
+      unfolding residesAt homeAt
+      resides-word l h = record {
+        core = t;
+        settled = settles-intro S (region S) j o d reached inside;
+        is =
+            home-least
+            ∙ least-unique (S .output .states) (λ k. reaches (S .output) o k && homeFor S (region S) j k) d l (and-intro reached inside)
+            (λ k b. swap (homeFor S (region S) j k) (reaches (S .output) o k) (sym (both t k) ∙ before k b));
+      }
+        where
+          t : nontrivial (S .input) j ≡ true
+          t = sym (T .core j a) ∙ and-left (has cores j) (eqb (least 64 (has (bitAnd (getD s (n + j) 0) (getD s (n + n + o) 0)))) d) h
+
+          low : least 64 (has (bitAnd (getD s (n + j) 0) (getD s (n + n + o) 0))) ≡ d
+          low = eqb-true (least 64 (has (bitAnd (getD s (n + j) 0) (getD s (n + n + o) 0)))) d (and-right (has cores j) (eqb (least 64 (has (bitAnd (getD s (n + j) 0) (getD s (n + n + o) 0)))) d) h)
+
+          found : (homeFor S (region S) j d && reaches (S .output) o d) ≡ true
+          found =
+              sym (both t d)
+              ∙ ap (has (bitAnd (getD s (n + j) 0) (getD s (n + n + o) 0))) (sym low)
+              ∙ least-member 64 (has (bitAnd (getD s (n + j) 0) (getD s (n + n + o) 0))) (omega (arith, low, T .few-outputs))
+
+          inside : homeFor S (region S) j d ≡ true
+          inside = and-left (homeFor S (region S) j d) (reaches (S .output) o d) found
+
+          reached : reaches (S .output) o d ≡ true
+          reached = and-right (homeFor S (region S) j d) (reaches (S .output) o d) found
+
+          before : (k : ℕ) → k < d → has (bitAnd (getD s (n + j) 0) (getD s (n + n + o) 0)) k ≡ false
+          before k b = least-before 64 (has (bitAnd (getD s (n + j) 0) (getD s (n + n + o) 0))) k (omega (arith, low))
+
+      pub resides-at : Resides S o d j → residesAt s n cores o d j ≡ true
+      unfolding residesAt homeAt
+      resides-at r =
+          and-intro (T .core j a ∙ r .core)
+          (eq-eqb (least 64 (has (bitAnd (getD s (n + j) 0) (getD s (n + n + o) 0)))) d
+          (least-unique 64 (has (bitAnd (getD s (n + j) 0) (getD s (n + n + o) 0))) (home S j o) (omega (arith, reaches-to (S .output) o (home S j o) reached, T .few-outputs))
+          (both (r .core) (home S j o) ∙ and-intro (home-homeFor S j o (r .settled)) reached)
+          (λ k b. both (r .core) k ∙ swap (reaches (S .output) o k) (homeFor S (region S) j k) (before k b))
+          ∙ r .is))
+        where
+          reached : reaches (S .output) o (home S j o) ≡ true
+          reached = home-reached S j o (r .settled)
+
+          before : (k : ℕ) → k < home S j o → (reaches (S .output) o k && homeFor S (region S) j k) ≡ false
+          before k b = least-before (S .output .states) (λ d. reaches (S .output) o d && homeFor S (region S) j d) k (omega (arith, home-least))
+
+-- ---- residents
+
+module _ (S : Separated) (o d j : ℕ) (r : Resides S o d j) where
+  pub home-reached-at : reaches (S .output) o d ≡ true
+  home-reached-at = rw (r .is) at (home-reached S j o (r .settled))
+
+  pub home-at : homeFor S (region S) j d ≡ true
+  home-at = rw (r .is) at (home-homeFor S j o (r .settled))
+
+  pub home-core : nontrivial (S .output) d ≡ true
+  home-core = homeFor-nontrivial S (region S) j d home-at
+
+  -- some move still reaches the home, so it makes a won position
+  answered : j < S .input .states → answers S (region S) j o ≡ true
+  answered a =
+      let v = first-move (S .output) o d (reaches-path (S .output) o d home-reached-at) home-core in
+      answers-intro S (region S) j o (v .0) (v .1)
+      (region-settles S j (v .0) a (edge-to (S .output) o (v .0) (v .1)) (r .core) ∙ settles-intro S (region S) j (v .0) d (v .2) home-at)
+
+  pub row-home : j < S .input .states → (c : ℕ) → controllerRow S o c j ≡ homeward S d o c
+  row-home a c = row-answers S o c j (answered a) ∙ settled-nontrivial S o c j (r .core) ∙ ap (λ (k : ℕ). homeward S k o c) (r .is)
+
+  -- the home of j at d is d
+  pub resides-there : Resides S d d j
+  unfolding home
+  resides-there = record {
+    core = r .core;
+    settled = settles-intro S (region S) j d d self home-at;
+    is =
+        least-unique (S .output .states) (λ k. reaches (S .output) d k && homeFor S (region S) j k) d (reaches-to (S .output) o d home-reached-at) (and-intro self home-at)
+        (λ k b. false-of (reaches (S .output) d k && homeFor S (region S) j k)
+        (λ e. clash
+        (and-intro (reaches-trans (S .output) o d k home-reached-at (and-left (reaches (S .output) d k) (homeFor S (region S) j k) e))
+        (and-right (reaches (S .output) d k) (homeFor S (region S) j k) e))
+        (least-before (S .output .states) (λ i. reaches (S .output) o i && homeFor S (region S) j i) k (omega (arith, r .is)))));
+  }
+    where
+      self : reaches (S .output) d d ≡ true
+      self = reaches-self (S .output) d (reaches-to (S .output) o d home-reached-at)
+
+-- who resides at d at one state of its component resides there at every other
+pub resides-same : (S : Separated) (o o′ d j : ℕ) → j < S .input .states → joined (S .output) o o′ ≡ true → Resides S o d j → Resides S o′ d j
+resides-same S o o′ d j a e r = record {
+  core = r .core;
+  settled = settles-intro S (region S) j o′ d (reaches-trans (S .output) o′ o d (joined-back (S .output) o o′ e) (home-reached-at S o d j r)) (home-at S o d j r);
+  is = sym (home-same S j j o o′ (joined-self (S .input) j a) e) ∙ r .is;
+}

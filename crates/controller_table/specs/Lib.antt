@@ -1,0 +1,2 @@
+-- The controller's table while it is filled.
+pub mod Filled

@@ -1,8 +1,0 @@
--- Laws of the filling of the environment's table.
-pub mod Places
-pub mod Reading
-pub mod Known
-pub mod Outward
-pub mod Toured
-pub mod Walked
-pub mod Filling

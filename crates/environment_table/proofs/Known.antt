@@ -1,0 +1,150 @@
+-- Where scratch is ready, what is read is the region; so the start and the rows that need no walk are right.
+--
+--   known-won, known-core : the region, and the nontrivial components
+--   start-found, start-none : the start
+--   same-none, same-push   : rows that need no walk
+--   plain-none             : the other rows
+use Prim.Native.Nat.{ℕ, _+_, _*_, _<_, _≤_}
+use native.Mathlib.Nat.{zero-mul}
+use mathlib.Core.Path.{_≡_, refl, sym, _∙_, ap, ap₂}
+use mathlib.Core.Bool.{true, false, _&&_, not}
+use mathlib.Core.List.{List}
+use mathlib.Core.Logic.{inl, inr}
+use native.Mathlib.Omega.{arith}
+use lib.ListN.{length, getD}
+use borrow.Author.Tests.{lt-ltb}
+use Rattle.finite.specs.Bounded.{any, least}
+use Rattle.finite.proofs.Truth.{clash, or-cases, not-true, false-of}
+use Rattle.finite.proofs.Bounded.{any-same, least-same, least-any, least-found}
+use Rattle.sets.specs.Member.{has}
+use Rattle.sets.proofs.Membership.{has-pack-below}
+use Rattle.graphs.specs.Graph.{edge, begins}
+use Rattle.graphs.specs.Component.{nontrivial}
+use Rattle.game.specs.declared.Game.{Game}
+use Rattle.game.specs.declared.InSet.{InSet}
+use Rattle.game.specs.declared.OutSet.{OutSet}
+use Rattle.game.proofs.Laws.{accepted-fits}
+use Rattle.components.proofs.Closed.{moved-edge}
+use Rattle.play.specs.Play.{graphOf, separatedOf}
+use Rattle.theory.specs.Region.{region, answers, opens}
+use Rattle.theory.specs.Choice.{environmentRow, environmentStart, pushing, refused}
+use Rattle.theory.specs.Entries.{entry}
+use Rattle.theory.proofs.EnvironmentRow.{row-lost}
+use Rattle.stored.specs.Stored.{wonAt}
+use Rattle.stored.proofs.Read.{won-region}
+use Rattle.environment_table.specs.Table.{Known, Same}
+use Rattle.environment_table.specs.Reading.{Shaped, anyWon, openAt, unansweredAt, plain}
+
+-- what is read of the game's sets
+pub unanswered-of : (l : List ℕ) (n m cores : ℕ) {j : ℕ} {x x′ : InSet} {y y′ : OutSet} → x ≡ x′ → y ≡ y′ → j ≡ unansweredAt l n m cores (x .0) (y .0)
+    → j ≡ unansweredAt l n m cores (x′ .0) (y′ .0)
+unanswered-of l n m cores p q e = e ∙ ap₂ (λ (a : InSet) (b : OutSet). unansweredAt l n m cores (a .0) (b .0)) p q
+
+-- the edges and the initial states in words
+begins-has : (g : Game) (o : ℕ) → o < g .output .states → has (g .output .initial) o ≡ begins (separatedOf g .output) o
+unfolding begins separatedOf graphOf
+begins-has g o b = rw (lt-ltb o (g .output .states) b) refl
+
+starts-has : (g : Game) (i : ℕ) → i < g .input .states → has (g .input .initial) i ≡ begins (separatedOf g .input) i
+unfolding begins separatedOf graphOf
+starts-has g i b = rw (lt-ltb i (g .input .states) b) refl
+
+module _ (g : Game) (s : List ℕ) (cores : ℕ) (K : Known g s cores) where
+  pub shaped : Shaped (length s) (g .input .states) (g .output .states)
+  shaped = record { inputs = K .inputs; outputs = K .outputs; long = K .ready .laid .long }
+
+  pub known-won : (j o : ℕ) → j < g .input .states → o < g .output .states → wonAt s (g .input .states) cores j o ≡ region (separatedOf g) j o
+  known-won j o a b = won-region g s cores j o (K .outputs) a b (K .cores) (K .ready .rows j a) (K .ready .laid .outputs o b)
+
+  pub known-core : (i : ℕ) → i < g .input .states → has cores i ≡ nontrivial (separatedOf g .input) i
+  unfolding separatedOf
+  known-core i a = ap (λ (x : ℕ). has x i) (K .cores) ∙ has-pack-below (g .input .states) (nontrivial (graphOf (g .input))) i a
+
+  pub input-edge : (i j : ℕ) → i < g .input .states → has (getD (g .input .moves) i 0) j ≡ edge (separatedOf g .input) i j
+  unfolding separatedOf
+  input-edge i j a = moved-edge (g .input) (accepted-fits g (K .accepted) .input) i j a
+
+  pub output-edge : (o p : ℕ) → o < g .output .states → has (getD (g .output .moves) o 0) p ≡ edge (separatedOf g .output) o p
+  unfolding separatedOf
+  output-edge o p a = moved-edge (g .output) (accepted-fits g (K .accepted) .output) o p a
+
+  known-answers : (j o : ℕ) → j < g .input .states → o < g .output .states
+      → anyWon s (g .input .states) (g .output .states) cores j (getD (g .output .moves) o 0) ≡ answers (separatedOf g) (region (separatedOf g)) j o
+  unfolding anyWon answers separatedOf graphOf
+  known-answers j o a b =
+      any-same (g .output .states) (λ p. has (getD (g .output .moves) o 0) p && wonAt s (g .input .states) cores j p)
+      (λ p. edge (separatedOf g .output) o p && region (separatedOf g) j p)
+      (λ p c. ap₂ _&&_ (output-edge o p b) (known-won j p a c))
+
+  known-opens : (i : ℕ) → i < g .input .states → anyWon s (g .input .states) (g .output .states) cores i (g .output .initial) ≡ opens (separatedOf g) i
+  unfolding anyWon opens separatedOf graphOf
+  known-opens i a =
+      any-same (g .output .states) (λ p. has (g .output .initial) p && wonAt s (g .input .states) cores i p)
+      (λ p. begins (separatedOf g .output) p && region (separatedOf g) i p)
+      (λ p c. ap₂ _&&_ (begins-has g p c) (known-won i p a c))
+
+  -- the start
+
+  known-start : unansweredAt s (g .input .states) (g .output .states) cores (g .input .initial) (g .output .initial) ≡ least (g .input .states) (refused (separatedOf g))
+  unfolding unansweredAt openAt refused
+  known-start =
+      least-same (g .input .states)
+      (λ i. has (g .input .initial) i && not (anyWon s (g .input .states) (g .output .states) cores i (g .output .initial)))
+      (λ i. begins (separatedOf g .input) i && not (opens (separatedOf g) i))
+      (λ i c. ap₂ _&&_ (starts-has g i c) (ap not (known-opens i c)))
+
+  pub start-found : (j : ℕ) → j ≡ unansweredAt s (g .input .states) (g .output .states) cores (g .input .initial) (g .output .initial) → j < g .input .states
+      → j ≡ entry (environmentStart (separatedOf g))
+  unfolding environmentStart entry separatedOf graphOf
+  start-found j e b =
+      let f = e ∙ known-start in
+      rw (least-any (g .input .states) (refused (separatedOf g)) (rw f at b), environmentStart) (omega (arith, f))
+
+  pub start-none : (j : ℕ) → j ≡ unansweredAt s (g .input .states) (g .output .states) cores (g .input .initial) (g .output .initial) → g .input .states ≤ j
+      → 65535 ≡ entry (environmentStart (separatedOf g))
+  unfolding environmentStart entry separatedOf graphOf
+  start-none j e b =
+      let f = e ∙ known-start in
+      rw (false-of (any (g .input .states) (refused (separatedOf g))) (λ t. omega (arith, f, least-found (g .input .states) (refused (separatedOf g)) t)), environmentStart) refl
+
+  -- rows that need no walk
+
+  module _ (i o : ℕ) (a : i < g .input .states) (b : o < g .output .states) where
+    pub same-none : (M : ℕ) → wonAt s (g .input .states) cores i o ≡ true → Same g M i o 65535 0
+    unfolding environmentRow entry
+    same-none M e = record { input = a; output = b; entry = λ h c. omega (arith, zero-mul h, is h) }
+      where
+        is : (h : ℕ) → 65535 ≡ entry (environmentRow (separatedOf g) i h o)
+        is h = rw (sym (known-won i o a b) ∙ e, environmentRow) refl
+
+    known-push : unansweredAt s (g .input .states) (g .output .states) cores (getD (g .input .moves) i 0) (getD (g .output .moves) o 0)
+        ≡ least (g .input .states) (λ j. edge (separatedOf g .input) i j && not (answers (separatedOf g) (region (separatedOf g)) j o))
+    unfolding unansweredAt openAt
+    known-push =
+        least-same (g .input .states)
+        (λ j. has (getD (g .input .moves) i 0) j && not (anyWon s (g .input .states) (g .output .states) cores j (getD (g .output .moves) o 0)))
+        (λ j. edge (separatedOf g .input) i j && not (answers (separatedOf g) (region (separatedOf g)) j o))
+        (λ j c. ap₂ _&&_ (input-edge i j a) (ap not (known-answers j o c b)))
+
+    pub same-push : (M j : ℕ) → wonAt s (g .input .states) cores i o ≡ false → has cores i ≡ false
+        → j ≡ unansweredAt s (g .input .states) (g .output .states) cores (getD (g .input .moves) i 0) (getD (g .output .moves) o 0) → Same g M i o j 64
+    unfolding pushing entry separatedOf graphOf
+    same-push M j e t f = record { input = a; output = b; entry = λ h c. ap (λ (k : ℕ). k + 64 * h) (f ∙ known-push) ∙ sym (is h) }
+      where
+        is : (h : ℕ) → entry (environmentRow (separatedOf g) i h o)
+            ≡ least (g .input .states) (λ j. edge (separatedOf g .input) i j && not (answers (separatedOf g) (region (separatedOf g)) j o)) + 64 * h
+        is h =
+            ap entry (row-lost (separatedOf g) i h o (sym (known-won i o a b) ∙ e))
+            ∙ rw (sym (known-core i a) ∙ t, pushing) refl
+
+    plain-not : wonAt s (g .input .states) cores i o ≡ false → has cores i ≡ true → plain g i o ≡ true → ⊥
+    unfolding plain
+    plain-not e t p =
+        elim (or-cases (region (separatedOf g) i o) (not (nontrivial (separatedOf g .input) i)) p) [
+          | inl x ↦ clash x (sym (known-won i o a b) ∙ e)
+          | inr x ↦ clash (sym (known-core i a) ∙ t) (not-true (nontrivial (separatedOf g .input) i) x)
+        ]
+
+    -- the other rows of i and o need a walk
+    pub plain-none : wonAt s (g .input .states) cores i o ≡ false → has cores i ≡ true → (c d : ℕ) → c ≡ i → d ≡ o → plain g c d ≡ true → ⊥
+    plain-none e t c d x y p = plain-not e t (ap₂ (plain g) (sym x) (sym y) ∙ p)

@@ -1,0 +1,307 @@
+-- Ways out of a component in words.
+--
+--   lost-at, exits-at, way-open, way-next : the loops and tests
+--   Words              == what is worked out for the component c, whose number is k, and output o
+--   no-gates           : without gates the component tours
+--   gates-within       : gates are states
+--   rows-outward       : with gates, the rows
+--   same-outward       : what they ask of the entries
+--   whole-*            : the states of the component
+--   escape-won, escape-tours, escape-leaves : what one output's part ensures
+use Prim.Native.Nat.{ℕ, _+_, _*_, _<_}
+use mathlib.Core.Path.{_≡_, refl, sym, _∙_, ap, subst, fun-ext}
+use mathlib.Core.Bool.{Bool, true, false, _&&_, not}
+use mathlib.Core.List.{List}
+use mathlib.Core.Logic.{inl, inr, _≢_}
+use native.Mathlib.Omega.{arith}
+use lib.ListN.{getD}
+use lib.Bits.{bitAnd}
+use Rattle.finite.specs.Bounded.{any, least}
+use Rattle.finite.proofs.Truth.{decide, clash, and-intro, and-left, and-right, and-false-left, and-false-right, not-true, same-test, false-of}
+use Rattle.finite.proofs.Bounded.{any-intro, any-elim, any-none, least-member, least-before, least-found, least-unique}
+use Rattle.sets.specs.Member.{has, pack, meets}
+use Rattle.sets.proofs.Membership.{has-zero, has-and, has-pack-below, has-within}
+use Rattle.sets.proofs.Compare.{meets-intro, meets-elim, nonzero-member}
+use Rattle.graphs.specs.Component.{joined, number, nontrivial}
+use Rattle.graphs.specs.Way.{toward}
+use Rattle.graphs.proofs.Graph.{edge-to}
+use Rattle.graphs.proofs.Component.{joined-to, joined-self, joined-same, number-same, nontrivial-same}
+use Rattle.graphs.proofs.Way.{Leads}
+use Rattle.ways.specs.Search.{Toward, Bounds}
+use Rattle.ways.proofs.Kept.{pack-below, pack-holds, toward-along}
+use Rattle.game.specs.declared.Game.{Game}
+use Rattle.play.specs.Play.{graphOf, separatedOf}
+use Rattle.arena.specs.Table.{gives}
+use Rattle.theory.specs.Region.{region}
+use Rattle.theory.specs.Tour.{inside}
+use Rattle.theory.specs.Choice.{lost, wayOut, gate, outward, escapes, environmentRow}
+use Rattle.theory.specs.Entries.{entry}
+use Rattle.theory.proofs.Delay.{region-same}
+use Rattle.theory.proofs.EnvironmentRow.{lost-edge, lost-apart, lost-region, gate-joined, gate-out, gate-intro, escapes-same, row-lost, pushing-nontrivial, pressing-escapes, outward-here, outward-on, gate-leads}
+use Rattle.touring.proofs.Tours.{inside-kept, comp-has}
+use Rattle.stored.specs.Stored.{wonAt}
+use Rattle.environment_table.specs.Table.{Known, Same, Filled}
+use Rattle.environment_table.specs.Reading.{lostAt}
+use Rattle.environment_table.specs.Pressing.{Whole, Outward, Escape, exitsAt, wayFrom, leavingAt, touringAt}
+use Rattle.environment_table.proofs.Places.{filled-none, filled-same}
+use Rattle.environment_table.proofs.Known.{known-won, input-edge}
+
+-- the loops and tests
+
+pub lost-at : (l : List ℕ) (n cores o j : ℕ) {b : Bool} → b ≡ wonAt l n cores j o → not b ≡ lostAt l n cores o j
+unfolding lostAt
+lost-at l n cores o j e = ap not e
+
+pub exits-at : (moves : List ℕ) (out k : ℕ) {b : Bool} → b ≡ meets 64 (getD moves k 0) out → b ≡ exitsAt moves out k
+unfolding exitsAt
+exits-at moves out k e = e
+
+pub way-open : (row out next j : ℕ) → meets 64 row out ≡ true → j ≡ least 64 (has (bitAnd row out)) → j ≡ wayFrom row out next
+unfolding wayFrom
+way-open row out next j h e = rw (h, wayFrom) e
+
+pub way-next : (row out next : ℕ) → meets 64 row out ≡ false → next ≡ wayFrom row out next
+unfolding wayFrom
+way-next row out next h = rw (h, wayFrom) refl
+
+-- the rows of a way out
+
+module _ (g : Game) (M c o out : ℕ) (next : List ℕ) (O : Outward g M c o out next) (k : ℕ) (b : k < g .input .states) (e : has c k ≡ true) where
+  pub same-outward : (j : ℕ) → j ≡ wayFrom (getD (g .input .moves) k 0) out (getD next k 0) → Same g M k o j 64
+  unfolding entry
+  same-outward j f = record {
+    input = b;
+    output = O .output;
+    entry = λ h c. ap (λ (x : ℕ). x + 64 * h) f ∙ ap entry (sym (O .row k h b e c));
+  }
+
+-- the component in words
+
+module _ (g : Game) (c k : ℕ) (W : Whole g c k) where
+  pub whole-has : has c ≡ joined (graphOf (g .input)) k
+  unfolding graphOf
+  whole-has = comp-has (graphOf (g .input)) k (g .input .moves) c (λ s t a b. refl) (W .word)
+
+  pub whole-number : (a : ℕ) → joined (graphOf (g .input)) k a ≡ true → number (graphOf (g .input)) a ≡ k
+  whole-number a j = sym (number-same (graphOf (g .input)) k a j) ∙ W .first
+
+  pub whole-core : (a : ℕ) → joined (graphOf (g .input)) k a ≡ true → nontrivial (graphOf (g .input)) a ≡ true
+  whole-core a j = sym (nontrivial-same (graphOf (g .input)) k a j) ∙ W .core
+
+  pub whole-in : (a : ℕ) → has c a ≡ true → joined (graphOf (g .input)) k a ≡ true
+  whole-in a e = ap (λ (p : ℕ → Bool). p a) (sym whole-has) ∙ e
+
+  pub whole-of : (a : ℕ) → joined (graphOf (g .input)) k a ≡ true → has c a ≡ true
+  whole-of a e = ap (λ (p : ℕ → Bool). p a) whole-has ∙ e
+
+-- what is worked out for an output: all that is lost with it, what of that lies outside, the states with an exit there, the gates
+pub record Words (g : Game) (s : List ℕ) (cores c o all out ways gates : ℕ) : Type 0 where
+  pub lost : all ≡ pack (g .input .states) (lostAt s (g .input .states) cores o)
+  pub outside : (t : ℕ) → has out t ≡ (has all t && not (has c t))
+  pub exits : ways ≡ pack (g .input .states) (exitsAt (g .input .moves) out)
+  pub gate : (t : ℕ) → has gates t ≡ (has ways t && has c t)
+
+module _ (g : Game) (s : List ℕ) (cores : ℕ) (K : Known g s cores) (c k : ℕ) (W : Whole g c k) (o : ℕ) (lo : o < g .output .states)
+    (all out ways gates : ℕ) (D : Words g s cores c o all out ways gates) where
+  out-below : (t : ℕ) → has out t ≡ true → t < g .input .states
+  out-below t e =
+      pack-below (g .input .states) (lostAt s (g .input .states) cores o) t
+      (ap (λ (x : ℕ). has x t) (sym (D .lost)) ∙ and-left (has all t) (not (has c t)) (sym (D .outside t) ∙ e))
+
+  all-at : (t : ℕ) → t < g .input .states → has all t ≡ not (region (separatedOf g) t o)
+  unfolding lostAt
+  all-at t b =
+      ap (λ (x : ℕ). has x t) (D .lost)
+      ∙ has-pack-below (g .input .states) (lostAt s (g .input .states) cores o) t b ∙ ap not (known-won g s cores K t o b lo)
+
+  out-lost : (t : ℕ) → has out t ≡ true → region (separatedOf g) t o ≡ false
+  out-lost t e =
+      not-true (region (separatedOf g) t o)
+      (sym (all-at t (out-below t e)) ∙ and-left (has all t) (not (has c t)) (sym (D .outside t) ∙ e))
+
+  out-apart : (t : ℕ) → has out t ≡ true → joined (graphOf (g .input)) k t ≡ false
+  out-apart t e =
+      ap (λ (p : ℕ → Bool). p t) (sym (whole-has g c k W)) ∙ not-true (has c t) (and-right (has all t) (not (has c t)) (sym (D .outside t) ∙ e))
+
+  out-intro : (t : ℕ) → t < g .input .states → region (separatedOf g) t o ≡ false → joined (graphOf (g .input)) k t ≡ false → has out t ≡ true
+  out-intro t b e j =
+      D .outside t ∙ and-intro (all-at t b ∙ ap not e) (ap not (ap (λ (p : ℕ → Bool). p t) (whole-has g c k W) ∙ j))
+
+  -- a lost move of a state of the component is a move into `out`
+
+  module _ (a : ℕ) (j : joined (graphOf (g .input)) k a ≡ true) where
+    lost-move : (t : ℕ) → lost (separatedOf g) o a t ≡ true → has (getD (g .input .moves) a 0) t ≡ true
+    unfolding separatedOf graphOf
+    lost-move t e =
+        input-edge g s cores K a t (joined-to (graphOf (g .input)) k a j) ∙ lost-edge (separatedOf g) o a t e
+
+    lost-out : (t : ℕ) → lost (separatedOf g) o a t ≡ true → has out t ≡ true
+    unfolding separatedOf graphOf
+    lost-out t e =
+        out-intro t (edge-to (graphOf (g .input)) a t (lost-edge (separatedOf g) o a t e)) (lost-region (separatedOf g) o a t e)
+        (joined-same (graphOf (g .input)) k a t j ∙ lost-apart (separatedOf g) o a t e)
+
+    into-lost : (t : ℕ) → has (getD (g .input .moves) a 0) t ≡ true → has out t ≡ true → lost (separatedOf g) o a t ≡ true
+    unfolding lost separatedOf graphOf
+    into-lost t m e =
+        and-intro (sym (input-edge g s cores K a t (joined-to (graphOf (g .input)) k a j)) ∙ m)
+        (and-intro (ap not (sym (joined-same (graphOf (g .input)) k a t j) ∙ out-apart t e)) (ap not (out-lost t e)))
+
+    way-meets : wayOut (separatedOf g) o a ≡ meets 64 (getD (g .input .moves) a 0) out
+    unfolding wayOut separatedOf graphOf
+    way-meets = same-test (wayOut (separatedOf g) o a) (meets 64 (getD (g .input .moves) a 0) out) there back
+      where
+        there : wayOut (separatedOf g) o a ≡ true → meets 64 (getD (g .input .moves) a 0) out ≡ true
+        there e =
+            let v = any-elim (g .input .states) (lost (separatedOf g) o a) e in
+            meets-intro 64 (getD (g .input .moves) a 0) out (v .0) (omega (arith, v .1, K .inputs)) (lost-move (v .0) (v .2)) (lost-out (v .0) (v .2))
+
+        back : meets 64 (getD (g .input .moves) a 0) out ≡ true → wayOut (separatedOf g) o a ≡ true
+        back e =
+            let v = meets-elim 64 (getD (g .input .moves) a 0) out e in
+            any-intro (g .input .states) (lost (separatedOf g) o a) (v .0) (out-below (v .0) (v .3)) (into-lost (v .0) (v .2) (v .3))
+
+    -- the lowest of them
+    lowest-lost : wayOut (separatedOf g) o a ≡ true → least (g .input .states) (lost (separatedOf g) o a) ≡ least 64 (has (bitAnd (getD (g .input .moves) a 0) out))
+    unfolding wayOut separatedOf graphOf
+    lowest-lost e =
+        sym
+        (least-unique 64 (has (bitAnd row out)) first (omega (arith, below, K .inputs))
+        (has-and row out first ∙ and-intro (lost-move first member) (lost-out first member))
+        (λ j b. false-of (has (bitAnd row out) j)
+        (λ m.
+        let both = sym (has-and row out j) ∙ m in
+        clash (into-lost j (and-left (has row j) (has out j) both) (and-right (has row j) (has out j) both)) (least-before (g .input .states) (lost (separatedOf g) o a) j b))))
+      where
+        row : ℕ
+        row = getD (g .input .moves) a 0
+
+        first : ℕ
+        first = least (g .input .states) (lost (separatedOf g) o a)
+
+        below : first < g .input .states
+        below = least-found (g .input .states) (lost (separatedOf g) o a) e
+
+        member : lost (separatedOf g) o a first ≡ true
+        member = least-member (g .input .states) (lost (separatedOf g) o a) below
+
+  -- the gates
+
+  gates-to : (t : ℕ) → has gates t ≡ true → gate (separatedOf g) o k t ≡ true
+  unfolding exitsAt separatedOf graphOf
+  gates-to t e =
+      let j = whole-in g c k W t (and-right (has ways t) (has c t) (sym (D .gate t) ∙ e)) in
+      let x = ap (λ (y : ℕ). has y t) (sym (D .exits)) ∙ and-left (has ways t) (has c t) (sym (D .gate t) ∙ e) in
+      gate-intro (separatedOf g) o k t j (way-meets t j ∙ pack-holds (g .input .states) (exitsAt (g .input .moves) out) t x)
+
+  gates-of : (t : ℕ) → gate (separatedOf g) o k t ≡ true → has gates t ≡ true
+  unfolding exitsAt separatedOf graphOf
+  gates-of t e =
+      let j = gate-joined (separatedOf g) o k t e in
+      D .gate t
+      ∙ and-intro
+      (ap (λ (y : ℕ). has y t) (D .exits)
+      ∙ has-pack-below (g .input .states) (exitsAt (g .input .moves) out) t (joined-to (graphOf (g .input)) k t j)
+      ∙ sym (way-meets t j) ∙ gate-out (separatedOf g) o k t e)
+      (whole-of g c k W t j)
+
+  gates-has : has gates ≡ gate (separatedOf g) o k
+  gates-has = fun-ext (λ t. same-test (has gates t) (gate (separatedOf g) o k t) (gates-to t) (gates-of t))
+
+  gate-below : (t : ℕ) → gate (separatedOf g) o k t ≡ true → t < g .input .states
+  unfolding separatedOf graphOf
+  gate-below t e = joined-to (graphOf (g .input)) k t (gate-joined (separatedOf g) o k t e)
+
+  pub gates-within : Bounds (g .input .states) gates
+  gates-within = record { states = K .inputs; members = has-within gates (g .input .states) (λ t e. gate-below t (gates-to t e)) }
+
+  escapes-any : escapes (separatedOf g) k o ≡ any (g .input .states) (gate (separatedOf g) o k)
+  unfolding escapes separatedOf graphOf
+  escapes-any = ap (λ (x : ℕ). any (g .input .states) (gate (separatedOf g) o x)) (W .first)
+
+  pub no-gates : gates ≡ 0 → escapes (separatedOf g) k o ≡ false
+  no-gates e =
+      escapes-any
+      ∙ any-none (g .input .states) (gate (separatedOf g) o k)
+      (λ t b. false-of (gate (separatedOf g) o k t) (λ m. clash (gates-of t m) (ap (λ (x : ℕ). has x t) e ∙ has-zero t)))
+
+  pub some-gates : gates ≢ 0 → escapes (separatedOf g) k o ≡ true
+  some-gates e =
+      let m = nonzero-member gates e in
+      let t = gates-to (m .0) (m .1) in
+      escapes-any ∙ any-intro (g .input .states) (gate (separatedOf g) o k) (m .0) (gate-below (m .0) t) t
+
+  -- the rows
+
+  module _ (next : List ℕ) (r : region (separatedOf g) k o ≡ false) (ne : gates ≢ 0) (T : Toward (g .input .moves) (g .input .states) c gates next)
+      (a h : ℕ) (e : has c a ≡ true) where
+    j : joined (graphOf (g .input)) k a ≡ true
+    j = whole-in g c k W a e
+
+    escaping : escapes (separatedOf g) a o ≡ true
+    unfolding separatedOf graphOf
+    escaping =
+        sym (escapes-same (separatedOf g) k a o o j (joined-self (graphOf (g .output)) o lo)) ∙ some-gates ne
+
+    row-is : environmentRow (separatedOf g) a h o ≡ outward (separatedOf g) a h o
+    unfolding separatedOf graphOf
+    row-is =
+        row-lost (separatedOf g) a h o (sym (region-same (separatedOf g) k a o o j (joined-self (graphOf (g .output)) o lo)) ∙ r)
+        ∙ pushing-nontrivial (separatedOf g) a h o (whole-core g c k W a j)
+        ∙ pressing-escapes (separatedOf g) a h o escaping
+
+    on-way : getD next a 0 ≡ toward (g .input .states) (inside (graphOf (g .input)) k) (gate (separatedOf g) o k) a
+    unfolding separatedOf graphOf
+    on-way =
+        toward-along (inside (graphOf (g .input)) k) (gate (separatedOf g) o k)
+        (inside-kept (graphOf (g .input)) k (g .input .moves) c (λ s t x y. refl) (W .word)) gates-has T a (joined-to (graphOf (g .input)) k a j)
+        (subst (λ (x : ℕ). Leads (g .input .states) (inside (graphOf (g .input)) x) (gate (separatedOf g) o x) a) (whole-number g c k W a j)
+        (gate-leads (separatedOf g) a o (joined-to (graphOf (g .input)) k a j) (whole-core g c k W a j) escaping))
+
+    pub row-outward : environmentRow (separatedOf g) a h o ≡ gives h (wayFrom (getD (g .input .moves) a 0) out (getD next a 0))
+    unfolding separatedOf graphOf
+    row-outward =
+        row-is
+        ∙ elim (decide (wayOut (separatedOf g) o a)) [
+          | inl w ↦ outward-here (separatedOf g) a h o w
+              ∙ ap (gives h) (way-open (getD (g .input .moves) a 0) out (getD next a 0) (least (g .input .states) (lost (separatedOf g) o a)) (sym (way-meets a j) ∙ w) (lowest-lost a j w))
+          | inr w ↦ outward-on (separatedOf g) a h o w
+              ∙ ap (λ (x : ℕ). gives h (toward (g .input .states) (inside (graphOf (g .input)) x) (gate (separatedOf g) o x) a)) (whole-number g c k W a j)
+              ∙ ap (gives h) (sym on-way ∙ way-next (getD (g .input .moves) a 0) out (getD next a 0) (sym (way-meets a j) ∙ w))
+        ]
+
+  pub rows-outward : (M : ℕ) (next : List ℕ) → wonAt s (g .input .states) cores k o ≡ false → gates ≢ 0
+      → Toward (g .input .moves) (g .input .states) c gates next → Outward g M c o out next
+  rows-outward M next r ne T = record {
+    output = lo;
+    row = λ a h b e x. row-outward next (sym (known-won g s cores K k o (W .below) lo) ∙ r) ne T a h e;
+  }
+
+  -- what the part of output o ensures
+
+  pub escape-tours : {l : List ℕ} → wonAt s (g .input .states) cores k o ≡ false → gates ≡ 0 → Escape g k o l l true
+  unfolding leavingAt touringAt
+  escape-tours {l} r e = record {
+    filled = filled-none g l (λ a h b p. clash (and-right (not (region (separatedOf g) k b)) (escapes (separatedOf g) k b) (p .2)) (ap (escapes (separatedOf g) k) (p .0) ∙ no-gates e));
+    tours = sym (and-intro (ap not (sym (known-won g s cores K k o (W .below) lo) ∙ r)) (ap not (no-gates e)));
+  }
+
+  pub escape-leaves : {l m : List ℕ} → gates ≢ 0 → Filled g (λ a h b. (b ≡ o) × (has c a ≡ true)) l m → Escape g k o l m false
+  unfolding touringAt
+  escape-leaves ne f = record {
+    filled = filled-same g f (λ a h b x y z p. (p .0, whole-of g c k W a (p .1)));
+    tours = sym (and-false-right (not (region (separatedOf g) k o)) (ap not (some-gates ne)));
+  }
+
+pub escape-won : (g : Game) (s : List ℕ) (cores : ℕ) (K : Known g s cores) (c k : ℕ) (W : Whole g c k) (o : ℕ) (lo : o < g .output .states) {l : List ℕ}
+    → wonAt s (g .input .states) cores k o ≡ true → Escape g k o l l false
+unfolding leavingAt touringAt
+escape-won g s cores K c k W o lo {l} e = record {
+  filled = filled-none g l (λ a h b p.
+      clash (ap (region (separatedOf g) k) (p .0) ∙ won)
+      (not-true (region (separatedOf g) k b) (and-left (not (region (separatedOf g) k b)) (escapes (separatedOf g) k b) (p .2))));
+  tours = sym (and-false-left (not (escapes (separatedOf g) k o)) (ap not won));
+}
+  where
+    won : region (separatedOf g) k o ≡ true
+    won = sym (known-won g s cores K k o (W .below) lo) ∙ e

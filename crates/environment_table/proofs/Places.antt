@@ -1,0 +1,247 @@
+-- The places of rows, what belongs there, and rows written in any order.
+--
+--   place-in, entry-at        : the place of a row, and its entry
+--   entry-small               : every entry fits 16 bits
+--   filled-none, filled-join  : nothing written, and one writing after the other
+--   filled-same               : fewer rows than were written
+--   put-*, spread-*           : what the columns and blocks of rows ask and give
+--   filled-skip, filled-next  : the states of a set, one after the other
+use Prim.Native.Nat.{ℕ, suc, _+_, _-_, _*_, _<_, _≤_}
+use native.Mathlib.Nat.{mul-comm, mul-zero, add-mul, mul-le-mul, le-max-left}
+use native.Mathlib.Numerals.{one-add}
+use mathlib.Core.Path.{_≡_, sym, _∙_, ap, subst}
+use mathlib.Core.Bool.{true, false}
+use mathlib.Core.List.{List, _∷_}
+use mathlib.Core.Logic.{_⊎_, inl, inr}
+use native.Mathlib.Omega.{arith}
+use native.Mathlib.Decide.{ℕ-discrete}
+use lib.Dec.{ltb}
+use lib.ListN.{length, getD}
+use borrow.Author.Tests.{ltb-true, lt-ltb}
+use Rattle.finite.specs.Tabulate.{tabulate}
+use Rattle.finite.proofs.Tabulate.{length-tabulate, getD-tabulate}
+use Rattle.finite.proofs.Truth.{decide}
+use Rattle.sets.specs.Member.{has}
+use Rattle.graphs.proofs.Graph.{edge-to}
+use Rattle.game.specs.declared.Game.{Game}
+use Rattle.game.specs.declared.Acceptance.the-variants.{Accepted}
+use Rattle.game.specs.Acceptance.{acceptance}
+use Rattle.game.proofs.Laws.{accepted-fits}
+use Rattle.play.specs.Play.{graphOf, separatedOf}
+use Rattle.arena.specs.Arena.{Separated}
+use Rattle.theory.specs.Region.{region}
+use Rattle.theory.specs.Choice.{assumptions, environmentRow, environmentStart}
+use Rattle.theory.specs.Entries.{entry, rowOf, environmentCounters, environmentEntries}
+use Rattle.theory.proofs.Entries.{place-below, row-at}
+use Rattle.theory.proofs.EnvironmentRow.{pushed}
+use Rattle.demands.proofs.Sizes.{environment-few}
+use Rattle.filling.specs.Grows.{Right}
+use Rattle.filling.proofs.Grows.{grows-none, grows-more}
+use Rattle.touring.specs.Column.{Fits, Agrees, Columned, Column, BlockFits, BlockAgrees, Blocked, Block}
+use Rattle.environment_table.specs.Table.{entriesOf, place, Roomy, Filled, Same, Spread}
+
+-- the length of the list, and what stands at the place of a row
+
+pub entries-length : (g : Game) → length (entriesOf g) ≡ suc (g .input .states * environmentCounters (separatedOf g) * g .output .states)
+unfolding entriesOf environmentEntries separatedOf graphOf
+entries-length g =
+    ap suc
+    (length-tabulate (rowOf (environmentCounters (separatedOf g)) (g .output .states) (environmentRow (separatedOf g)))
+    (g .input .states * environmentCounters (separatedOf g) * g .output .states))
+
+module _ (g : Game) (i h o : ℕ) (li : i < g .input .states) (lh : h < environmentCounters (separatedOf g)) (lo : o < g .output .states) where
+  pub place-in : place (environmentCounters (separatedOf g)) (g .output .states) i h o < length (entriesOf g)
+  unfolding place
+  place-in = omega (arith, entries-length g, place-below (g .input .states) (environmentCounters (separatedOf g)) (g .output .states) i h o li lh lo)
+
+  pub entry-at : getD (entriesOf g) (place (environmentCounters (separatedOf g)) (g .output .states) i h o) 0 ≡ entry (environmentRow (separatedOf g) i h o)
+  unfolding place entriesOf environmentEntries separatedOf graphOf
+  entry-at =
+      ap (λ (k : ℕ). getD (entry (environmentStart S) ∷ rows) k 0) (one-add r)
+      ∙ getD-tabulate f (g .input .states * environmentCounters S * g .output .states) r 0
+      (place-below (g .input .states) (environmentCounters S) (g .output .states) i h o li lh lo)
+      ∙ row-at (g .input .states) (environmentCounters S) (g .output .states) i h o li lh lo (environmentRow S)
+    where
+      S : Separated
+      S = separatedOf g
+
+      f : ℕ → ℕ
+      f = rowOf (environmentCounters S) (g .output .states) (environmentRow S)
+
+      rows : List ℕ
+      rows = tabulate (g .input .states * environmentCounters S * g .output .states) f
+
+      r : ℕ
+      r = (i * environmentCounters S + h) * g .output .states + o
+
+  pub entry-small : acceptance g ≡ Accepted → entry (environmentRow (separatedOf g) i h o) < 65536
+  unfolding environmentRow entry separatedOf graphOf
+  entry-small a = go (decide (region S i o))
+    where
+      S : Separated
+      S = separatedOf g
+
+      go : (region (separatedOf g) i o ≡ true) ⊎ (region (separatedOf g) i o ≡ false) → entry (environmentRow (separatedOf g) i h o) < 65536
+      go (inl e) = rw (e, environmentRow) (omega arith)
+      go (inr e) =
+          let v = pushed S i h o li lo e lh in
+          rw (v .is)
+          (omega (arith, v .range, edge-to (S .input) i (v .state) (v .move), environment-few g (accepted-fits g a), accepted-fits g a .input .most))
+
+-- a number below k + 1 is below k, or k
+pub below-next : {P Q : Type 0} (a k : ℕ) → a < k + 1 → (a < k → P) → (a ≡ k → Q) → P ⊎ Q
+below-next a k b f g = elim (ℕ-discrete a k) [ yes q ↦ inr (g q) | no q ↦ inl (f (omega arith)) ]
+
+-- rows written in any order
+
+module _ (g : Game) where
+  pub filled-none : {P : ℕ → ℕ → ℕ → Type 0} (l : List ℕ) → ((i h o : ℕ) → P i h o → ⊥) → Filled g P l l
+  filled-none l f = record { grows = grows-none (entriesOf g) l; rows = λ i h o a b c p. absurd (f i h o p) }
+
+  pub filled-join : {P Q R : ℕ → ℕ → ℕ → Type 0} {l m n : List ℕ} → Filled g P l m → Filled g Q m n
+      → ((i h o : ℕ) → i < g .input .states → h < environmentCounters (separatedOf g) → o < g .output .states → R i h o → P i h o ⊎ Q i h o) → Filled g R l n
+  filled-join {P} {Q} {R} {l} {m} {n} p q f = record {
+    grows = grows-more (entriesOf g) (p .grows) (q .grows);
+    rows = λ i h o a b c r. go i h o a b c (f i h o a b c r);
+  }
+    where
+      go : (i h o : ℕ) → i < g .input .states → h < environmentCounters (separatedOf g) → o < g .output .states → P i h o ⊎ Q i h o
+          → Right (entriesOf g) n (place (environmentCounters (separatedOf g)) (g .output .states) i h o)
+      go i h o a b c (inl x) =
+          q .grows .kept (place (environmentCounters (separatedOf g)) (g .output .states) i h o) (place-in g i h o a b c) (p .rows i h o a b c x)
+      go i h o a b c (inr x) = q .rows i h o a b c x
+
+  pub filled-same : {P R : ℕ → ℕ → ℕ → Type 0} {l m : List ℕ} → Filled g P l m
+      → ((i h o : ℕ) → i < g .input .states → h < environmentCounters (separatedOf g) → o < g .output .states → R i h o → P i h o) → Filled g R l m
+  filled-same p f = record { grows = p .grows; rows = λ i h o a b c r. p .rows i h o a b c (f i h o a b c r) }
+
+  pub roomy-more : {P : ℕ → ℕ → ℕ → Type 0} {l m : List ℕ} {M : ℕ} → Roomy g M (length l) → Filled g P l m → Roomy g M (length m)
+  roomy-more R p = record {
+    accepted = R .accepted;
+    counters = R .counters;
+    few = R .few;
+    inputs = R .inputs;
+    outputs = R .outputs;
+    room = omega (arith, R .room, p .grows .long);
+  }
+
+pub some-counter : (S : Separated) → 0 < environmentCounters S
+unfolding environmentCounters
+some-counter S = le-max-left 1 (length (assumptions S))
+
+-- columns and blocks of rows
+
+place-base : (M O i h o : ℕ) → 1 + i * M * O + o + O * h ≡ place M O i h o
+unfolding place
+place-base M O i h o = omega (arith, add-mul (i * M) h O, mul-comm h O)
+
+module _ (g : Game) (M n i : ℕ) (R : Roomy g M n) (li : i < g .input .states) where
+  pub rows-small : i * M ≤ 2048
+  rows-small = mul-le-mul {n₂ = 64} {m₂ = 32} (omega (arith, R .inputs)) (R .few)
+
+  pub entries-small : i * M * g .output .states ≤ 131072
+  entries-small = mul-le-mul rows-small (R .outputs)
+
+  counter-in : (h : ℕ) → h < M → h < environmentCounters (separatedOf g)
+  counter-in h b = omega (arith, R .counters)
+
+  at : (h o : ℕ) → 1 + i * M * g .output .states + o + g .output .states * h ≡ place (environmentCounters (separatedOf g)) (g .output .states) i h o
+  at h o = place-base M (g .output .states) i h o ∙ ap (λ (k : ℕ). place k (g .output .states) i h o) (R .counters)
+
+  at-below : (h o : ℕ) → h < M → o < g .output .states → 1 + i * M * g .output .states + o + g .output .states * h < length (entriesOf g)
+  at-below h o b c = rw (at h o) (place-in g i h o li (counter-in h b) c)
+
+  at-entry : (h o : ℕ) → h < M → o < g .output .states
+      → entry (environmentRow (separatedOf g) i h o) ≡ getD (entriesOf g) (1 + i * M * g .output .states + o + g .output .states * h) 0
+  at-entry h o b c = sym (entry-at g i h o li (counter-in h b) c) ∙ ap (λ (k : ℕ). getD (entriesOf g) k 0) (sym (at h o))
+
+  pub first-row : 1 + i * M * g .output .states + g .output .states ≤ length (entriesOf g)
+  first-row =
+      let b : g .output .states - 1 < g .output .states = omega (arith, accepted-fits g (R .accepted) .output .some) in
+      omega (arith, at-below 0 (g .output .states - 1) (rw (R .counters) (some-counter (separatedOf g))) b, mul-zero (g .output .states))
+
+module _ (g : Game) (M n i o first more which : ℕ) (R : Roomy g M n) (S : Same g M i o first more) (w : (h : ℕ) → has which h ≡ ltb h M) where
+  counter : (h : ℕ) → has which h ≡ true → h < M
+  counter h e = ltb-true h M (sym (w h) ∙ e)
+
+  pub put-fits : Fits n (1 + i * M * g .output .states + o) (g .output .states) which first more
+  put-fits = record {
+    below = λ h e. omega (arith, at-below g M n i R (S .input) h o (counter h e) (S .output), R .room);
+    small = λ h e. rw (S .entry h (counter h e)) (entry-small g i h o (S .input) (counter-in g M n i R (S .input) h (counter h e)) (S .output) (R .accepted));
+  }
+
+  put-agrees : Agrees (entriesOf g) (1 + i * M * g .output .states + o) (g .output .states) which first more
+  put-agrees = record {
+    below = λ h e. at-below g M n i R (S .input) h o (counter h e) (S .output);
+    entry = λ h e. S .entry h (counter h e) ∙ at-entry g M n i R (S .input) h o (counter h e) (S .output);
+  }
+
+  pub put-filled : {l m : List ℕ} → length l ≡ n → Column l m (1 + i * M * g .output .states + o) (g .output .states) which first more
+      → Filled g (λ a h b. (a ≡ i) × (b ≡ o)) l m
+  put-filled {l} {m} e C = record { grows = done .grows; rows = λ a h b x y z q. rows a h b y (q .0) (q .1) }
+    where
+      done : Columned (entriesOf g) l m (1 + i * M * g .output .states + o) (g .output .states) which
+      done = C .fills (entriesOf g) put-agrees (omega (arith, R .room))
+
+      rows : (a h b : ℕ) → h < environmentCounters (separatedOf g) → a ≡ i → b ≡ o
+          → Right (entriesOf g) m (place (environmentCounters (separatedOf g)) (g .output .states) a h b)
+      rows a h b y p q =
+          rw (p, q, ← at g M n i R (S .input) h o)
+          (done .right h (w h ∙ lt-ltb h M (omega (arith, R .counters))))
+
+module _ (g : Game) (M n i over which first more : ℕ) (R : Roomy g M n) (S : Spread g i over which first more) where
+  counter-of : (h : ℕ) → has which h ≡ true → h < M
+  counter-of h e = omega (arith, S .counter h e, R .counters)
+
+  pub spread-fits : BlockFits n (1 + i * M * g .output .states) (g .output .states) over which first more
+  spread-fits = record {
+    narrow = R .outputs;
+    inside = omega (arith, first-row g M n i R (S .input), R .room);
+    columns = λ o b a. record {
+      below = λ h e. omega (arith, at-below g M n i R (S .input) h o (counter-of h e) b, R .room);
+      small = λ h e. rw (S .entry h o e b a) (entry-small g i h o (S .input) (S .counter h e) b (R .accepted));
+    };
+  }
+
+  spread-agrees : BlockAgrees (entriesOf g) (1 + i * M * g .output .states) (g .output .states) over which first more
+  spread-agrees = record {
+    columns = λ o b a. record {
+      below = λ h e. at-below g M n i R (S .input) h o (counter-of h e) b;
+      entry = λ h e. S .entry h o e b a ∙ at-entry g M n i R (S .input) h o (counter-of h e) b;
+    };
+  }
+
+  pub spread-filled : {l m : List ℕ} → length l ≡ n → Block l m (1 + i * M * g .output .states) (g .output .states) over which first more
+      → Filled g (λ a h b. (a ≡ i) × (has which h ≡ true) × (has over b ≡ true)) l m
+  spread-filled {l} {m} e B = record { grows = done .grows; rows = λ a h b x y z q. rows a h b z (q .0) (q .1) (q .2) }
+    where
+      done : Blocked (entriesOf g) l m (1 + i * M * g .output .states) (g .output .states) over which (g .output .states)
+      done = B .fills (entriesOf g) spread-agrees (omega (arith, R .room))
+
+      rows : (a h b : ℕ) → b < g .output .states → a ≡ i → has which h ≡ true → has over b ≡ true
+          → Right (entriesOf g) m (place (environmentCounters (separatedOf g)) (g .output .states) a h b)
+      rows a h b z p q r = rw (p, ← at g M n i R (S .input) h b) (done .right b h z r q)
+
+-- the states of a set, one after the other
+
+module _ (g : Game) (l m : List ℕ) (k : ℕ) where
+  pub filled-skip : {P : ℕ → ℕ → ℕ → Type 0} {r : List ℕ} → Filled g (λ a h b. (a < k) × P a h b) l m → ((h b : ℕ) → P k h b → ⊥) → r ≡ m
+      → Filled g (λ a h b. (a < k + 1) × P a h b) l r
+  filled-skip {P} f out q = rw q (filled-same g f (λ a h b x y z p. (go a h b (p .0) (p .1) (ℕ-discrete a k), p .1)))
+    where
+      go : (a h b : ℕ) → a < k + 1 → P a h b → Dec (a ≡ k) → a < k
+      go a h b lt p (yes e) = absurd (out h b (subst (λ (x : ℕ). P x h b) e p))
+      go a h b lt p (no e) = omega arith
+
+  pub filled-next : {P Q : ℕ → ℕ → ℕ → Type 0} {n r : List ℕ} → Filled g (λ a h b. (a < k) × P a h b) l m → Filled g Q m n
+      → ((a h b : ℕ) → h < environmentCounters (separatedOf g) → a ≡ k → P a h b → Q a h b) → r ≡ n → Filled g (λ a h b. (a < k + 1) × P a h b) l r
+  filled-next f d into q = rw q (filled-join g f d (λ a h b x y z p. below-next a k (p .0) (λ e. (e, p .1)) (λ e. into a h b y e (p .1))))
+
+-- what a row begins with fits 16 bits
+pub same-small : (g : Game) (M n i o first more : ℕ) → Roomy g M n → Same g M i o first more → first < 65536
+same-small g M n i o first more R S =
+    omega (arith, S .entry 0 (rw (R .counters) (some-counter (separatedOf g))), mul-zero more, entry-small g i 0 o (S .input) (some-counter (separatedOf g)) (S .output) (R .accepted))
+
+-- every counter belongs to the set of all
+pub every-counter : (g : Game) (M n every h : ℕ) → Roomy g M n → ((t : ℕ) → has every t ≡ ltb t M) → h < environmentCounters (separatedOf g) → has every h ≡ true
+every-counter g M n every h R e b = e h ∙ lt-ltb h M (omega (arith, R .counters))

@@ -1,0 +1,58 @@
+-- The rows of a nontrivial component.
+--
+--   Whole g c first                 == the word c is the nontrivial component with the number first
+--   exitsAt moves out k             == a move of k enters the set out
+--   wayFrom row out next            == the lowest move into the set out; next where there is none
+--   Outward g M c o out next        == so go the rows of the states of c and output o, for all M counters
+--   leavingAt g first o             == (first, o) is not won, and the component has a way out
+--   touringAt g first o             == (first, o) is not won, and the component has none
+--   Escape g first o l m r          == the rows of output o are written where there is a way out; r tells whether they tour
+--   Escaped g first l m r           == the same of all outputs; r is the set of those that tour
+use Prim.Native.Nat.{ℕ, _<_}
+use mathlib.Core.Path.{_≡_}
+use mathlib.Core.Bool.{Bool, true, false, _&&_, not}
+use mathlib.Core.List.{List}
+use lib.ListN.{getD}
+use lib.Bits.{bitAnd}
+use Rattle.finite.specs.Bounded.{least}
+use Rattle.sets.specs.Member.{has, pack, meets}
+use Rattle.graphs.specs.Component.{joined, number, nontrivial}
+use Rattle.game.specs.declared.Game.{Game}
+use Rattle.play.specs.Play.{graphOf, separatedOf}
+use Rattle.arena.specs.Table.{gives}
+use Rattle.theory.specs.Region.{region}
+use Rattle.theory.specs.Choice.{escapes, environmentRow}
+use Rattle.environment_table.specs.Table.{Filled}
+
+pub record Whole (g : Game) (c k : ℕ) : Type 0 where
+  pub below : k < g .input .states
+  pub first : number (graphOf (g .input)) k ≡ k
+  pub core : nontrivial (graphOf (g .input)) k ≡ true
+  pub word : c ≡ pack (g .input .states) (joined (graphOf (g .input)) k)
+
+unfoldable pub exitsAt : List ℕ → ℕ → ℕ → Bool
+exitsAt moves out k = meets 64 (getD moves k 0) out
+
+unfoldable pub wayFrom : ℕ → ℕ → ℕ → ℕ
+wayFrom row out next = elim (meets 64 row out) [ true ↦ least 64 (has (bitAnd row out)) | false ↦ next ]
+
+-- "go the shortest way inside the component to a state with such a move, lowest on ties; there take the lowest such j; h stays."
+pub record Outward (g : Game) (M c o out : ℕ) (next : List ℕ) : Type 0 where
+  pub output : o < g .output .states
+  pub row : (k h : ℕ) → k < g .input .states → has c k ≡ true → h < M
+      → environmentRow (separatedOf g) k h o ≡ gives h (wayFrom (getD (g .input .moves) k 0) out (getD next k 0))
+
+-- "Some move leaves the component to a j with (j, o) not won: .."; "Otherwise tour the input sets inside the component"
+unfoldable pub leavingAt : Game → ℕ → ℕ → Bool
+leavingAt g k o = not (region (separatedOf g) k o) && escapes (separatedOf g) k o
+
+unfoldable pub touringAt : Game → ℕ → ℕ → Bool
+touringAt g k o = not (region (separatedOf g) k o) && not (escapes (separatedOf g) k o)
+
+pub record Escape (g : Game) (k o : ℕ) (l m : List ℕ) (r : Bool) : Type 0 where
+  pub filled : Filled g (λ a h b. (b ≡ o) × (joined (graphOf (g .input)) k a ≡ true) × (leavingAt g k b ≡ true)) l m
+  pub tours : r ≡ touringAt g k o
+
+pub record Escaped (g : Game) (k : ℕ) (l m : List ℕ) (r : ℕ) : Type 0 where
+  pub filled : Filled g (λ a h b. (joined (graphOf (g .input)) k a ≡ true) × (leavingAt g k b ≡ true)) l m
+  pub tours : r ≡ pack (g .output .states) (touringAt g k)

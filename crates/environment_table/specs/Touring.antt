@@ -1,0 +1,61 @@
+-- Tours of a nontrivial component past the assumptions. The outputs that are left to a tour are a word `over`.
+--
+--   metIn g c a               == assumption a has a state in the set c
+--   Count g n                 == there are n assumptions, few enough for a word
+--   Rests g c over            == with no goal: the rows of the states of c and the outputs of over
+--   Tours g M c x a over which next == towards goal a, the set x: those rows, for the counters of which
+--   Left g c over             == c is a nontrivial component, and over the outputs with which it has no way out
+--   Aims g c q over M         == so it is, and q are the numbers of the goals
+use Prim.Native.Nat.{ℕ, _<_, _≤_}
+use mathlib.Core.Path.{_≡_}
+use mathlib.Core.Bool.{Bool, true, _&&_}
+use mathlib.Core.List.{List}
+use mathlib.Core.Logic.{_≢_}
+use lib.ListN.{length, getD}
+use lib.Bits.{bitAnd}
+use Rattle.finite.specs.Bounded.{any}
+use Rattle.sets.specs.Member.{has, pack}
+use Rattle.graphs.specs.Way.{prefer}
+use Rattle.game.specs.declared.Game.{Game}
+use Rattle.game.specs.declared.Acceptance.the-variants.{Accepted}
+use Rattle.game.specs.Acceptance.{acceptance}
+use Rattle.play.specs.Play.{separatedOf}
+use Rattle.arena.specs.Table.{gives}
+use Rattle.theory.specs.Tour.{goalAt}
+use Rattle.theory.specs.Choice.{assumptions, environmentRow}
+use Rattle.theory.specs.Entries.{environmentCounters}
+use Rattle.touring.specs.Goal.{passed}
+use Rattle.environment_table.specs.Pressing.{Whole, touringAt}
+
+unfoldable pub metIn : Game → ℕ → ℕ → Bool
+metIn g c a = any (g .input .states) (λ t. goalAt (assumptions (separatedOf g)) a t && has c t)
+
+pub record Count (g : Game) (n : ℕ) : Type 0 where
+  pub accepted : acceptance g ≡ Accepted
+  pub all : n ≡ length (assumptions (separatedOf g))
+  pub few : n ≤ 32
+  pub inputs : g .input .states ≤ 64
+
+-- "With no aim: the lowest move inside home; g stays."
+pub record Rests (g : Game) (c over : ℕ) : Type 0 where
+  pub row : (k h o : ℕ) → k < g .input .states → has c k ≡ true → h < environmentCounters (separatedOf g) → o < g .output .states → has over o ≡ true
+      → environmentRow (separatedOf g) k h o ≡ gives h (prefer 64 k (has (bitAnd (getD (g .input .moves) k 0) c)))
+
+-- "Otherwise tour the input sets inside the component as the controller does at home."
+pub record Tours (g : Game) (M c x a over which : ℕ) (next : List ℕ) : Type 0 where
+  pub goal : a < M
+  pub state : (k : ℕ) → k < g .input .states → has c k ≡ true → getD next k 0 < 64
+  pub counter : (h : ℕ) → has which h ≡ true → h < environmentCounters (separatedOf g)
+  pub row : (k h o : ℕ) → k < g .input .states → has c k ≡ true → has which h ≡ true → o < g .output .states → has over o ≡ true
+      → environmentRow (separatedOf g) k h o ≡ gives (passed M (has x (getD next k 0)) a) (getD next k 0)
+
+pub record Left (g : Game) (c over : ℕ) : Type 0 where
+  pub first : ℕ
+  pub whole : Whole g c first
+  pub outputs : over ≡ pack (g .output .states) (touringAt g first)
+
+pub record Aims (g : Game) (c q over M : ℕ) : Type 0 where
+  pub left : Left g c over
+  pub count : Count g M
+  pub goals : q ≡ pack M (metIn g c)
+  pub some : q ≢ 0
