@@ -2,8 +2,8 @@
 // numbers and words.
 use controller_rows::Home;
 use controller_rows::Size;
-use controller_rows::opening;
-use controller_rows::unsettled;
+use opening::starts;
+use opening::unsettled;
 use game::Game;
 use game::InSet;
 use game::OutSet;
@@ -18,9 +18,6 @@ ghost use Rattle.play.specs.Play.{separatedOf};
 ghost use Rattle.theory.specs.Entries.{controllerEntries};
 ghost use mathlib.Core.List.{_++_};
 ghost use Rattle.controller_table.specs.Filled.{Filled, At, Below, Sized, Given};
-
-mod resident; // who has a home where, and the rows outside it: the way home
-mod visit; // the rows at a home: the tour past the guarantees
 
 // The rows whose home is d.
 fn settle(g: Game, s: &[u64], room: &mut [u16], z: Size, cores: InSet, d: usize)
@@ -76,7 +73,7 @@ pub fn fill(g: Game, s: &[u64], room: &mut [u16])
 {
     let z = size_of(g);
     let cores = InSet(components::cores(g.input, s));
-    opening::starts(room, s, z, cores, game::in_initial(g), game::out_initial(g));
+    starts::starts(room, s, z, cores, game::in_initial(g), game::out_initial(g));
     let h = g.output;
     unsettled::plains(room, s, z, cores, &h.moves);
     settle_all(g, s, room, z, cores);

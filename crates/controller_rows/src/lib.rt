@@ -1,12 +1,10 @@
-// Rows and starts of the controller's table, written into the lent buffer. Functions that take one sort of states alone take plain numbers and
+// Rows of the controller's table, written into the lent buffer. Functions that take one sort of states alone take plain numbers and
 // words.
 use game::InSet;
 use game::OutSet;
 use game::OutState;
 
 pub mod rows; // rows of the table, for many counters or inputs at once
-pub mod opening; // the start entries
-pub mod unsettled; // the rows of inputs with no home in reach
 
 // The size of a table, with the set of its counters.
 pub struct Size {

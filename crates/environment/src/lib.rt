@@ -1,4 +1,5 @@
 // The environment's table, filled from scratch that holds the winning region. Sorts of states are kept apart in every signature that has both.
+use environment_rows::plain;
 use game::Game;
 use game::InSet;
 use game::InState;
@@ -12,11 +13,6 @@ ghost use Rattle.play.specs.Play.{graphOf, separatedOf};
 ghost use Rattle.theory.specs.Entries.{environmentEntries};
 ghost use Rattle.environment_table.specs.Table.{Solved, Known, Roomy, Filled};
 ghost use Rattle.environment_table.specs.Reading.{plain};
-
-mod escape; // ways out of a component
-mod plain; // the start, and the rows that need no walk
-mod rows; // rows written for sets of counters and outputs
-mod tours; // tours of a component past the assumptions
 
 // The rows of the component whose number is i, where it is nontrivial and i its number.
 fn component_rows(g: Game, s: &[u64], cores: InSet, counters: usize, i: InState, room: &mut [u16])

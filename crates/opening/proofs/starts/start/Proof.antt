@@ -1,0 +1,31 @@
+-- `start`: the lowest initial output that is won, or none.
+use mathlib.Core.Path.{sym, _∙_}
+use Rattle.controller_rows.proofs.Writes.{start-in, start-out}
+use borrow.Author.Needs.{needs}
+use Rattle.opening.proofs.starts.start.Statement.{statement}
+use Rattle.opening.proofs.starts.start.Tie as tie
+
+member-requires : tie.Need-member-requires
+member-requires c κs = search needs
+
+won-with-requires : tie.Need-won-with-requires
+won-with-requires c κs = search needs
+
+lowest-requires : tie.Need-lowest-requires
+lowest-requires c κs = search needs
+
+staying-requires : tie.Need-staying-requires
+staying-requires c κs = search needs
+
+returns : tie.Need-returns
+returns c =
+    let b = c .before .before .before .before in
+    start-in _ _ _ _ _ _ (sym (b .before .before .member .ensures) ∙ b .before .if1 .taken) (b .won-with .ensures) (c .before .lowest .ensures) (c .staying .ensures)
+
+returns-2 : tie.Need-returns-2
+returns-2 c = start-out _ _ _ _ _ _ (sym (c .before .member .ensures) ∙ c .if1 .left)
+
+pub start-spec : {M : Type 1} → statement M
+start-spec =
+    tie.close
+    (tie.spec member-requires won-with-requires lowest-requires staying-requires returns returns-2)
