@@ -1,5 +1,3 @@
--- Laws of the solver.
-pub mod Scratch
-pub mod Made
+-- Verdicts: the promise for every input. Handed: the same for the part handed over.
 pub mod Verdicts
 pub mod Handed

@@ -22,8 +22,8 @@ use Rattle.demands.specs.Demands.{playOf, controllerOf, environmentOf}
 use Rattle.demands.proofs.Demands.{demand-three-system, demand-three-environment}
 use Rattle.solver.specs.declared.Verdict.{Verdict}
 use Rattle.solver.specs.declared.Verdict.the-variants.{System, Environment, Refused as NotSolved}
+use Rattle.map.specs.Map.{cleared}
 use Rattle.solver.specs.Promise.{
-  cleared,
   controllerLength,
   environmentLength,
   named,

@@ -1,3 +1,2 @@
 -- What the solver promises.
-pub mod Read
 pub mod Promise

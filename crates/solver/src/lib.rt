@@ -1,161 +1,16 @@
-// The solver: the winning region as a map, and the winner's table.
+// The solver: the side that wins, and its table.
 ghost use mathlib.Core.Path.{_≡_};
-ghost use mathlib.Core.Bool.{Bool};
-ghost use mathlib.Core.List.{_++_};
-ghost use Prim.Native.Nat.{ℕ, _+_, _≤_, _<_};
-ghost use lib.ListN.{length, drop};
+ghost use Prim.Native.Nat.{_≤_};
+ghost use lib.ListN.{length};
 ghost use denote.Ref.{ptr};
-ghost use Rattle.finite.specs.Tabulate.{tabulate};
-ghost use Rattle.sets.specs.Member.{pack};
 ghost use Rattle.game.specs.declared.Acceptance.the-variants.{Accepted};
 ghost use Rattle.game.specs.Acceptance.{acceptance};
-ghost use Rattle.game.proofs.Laws.{Fits};
 ghost use Rattle.play.specs.Play.{separatedOf};
-ghost use Rattle.theory.specs.Region.{region, opens as opensAt, verdict as verdictOf};
-ghost use Rattle.solver.specs.Read.{Reading, mapRow, opensWith, opensIf};
 ghost use Rattle.theory.specs.Entries.{controllerEntries, environmentEntries};
-ghost use Rattle.solver.specs.Promise.{cleared, MapMade, Written, Solved, verdictAnswer, Handed};
+ghost use Rattle.solver.specs.Promise.{Written, Solved, verdictAnswer, Handed};
 
 use game::Acceptance;
 use game::Game;
-
-// Sets the first 512 words to zero.
-fn clear(s: &mut [u64])
-    requires { ⌜ 512 ≤ length (now s) ⌝ }
-    ensures { λ _. ⌜ now (s .exit) ≡ cleared (now (s .entry)) ⌝ }
-{
-    let mut i: usize = 0;
-    while i < 512 {
-        s[i] = 0;
-        i += 1;
-    }
-}
-
-// The outputs that are won with input i.
-fn map_row(g: Game, s: &[u64], cores: u64, i: usize) -> u64
-    requires { ⌜ Reading g (now s) cores × (i < g .input .states) ⌝ }
-    ensures { λ r. ⌜ r ≡ mapRow g i ⌝ }
-{
-    let n = g.input.states;
-    let m = g.output.states;
-    let mut c: u64 = 0;
-    let mut o: usize = 0;
-    while o < m {
-        c = sets::insert_if(c, o, stored::won(s, n, cores, i, o));
-        o += 1;
-    }
-    c
-}
-
-// Writes the map.
-fn fill_map(g: Game, s: &[u64], cores: u64, map: &mut [u64])
-    requires { ⌜ Reading g (now s) cores × (g .input .states ≤ length (now map)) ⌝ }
-    ensures { λ _. ⌜ now (map .exit) ≡ tabulate (g .input .states) (mapRow g) ++ drop (g .input .states) (now (map .entry)) ⌝ }
-{
-    let mut i: usize = 0;
-    while i < g.input.states {
-        map[i] = map_row(g, s, cores, i);
-        i += 1;
-    }
-}
-
-// Whether o is an initial output that is won with i.
-fn opens_with(g: Game, s: &[u64], cores: u64, i: usize, o: usize) -> bool
-    requires { ⌜ Reading g (now s) cores × (i < g .input .states) × (o < g .output .states) ⌝ }
-    ensures { λ r. ⌜ r ≡ opensWith g i o ⌝ }
-{
-    if !sets::member(g.output.initial, o) {
-        return false;
-    }
-    stored::won(s, g.input.states, cores, i, o)
-}
-
-// Whether some initial output is won with i.
-fn opens(g: Game, s: &[u64], cores: u64, i: usize) -> bool
-    requires { ⌜ Reading g (now s) cores × (i < g .input .states) ⌝ }
-    ensures { λ r. ⌜ r ≡ opensAt (separatedOf g) i ⌝ }
-{
-    let m = g.output.states;
-    let mut o: usize = 0;
-    while o < m {
-        if opens_with(g, s, cores, i, o) {
-            return true;
-        }
-        o += 1;
-    }
-    false
-}
-
-// Whether i is not initial, or some initial output is won with it.
-fn opens_if(g: Game, s: &[u64], cores: u64, i: usize) -> bool
-    requires { ⌜ Reading g (now s) cores × (i < g .input .states) ⌝ }
-    ensures { λ r. ⌜ r ≡ opensIf g i ⌝ }
-{
-    if !sets::member(g.input.initial, i) {
-        return true;
-    }
-    opens(g, s, cores, i)
-}
-
-// Whether the system wins.
-fn system_wins(g: Game, s: &[u64], cores: u64) -> bool
-    requires { ⌜ Reading g (now s) cores ⌝ }
-    ensures { λ r. ⌜ r ≡ verdictOf (separatedOf g) ⌝ }
-{
-    let n = g.input.states;
-    let mut i: usize = 0;
-    while i < n {
-        if !opens_if(g, s, cores, i) {
-            return false;
-        }
-        i += 1;
-    }
-    true
-}
-
-// Writes the map of an accepted game and clears scratch.
-fn make_map(g: Game, scratch: &mut [u64], map: &mut [u64])
-    requires { ⌜ Fits g × (512 ≤ length (now scratch)) × (g .input .states ≤ length (now map)) ⌝ }
-    ensures { λ _. ⌜ (now (scratch .exit) ≡ cleared (now (scratch .entry)))
-        × (now (map .exit) ≡ tabulate (g .input .states) (mapRow g) ++ drop (g .input .states) (now (map .entry))) ⌝ }
-{
-    region::prepare(g, scratch);
-    let cores = components::cores(g.input, scratch);
-    fill_map(g, scratch, cores, map);
-    clear(scratch);
-}
-
-// The answer of the map's call.
-pub enum Mapped {
-    Done,
-    Refused(u8),
-}
-
-// The map of an accepted game, where the buffers are long enough.
-fn map_accepted(g: Game, scratch: &mut [u64], map: &mut [u64]) -> Mapped
-    requires { ⌜ acceptance g ≡ Accepted ⌝ }
-    ensures { λ r. ⌜ MapMade g (now (scratch .entry)) (now (scratch .exit)) (now (map .entry)) (now (map .exit)) r ⌝ }
-{
-    if scratch.len() < 512 {
-        return Mapped::Refused(8);
-    }
-    if map.len() < g.input.states {
-        return Mapped::Refused(8);
-    }
-    make_map(g, scratch, map);
-    Mapped::Done
-}
-
-// Marks the won positions: one set of outputs for each input.
-pub fn won_map(g: Game, scratch: &mut [u64], map: &mut [u64]) -> Mapped
-    ensures { λ r. ⌜ MapMade g (now (scratch .entry)) (now (scratch .exit)) (now (map .entry)) (now (map .exit)) r ⌝ }
-{
-    let accepted = game::accept(g);
-    match accepted {
-        Acceptance::Refused(n) => Mapped::Refused(n),
-        Acceptance::Accepted => map_accepted(g, scratch, map),
-    }
-}
 
 // The answer of the solver: the side that wins, with how many entries its table has.
 pub enum Verdict {
@@ -172,13 +27,13 @@ fn write_winner(g: Game, scratch: &mut [u64], controller: &mut [u16], panel: &mu
 {
     region::prepare(g, scratch);
     let cores = components::cores(g.input, scratch);
-    if system_wins(g, scratch, cores) {
+    if verdict::system_wins(g, scratch, cores) {
         controller::fill(g, scratch, controller);
-        clear(scratch);
+        map::clear(scratch);
         return true;
     }
     environment::fill(g, scratch, panel);
-    clear(scratch);
+    map::clear(scratch);
     false
 }
 

@@ -1,7 +1,7 @@
 -- `write_winner`.
 use native.Mathlib.Omega.{arith}
 use Rattle.game.proofs.Laws.{accepted-fits}
-use Rattle.solver.proofs.Made.{reading-made, cleared-kept}
+use Rattle.map.proofs.Made.{reading-made, cleared-kept}
 use mathlib.Core.Path.{_≡_, refl, sym, _∙_, ap}
 use borrow.Author.Needs.{needs}
 use Rattle.solver.proofs.write_winner.Statement.{statement}

@@ -1,0 +1,106 @@
+-- What the entries answer, case by case.
+use Prim.Native.Nat.{ℕ, _+_, _-_, _≤_, _<_}
+use mathlib.Core.Path.{_≡_, refl, sym, _∙_, ap, subst}
+use mathlib.Core.Bool.{Bool, true, false, _&&_}
+use mathlib.Core.List.{List, _++_}
+use mathlib.Core.Logic.{_↔_}
+use native.Mathlib.Omega.{arith}
+use lib.Dec.{leb}
+use lib.ListN.{length, getD, drop}
+use lib.Seq.{drop-drop}
+use borrow.Author.Tests.{le-leb, lt-leb}
+use Rattle.finite.specs.Tabulate.{tabulate}
+use Rattle.finite.proofs.Truth.{and-intro, and-false-left, and-false-right}
+use Rattle.sets.specs.Member.{has, pack}
+use Rattle.sets.proofs.Membership.{has-pack-below}
+use Rattle.graphs.specs.Component.{nontrivial}
+use Rattle.closure.proofs.Front.{front-at}
+use Rattle.components.specs.Component.{turns}
+use Rattle.components.proofs.Closed.{cores-closed}
+use Rattle.arena.specs.Win.{Won}
+use Rattle.game.specs.declared.Game.{Game}
+use Rattle.game.specs.declared.Acceptance.the-variants.{Accepted, Refused as Faulty}
+use Rattle.game.specs.Acceptance.{acceptance}
+use Rattle.game.proofs.Laws.{Fits}
+use Rattle.play.specs.Play.{graphOf, separatedOf}
+use Rattle.demands.specs.Demands.{playOf}
+use Rattle.demands.proofs.Demands.{demand-two}
+use Rattle.theory.specs.Region.{region}
+use Rattle.region.specs.Fill.{Kept, Prepared}
+use Rattle.region.proofs.Order.{laid-closes}
+use Rattle.map.specs.declared.Mapped.{Mapped}
+use Rattle.map.specs.declared.Mapped.the-variants.{Done, Refused as NotMapped}
+use Rattle.map.specs.Read.{Reading, mapRow}
+use Rattle.map.specs.Map.{cleared, mapFits, mapRoom, mapAnswer, mapAfter, mapScratch, MapMade}
+
+-- ---- scratch
+
+row-bit : (g : Game) (i o : ℕ) → o < g .output .states → has (mapRow g i) o ≡ region (separatedOf g) i o
+unfolding mapRow
+row-bit g i o b = has-pack-below (g .output .states) (region (separatedOf g) i) o b
+
+pub scratch-enough : (g : Game) → Fits g → (l : List ℕ) → 512 ≤ length l → g .input .states + g .input .states + g .output .states ≤ length l
+scratch-enough g F l b = omega (arith, F .input .most, F .output .most)
+
+-- what lies past the three areas lies past the first 512 words
+pub cleared-kept : (g : Game) → Fits g → (l m : List ℕ) → Kept g l m → cleared m ≡ cleared l
+unfolding cleared
+cleared-kept g F l m K = ap (λ (x : List ℕ). tabulate 512 (λ k. 0) ++ x) (sym (after m) ∙ ap (drop (512 - used)) (K .rest) ∙ after l)
+  where
+    used : ℕ
+    used = g .input .states + g .input .states + g .output .states
+    after : (x : List ℕ) → drop (512 - used) (drop used x) ≡ drop 512 x
+    after x = let q : used + (512 - used) ≡ 512 = omega (arith, F .input .most, F .output .most) in drop-drop (512 - used) used x ∙ ap (λ (k : ℕ). drop k x) q
+
+pub reading-made : (g : Game) → Fits g → (l m : List ℕ) {cores : ℕ} → Prepared g l m
+    → cores ≡ pack (g .input .states) (turns (g .input .moves) m (g .input .states)) → Reading g m cores
+reading-made g F l m P e = record {
+  fits = F;
+  ready = P .ready;
+  inner = e ∙ cores-closed (g .input) m (laid-closes g m (P .ready .laid)) (F .input .most)
+}
+
+-- ---- the map
+
+not-done : {n : ℕ} {A : Type 0} → NotMapped n ≡ Done → A
+not-done q = let z : _≡_ {A = ℕ} 0 1 = cc in absurd (omega arith)
+
+map-refused : (g : Game) (s m : List ℕ) (n : ℕ) → NotMapped n ≡ mapAnswer g (length s) (length m) → MapMade g s s m m (NotMapped n)
+unfolding mapAfter mapScratch
+map-refused g s m n e = record { answer = e; map = refl; scratch = refl; won = λ q. not-done q }
+
+pub map-faulty : (g : Game) (s m : List ℕ) (n : ℕ) → acceptance g ≡ Faulty n → MapMade g s s m m (NotMapped n)
+unfolding mapAnswer
+map-faulty g s m n e = map-refused g s m n (rw (e, mapAnswer) refl)
+
+map-room : (g : Game) (s m : ℕ) (b : Bool) {r : Mapped} → acceptance g ≡ Accepted → mapFits g s m ≡ b → r ≡ elim b as (λ x. Mapped) [ true ↦ Done | false ↦ NotMapped 8 ] → r ≡ mapAnswer g s m
+unfolding mapAnswer mapRoom
+map-room g s m b a e h = rw (a, mapAnswer) (rw (e, mapRoom) h)
+
+pub map-scratch-short : (g : Game) (s m : List ℕ) → acceptance g ≡ Accepted → length s < 512 → MapMade g s s m m (NotMapped 8)
+unfolding mapFits
+map-scratch-short g s m a b =
+    map-refused g s m 8 (map-room g (length s) (length m) false a (and-false-left (leb (g .input .states) (length m)) (lt-leb 512 (length s) b)) refl)
+
+pub map-short : (g : Game) (s m : List ℕ) → acceptance g ≡ Accepted → length m < g .input .states → MapMade g s s m m (NotMapped 8)
+unfolding mapFits
+map-short g s m a b =
+    map-refused g s m 8 (map-room g (length s) (length m) false a (and-false-right (leb 512 (length s)) (lt-leb (g .input .states) (length m) b)) refl)
+
+pub map-done : (g : Game) (s s′ m m′ : List ℕ) → acceptance g ≡ Accepted → 512 ≤ length s → g .input .states ≤ length m → s′ ≡ cleared s
+    → m′ ≡ tabulate (g .input .states) (mapRow g) ++ drop (g .input .states) m → MapMade g s s′ m m′ Done
+unfolding mapAfter mapScratch mapFits
+map-done g s s′ m m′ a b c e f = record {
+  answer = map-room g (length s) (length m) true a (and-intro (le-leb 512 (length s) b) (le-leb (g .input .states) (length m) c)) refl;
+  map = f;
+  scratch = e;
+  won = λ q i o li lo. marks i o li lo
+}
+  where
+    bit : (i o : ℕ) → i < g .input .states → o < g .output .states → has (getD m′ i 0) o ≡ region (separatedOf g) i o
+    bit i o li lo =
+        ap (λ (x : List ℕ). has (getD x i 0) o) f ∙ ap (λ (x : ℕ). has x o) (front-at (mapRow g) m (g .input .states) i 0 li) ∙ row-bit g i o lo
+    marks : (i o : ℕ) → i < g .input .states → o < g .output .states → (has (getD m′ i 0) o ≡ true) ↔ Won (playOf g) i o
+    marks i o li lo =
+        let d = demand-two g .marks i o li lo in
+        (λ h. d .0 (sym (bit i o li lo) ∙ h), λ w. bit i o li lo ∙ d .1 w)

@@ -1,0 +1,68 @@
+-- What is read from scratch, and the verdict.
+use Prim.Native.Nat.{ℕ, _+_, _≤_, _<_}
+use mathlib.Core.Path.{_≡_, refl, sym, _∙_, ap, ap₂}
+use mathlib.Core.Bool.{Bool, true, false, _&&_, _||_, not}
+use mathlib.Core.List.{List, _++_}
+use native.Mathlib.Omega.{arith}
+use lib.Dec.{ltb}
+use lib.ListN.{length, drop, set}
+use Rattle.finite.specs.Tabulate.{tabulate}
+use Rattle.closure.proofs.Front.{front-none, front-length, front-next}
+use borrow.Author.Tests.{lt-ltb}
+use Rattle.finite.specs.Bounded.{all, any}
+use Rattle.finite.proofs.Bounded.{all-same, any-same, any-intro}
+use Rattle.finite.proofs.Loops.{any-end, all-end, all-stop}
+use Rattle.sets.specs.Member.{has, pack}
+use Rattle.sets.proofs.Membership.{pack-ext}
+use Rattle.graphs.specs.Graph.{begins}
+use Rattle.game.specs.declared.Game.{Game}
+use Rattle.play.specs.Play.{graphOf, separatedOf}
+use Rattle.theory.specs.Region.{region, opens, verdict}
+use Rattle.stored.specs.Stored.{wonAt}
+use Rattle.stored.proofs.Read.{won-region}
+use Rattle.map.specs.Map.{cleared}
+use Rattle.map.specs.Read.{Reading, mapRow}
+
+module _ {g : Game} {l : List ℕ} {cores : ℕ} (R : Reading g l cores) where
+  pub reading-won : (i o : ℕ) → i < g .input .states → o < g .output .states → {r : Bool} → r ≡ wonAt l (g .input .states) cores i o → r ≡ region (separatedOf g) i o
+  reading-won i o a b e =
+      e ∙ won-region g l cores i o (R .fits .output .most) a b (R .inner) (R .ready .rows i a) (R .ready .laid .outputs o b)
+
+  pub reading-long : (o : ℕ) → o < g .output .states → g .input .states + g .input .states + o < length l
+  reading-long o b = omega (arith, R .ready .laid .long)
+
+pub map-row-read : {g : Game} {l : List ℕ} {cores : ℕ} → Reading g l cores → (i : ℕ) → i < g .input .states → {c : ℕ}
+    → c ≡ pack (g .output .states) (wonAt l (g .input .states) cores i) → c ≡ mapRow g i
+unfolding mapRow
+map-row-read {g} {l} {cores} R i a e =
+    e ∙ pack-ext (g .output .states) (wonAt l (g .input .states) cores i) (region (separatedOf g) i) (λ o b. reading-won R i o a b refl)
+
+-- a buffer filled from the front
+pub filled-length : (f : ℕ → ℕ) (d l : List ℕ) (i : ℕ) → i ≤ length d → l ≡ tabulate i f ++ drop i d → length l ≡ length d
+filled-length f d l i b e = ap length e ∙ front-length f d i b
+
+pub filled-more : (f : ℕ → ℕ) (d l : List ℕ) (i v : ℕ) → i < length d → l ≡ tabulate i f ++ drop i d → v ≡ f i → set l i v ≡ tabulate (i + 1) f ++ drop (i + 1) d
+filled-more f d l i v b e h = ap (λ (x : List ℕ). set x i v) e ∙ front-next f d i v b h
+
+pub filled-end : (f : ℕ → ℕ) (d l : List ℕ) (i n : ℕ) → i ≤ n → n ≤ i → l ≡ tabulate i f ++ drop i d → l ≡ tabulate n f ++ drop n d
+filled-end f d l i n a b e = let q : i ≡ n = omega arith in e ∙ ap (λ (k : ℕ). tabulate k f ++ drop k d) q
+
+-- the first 512 words
+pub Zeroed : List ℕ → List ℕ → ℕ → Type 0
+Zeroed d l i = l ≡ tabulate i (λ k. 0) ++ drop i d
+
+pub zeroed-none : (d : List ℕ) → Zeroed d d 0
+unfolding Zeroed
+zeroed-none d = front-none (λ k. 0) d
+
+pub zeroed-length : (l d : List ℕ) (i : ℕ) → i ≤ length d → Zeroed d l i → length l ≡ length d
+unfolding Zeroed
+zeroed-length l d i b e = filled-length (λ k. 0) d l i b e
+
+pub zeroed-more : (l d : List ℕ) (i : ℕ) → i < length d → Zeroed d l i → Zeroed d (set l i 0) (i + 1)
+unfolding Zeroed
+zeroed-more l d i b e = filled-more (λ k. 0) d l i 0 b e refl
+
+pub zeroed-end : (l d : List ℕ) (i : ℕ) → i ≤ 512 → 512 ≤ i → Zeroed d l i → l ≡ cleared d
+unfolding Zeroed cleared
+zeroed-end l d i a b e = filled-end (λ k. 0) d l i 512 a b e

@@ -1,0 +1,44 @@
+-- `make_map`.
+use native.Mathlib.Omega.{arith}
+use Rattle.map.proofs.Made.{reading-made, cleared-kept}
+use mathlib.Core.Path.{_≡_, refl, sym, _∙_, ap}
+use borrow.Author.Needs.{needs}
+use Rattle.map.proofs.make_map.Statement.{statement}
+use Rattle.map.proofs.make_map.Tie as tie
+
+prepare-requires : tie.Need-prepare-requires
+prepare-requires c κs = search needs
+
+cores-requires : tie.Need-cores-requires
+cores-requires c κs = search needs
+
+fill-map-requires : tie.Need-fill-map-requires
+fill-map-requires c κs =
+    let p = c .before .before .before .before .before .before .before .before .before .before .pre in
+    (reading-made _ (p .0) _ _ (c .before .before .before .before .before .before .prepare .ensures) (c .before .before .cores .ensures), p .2)
+
+clear-requires : tie.Need-clear-requires
+clear-requires c κs = search needs
+
+same-length : tie.Need-same-length
+same-length c = search needs
+
+same-length-2 : tie.Need-same-length-2
+same-length-2 c = search needs
+
+returns : tie.Need-returns
+returns c =
+    let p = c .before .before .before .before .before .before .before .before .before .before .before .before .before .before .before .before .before .pre in
+    (c .before .before .clear .ensures ∙ cleared-kept _ (p .0) _ _ (c .before .before .before .before .before .before .before .before .before .before .before .before .before .prepare .ensures .kept), c .before .before .before .before .before .before .fill-map .ensures)
+
+pub make-map-spec : {M : Type 1} → statement M
+make-map-spec =
+    tie.close
+    (tie.spec
+    prepare-requires
+    cores-requires
+    fill-map-requires
+    clear-requires
+    same-length
+    same-length-2
+    returns)

@@ -1,0 +1,32 @@
+-- `map_accepted`.
+use native.Mathlib.Omega.{arith}
+use Rattle.game.proofs.Laws.{accepted-fits}
+use Rattle.map.proofs.Made.{map-scratch-short, map-short, map-done}
+use mathlib.Core.Path.{_≡_, refl, sym, _∙_, ap}
+use borrow.Author.Needs.{needs}
+use Rattle.map.proofs.map_accepted.Statement.{statement}
+use Rattle.map.proofs.map_accepted.Tie as tie
+
+returns : tie.Need-returns
+returns c = map-scratch-short _ _ _ (c .before .before .before .pre) (c .if1 .taken)
+
+returns-2 : tie.Need-returns-2
+returns-2 c = map-short _ _ _ (c .before .before .before .before .before .pre) (c .if2 .taken)
+
+make-map-requires : tie.Need-make-map-requires
+make-map-requires c κs = (accepted-fits _ (c .before .before .before .before .before .before .before .pre), omega arith, omega arith)
+
+same-length : tie.Need-same-length
+same-length c = search needs
+
+same-length-2 : tie.Need-same-length-2
+same-length-2 c = search needs
+
+returns-3 : tie.Need-returns-3
+returns-3 c =
+    let b = c .before .before .before .before in
+    map-done _ _ _ _ _ (c .before .before .before .before .before .before .before .before .before .before .before .before .pre) (omega arith) (omega arith) (b .make-map .ensures .0) (b .make-map .ensures .1)
+
+pub map-accepted-spec : {M : Type 1} → statement M
+map-accepted-spec =
+    tie.close (tie.spec returns returns-2 make-map-requires same-length same-length-2 returns-3)

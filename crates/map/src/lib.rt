@@ -1,0 +1,98 @@
+// The winning region as a map: one set of outputs for each input.
+ghost use mathlib.Core.Path.{_≡_};
+ghost use mathlib.Core.List.{_++_};
+ghost use Prim.Native.Nat.{_≤_, _<_};
+ghost use lib.ListN.{length, drop};
+ghost use Rattle.finite.specs.Tabulate.{tabulate};
+ghost use Rattle.game.specs.declared.Acceptance.the-variants.{Accepted};
+ghost use Rattle.game.specs.Acceptance.{acceptance};
+ghost use Rattle.game.proofs.Laws.{Fits};
+ghost use Rattle.map.specs.Read.{Reading, mapRow};
+ghost use Rattle.map.specs.Map.{cleared, MapMade};
+
+use game::Acceptance;
+use game::Game;
+
+// Sets the first 512 words to zero.
+pub fn clear(s: &mut [u64])
+    requires { ⌜ 512 ≤ length (now s) ⌝ }
+    ensures { λ _. ⌜ now (s .exit) ≡ cleared (now (s .entry)) ⌝ }
+{
+    let mut i: usize = 0;
+    while i < 512 {
+        s[i] = 0;
+        i += 1;
+    }
+}
+
+// The outputs that are won with input i.
+fn map_row(g: Game, s: &[u64], cores: u64, i: usize) -> u64
+    requires { ⌜ Reading g (now s) cores × (i < g .input .states) ⌝ }
+    ensures { λ r. ⌜ r ≡ mapRow g i ⌝ }
+{
+    let n = g.input.states;
+    let m = g.output.states;
+    let mut c: u64 = 0;
+    let mut o: usize = 0;
+    while o < m {
+        c = sets::insert_if(c, o, stored::won(s, n, cores, i, o));
+        o += 1;
+    }
+    c
+}
+
+// Writes the map.
+fn fill_map(g: Game, s: &[u64], cores: u64, map: &mut [u64])
+    requires { ⌜ Reading g (now s) cores × (g .input .states ≤ length (now map)) ⌝ }
+    ensures { λ _. ⌜ now (map .exit) ≡ tabulate (g .input .states) (mapRow g) ++ drop (g .input .states) (now (map .entry)) ⌝ }
+{
+    let mut i: usize = 0;
+    while i < g.input.states {
+        map[i] = map_row(g, s, cores, i);
+        i += 1;
+    }
+}
+
+// Writes the map of an accepted game and clears scratch.
+fn make_map(g: Game, scratch: &mut [u64], map: &mut [u64])
+    requires { ⌜ Fits g × (512 ≤ length (now scratch)) × (g .input .states ≤ length (now map)) ⌝ }
+    ensures { λ _. ⌜ (now (scratch .exit) ≡ cleared (now (scratch .entry)))
+        × (now (map .exit) ≡ tabulate (g .input .states) (mapRow g) ++ drop (g .input .states) (now (map .entry))) ⌝ }
+{
+    region::prepare(g, scratch);
+    let cores = components::cores(g.input, scratch);
+    fill_map(g, scratch, cores, map);
+    clear(scratch);
+}
+
+// The answer of the map's call.
+pub enum Mapped {
+    Done,
+    Refused(u8),
+}
+
+// The map of an accepted game, where the buffers are long enough.
+fn map_accepted(g: Game, scratch: &mut [u64], map: &mut [u64]) -> Mapped
+    requires { ⌜ acceptance g ≡ Accepted ⌝ }
+    ensures { λ r. ⌜ MapMade g (now (scratch .entry)) (now (scratch .exit)) (now (map .entry)) (now (map .exit)) r ⌝ }
+{
+    if scratch.len() < 512 {
+        return Mapped::Refused(8);
+    }
+    if map.len() < g.input.states {
+        return Mapped::Refused(8);
+    }
+    make_map(g, scratch, map);
+    Mapped::Done
+}
+
+// Marks the won positions: one set of outputs for each input.
+pub fn won_map(g: Game, scratch: &mut [u64], map: &mut [u64]) -> Mapped
+    ensures { λ r. ⌜ MapMade g (now (scratch .entry)) (now (scratch .exit)) (now (map .entry)) (now (map .exit)) r ⌝ }
+{
+    let accepted = game::accept(g);
+    match accepted {
+        Acceptance::Refused(n) => Mapped::Refused(n),
+        Acceptance::Accepted => map_accepted(g, scratch, map),
+    }
+}

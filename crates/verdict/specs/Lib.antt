@@ -1,0 +1,2 @@
+-- Whether the system can begin.
+pub mod Opens
