@@ -1,2 +1,4 @@
+pub mod Examples
+pub mod Fits
 pub mod Lines
 pub mod Print

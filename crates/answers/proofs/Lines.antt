@@ -1,6 +1,7 @@
 -- The pieces of an answer's lines, and their lengths.
 use Prim.Native.Nat.{ℕ, zero, suc, _+_, _*_, _/_, _%_, _^_, _≤_, _<_, max}
 use native.Mathlib.Omega.{arith}
+use native.Mathlib.Nat.{div-le-self, mod-le, le-trans, lt-of-le-of-lt}
 use mathlib.Core.Bool.{Bool, true, false}
 use mathlib.Core.List.{List, [], _∷_, _++_, append-assoc, append-nil}
 use mathlib.Core.Path.{_≡_, refl, sym, _∙_, ap, subst}
@@ -15,6 +16,7 @@ use Rattle.shape.specs.Shape.{opening}
 use Rattle.shape.proofs.Opening.{opening-length}
 use Rattle.shape.proofs.WordTable.{word-short}
 use Rattle.put.specs.Put.{overlay, Puts}
+use Rattle.put.proofs.Buffer.{puts-as}
 use Rattle.answers.specs.Print.{none, unlessNone, winnerWord, winsLine, startLine, environmentStart, rowLine, stepLine, refusedLine, misshapenLine}
 
 -- a number of 64 bits has at most 20 digits
@@ -40,28 +42,48 @@ pub opening-short : (w : ℕ) → length (opening w) ≤ 13
 opening-short w = omega (arith, opening-length w, word-short w)
 
 -- rows of none
-pub none-line : (d : List ℕ) (e : ℕ) (t : List ℕ) → e ≡ 65535 → Puts d 0 (unlessNone e t) 0 d
-unfolding unlessNone overlay
-none-line d e t h =
+pub puts-nothing : (d : List ℕ) (at : ℕ) → Puts d at [] at d
+unfolding overlay
+puts-nothing d at = record { next = omega arith; kept = refl }
+
+pub none-line : (d : List ℕ) (at e : ℕ) (t : List ℕ) → e ≡ 65535 → Puts d at (unlessNone e t) at d
+unfolding unlessNone
+none-line d at e t h =
     let empty : unlessNone e t ≡ [] = rw (eq-eqb e 65535 h, unlessNone) in
-    subst (λ (x : List ℕ). Puts d 0 x 0 d) (sym empty) (record { next = refl; kept = refl })
+    puts-as (sym empty) (puts-nothing d at)
 
 pub some-line : (e : ℕ) (t : List ℕ) → (e ≡ 65535 → ⊥) → t ≡ unlessNone e t
 unfolding unlessNone
 some-line e t h = sym (rw (ne-eqb e 65535 h, unlessNone))
+
+unless-short : (e n : ℕ) (t : List ℕ) → length t ≤ n → length (unlessNone e t) ≤ n
+unfolding unlessNone
+unless-short e n t h =
+    by-cases (eqb e 65535)
+    (λ b. let empty : unlessNone e t ≡ [] = rw (b, unlessNone) in omega (arith, ap length empty))
+    (λ b. let whole : unlessNone e t ≡ t = rw (b, unlessNone) in omega (arith, ap length whole))
 
 -- the lines
 pub wins-pieces : (b : Bool) → opening 4 ++ (word (winnerWord b) ++ 41 ∷ 10 ∷ []) ≡ winsLine b
 unfolding winsLine line bracket items gapText opening
 wins-pieces b = simp (append-assoc, append-nil)
 
+start-text : (i e : ℕ)
+    → opening 5 ++ ((decimal i ++ 32 ∷ []) ++ ((decimal (e % 64) ++ 41 ∷ []) ++ 10 ∷ [])) ≡ line (word 5 ∷ decimal i ∷ decimal (e % 64) ∷ [])
+unfolding line bracket items gapText opening
+start-text i e = simp (append-assoc, append-nil)
+
 pub start-pieces : (i e : ℕ) → (e ≡ 65535 → ⊥) → opening 5 ++ ((decimal i ++ 32 ∷ []) ++ ((decimal (e % 64) ++ 41 ∷ []) ++ 10 ∷ [])) ≡ startLine i e
-unfolding startLine line bracket items gapText opening
-start-pieces i e h = simp (append-assoc, append-nil) (some-line e _ h)
+unfolding startLine
+start-pieces i e h = start-text i e ∙ some-line e _ h
+
+environment-text : (e : ℕ) → opening 5 ++ ((decimal (e % 64) ++ 41 ∷ []) ++ 10 ∷ []) ≡ line (word 5 ∷ decimal (e % 64) ∷ [])
+unfolding line bracket items gapText opening
+environment-text e = simp (append-assoc, append-nil)
 
 pub environment-pieces : (e : ℕ) → (e ≡ 65535 → ⊥) → opening 5 ++ ((decimal (e % 64) ++ 41 ∷ []) ++ 10 ∷ []) ≡ environmentStart e
-unfolding environmentStart line bracket items gapText opening
-environment-pieces e h = simp (append-assoc, append-nil) (some-line e _ h)
+unfolding environmentStart
+environment-pieces e h = environment-text e ∙ some-line e _ h
 
 pub row-pieces : (a g b e : ℕ)
     → opening 6
@@ -87,3 +109,57 @@ pub winner-word : (b : Bool) (w : ℕ) → w ≡ winnerWord b → (w < 10) × (o
 unfolding winnerWord
 winner-word true w h = (omega arith, ap (λ (v : ℕ). opening 4 ++ (word v ++ 41 ∷ 10 ∷ [])) h ∙ wins-pieces true)
 winner-word false w h = (omega arith, ap (λ (v : ℕ). opening 4 ++ (word v ++ 41 ∷ 10 ∷ [])) h ∙ wins-pieces false)
+
+-- no line is longer than 160 bytes
+record Short (t : List ℕ) (n : ℕ) : Type 0 where
+  size : length t ≤ n
+
+then-short : {t u : List ℕ} {m n : ℕ} → Short t m → Short u n → Short (t ++ u) (m + n)
+then-short {t} {u} T U = let a = T .size in let b = U .size in record { size = omega (arith, length-append t u) }
+
+opened : (w : ℕ) → Short (opening w) 13
+opened w = record { size = opening-short w }
+
+number : (v b : ℕ) → v < 18446744073709551616 → Short (decimal v ++ b ∷ []) 21
+number v b h = record { size = number-short v b h }
+
+ended : Short (10 ∷ []) 1
+ended = record { size = omega arith }
+
+pub wins-short : (b : Bool) → length (winsLine b) ≤ 160
+wins-short b =
+    omega (
+      arith,
+      ap length (wins-pieces b),
+      length-append (opening 4) (word (winnerWord b) ++ 41 ∷ 10 ∷ []),
+      length-append (word (winnerWord b)) (41 ∷ 10 ∷ []),
+      opening-short 4,
+      word-short (winnerWord b),
+    )
+
+pub start-short : (i e : ℕ) → i < 18446744073709551616 → length (startLine i e) ≤ 160
+unfolding startLine
+start-short i e h =
+    let all = then-short (opened 5) (then-short (number i 32 h) (then-short (number (e % 64) 41 (omega arith)) ended)) .size in
+    unless-short e 160 _ (omega (arith, all, ap length (start-text i e)))
+
+pub environment-short : (e : ℕ) → length (environmentStart e) ≤ 160
+unfolding environmentStart
+environment-short e =
+    let all = then-short (opened 5) (then-short (number (e % 64) 41 (omega arith)) ended) .size in
+    unless-short e 160 _ (omega (arith, all, ap length (environment-text e)))
+
+row-short : (a g b e : ℕ) → a < 18446744073709551616 → g < 18446744073709551616 → b < 18446744073709551616 → e < 65536 → length (rowLine a g b e) ≤ 160
+row-short a g b e p q s h =
+    let next = then-short (number (e % 64) 32 (omega arith)) (then-short (number (e / 64) 41 (omega arith)) ended) in
+    let all = then-short (opened 6) (then-short (number a 32 p) (then-short (number g 32 q) (then-short (number b 32 s) next))) .size in
+    omega (arith, all, ap length (row-pieces a g b e))
+
+pub step-short : (c n r e : ℕ) → r < 18446744073709551616 → e < 65536 → length (stepLine c n r e) ≤ 160
+unfolding stepLine
+step-short c n r e h l =
+    let q : r / max 1 n ≤ r = div-le-self r (max 1 n) in
+    let a : r / max 1 n / max 1 c ≤ r / max 1 n = div-le-self (r / max 1 n) (max 1 c) in
+    let g : r / max 1 n % max 1 c ≤ r / max 1 n = mod-le (r / max 1 n) (max 1 c) in
+    let b : r % max 1 n ≤ r = mod-le r (max 1 n) in
+    unless-short e 160 _ (row-short _ _ _ e (lt-of-le-of-lt (le-trans a q) h) (lt-of-le-of-lt (le-trans g q) h) (lt-of-le-of-lt b h) l)

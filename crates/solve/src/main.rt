@@ -10,112 +10,38 @@ use libc::STDOUT_FILENO;
 use solver::Verdict;
 use text::Answer;
 
-// The first n bytes of a line.
-fn print(line: &[u8], n: usize) {
-    if n <= line.len() {
-        io::write_all(STDOUT_FILENO, &line[..n]);
+// The first n bytes.
+fn print(text: &[u8], n: usize) {
+    if n <= text.len() {
+        io::write_all(STDOUT_FILENO, &text[..n]);
     }
 }
 
-fn print_start(input: usize, entry: u16) {
-    let mut line = [0u8; 160];
-    let k = answers::put_start(&mut line, input, entry);
-    print(&line, k);
+// The first n bytes of the buffer.
+fn print_front(buffer: &[u8; 1048576], n: usize) {
+    print(buffer, n);
 }
 
-fn print_environment_start(entry: u16) {
-    let mut line = [0u8; 160];
-    let k = answers::put_environment_start(&mut line, entry);
-    print(&line, k);
-}
-
-fn print_step(sets: usize, last: usize, row: usize, entry: u16) {
-    let mut line = [0u8; 160];
-    let k = answers::put_step(&mut line, sets, last, row, entry);
-    print(&line, k);
-}
-
-// One line for each start that is not none.
-fn print_starts(starts: &[u16]) {
-    let n = starts.len();
-    let mut i: usize = 0;
-    while i < n {
-        print_start(i, starts[i]);
-        i += 1;
-    }
-}
-
-// One line for each row that is not none.
-fn print_steps(rows: &[u16], sets: usize, last: usize) {
-    let n = rows.len();
-    let mut k: usize = 0;
-    while k < n {
-        print_step(sets, last, k, rows[k]);
-        k += 1;
-    }
-}
-
-// The controller's table: a start for each input, then the rows.
-fn print_controller(g: Game, table: &[u16])
+// The print of the controller's table, the first n entries of its room.
+fn put_system(buffer: &mut [u8], g: Game, controller: &[u16], n: usize) -> usize
     requires { ⌜ acceptance g ≡ Accepted ⌝ }
 {
-    let n = g.input.states;
-    if table.len() < n {
-        return;
+    if controller.len() < n {
+        return 0;
     }
     let sets = sizes::guarantee_count(g);
-    print_starts(&table[..n]);
-    print_steps(&table[n..], sets, n);
+    answers::put_controller(buffer, g.input.states, g.output.states, sets, &controller[..n])
 }
 
-// The environment's table: its start, then the rows.
-fn print_environment(g: Game, table: &[u16])
+// The print of the panel's table, the first n entries of its room.
+fn put_panel(buffer: &mut [u8], g: Game, panel: &[u16], n: usize) -> usize
     requires { ⌜ acceptance g ≡ Accepted ⌝ }
 {
-    if table.len() < 1 {
-        return;
+    if panel.len() < n {
+        return 0;
     }
     let sets = sizes::assumption_count(g);
-    print_environment_start(table[0]);
-    print_steps(&table[1..], sets, g.output.states);
-}
-
-fn print_refused(n: u8) {
-    let mut line = [0u8; 160];
-    let k = answers::put_refused(&mut line, n);
-    print(&line, k);
-}
-
-fn print_misshapen(p: usize) {
-    let mut line = [0u8; 160];
-    let k = answers::put_misshapen(&mut line, p);
-    print(&line, k);
-}
-
-fn print_wins(system: bool) {
-    let mut line = [0u8; 160];
-    let k = answers::put_wins(&mut line, system);
-    print(&line, k);
-}
-
-// The front of the controller's room, of n entries.
-fn system_wins(g: Game, controller: &[u16], n: usize)
-    requires { ⌜ acceptance g ≡ Accepted ⌝ }
-{
-    print_wins(true);
-    if n <= controller.len() {
-        print_controller(g, &controller[..n]);
-    }
-}
-
-// The front of the panel's room, of n entries.
-fn environment_wins(g: Game, panel: &[u16], n: usize)
-    requires { ⌜ acceptance g ≡ Accepted ⌝ }
-{
-    print_wins(false);
-    if n <= panel.len() {
-        print_environment(g, &panel[..n]);
-    }
+    answers::put_environment(buffer, g.input.states, g.output.states, sets, &panel[..n])
 }
 
 // A room, made by a function of its own so that no proof looks into 32,768 zeros.
@@ -125,8 +51,13 @@ fn empty_room() -> [u16; 32768]
     [0; 32768]
 }
 
-// The answer to an accepted game.
-fn solve(g: Game)
+// A buffer for the print of 32,768 entries: a line has at most 22 bytes.
+fn empty_print() -> [u8; 1048576] {
+    [0; 1048576]
+}
+
+// The print for an accepted game.
+fn solve(buffer: &mut [u8], g: Game) -> usize
     requires { ⌜ acceptance g ≡ Accepted ⌝ }
 {
     let mut scratch = [0u64; 512];
@@ -134,30 +65,32 @@ fn solve(g: Game)
     let mut panel = empty_room();
     let v = solver::solve_into(g, &mut scratch, &mut controller, &mut panel);
     match v {
-        Verdict::System(n) => system_wins(g, &controller, n),
-        Verdict::Environment(n) => environment_wins(g, &panel, n),
-        Verdict::Refused(n) => print_refused(n),
+        Verdict::System(n) => put_system(buffer, g, &controller, n),
+        Verdict::Environment(n) => put_panel(buffer, g, &panel, n),
+        Verdict::Refused(n) => answers::put_refused(buffer, n),
     }
 }
 
-// The answer to a file.
-fn answer(file: &[u8]) {
+// The print for a file.
+fn answer(buffer: &mut [u8; 1048576], file: &[u8]) -> usize {
     let r = text::read(file);
     let a = r.answer;
     match a {
-        Answer::Misshapen(p) => print_misshapen(p),
-        Answer::Refused(n) => print_refused(n),
+        Answer::Misshapen(p) => answers::put_misshapen(buffer, p),
+        Answer::Refused(n) => answers::put_refused(buffer, n),
         Answer::Read => {
             let g = r.game;
-            solve(g);
+            solve(buffer, g)
         }
     }
 }
 
-// The answer to the first n bytes.
+// Prints the answer to the first n bytes.
 fn show(file: &[u8], n: usize) {
     if n <= file.len() {
-        answer(&file[..n]);
+        let mut buffer = empty_print();
+        let k = answer(&mut buffer, &file[..n]);
+        print_front(&buffer, k);
     }
 }
 

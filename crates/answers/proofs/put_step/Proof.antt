@@ -8,7 +8,7 @@ use Rattle.answers.proofs.put_step.Tie as tie
 
 returns : tie.Need-returns
 unfolding stepLine
-returns c = none-line _ _ _ (c .if1 .taken)
+returns c = none-line _ _ _ _ (c .if1 .taken)
 
 at-least-one-requires : tie.Need-at-least-one-requires
 at-least-one-requires c κs = search needs

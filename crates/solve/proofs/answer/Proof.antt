@@ -1,8 +1,6 @@
 -- `answer`.
-use native.Mathlib.Omega.{arith}
-use mathlib.Core.Path.{_≡_, refl, sym, _∙_, ap}
-use borrow.Author.Needs.{needs}
 use Rattle.text.proofs.OneText.{written-read}
+use borrow.Author.Needs.{needs}
 use Rattle.solve.proofs.answer.Statement.{statement}
 use Rattle.solve.proofs.answer.Tie as tie
 
@@ -12,20 +10,20 @@ read-requires c κs = search needs
 enum-known-a : tie.Need-enum-known-a
 enum-known-a c = search needs
 
-print-misshapen-requires : tie.Need-print-misshapen-requires
-print-misshapen-requires c κs = search needs
+put-misshapen-requires : tie.Need-put-misshapen-requires
+put-misshapen-requires c κs = search needs
 
 enum-known-a-2 : tie.Need-enum-known-a-2
 enum-known-a-2 c = search needs
 
-print-refused-requires : tie.Need-print-refused-requires
-print-refused-requires c κs = search needs
+put-refused-requires : tie.Need-put-refused-requires
+put-refused-requires c κs = search needs
 
 enum-told : tie.Need-enum-told
 enum-told c = search needs
 
 solve-requires : tie.Need-solve-requires
-solve-requires c κs = written-read _ _ (c .before .before .before .read .ensures) (c .before .enum-told .given .1) .accepted
+solve-requires c κs = written-read _ _ (c .before .before .before .before .read .ensures) (c .before .before .enum-told .given .1) .accepted
 
 returns : tie.Need-returns
 returns c = search needs
@@ -42,9 +40,9 @@ answer-spec =
     (tie.spec
     read-requires
     enum-known-a
-    print-misshapen-requires
+    put-misshapen-requires
     enum-known-a-2
-    print-refused-requires
+    put-refused-requires
     enum-told
     solve-requires
     returns

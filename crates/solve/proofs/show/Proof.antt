@@ -1,15 +1,21 @@
--- `show` meets its contract.
+-- `show`.
 use mathlib.Core.Path.{sym}
 use lib.Seq.{length-take-le}
 use borrow.Author.Needs.{needs}
 use Rattle.solve.proofs.show.Statement.{statement}
 use Rattle.solve.proofs.show.Tie as tie
 
+empty-print-requires : tie.Need-empty-print-requires
+empty-print-requires c κs = search needs
+
 slice-aggregate-answer : tie.Need-slice-aggregate-answer
-slice-aggregate-answer c = sym (length-take-le (c .before .before .before .args .n) (c .before .before .before .args .file .now) (c .before .if1 .taken))
+slice-aggregate-answer c = sym (length-take-le (c .before .before .before .before .before .args .n) (c .before .before .before .before .before .args .file .now) (c .before .before .before .if1 .taken))
 
 answer-requires : tie.Need-answer-requires
 answer-requires c κs = search needs
+
+print-front-requires : tie.Need-print-front-requires
+print-front-requires c κs = search needs
 
 returns : tie.Need-returns
 returns c = search needs
@@ -18,4 +24,12 @@ returns-2 : tie.Need-returns-2
 returns-2 c = search needs
 
 pub show-spec : {M : Type 1} → statement M
-show-spec = tie.close (tie.spec slice-aggregate-answer answer-requires returns returns-2)
+show-spec =
+    tie.close
+    (tie.spec
+    empty-print-requires
+    slice-aggregate-answer
+    answer-requires
+    print-front-requires
+    returns
+    returns-2)

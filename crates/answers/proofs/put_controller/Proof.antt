@@ -1,0 +1,47 @@
+-- `put_controller` meets its contract.
+use native.Mathlib.Omega.{arith}
+use mathlib.Core.Bool.{true}
+use Rattle.finite.proofs.Loops.{failed, passed}
+use Rattle.answers.proofs.Lines.{wins-short}
+use Rattle.answers.proofs.Print.{starts-short}
+use Rattle.answers.proofs.Fits.{controller-entries, controller-nothing, controller-whole}
+use borrow.Author.Needs.{needs}
+use Rattle.answers.proofs.put_controller.Statement.{statement}
+use Rattle.answers.proofs.put_controller.Tie as tie
+
+controller-fits-requires : tie.Need-controller-fits-requires
+controller-fits-requires c κs = search needs
+
+returns : tie.Need-returns
+returns c = controller-nothing _ _ _ _ (failed (c .before .controller-fits .ensures) (c .if1 .taken))
+
+put-wins-requires : tie.Need-put-wins-requires
+put-wins-requires c κs = search needs
+
+put-starts-requires : tie.Need-put-starts-requires
+put-starts-requires c κs =
+    let l = controller-entries _ _ _ _ (passed (c .before .before .before .before .before .before .controller-fits .ensures) (c .before .before .before .before .before .if1 .left)) in
+    (omega (arith, c .before .before .before .put-wins .ensures .next, wins-short true), l .0, omega (arith, l))
+
+put-steps-requires : tie.Need-put-steps-requires
+put-steps-requires c κs =
+    let l = controller-entries _ _ _ _ (passed (c .before .before .before .before .before .before .before .before .before .before .controller-fits .ensures) (c .before .before .before .before .before .before .before .before .before .if1 .left)) in
+    (omega (arith, l, c .before .before .before .put-starts .ensures .next, c .before .before .before .before .before .before .before .put-wins .ensures .next, wins-short true, starts-short (c .before .before .before .before .before .before .before .before .before .before .before .before .before .args .inputs) 0 (c .before .before .before .before .before .before .before .before .before .before .before .before .before .args .table .now) (omega (arith, l))), omega (arith, l), l .2)
+
+same-length : tie.Need-same-length
+same-length c = search needs
+
+returns-2 : tie.Need-returns-2
+returns-2 c = controller-whole _ _ _ _ (passed (c .before .before .before .before .before .before .before .before .before .before .before .before .before .controller-fits .ensures) (c .before .before .before .before .before .before .before .before .before .before .before .before .if1 .left)) (c .before .before .before .before .before .before .before .before .before .before .put-wins .ensures) (c .before .before .before .before .before .before .put-starts .ensures) (c .before .before .put-steps .ensures)
+
+pub put-controller-spec : {M : Type 1} → statement M
+put-controller-spec =
+    tie.close
+    (tie.spec
+    controller-fits-requires
+    returns
+    put-wins-requires
+    put-starts-requires
+    put-steps-requires
+    same-length
+    returns-2)
