@@ -9,6 +9,9 @@ ghost use Rattle.put.specs.Put.{Puts};
 ghost use Rattle.answers.specs.Print.{winnerWord, winsLine, startLine, environmentStart, rowLine, stepLine, refusedLine, misshapenLine};
 ghost use Rattle.answers.specs.Print.{startLines, stepLines, inRange, controllerFits, environmentFits, controllerAnswer, environmentAnswer};
 
+// The entry of a row of none.
+const NONE: u16 = 65535;
+
 // The letters of the word w.
 fn put_word(buffer: &mut [u8], at: usize, w: usize) -> usize
     requires { ⌜ (w < 10) × (at + length (word w) ≤ 2 ^ 32) ⌝ }
@@ -50,7 +53,7 @@ fn put_start(buffer: &mut [u8], at: usize, input: usize, entry: u16) -> usize
     requires { ⌜ at + 160 ≤ 2 ^ 32 ⌝ }
     ensures { λ r. ⌜ Puts (now (buffer .entry)) at (startLine input entry) r (now (buffer .exit)) ⌝ }
 {
-    if entry == 65535 {
+    if entry == NONE {
         return at;
     }
     let e = entry as usize;
@@ -65,7 +68,7 @@ fn put_environment_start(buffer: &mut [u8], at: usize, entry: u16) -> usize
     requires { ⌜ at + 160 ≤ 2 ^ 32 ⌝ }
     ensures { λ r. ⌜ Puts (now (buffer .entry)) at (environmentStart entry) r (now (buffer .exit)) ⌝ }
 {
-    if entry == 65535 {
+    if entry == NONE {
         return at;
     }
     let e = entry as usize;
@@ -104,7 +107,7 @@ fn put_step(buffer: &mut [u8], at: usize, sets: usize, last: usize, row: usize, 
     requires { ⌜ at + 160 ≤ 2 ^ 32 ⌝ }
     ensures { λ r. ⌜ Puts (now (buffer .entry)) at (stepLine sets last row entry) r (now (buffer .exit)) ⌝ }
 {
-    if entry == 65535 {
+    if entry == NONE {
         return at;
     }
     let n = at_least_one(last);
