@@ -10,18 +10,23 @@ mod requirements; // the tests on one requirement
 mod tests; // the tests on a game, one for each refusal code
 
 // The number of an input state.
+#[repr(C)]
 pub struct InState(pub usize);
 
 // The number of an output state.
+#[repr(C)]
 pub struct OutState(pub usize);
 
 // A set of input states.
+#[repr(C)]
 pub struct InSet(pub u64);
 
 // A set of output states.
+#[repr(C)]
 pub struct OutSet(pub u64);
 
 // Row s of `moves` is the set of the states that state s moves to.
+#[repr(C)]
 pub struct Graph {
     pub states: usize,
     pub initial: u64,
@@ -29,6 +34,7 @@ pub struct Graph {
 }
 
 // If every assumption is visited, every guarantee is. Of the four places each, `assumed` and `guaranteed` are in use.
+#[repr(C)]
 pub struct Requirement {
     pub assumptions: [InSet; 4],
     pub assumed: usize,
@@ -37,6 +43,7 @@ pub struct Requirement {
 }
 
 // Of the eight places for requirements k are in use.
+#[repr(C)]
 pub struct Game {
     pub input: Graph,
     pub output: Graph,

@@ -20,6 +20,7 @@ ghost use Rattle.player.specs.Player.{arrives, hasPosition, begun, stepp
 pub mod rows; // the entries of a table
 
 // Input, output and counter after the controller's answer.
+#[repr(C)]
 pub struct Position {
     pub input: InState,
     pub output: OutState,
@@ -33,6 +34,7 @@ pub enum Played {
 }
 
 // A position, and a refusal's code or 0.
+#[repr(C)]
 pub struct Moved {
     pub at: Position,
     pub code: u8,

@@ -1,0 +1,31 @@
+-- A call that answers as the entry below it does promises what that entry promises.
+use Prim.Native.Nat.{ℕ}
+use mathlib.Core.Path.{_≡_, sym, ap, subst, _∙_}
+use mathlib.Core.List.{List}
+use Rattle.game.specs.declared.Game.{Game}
+use Rattle.solver.specs.declared.Mapped.{Mapped}
+use Rattle.solver.specs.declared.Verdict.{Verdict}
+use Rattle.solver.specs.Promise.{MapMade, Solved}
+use Rattle.text.specs.declared.Answer.{Answer}
+use Rattle.text.specs.declared.Reading.{Reading}
+use Rattle.text.specs.declared.WriteAnswer.{WriteAnswer}
+use Rattle.text.specs.Write.{Writes}
+use Rattle.nanpuwiq.specs.declared.SolveResult.{SolveResult}
+use Rattle.nanpuwiq.specs.declared.WriteResult.{WriteResult}
+use Rattle.nanpuwiq.specs.Results.{mapCode, solveResult, readBy, readResult, writeResult}
+use Rattle.nanpuwiq.specs.Calls.{MapCalled, SolveCalled, WriteCalled}
+
+pub map-called : {g : Game} {s s′ m m′ : List ℕ} {a : Mapped} {r : ℕ} → MapMade g s s′ m m′ a → r ≡ mapCode a → MapCalled g s s′ m m′ r
+map-called {g} {s} {s′} {m} {m′} f e = record { answer = e ∙ ap mapCode (f .answer); made = subst (MapMade g s s′ m m′) (f .answer) f }
+
+pub solve-called : {g : Game} {s s′ c c′ e e′ : List ℕ} {v : Verdict} {r : SolveResult} → Solved g s s′ c c′ e e′ v → r ≡ solveResult v
+    → SolveCalled g s s′ c c′ e e′ r
+solve-called {g} {s} {s′} {c} {c′} {e} {e′} f is =
+    record { answer = is ∙ ap solveResult (f .answer); solved = subst (Solved g s s′ c c′ e e′) (f .answer) f }
+
+pub write-called : {g : Game} {d d′ : List ℕ} {a : WriteAnswer} {r : WriteResult} → Writes g d a d′ → r ≡ writeResult a → WriteCalled g d d′ r
+write-called f e = record { answer = e ∙ ap writeResult (f .answer); buffer = f .buffer }
+
+pub read-told : (x : Reading) {a : Answer} → x .answer ≡ a → readBy a (x .game) ≡ readResult x
+unfolding readResult
+read-told x e = ap (λ a. readBy a (x .game)) (sym e)

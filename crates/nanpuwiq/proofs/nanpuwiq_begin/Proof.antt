@@ -1,0 +1,19 @@
+-- `nanpuwiq_begin` meets its contract.
+use mathlib.Core.Path.{ap, _∙_}
+use borrow.Author.Needs.{needs}
+use Rattle.player.specs.Player.{movedOf}
+use Rattle.nanpuwiq.specs.Results.{nowhere}
+use Rattle.nanpuwiq.proofs.nanpuwiq_begin.Statement.{statement}
+use Rattle.nanpuwiq.proofs.nanpuwiq_begin.Tie as tie
+
+begin-requires : tie.Need-begin-requires
+begin-requires c κs = search needs
+
+first-move-requires : tie.Need-first-move-requires
+first-move-requires c κs = search needs
+
+returns : tie.Need-returns
+returns c = c .first-move .ensures ∙ ap (movedOf nowhere) (c .before .begin .ensures)
+
+pub nanpuwiq-begin-spec : {M : Type 1} → statement M
+nanpuwiq-begin-spec = tie.close (tie.spec begin-requires first-move-requires returns)

@@ -1,0 +1,39 @@
+-- What each call promises, for every input: its answer as an equation, and every lent buffer afterwards.
+--
+--   MapCalled g s s′ m m′ r            == the map's call answers r and leaves scratch s as s′ and the map m as m′
+--   SolveCalled g s s′ c c′ e e′ r     == the solver answers r and leaves scratch s as s′, the controller's buffer c as c′ and the environment's e as e′
+--   ReadCalled s r                     == the reader answers r to the bytes s
+--   WriteCalled g d d′ r               == the writer answers r and leaves the buffer d as d′
+use Prim.Native.Nat.{ℕ}
+use mathlib.Core.Path.{_≡_}
+use mathlib.Core.List.{List}
+use lib.ListN.{length}
+use Rattle.game.specs.declared.Game.{Game}
+use Rattle.solver.specs.Promise.{mapAnswer, MapMade, verdictAnswer, Solved}
+use Rattle.text.specs.declared.Reading.{Reading}
+use Rattle.text.specs.Read.{Reads}
+use Rattle.text.specs.Write.{writeAnswer, writeBuffer}
+use Rattle.nanpuwiq.specs.declared.SolveResult.{SolveResult}
+use Rattle.nanpuwiq.specs.declared.ReadResult.{ReadResult}
+use Rattle.nanpuwiq.specs.declared.WriteResult.{WriteResult}
+use Rattle.nanpuwiq.specs.Results.{mapCode, solveResult, readResult, writeResult}
+
+-- `made` says what both buffers hold, and carries demand 2
+pub record MapCalled (g : Game) (s s′ m m′ : List ℕ) (r : ℕ) : Type 0 where
+  pub answer : r ≡ mapCode (mapAnswer g (length s) (length m))
+  pub made : MapMade g s s′ m m′ (mapAnswer g (length s) (length m))
+
+-- `solved` says what all three buffers hold, and carries demand 3
+pub record SolveCalled (g : Game) (s s′ c c′ e e′ : List ℕ) (r : SolveResult) : Type 0 where
+  pub answer : r ≡ solveResult (verdictAnswer g (length s) (length c) (length e))
+  pub solved : Solved g s s′ c c′ e e′ (verdictAnswer g (length s) (length c) (length e))
+
+-- `Reads` fixes the reading for every list of bytes
+pub record ReadCalled (s : List ℕ) (r : ReadResult) : Type 0 where
+  pub reading : Reading
+  pub reads : Reads s reading
+  pub answer : r ≡ readResult reading
+
+pub record WriteCalled (g : Game) (d d′ : List ℕ) (r : WriteResult) : Type 0 where
+  pub answer : r ≡ writeResult (writeAnswer g d)
+  pub buffer : d′ ≡ writeBuffer g d

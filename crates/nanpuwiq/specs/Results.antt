@@ -1,0 +1,54 @@
+-- The answers of the entries below, as records whose first part is a code: document 01's number of a refusal, 0 for none.
+--
+--   acceptCode a       == the code of the answer of acceptance
+--   mapCode a          == the code of the answer of the map's call
+--   solveResult v      == the solver's answer: code, whether the system wins, how many entries are filled
+--   readResult x       == the reader's answer: code, the place of 11, the game
+--   writeResult a      == the writer's answer: code, how many bytes are filled
+--   nowhere            == the position of zeros, which stands beside a refusal to begin
+use Prim.Native.Nat.{ℕ}
+use mathlib.Core.Bool.{true, false}
+use Rattle.game.specs.declared.Acceptance.{Acceptance}
+use Rattle.game.specs.declared.Acceptance.the-variants as acceptance·
+use Rattle.solver.specs.declared.Mapped.{Mapped}
+use Rattle.solver.specs.declared.Mapped.the-variants as mapped·
+use Rattle.solver.specs.declared.Verdict.{Verdict}
+use Rattle.solver.specs.declared.Verdict.the-variants as verdict·
+use Rattle.text.specs.declared.Reading.{Reading}
+use Rattle.text.specs.declared.Answer.{Answer}
+use Rattle.text.specs.declared.Answer.the-variants as answer·
+use Rattle.text.specs.declared.WriteAnswer.{WriteAnswer}
+use Rattle.text.specs.declared.WriteAnswer.the-variants as write·
+use Rattle.player.specs.declared.Position.{Position}
+use Rattle.game.specs.declared.Game.{Game}
+use Rattle.nanpuwiq.specs.declared.SolveResult.{SolveResult}
+use Rattle.nanpuwiq.specs.declared.ReadResult.{ReadResult}
+use Rattle.nanpuwiq.specs.declared.WriteResult.{WriteResult}
+
+unfoldable pub acceptCode : Acceptance → ℕ
+acceptCode acceptance·.Accepted = 0
+acceptCode (acceptance·.Refused n) = n
+
+unfoldable pub mapCode : Mapped → ℕ
+mapCode mapped·.Done = 0
+mapCode (mapped·.Refused n) = n
+
+unfoldable pub solveResult : Verdict → SolveResult
+solveResult (verdict·.System n) = record { code = 0; system = true; entries = n }
+solveResult (verdict·.Environment n) = record { code = 0; system = false; entries = n }
+solveResult (verdict·.Refused n) = record { code = n; system = false; entries = 0 }
+
+unfoldable pub readBy : Answer → Game → ReadResult
+readBy answer·.Read g = record { code = 0; place = 0; game = g }
+readBy (answer·.Misshapen p) g = record { code = 11; place = p; game = g }
+readBy (answer·.Refused n) g = record { code = n; place = 0; game = g }
+
+unfoldable pub readResult : Reading → ReadResult
+readResult x = readBy (x .answer) (x .game)
+
+unfoldable pub writeResult : WriteAnswer → WriteResult
+writeResult (write·.Written n) = record { code = 0; bytes = n }
+writeResult (write·.Refused n) = record { code = n; bytes = 0 }
+
+unfoldable pub nowhere : Position
+nowhere = record { input = record { 0 = 0 }; output = record { 0 = 0 }; counter = 0 }

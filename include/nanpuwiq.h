@@ -1,0 +1,145 @@
+/* The public entries of Nanpuwiq for C, in the static library libnanpuwiq.a (`rt staticlib nanpuwiq`), x86-64 Linux.
+ *
+ * Numbers. A code is 0, or the number of a refusal:
+ *    1  a count not 1 to 64
+ *    2  a move or initial state past the count, or a used row past it
+ *    3  no initial state
+ *    4  a state without a move
+ *    5  k over 8
+ *    6  a length over 4, all eight places counted
+ *    7  a state past its count in a set, an unused set not empty, or an unused requirement with a length not 0
+ *    8  scratch under 512 words, or, for the map, a map under one word an input
+ *    9  the controller's buffer too short      10  the panel's too short      both tried whoever wins
+ *   11  bytes that are no game's text, with a place      12  over 40,960 bytes      13  a text buffer under the text's length
+ *   14  an input that the panel cannot pick now
+ *   15  an entry that is none, or names a counter out of range or an output that is no move (at the start, not initial)
+ *   16  a table of another length, or a position that the game does not have
+ * The lowest number whose condition holds is given; the reader tries 12, 11, then 1 to 7; the player 1 to 7, 16, 14, 15.
+ *
+ * Every value of every parameter has an answer, and on a refusal every buffer holds what it held before. What each entry promises is proved
+ * in crates/nanpuwiq (specs/Calls.antt and specs/Results.antt), on the following, which C cannot check and a caller keeps to:
+ *  - a pointer is not null, also where its length is 0, and is aligned for its type;
+ *  - a length counts elements, not bytes, and that many elements can be read (written, where the pointer is not const);
+ *  - buffers that are written overlap no other buffer of the same call, and no other thread uses them during it.
+ * Games, positions and results go by value. No entry keeps a pointer, allocates, or has state of its own.
+ */
+#ifndef NANPUWIQ_H
+#define NANPUWIQ_H
+
+#include <stdbool.h>
+#include <stddef.h>
+#include <stdint.h>
+
+#ifdef __cplusplus
+extern "C" {
+#endif
+
+#define NANPUWIQ_STATES 64          /* states of a graph at most */
+#define NANPUWIQ_REQUIREMENTS 8     /* places for requirements */
+#define NANPUWIQ_SETS 4             /* places for sets on each side of a requirement */
+#define NANPUWIQ_SCRATCH 512        /* words of scratch that solve and won_map ask for */
+#define NANPUWIQ_NONE 65535         /* the entry of a table that is none */
+#define NANPUWIQ_TABLE_MOST 131136  /* entries of the longest controller's table; the longest panel's has 131073 */
+#define NANPUWIQ_TEXT_MOST 40960    /* bytes of the longest text that is read */
+
+/* State numbers, from 0. Those of inputs (the old drive, moved by the panel) and of outputs (the new drive) are types of their own. */
+typedef struct { size_t number; } nanpuwiq_in_state;
+typedef struct { size_t number; } nanpuwiq_out_state;
+
+/* Sets of states: state s belongs where bit s is set. */
+typedef struct { uint64_t states; } nanpuwiq_in_set;
+typedef struct { uint64_t states; } nanpuwiq_out_set;
+
+/* Row s of moves is the set of the states that state s moves to; rows past the count are 0. */
+typedef struct {
+    size_t states;
+    uint64_t initial;
+    uint64_t moves[NANPUWIQ_STATES];
+} nanpuwiq_graph;
+
+/* If every assumption recurs, every guarantee does. The first `assumed` and `guaranteed` places are in use, the others 0. */
+typedef struct {
+    nanpuwiq_in_set assumptions[NANPUWIQ_SETS];
+    size_t assumed;
+    nanpuwiq_out_set guarantees[NANPUWIQ_SETS];
+    size_t guaranteed;
+} nanpuwiq_requirement;
+
+/* The first k requirements are in use, the others 0. */
+typedef struct {
+    nanpuwiq_graph input;
+    nanpuwiq_graph output;
+    size_t k;
+    nanpuwiq_requirement requirements[NANPUWIQ_REQUIREMENTS];
+} nanpuwiq_game;
+
+/* Input, output and counter after the controller's answer. */
+typedef struct {
+    nanpuwiq_in_state input;
+    nanpuwiq_out_state output;
+    size_t counter;
+} nanpuwiq_position;
+
+/* The solver's answer. On a refusal system is false and entries 0. */
+typedef struct {
+    uint8_t code;
+    bool system;     /* whether the system wins; else the environment does */
+    size_t entries;  /* how many entries of the winner's buffer are filled */
+} nanpuwiq_solved;
+
+/* The reader's answer. Place is 0 but for code 11; the game is all zero on a refusal. */
+typedef struct {
+    uint8_t code;
+    size_t place;    /* the length of the longest front of the bytes that begins some game's text */
+    nanpuwiq_game game;
+} nanpuwiq_reading;
+
+/* The writer's answer. On a refusal bytes is 0. */
+typedef struct {
+    uint8_t code;
+    size_t bytes;    /* how many bytes of the buffer are filled */
+} nanpuwiq_written;
+
+/* The player's answer. */
+typedef struct {
+    nanpuwiq_position at;
+    uint8_t code;
+} nanpuwiq_moved;
+
+/* Whether the game is accepted: 0, or 1 to 7. */
+uint8_t nanpuwiq_accept(nanpuwiq_game game);
+
+/* The won map: word i of map is the set of the outputs that are won with input i; later words stay as they were.
+ * A bit is set exactly where a controller with finitely many memory values, started there, makes every reachable round meet all requirements.
+ * Code 0, 1 to 7, or 8. On 0 scratch's first 512 words are zero and the rest as it was. */
+uint8_t nanpuwiq_won_map(nanpuwiq_game game, uint64_t *scratch, size_t scratch_words, uint64_t *map, size_t map_words);
+
+/* Names the side that wins and fills the front of its buffer with a table that wins for it; no table of any finite size wins for the other.
+ * The rest of that buffer and all of the other stay as they were; scratch's first 512 words are zero and the rest as it was.
+ * An entry is next state + 64 * next counter, or NANPUWIQ_NONE.
+ * Controller: inputs + outputs * max(1, G) * inputs entries, G guarantees in all: a start for each input, then rows by output, counter, input.
+ * Panel: 1 + inputs * max(1, H) * outputs entries, H assumptions in all: the start, then rows by input, counter, output.
+ * Code 0, 1 to 7, 8, 9 or 10. */
+nanpuwiq_solved nanpuwiq_solve(nanpuwiq_game game, uint64_t *scratch, size_t scratch_words, uint16_t *controller, size_t controller_entries,
+                               uint16_t *panel, size_t panel_entries);
+
+/* The game that the bytes describe. Code 0, 12, 11 (with its place), or 1 to 7. */
+nanpuwiq_reading nanpuwiq_read(const uint8_t *text, size_t bytes);
+
+/* Fills the front of the buffer with the game's text, the one that nanpuwiq_read reads as this game; the rest stays as it was.
+ * Code 0, 1 to 7, or 13. */
+nanpuwiq_written nanpuwiq_write(nanpuwiq_game game, uint8_t *buffer, size_t bytes);
+
+/* The first position of a controller's table: `first` with the output and the counter of its start. On a refusal the position is all zero.
+ * Code 0, 1 to 7, 16, 14 or 15. */
+nanpuwiq_moved nanpuwiq_begin(nanpuwiq_game game, const uint16_t *table, size_t entries, nanpuwiq_in_state first);
+
+/* The position after the next input, with the output and the counter of the table's row. On a refusal the position is the old one.
+ * Code 0, 1 to 7, 16, 14 or 15. */
+nanpuwiq_moved nanpuwiq_step(nanpuwiq_game game, const uint16_t *table, size_t entries, nanpuwiq_position at, nanpuwiq_in_state next);
+
+#ifdef __cplusplus
+}
+#endif
+
+#endif
