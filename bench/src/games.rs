@@ -1,0 +1,191 @@
+//! The games that are measured.
+use nanpuwiq::{Game, Graph, InSet, OutSet, Requirement, Winner, STATES};
+
+type Named = (String, Game);
+
+/// The set of the states from a to below b.
+fn range(a: usize, b: usize) -> u64 {
+    (a..b).fold(0, |x, s| x | 1 << s)
+}
+
+/// A graph of n states, from the set of moves of each.
+fn graph(n: usize, initial: u64, moves: impl Fn(usize) -> u64) -> Graph {
+    let mut g = Graph { states: n, initial, ..Graph::default() };
+    for s in 0..n {
+        g.moves[s] = moves(s);
+    }
+    g
+}
+
+/// States 0 to n - 1 in a circle.
+fn circle(n: usize) -> Graph {
+    graph(n, 1, |s| 1 << ((s + 1) % n))
+}
+
+/// A requirement from words.
+fn requirement(assumptions: &[u64], guarantees: &[u64]) -> Requirement {
+    let mut q = Requirement { assumed: assumptions.len(), guaranteed: guarantees.len(), ..Requirement::default() };
+    for (place, &x) in q.assumptions.iter_mut().zip(assumptions) {
+        *place = InSet(x);
+    }
+    for (place, &x) in q.guarantees.iter_mut().zip(guarantees) {
+        *place = OutSet(x);
+    }
+    q
+}
+
+/// Eight requirements of four sets each on both sides: set number a of all 32.
+fn full(assumption: impl Fn(usize) -> u64, guarantee: impl Fn(usize) -> u64) -> Vec<Requirement> {
+    (0..8)
+        .map(|r| {
+            let sets = [4 * r, 4 * r + 1, 4 * r + 2, 4 * r + 3];
+            requirement(&sets.map(&assumption), &sets.map(&guarantee))
+        })
+        .collect()
+}
+
+/// "Drives to try", cases 1 to 8.
+fn drives() -> Vec<Named> {
+    let two = Graph::new(&[0], &[&[0, 1], &[0, 1]]);
+    let one = Graph::new(&[0], &[&[0]]);
+    let single = |q: &[Requirement]| Game::new(one, one, q);
+    let fork = Graph::new(&[0], &[&[1], &[2, 3], &[2], &[3]]);
+    let branches = [Requirement::new(&[&[2]], &[&[1]]), Requirement::new(&[&[3]], &[&[2]])];
+    let each = |s: usize| Requirement::new(&[&[s]], &[&[s]]);
+    let games = [
+        Game::new(two, two, &[Requirement::new(&[&[1]], &[&[1]])]),
+        single(&[]),
+        single(&[Requirement::new(&[&[0]], &[&[]])]),
+        single(&[Requirement::new(&[], &[&[]])]),
+        single(&[Requirement::new(&[&[]], &[&[]])]),
+        Game::new(fork, Graph::new(&[0], &[&[1, 2], &[1], &[2]]), &branches),
+        Game::new(fork, Graph::new(&[0], &[&[0, 1, 2], &[1], &[2]]), &branches),
+        Game::new(
+            Graph::new(&[0], &[&[1, 2], &[1], &[2]]),
+            Graph::new(&[0], &[&[1, 2], &[0], &[2]]),
+            &[each(0), each(1), each(2)],
+        ),
+    ];
+    games.into_iter().enumerate().map(|(k, g)| (format!("case {}", k + 1), g)).collect()
+}
+
+/// The multi-mode hardware of source document 000, section 8: the target (input) moves from mode 0 to any mode and stays there; the adaptee
+/// (output) moves from mode 0 to the odd modes only, and up and down between modes 2i and 2i + 1. For each mode: if the target's recurs, the
+/// adaptee's does. With one requirement a mode, 8 modes are the most.
+fn modes(n: usize) -> Named {
+    let target = graph(n, 1, |s| if s == 0 { range(0, n) } else { 1 << s });
+    let odd = (0..n).filter(|s| s % 2 == 1).fold(0, |x, s| x | 1 << s);
+    let adaptee = graph(n, 1, |s| if s == 0 { odd } else { 1 << (s ^ 1) });
+    let each: Vec<Requirement> = (0..n).map(|s| requirement(&[1 << s], &[1 << s])).collect();
+    (format!("modes {n}"), Game::new(target, adaptee, &each))
+}
+
+/// Marsaglia's xorshift on 64 bits.
+struct Random(u64);
+
+impl Random {
+    fn below(&mut self, n: usize) -> usize {
+        self.0 ^= self.0 << 13;
+        self.0 ^= self.0 >> 7;
+        self.0 ^= self.0 << 17;
+        (self.0 >> 16) as usize % n
+    }
+
+    fn set(&mut self, n: usize, size: usize) -> u64 {
+        (0..size).fold(0, |x, _| x | 1 << self.below(n))
+    }
+
+    /// Graphs of n states with up to `degree` moves each, and 32 sets of up to `size` states on either side.
+    fn game(&mut self, n: usize, degree: usize, size: usize) -> Game {
+        let mut draw = |_| {
+            let mut g = Graph { states: n, initial: 1, ..Graph::default() };
+            for s in 0..n {
+                let k = 1 + self.below(degree);
+                g.moves[s] = self.set(n, k);
+            }
+            g
+        };
+        let (input, output) = (draw(0), draw(1));
+        let sets: Vec<(u64, u64)> = (0..32).map(|_| (self.set(n, size), self.set(n, size))).collect();
+        Game::new(input, output, &full(|a| sets[a].0, |a| sets[a].1))
+    }
+}
+
+/// Random games of n states a graph: the first that the system wins, and the first that the environment wins.
+fn random(n: usize) -> Vec<Named> {
+    let mut r = Random(88_172_645_463_325_252);
+    let mut found = Vec::new();
+    for (winner, name) in [(Winner::System, "system"), (Winner::Environment, "environment")] {
+        for _ in 0..1000 {
+            let g = r.game(n, 3, n / 4);
+            if g.solve().expect("random games are accepted").winner == winner {
+                found.push((format!("random {n} {name}"), g));
+                break;
+            }
+        }
+    }
+    found
+}
+
+/// Number d of the subsets of 8 that have 4 members: none contains another.
+fn quartet(d: usize) -> u64 {
+    (0u64..256).filter(|x| x.count_ones() == 4).nth(d).expect("there are 70")
+}
+
+/// Games of the largest size, made to be slow.
+fn worst() -> Vec<Named> {
+    let n = STATES;
+    let whole = range(0, n);
+    let mut all = Vec::new();
+    let mut add = |name: &str, g: Game| all.push((format!("worst {name}"), g));
+    // Both graphs circles: one home, 32 goals of one state, ways of up to 63 moves.
+    add("one home", Game::new(circle(n), circle(n), &full(|a| 1 << (2 * a), |a| 1 << (2 * a))));
+    // Both graphs go down from 63, and may stay: 64 components each. Requirement r is due in the inputs whose quartet has r, and met at the outputs
+    // whose quartet has r: input j has the single home j, which outputs above it reach in up to 63 moves.
+    let down = graph(n, 1 << 63, |s| 1 << s | if s == 0 { 0 } else { 1 << (s - 1) });
+    let due = |a: usize| (0..n).filter(|&d| quartet(d) >> (a / 4) & 1 == 1).fold(0, |x, d| x | 1 << d);
+    add("many homes", Game::new(down, down, &full(due, due)));
+    // The same with every output above its home one move away.
+    let far = graph(n, 1 << 63, |s| range(0, s + 1));
+    add("many homes, near", Game::new(down, far, &full(due, due)));
+    // Inputs in a circle of 63, left for input 63 from one of them; there no guarantee is ever met. A way out of up to 62 moves for every output.
+    let exit = graph(n, 1, |s| match s {
+        0 => 1 << 1 | 1 << 63,
+        62 => 1,
+        63 => 1 << 63,
+        s => 1 << (s + 1),
+    });
+    add("way out", Game::new(exit, circle(n), &full(|_| 1 << 63, |_| 0)));
+    // Inputs in a circle past 32 assumptions of one state, with no output set ever visited.
+    add("environment's tour", Game::new(circle(n), circle(n), &full(|a| 1 << (2 * a), |_| 0)));
+    // As the way out, with 31 circles of two inputs: each is a component of its own with its own way out.
+    let pairs = graph(n, 1, |s| match s {
+        62 | 63 => 1 << 63,
+        s if s % 2 == 0 => 1 << (s + 1),
+        s => 1 << (s - 1) | 1 << 63 | if s < 61 { 1 << (s + 1) } else { 0 },
+    });
+    add("ways out of pairs", Game::new(pairs, circle(n), &full(|_| 1 << 63, |_| 0)));
+    // Inputs 0 to 30 move to all of 31 to 63; 31 to 62 stay and are won from output 63 alone; 63 stays and is never won. Outputs 0 to 31 move to all
+    // of 32 to 63, which stay. For an input below 31 every move but the last has a won reply, which is the last.
+    let heavy = graph(n, 1, |s| if s < 31 { range(31, 64) } else { 1 << s });
+    let light = graph(n, 1, |s| if s < 32 { range(32, 64) } else { 1 << s });
+    let mut q = full(|_| range(31, 63), |_| 1 << 63);
+    for r in q.iter_mut().take(4) {
+        *r = requirement(&[1 << 63; 4], &[0; 4]);
+    }
+    add("late replies", Game::new(heavy, light, &q));
+    // Every move and every set there is: the densest rows.
+    add("dense", Game::new(graph(n, whole, |_| whole), graph(n, whole, |_| whole), &full(|_| whole, |_| whole)));
+    all
+}
+
+/// All games with their names.
+pub fn all() -> Vec<Named> {
+    let mut all = drives();
+    all.extend([2, 4, 8].map(modes));
+    for n in [16, 32, 64] {
+        all.extend(random(n));
+    }
+    all.extend(worst());
+    all
+}

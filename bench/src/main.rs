@@ -1,0 +1,86 @@
+//! The solver's time on a row of games, each beside the time of a plain loop that writes as many entries. From the root:
+//!     rt staticlib nanpuwiq && cargo run --release --offline --manifest-path bench/Cargo.toml
+//! Times are the best of many runs, in microseconds. The buffers are made once, before the runs, and are not cleared between them.
+//! `bench NAME` runs the games whose name begins with NAME; `bench NAME N` only solves them N times each, for a profiler.
+mod games;
+mod measure;
+mod second;
+
+use measure::{best, plain_loop, single_stores};
+use nanpuwiq::{Game, Winner, CONTROLLER_MOST, ENVIRONMENT_MOST, SCRATCH};
+use std::env;
+use std::hint::black_box;
+
+/// The buffers that every call lends.
+struct Buffers {
+    scratch: Vec<u64>,
+    controller: Vec<u16>,
+    environment: Vec<u16>,
+}
+
+impl Buffers {
+    fn new() -> Buffers {
+        Buffers { scratch: vec![0; SCRATCH], controller: vec![0; CONTROLLER_MOST], environment: vec![0; ENVIRONMENT_MOST] }
+    }
+
+    fn solve(&mut self, g: &Game) -> (Winner, usize) {
+        g.solve_into(&mut self.scratch, &mut self.controller, &mut self.environment).expect("the games here are accepted")
+    }
+}
+
+fn microseconds(seconds: f64) -> String {
+    format!("{:.2}", seconds * 1e6)
+}
+
+fn row(name: &str, g: &Game, b: &mut Buffers) -> f64 {
+    let (winner, entries) = b.solve(g);
+    let solver = best(|| {
+        black_box(b.solve(black_box(g)));
+    });
+    let looped = best(|| plain_loop(black_box(&mut b.controller[..entries])));
+    let stores = best(|| single_stores(black_box(&mut b.controller[..entries])));
+    println!(
+        "{:<34} {:>2} x {:<2} {:<11} {:>7} {:>10} {:>8.2} {:>8} {:>7.1} {:>8} {:>7.1} {:>10}",
+        name,
+        g.input.states,
+        g.output.states,
+        format!("{winner:?}").to_lowercase(),
+        entries,
+        microseconds(solver),
+        solver * 1e9 / entries as f64,
+        microseconds(looped),
+        solver / looped,
+        microseconds(stores),
+        solver / stores,
+        second::time(g).map_or("-".to_string(), microseconds),
+    );
+    solver / looped
+}
+
+fn main() {
+    let name = env::args().nth(1).unwrap_or_default();
+    let chosen = games::all().into_iter().filter(|(n, _)| n.starts_with(&name));
+    let mut b = Buffers::new();
+    if let Some(runs) = env::args().nth(2) {
+        let runs: usize = runs.parse().expect("a number of runs");
+        for (_, g) in chosen {
+            for _ in 0..runs {
+                black_box(b.solve(black_box(&g)));
+            }
+        }
+        return;
+    }
+    println!(
+        "{:<34} {:<7} {:<11} {:>7} {:>10} {:>8} {:>8} {:>7} {:>8} {:>7} {:>10}",
+        "game", "states", "wins", "entries", "solver", "ns/entry", "loop", "ratio", "stores", "ratio", "second"
+    );
+    let mut largest: f64 = 0.0;
+    for (name, g) in chosen {
+        let ratio = row(&name, &g, &mut b);
+        if g.input.states == 64 && g.output.states == 64 {
+            largest = largest.max(ratio);
+        }
+    }
+    println!("loop: entries written by a plain loop, which the compiler may widen; stores: one store at a time");
+    println!("64 x 64: at most {largest:.1} times the plain loop; the target is 50");
+}

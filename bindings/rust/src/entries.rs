@@ -1,0 +1,87 @@
+//! The entries of the static library, each in a safe function. A slice passes as its pointer and its length, a record by value.
+use crate::{Game, InState, Position};
+
+#[repr(C)]
+pub struct SolveResult {
+    pub code: u8,
+    pub system: bool,
+    pub entries: usize,
+}
+
+#[repr(C)]
+pub struct ReadResult {
+    pub code: u8,
+    pub place: usize,
+    pub game: Game,
+}
+
+#[repr(C)]
+pub struct WriteResult {
+    pub code: u8,
+    pub bytes: usize,
+}
+
+#[repr(C)]
+pub struct Moved {
+    pub at: Position,
+    pub code: u8,
+}
+
+extern "C" {
+    fn nanpuwiq_accept(game: Game) -> u8;
+    fn nanpuwiq_won_map(game: Game, scratch: *mut u64, scratch_words: usize, map: *mut u64, map_words: usize) -> u8;
+    fn nanpuwiq_solve(
+        game: Game,
+        scratch: *mut u64,
+        scratch_words: usize,
+        controller: *mut u16,
+        controller_entries: usize,
+        panel: *mut u16,
+        panel_entries: usize,
+    ) -> SolveResult;
+    fn nanpuwiq_read(text: *const u8, bytes: usize) -> ReadResult;
+    fn nanpuwiq_write(game: Game, buffer: *mut u8, bytes: usize) -> WriteResult;
+    fn nanpuwiq_begin(game: Game, table: *const u16, entries: usize, first: InState) -> Moved;
+    fn nanpuwiq_step(game: Game, table: *const u16, entries: usize, at: Position, next: InState) -> Moved;
+}
+
+// SAFETY, for every call below: a slice's pointer is not null, is aligned and has as many elements as its length says, and two mutable slices
+// do not overlap. The entries ask for nothing else.
+
+pub fn accept(game: Game) -> u8 {
+    unsafe { nanpuwiq_accept(game) }
+}
+
+pub fn won_map(game: Game, scratch: &mut [u64], map: &mut [u64]) -> u8 {
+    unsafe { nanpuwiq_won_map(game, scratch.as_mut_ptr(), scratch.len(), map.as_mut_ptr(), map.len()) }
+}
+
+pub fn solve(game: Game, scratch: &mut [u64], controller: &mut [u16], panel: &mut [u16]) -> SolveResult {
+    unsafe {
+        nanpuwiq_solve(
+            game,
+            scratch.as_mut_ptr(),
+            scratch.len(),
+            controller.as_mut_ptr(),
+            controller.len(),
+            panel.as_mut_ptr(),
+            panel.len(),
+        )
+    }
+}
+
+pub fn read(text: &[u8]) -> ReadResult {
+    unsafe { nanpuwiq_read(text.as_ptr(), text.len()) }
+}
+
+pub fn write(game: Game, buffer: &mut [u8]) -> WriteResult {
+    unsafe { nanpuwiq_write(game, buffer.as_mut_ptr(), buffer.len()) }
+}
+
+pub fn begin(game: Game, table: &[u16], first: InState) -> Moved {
+    unsafe { nanpuwiq_begin(game, table.as_ptr(), table.len(), first) }
+}
+
+pub fn step(game: Game, table: &[u16], at: Position, next: InState) -> Moved {
+    unsafe { nanpuwiq_step(game, table.as_ptr(), table.len(), at, next) }
+}

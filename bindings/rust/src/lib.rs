@@ -1,0 +1,243 @@
+//! Can the old panel run the new drive? Safe Rust over the entries of Nanpuwiq, which are proved.
+//!
+//! The promises are those of `crates/nanpuwiq`: every call answers every input, and on a refusal every buffer holds what it held before.
+//! What the proof does not cover is this file, which declares the records and the entries a second time, and the compiler.
+
+use std::fmt;
+
+mod entries;
+
+/// States of a graph at most.
+pub const STATES: usize = 64;
+/// Places for requirements.
+pub const REQUIREMENTS: usize = 8;
+/// Places for sets on each side of a requirement.
+pub const SETS: usize = 4;
+/// Words of scratch that solving and the map ask for.
+pub const SCRATCH: usize = 512;
+/// The entry of a table that is none.
+pub const NONE: u16 = 65_535;
+/// Entries of the longest controller's table.
+pub const CONTROLLER_MOST: usize = STATES + STATES * REQUIREMENTS * SETS * STATES;
+/// Entries of the longest environment's table.
+pub const ENVIRONMENT_MOST: usize = 1 + STATES * REQUIREMENTS * SETS * STATES;
+
+/// The number of an input state.
+#[repr(C)]
+#[derive(Clone, Copy, Debug, PartialEq, Eq)]
+pub struct InState(pub usize);
+
+/// The number of an output state.
+#[repr(C)]
+#[derive(Clone, Copy, Debug, PartialEq, Eq)]
+pub struct OutState(pub usize);
+
+/// A set of input states: state s belongs where bit s is set.
+#[repr(C)]
+#[derive(Clone, Copy, Debug, PartialEq, Eq, Default)]
+pub struct InSet(pub u64);
+
+/// A set of output states.
+#[repr(C)]
+#[derive(Clone, Copy, Debug, PartialEq, Eq, Default)]
+pub struct OutSet(pub u64);
+
+/// Row s of `moves` is the set of the states that state s moves to.
+#[repr(C)]
+#[derive(Clone, Copy, Debug, PartialEq, Eq)]
+pub struct Graph {
+    pub states: usize,
+    pub initial: u64,
+    pub moves: [u64; STATES],
+}
+
+/// If every assumption recurs, every guarantee does. Of the places, `assumed` and `guaranteed` are in use.
+#[repr(C)]
+#[derive(Clone, Copy, Debug, PartialEq, Eq, Default)]
+pub struct Requirement {
+    pub assumptions: [InSet; SETS],
+    pub assumed: usize,
+    pub guarantees: [OutSet; SETS],
+    pub guaranteed: usize,
+}
+
+/// Two graphs and the requirements on them, of which k are in use.
+#[repr(C)]
+#[derive(Clone, Copy, Debug, PartialEq, Eq, Default)]
+pub struct Game {
+    pub input: Graph,
+    pub output: Graph,
+    pub k: usize,
+    pub requirements: [Requirement; REQUIREMENTS],
+}
+
+/// Input, output and counter after the controller's answer.
+#[repr(C)]
+#[derive(Clone, Copy, Debug, PartialEq, Eq)]
+pub struct Position {
+    pub input: InState,
+    pub output: OutState,
+    pub counter: usize,
+}
+
+/// A refusal: its number, 1 to 16, and for 11 how far the bytes could be a game's text (else 0).
+#[derive(Clone, Copy, Debug, PartialEq, Eq)]
+pub struct Error {
+    pub number: u8,
+    pub place: usize,
+}
+
+impl fmt::Display for Error {
+    fn fmt(&self, f: &mut fmt::Formatter<'_>) -> fmt::Result {
+        match self.number {
+            11 => write!(f, "refused 11 {}", self.place),
+            number => write!(f, "refused {number}"),
+        }
+    }
+}
+
+impl std::error::Error for Error {}
+
+/// The side that wins.
+#[derive(Clone, Copy, Debug, PartialEq, Eq)]
+pub enum Winner {
+    System,
+    Environment,
+}
+
+/// The side that wins, and its table.
+#[derive(Clone, Debug, PartialEq, Eq)]
+pub struct Verdict {
+    pub winner: Winner,
+    pub table: Vec<u16>,
+}
+
+/// Ok for 0, else the refusal.
+fn refusal(code: u8) -> Result<(), Error> {
+    match code {
+        0 => Ok(()),
+        number => Err(Error { number, place: 0 }),
+    }
+}
+
+impl Default for Graph {
+    fn default() -> Graph {
+        Graph { states: 0, initial: 0, moves: [0; STATES] }
+    }
+}
+
+impl Graph {
+    /// A graph with a row for each state; a row lists the states that it moves to. Rows past 64 and states past 63 are left out.
+    pub fn new(initial: &[usize], moves: &[&[usize]]) -> Graph {
+        let mut g = Graph { states: moves.len(), initial: set(initial), ..Graph::default() };
+        for (row, to) in g.moves.iter_mut().zip(moves) {
+            *row = set(to);
+        }
+        g
+    }
+}
+
+impl Requirement {
+    /// If these assumptions recur, these guarantees do. Sets past the fourth are left out.
+    pub fn new(assumptions: &[&[usize]], guarantees: &[&[usize]]) -> Requirement {
+        let mut q = Requirement { assumed: assumptions.len(), guaranteed: guarantees.len(), ..Requirement::default() };
+        for (place, states) in q.assumptions.iter_mut().zip(assumptions) {
+            *place = InSet(set(states));
+        }
+        for (place, states) in q.guarantees.iter_mut().zip(guarantees) {
+            *place = OutSet(set(states));
+        }
+        q
+    }
+}
+
+/// The word of a set of states; numbers past 63 are left out.
+pub fn set(states: &[usize]) -> u64 {
+    states.iter().filter(|&&s| s < STATES).fold(0, |x, &s| x | 1 << s)
+}
+
+impl Game {
+    /// A game; requirements past the eighth are left out.
+    pub fn new(input: Graph, output: Graph, requirements: &[Requirement]) -> Game {
+        let mut g = Game { input, output, k: requirements.len(), ..Game::default() };
+        for (place, q) in g.requirements.iter_mut().zip(requirements) {
+            *place = *q;
+        }
+        g
+    }
+
+    /// Whether the game is accepted: 1 to 7.
+    pub fn accept(&self) -> Result<(), Error> {
+        refusal(entries::accept(*self))
+    }
+
+    /// The won map in a buffer of the caller's, a word for each input: 1 to 7, 8.
+    pub fn won_map_into(&self, scratch: &mut [u64], map: &mut [u64]) -> Result<(), Error> {
+        refusal(entries::won_map(*self, scratch, map))
+    }
+
+    /// The won map: word i is the set of the outputs that are won with input i.
+    pub fn won_map(&self) -> Result<Vec<u64>, Error> {
+        let mut map = vec![0; self.input.states.min(STATES)];
+        self.won_map_into(&mut [0; SCRATCH], &mut map)?;
+        Ok(map)
+    }
+
+    /// The side that wins, and how many entries of its buffer are filled with its table: 1 to 7, 8, 9, 10.
+    pub fn solve_into(&self, scratch: &mut [u64], controller: &mut [u16], environment: &mut [u16]) -> Result<(Winner, usize), Error> {
+        let r = entries::solve(*self, scratch, controller, environment);
+        refusal(r.code)?;
+        Ok((if r.system { Winner::System } else { Winner::Environment }, r.entries))
+    }
+
+    /// The side that wins, and its table.
+    pub fn solve(&self) -> Result<Verdict, Error> {
+        let mut controller = vec![0; CONTROLLER_MOST];
+        let mut environment = vec![0; ENVIRONMENT_MOST];
+        let (winner, entries) = self.solve_into(&mut [0; SCRATCH], &mut controller, &mut environment)?;
+        let mut table = match winner {
+            Winner::System => controller,
+            Winner::Environment => environment,
+        };
+        table.truncate(entries);
+        Ok(Verdict { winner, table })
+    }
+
+    /// The game that a text describes: 12, 11 with its place, 1 to 7.
+    pub fn read(text: &[u8]) -> Result<Game, Error> {
+        let r = entries::read(text);
+        match r.code {
+            0 => Ok(r.game),
+            number => Err(Error { number, place: r.place }),
+        }
+    }
+
+    /// The game's text in a buffer of the caller's, and how many bytes it has: 1 to 7, 13.
+    pub fn write_into(&self, buffer: &mut [u8]) -> Result<usize, Error> {
+        let r = entries::write(*self, buffer);
+        refusal(r.code)?;
+        Ok(r.bytes)
+    }
+
+    /// The game's text.
+    pub fn write(&self) -> Result<Vec<u8>, Error> {
+        let mut text = vec![0; 65_536];
+        let bytes = self.write_into(&mut text)?;
+        text.truncate(bytes);
+        Ok(text)
+    }
+
+    /// The first position of a controller's table: 1 to 7, 16, 14, 15.
+    pub fn begin(&self, table: &[u16], first: InState) -> Result<Position, Error> {
+        let r = entries::begin(*self, table, first);
+        refusal(r.code)?;
+        Ok(r.at)
+    }
+
+    /// Moves the position on by the next input; a refusal leaves it as it was: 1 to 7, 16, 14, 15.
+    pub fn step(&self, table: &[u16], at: &mut Position, next: InState) -> Result<(), Error> {
+        let r = entries::step(*self, table, *at, next);
+        *at = r.at;
+        refusal(r.code)
+    }
+}

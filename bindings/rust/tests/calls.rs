@@ -1,0 +1,261 @@
+//! Every entry called through the safe wrapper: the example, an environment's win, each refusal, buffers after a refusal, a player's run.
+use nanpuwiq::*;
+
+const TEXT: &[u8] = b"(game 2 2 1)\n(in 0 1 (0 1))\n(in 1 0 (0 1))\n(out 0 1 (0 1))\n(out 1 0 (0 1))\n(if ((1)) ((1)))\n";
+
+fn example() -> Game {
+    Game::new(
+        Graph::new(&[0], &[&[0, 1], &[0, 1]]),
+        Graph::new(&[0], &[&[0, 1], &[0, 1]]),
+        &[Requirement::new(&[&[1]], &[&[1]])],
+    )
+}
+
+// One state each with a self-move.
+fn single(requirements: &[Requirement]) -> Game {
+    Game::new(Graph::new(&[0], &[&[0]]), Graph::new(&[0], &[&[0]]), requirements)
+}
+
+// Case 6: the output commits too early.
+fn early() -> Game {
+    Game::new(
+        Graph::new(&[0], &[&[1], &[2, 3], &[2], &[3]]),
+        Graph::new(&[0], &[&[1, 2], &[1], &[2]]),
+        &[Requirement::new(&[&[2]], &[&[1]]), Requirement::new(&[&[3]], &[&[2]])],
+    )
+}
+
+fn refused(number: u8) -> Error {
+    Error { number, place: 0 }
+}
+
+// A wrong game for each of 1 to 7.
+fn faulty() -> Vec<(u8, Game)> {
+    let mut all = Vec::new();
+    let mut add = |number, change: fn(&mut Game)| {
+        let mut g = example();
+        change(&mut g);
+        all.push((number, g));
+    };
+    add(1, |g| g.input.states = 0);
+    add(1, |g| g.output.states = 65);
+    add(2, |g| g.input.moves[0] = 4);
+    add(2, |g| g.output.initial = 4);
+    add(2, |g| g.output.moves[63] = 1);
+    add(3, |g| g.input.initial = 0);
+    add(4, |g| g.output.moves[1] = 0);
+    add(5, |g| g.k = 9);
+    add(6, |g| g.requirements[7].guaranteed = 5);
+    add(7, |g| g.requirements[0].assumptions[0] = InSet(4));
+    add(7, |g| g.requirements[0].guarantees[1] = OutSet(1));
+    add(7, |g| g.requirements[1].assumed = 1);
+    add(1, |g| *g = Game::default());
+    all
+}
+
+#[test]
+fn the_example() {
+    let v = example().solve().unwrap();
+    assert_eq!(v.winner, Winner::System);
+    assert_eq!(v.table, [0, NONE, 1, 1, 1, 1]);
+    assert_eq!(example().won_map().unwrap(), [3, 3]);
+    assert_eq!(example().accept(), Ok(()));
+}
+
+#[test]
+fn wins_of_the_environment() {
+    let v = single(&[Requirement::new(&[&[0]], &[&[]])]).solve().unwrap();
+    assert_eq!((v.winner, v.table), (Winner::Environment, vec![0, 0]));
+    let v = single(&[Requirement::new(&[], &[&[]])]).solve().unwrap();
+    assert_eq!((v.winner, v.table), (Winner::Environment, vec![0, 0]));
+    let v = early().solve().unwrap();
+    assert_eq!((v.winner, v.table.len()), (Winner::Environment, 1 + 4 * 2 * 3));
+    assert_eq!(v.table[0], 0);
+    assert_eq!(early().won_map().unwrap()[0], 0);
+}
+
+#[test]
+fn wins_of_the_system() {
+    let v = single(&[]).solve().unwrap();
+    assert_eq!((v.winner, v.table), (Winner::System, vec![0, 0]));
+    let v = single(&[Requirement::new(&[&[]], &[&[]])]).solve().unwrap();
+    assert_eq!(v.winner, Winner::System);
+    let mut g = early();
+    g.output.moves[0] = 7;
+    assert_eq!(g.solve().unwrap().winner, Winner::System);
+}
+
+#[test]
+fn rows_of_case_8() {
+    let s = |s: usize| Requirement::new(&[&[s]], &[&[s]]);
+    let g = Game::new(
+        Graph::new(&[0], &[&[1, 2], &[1], &[2]]),
+        Graph::new(&[0], &[&[1, 2], &[0], &[2]]),
+        &[s(0), s(1), s(2)],
+    );
+    let v = g.solve().unwrap();
+    assert_eq!((v.winner, v.table.len()), (Winner::System, 3 + 3 * 3 * 3));
+    let row = |o: usize, c: usize, j: usize| {
+        let e = v.table[3 + (o * 3 + c) * 3 + j];
+        (e % 64, e / 64)
+    };
+    assert_eq!(row(0, 0, 1), (1, 0));
+    assert_eq!(row(1, 0, 1), (0, 1));
+    assert_eq!(row(0, 1, 1), (1, 2));
+    assert_eq!(row(1, 2, 1), (0, 1));
+    assert_eq!(row(0, 0, 2), (2, 0));
+}
+
+#[test]
+fn faulty_games_are_refused_by_every_entry() {
+    for (number, g) in faulty() {
+        let mut scratch = vec![7u64; 600];
+        let mut map = vec![8u64; 70];
+        let mut controller = vec![9u16; 200];
+        let mut environment = vec![10u16; 200];
+        let mut text = vec![11u8; 300];
+        assert_eq!(g.accept(), Err(refused(number)));
+        assert_eq!(g.won_map_into(&mut scratch, &mut map), Err(refused(number)));
+        assert_eq!(g.solve_into(&mut scratch, &mut controller, &mut environment), Err(refused(number)));
+        assert_eq!(g.write_into(&mut text), Err(refused(number)));
+        assert_eq!(g.begin(&controller, InState(0)), Err(refused(number)));
+        let old = Position { input: InState(1), output: OutState(1), counter: 3 };
+        let mut at = old;
+        assert_eq!(g.step(&controller, &mut at, InState(0)), Err(refused(number)));
+        assert_eq!(at, old);
+        assert!(scratch.iter().all(|&x| x == 7) && map.iter().all(|&x| x == 8) && text.iter().all(|&x| x == 11));
+        assert!(controller.iter().all(|&x| x == 9) && environment.iter().all(|&x| x == 10));
+    }
+}
+
+#[test]
+fn short_buffers_are_refused() {
+    let g = example();
+    let mut scratch = vec![7u64; 512];
+    let mut map = vec![8u64; 2];
+    let mut controller = vec![9u16; 6];
+    let mut environment = vec![10u16; 5];
+    let calls: [(u8, usize, usize, usize); 5] = [(8, 511, 6, 5), (8, 511, 0, 0), (9, 512, 5, 5), (9, 512, 5, 4), (10, 512, 6, 4)];
+    for (number, s, c, e) in calls {
+        let r = g.solve_into(&mut scratch[..s], &mut controller[..c], &mut environment[..e]);
+        assert_eq!(r, Err(refused(number)));
+    }
+    assert_eq!(g.won_map_into(&mut scratch[..511], &mut map), Err(refused(8)));
+    assert_eq!(g.won_map_into(&mut scratch, &mut map[..1]), Err(refused(8)));
+    assert_eq!(g.won_map_into(&mut [], &mut []), Err(refused(8)));
+    let mut text = vec![11u8; TEXT.len()];
+    assert_eq!(g.write_into(&mut text[..TEXT.len() - 1]), Err(refused(13)));
+    assert_eq!(g.write_into(&mut []), Err(refused(13)));
+    assert!(scratch.iter().all(|&x| x == 7) && map.iter().all(|&x| x == 8) && text.iter().all(|&x| x == 11));
+    assert!(controller.iter().all(|&x| x == 9) && environment.iter().all(|&x| x == 10));
+    // buffers of the exact length are long enough
+    assert_eq!(g.solve_into(&mut scratch, &mut controller, &mut environment), Ok((Winner::System, 6)));
+    assert_eq!(g.write_into(&mut text), Ok(TEXT.len()));
+    assert_eq!(text, TEXT);
+}
+
+#[test]
+fn the_rest_of_the_buffers_stays() {
+    let g = example();
+    let mut scratch = vec![7u64; 600];
+    let mut map = vec![8u64; 4];
+    let mut controller = vec![9u16; 20];
+    let mut environment = vec![10u16; 20];
+    let mut text = vec![11u8; 200];
+    assert_eq!(g.won_map_into(&mut scratch, &mut map), Ok(()));
+    assert_eq!(map, [3, 3, 8, 8]);
+    assert!(scratch[..512].iter().all(|&x| x == 0) && scratch[512..].iter().all(|&x| x == 7));
+    assert_eq!(g.solve_into(&mut scratch, &mut controller, &mut environment), Ok((Winner::System, 6)));
+    assert_eq!(controller[..6], [0, NONE, 1, 1, 1, 1]);
+    assert!(controller[6..].iter().all(|&x| x == 9) && environment.iter().all(|&x| x == 10));
+    assert!(scratch[..512].iter().all(|&x| x == 0) && scratch[512..].iter().all(|&x| x == 7));
+    assert_eq!(g.write_into(&mut text), Ok(TEXT.len()));
+    assert!(text.starts_with(TEXT) && text[TEXT.len()..].iter().all(|&x| x == 11));
+    let g = single(&[Requirement::new(&[&[0]], &[&[]])]);
+    let mut controller = vec![9u16; 20];
+    assert_eq!(g.solve_into(&mut scratch, &mut controller, &mut environment), Ok((Winner::Environment, 2)));
+    assert_eq!(environment[..2], [0, 0]);
+    assert!(environment[2..].iter().all(|&x| x == 10) && controller.iter().all(|&x| x == 9));
+}
+
+#[test]
+fn texts() {
+    assert_eq!(Game::read(TEXT), Ok(example()));
+    assert_eq!(example().write().unwrap(), TEXT);
+    assert_eq!(Game::read(b""), Err(Error { number: 11, place: 0 }));
+    let mut longer = TEXT.to_vec();
+    longer.push(b'\n');
+    assert_eq!(Game::read(&longer), Err(Error { number: 11, place: TEXT.len() }));
+    for n in 0..TEXT.len() {
+        assert_eq!(Game::read(&TEXT[..n]), Err(Error { number: 11, place: n }));
+    }
+    assert_eq!(Game::read(&vec![b'('; 40_961]), Err(refused(12)));
+    assert_eq!(Game::read(&vec![b'('; 40_960]), Err(Error { number: 11, place: 1 }));
+    assert_eq!(Game::read(b"(game 1 1 0)\n(in 0 0 (0))\n(out 0 1 (0))\n"), Err(refused(3)));
+    assert_eq!(Game::read(b"(game 1 1 0)\n(in 0 1 (1))\n(out 0 1 (0))\n"), Err(refused(2)));
+    assert_eq!(Game::read(b"(game 1 1 0)\n(in 0 1 (0))\n(out 0 1 ())\n"), Err(refused(4)));
+    assert_eq!(Game::read(b"(game 1 1 1)\n(in 0 1 (0))\n(out 0 1 (0))\n(if ((1)) ())\n"), Err(refused(7)));
+    assert_eq!(Game::read(b"").unwrap_err().to_string(), "refused 11 0");
+}
+
+#[test]
+fn a_players_run() {
+    let g = example();
+    let table = g.solve().unwrap().table;
+    let mut at = g.begin(&table, InState(0)).unwrap();
+    assert_eq!(at, Position { input: InState(0), output: OutState(0), counter: 0 });
+    for (k, next) in [1, 0, 0, 1, 1, 0].into_iter().enumerate() {
+        g.step(&table, &mut at, InState(next)).unwrap();
+        assert_eq!(at, Position { input: InState(next), output: OutState(1), counter: 0 }, "step {k}");
+    }
+}
+
+#[test]
+fn a_players_refusals() {
+    let g = example();
+    let table = g.solve().unwrap().table;
+    assert_eq!(g.begin(&table[..5], InState(0)), Err(refused(16)));
+    assert_eq!(g.begin(&[], InState(9)), Err(refused(16)));
+    assert_eq!(g.begin(&table, InState(1)), Err(refused(14)));
+    assert_eq!(g.begin(&table, InState(usize::MAX)), Err(refused(14)));
+    // a start of none, of a counter out of range, of an output that is not initial
+    for entry in [NONE, 64, 1] {
+        let mut other = table.clone();
+        other[0] = entry;
+        assert_eq!(g.begin(&other, InState(0)), Err(refused(15)));
+    }
+    let here = Position { input: InState(0), output: OutState(1), counter: 0 };
+    let mut cases = vec![
+        (16, table[..5].to_vec(), here, 0),
+        (16, table.clone(), Position { input: InState(2), ..here }, 0),
+        (16, table.clone(), Position { output: OutState(2), ..here }, 0),
+        (16, table.clone(), Position { counter: 1, ..here }, 0),
+        (14, table.clone(), here, 2),
+    ];
+    // row (1, 0, 0): none, a counter out of range, an output that is no move
+    for entry in [NONE, 64, 2] {
+        let mut other = table.clone();
+        other[4] = entry;
+        cases.push((15, other, here, 0));
+    }
+    for (number, table, old, next) in cases {
+        let mut at = old;
+        assert_eq!(g.step(&table, &mut at, InState(next)), Err(refused(number)));
+        assert_eq!(at, old);
+    }
+}
+
+#[test]
+fn the_largest_game() {
+    let all: Vec<usize> = (0..64).collect();
+    let rows = vec![&all[..]; 64];
+    let q: Requirement = Requirement::new(&[&[0], &[1], &[2], &[3]], &[&[60], &[61], &[62], &[63]]);
+    let g = Game::new(Graph::new(&all, &rows), Graph::new(&all, &rows), &[q; 8]);
+    let v = g.solve().unwrap();
+    assert_eq!((v.winner, v.table.len()), (Winner::System, CONTROLLER_MOST));
+    assert_eq!(g.won_map().unwrap(), vec![u64::MAX; 64]);
+    assert_eq!(Game::read(&g.write().unwrap()), Ok(g));
+    let mut short = vec![0; CONTROLLER_MOST - 1];
+    let r = g.solve_into(&mut [0; SCRATCH], &mut short, &mut vec![0; ENVIRONMENT_MOST]);
+    assert_eq!(r, Err(refused(9)));
+}
