@@ -112,24 +112,18 @@ impl Random {
 }
 
 /// Random games of n states a graph: the first that the system wins, and the first that the environment wins.
-fn random(n: usize) -> Vec<Named> {
-    let mut r = Random(88_172_645_463_325_252);
-    let mut found = Vec::new();
-    for (winner, name) in [(Winner::System, "system"), (Winner::Environment, "environment")] {
-        for _ in 0..1000 {
-            let g = r.game(n, 3, n / 4);
-            if g.solve().expect("random games are accepted").winner == winner {
-                found.push((format!("random {n} {name}"), g));
-                break;
-            }
-        }
-    }
-    found
+fn random(n: usize) -> [Named; 2] {
+    [(Winner::System, "system"), (Winner::Environment, "environment")].map(|(winner, name)| {
+        let mut r = Random(88_172_645_463_325_252);
+        let wins = |g: &Game| g.solve().expect("random games are accepted").winner == winner;
+        let g = std::iter::repeat_with(|| r.game(n, 3, n / 4)).find(wins).expect("each side wins some");
+        (format!("random {n} {name}"), g)
+    })
 }
 
-/// Number d of the subsets of 8 that have 4 members: none contains another.
-fn quartet(d: usize) -> u64 {
-    (0u64..256).filter(|x| x.count_ones() == 4).nth(d).expect("there are 70")
+/// The subsets of 8 that have 4 members, 70 in all: none contains another.
+fn quartets() -> Vec<u64> {
+    (0u64..256).filter(|x| x.count_ones() == 4).collect()
 }
 
 /// Games of the largest size, made to be slow.
@@ -143,7 +137,8 @@ fn worst() -> Vec<Named> {
     // Both graphs go down from 63, and may stay: 64 components each. Requirement r is due in the inputs whose quartet has r, and met at the outputs
     // whose quartet has r: input j has the single home j, which outputs above it reach in up to 63 moves.
     let down = graph(n, 1 << 63, |s| 1 << s | if s == 0 { 0 } else { 1 << (s - 1) });
-    let due = |a: usize| (0..n).filter(|&d| quartet(d) >> (a / 4) & 1 == 1).fold(0, |x, d| x | 1 << d);
+    let quartet = quartets();
+    let due = |a: usize| (0..n).filter(|&d| quartet[d] >> (a / 4) & 1 == 1).fold(0, |x, d| x | 1 << d);
     add("many homes", Game::new(down, down, &full(due, due)));
     // The same with every output above its home one move away.
     let far = graph(n, 1 << 63, |s| range(0, s + 1));
@@ -179,13 +174,14 @@ fn worst() -> Vec<Named> {
     all
 }
 
-/// All games with their names.
-pub fn all() -> Vec<Named> {
+/// The games whose names begin so. Random games are drawn only where they are asked for, as that takes time.
+pub fn named(front: &str) -> Vec<Named> {
     let mut all = drives();
     all.extend([2, 4, 8].map(modes));
-    for n in [16, 32, 64] {
-        all.extend(random(n));
+    if "random".starts_with(front) || front.starts_with("random") {
+        all.extend([16, 32, 64].into_iter().flat_map(random));
     }
     all.extend(worst());
+    all.retain(|(name, _)| name.starts_with(front));
     all
 }

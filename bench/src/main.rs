@@ -59,7 +59,7 @@ fn row(name: &str, g: &Game, b: &mut Buffers) -> f64 {
 
 fn main() {
     let name = env::args().nth(1).unwrap_or_default();
-    let chosen = games::all().into_iter().filter(|(n, _)| n.starts_with(&name));
+    let chosen = games::named(&name);
     let mut b = Buffers::new();
     if let Some(runs) = env::args().nth(2) {
         let runs: usize = runs.parse().expect("a number of runs");

@@ -5,7 +5,6 @@ ghost use Rattle.game.specs.Acceptance.{acceptance};
 ghost use Rattle.player.specs.Player.{movedOf, beginning, stepping};
 ghost use Rattle.nanpuwiq.specs.Results.{acceptCode, mapCode, solveResult, readResult, writeResult, nowhere};
 ghost use Rattle.nanpuwiq.specs.Calls.{MapCalled, SolveCalled, ReadCalled, WriteCalled};
-
 use game::Acceptance;
 use game::Game;
 use game::InState;
@@ -149,7 +148,12 @@ pub extern "C" fn nanpuwiq_won_map(g: Game, scratch: &mut [u64], map: &mut [u64]
 
 // Names the side that wins and writes its table into the front of its buffer.
 #[no_mangle]
-pub extern "C" fn nanpuwiq_solve(g: Game, scratch: &mut [u64], controller: &mut [u16], panel: &mut [u16]) -> SolveResult
+pub extern "C" fn nanpuwiq_solve(
+    g: Game,
+    scratch: &mut [u64],
+    controller: &mut [u16],
+    panel: &mut [u16],
+) -> SolveResult
     ensures { λ r. ⌜ SolveCalled g (now (scratch .entry)) (now (scratch .exit)) (now (controller .entry)) (now (controller .exit)) (now (panel .entry)) (now (panel .exit)) r ⌝ }
 {
     solve_result(solver::solve_into(g, scratch, controller, panel))
