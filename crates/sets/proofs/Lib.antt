@@ -2,3 +2,4 @@
 pub mod Membership
 pub mod Compare
 pub mod Collect
+pub mod Remove

@@ -2,3 +2,4 @@
 pub mod Columns
 pub mod Goal
 pub mod Tours
+pub mod Rows

@@ -5,6 +5,8 @@
 --   Agrees E base step which first more            == E holds those entries at those places
 --   Columned E l m base step which                 == from l to m entries of E were written, those of the places among them
 --   Column l m base step which first more          == so it is for every such E
+--   Run l m base width value done                  == so it is of the value at the places base + x for x below `done`, where E holds it for x < width
+--   RowFits, Row                                   == the same of the value at base + x for each x of a set `over`
 --   BlockFits, BlockAgrees, Blocked, Block         == the same of columns at base + x for each x < width of a set `over`, with steps of width
 use Prim.Native.Nat.{ℕ, _+_, _*_, _<_, _≤_}
 use mathlib.Core.Path.{_≡_}
@@ -29,6 +31,36 @@ pub record Columned (E l m : List ℕ) (base step which : ℕ) : Type 0 where
 pub record Column (l m : List ℕ) (base step which first more : ℕ) : Type 0 where
   pub long : length m ≡ length l
   pub fills : (E : List ℕ) → Agrees E base step which first more → length E ≤ length l → Columned E l m base step which
+
+-- E holds the value at base + x for x < width
+pub record RunAgrees (E : List ℕ) (base width value : ℕ) : Type 0 where
+  pub below : (x : ℕ) → x < width → base + x < length E
+  pub entry : (x : ℕ) → x < width → value ≡ getD E (base + x) 0
+
+pub record Ran (E l m : List ℕ) (base done : ℕ) : Type 0 where
+  pub grows : Grows E l m
+  pub right : (x : ℕ) → x < done → Right E m (base + x)
+
+pub record Run (l m : List ℕ) (base width value done : ℕ) : Type 0 where
+  pub long : length m ≡ length l
+  pub fills : (E : List ℕ) → RunAgrees E base width value → Ran E l m base done
+
+pub record RowFits (n base width over : ℕ) : Type 0 where
+  pub narrow : width ≤ 64
+  pub below : (x : ℕ) → has over x ≡ true → base + x < n
+
+-- E holds the value at base + x for x of `over`
+pub record RowAgrees (E : List ℕ) (base over value : ℕ) : Type 0 where
+  pub below : (x : ℕ) → has over x ≡ true → base + x < length E
+  pub entry : (x : ℕ) → has over x ≡ true → value ≡ getD E (base + x) 0
+
+pub record Rowed (E l m : List ℕ) (base over : ℕ) : Type 0 where
+  pub grows : Grows E l m
+  pub right : (x : ℕ) → has over x ≡ true → Right E m (base + x)
+
+pub record Row (l m : List ℕ) (base over value : ℕ) : Type 0 where
+  pub long : length m ≡ length l
+  pub fills : (E : List ℕ) → RowAgrees E base over value → length E ≤ length l → Rowed E l m base over
 
 pub record BlockFits (n base width over which first more : ℕ) : Type 0 where
   pub narrow : width ≤ 64

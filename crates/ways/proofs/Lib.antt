@@ -3,3 +3,4 @@ pub mod Kept
 pub mod Choice
 pub mod Round
 pub mod Search
+pub mod Rest

@@ -41,14 +41,15 @@ fn settle(
     ensures { λ r. ⌜ Settled (now (rows .entry)) n inside left reached (now (next .entry)) (now (next .exit)) r ⌝ }
 {
     let mut settled = 0;
-    let mut s = 0;
-    while s < n {
+    let mut rest = sets::intersection(left, sets::below(n));
+    while rest != 0 {
+        let s = sets::lowest(rest);
         let open = choices(rows, inside, left, reached, s);
         if open != 0 {
             next[s] = prefer(s, open) as u8;
             settled = sets::insert(settled, s);
         }
-        s += 1;
+        rest = sets::difference(rest, sets::insert(0, s));
     }
     settled
 }

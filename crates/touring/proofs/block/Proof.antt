@@ -1,55 +1,122 @@
--- `block` writes one column after the other.
-use Prim.Native.Nat.{_≤_, _-_}
-use mathlib.Core.Path.{sym, _∙_}
-use mathlib.Core.Logic.{⊎-elim}
+-- `block` writes the row of the lowest counter that is left, until none is.
+use Prim.Native.Nat.{_+_, _*_, _<_}
+use mathlib.Core.Path.{_≡_}
+use mathlib.Core.Bool.{true}
+use lib.ListN.{length}
+use borrow.Author.Needs.{needs}
 use native.Mathlib.Omega.{arith}
-use Rattle.touring.proofs.Columns.{Blocking, blocking-start, blocking-skip, blocking-next, blocking-end, fits-long}
+use Rattle.finite.specs.Bounded.{count}
+use Rattle.sets.specs.Member.{has}
+use Rattle.touring.proofs.Columns.{lowest-below, lowest-in}
+use Rattle.touring.proofs.Rows.{
+  Narrowed,
+  narrow,
+  row-fits,
+  row-entry,
+  row-place,
+  Rowing,
+  rowing-start,
+  row-member,
+  rowing-turn,
+  rowing-falls,
+  rowing-end,
+  block-none,
+}
 use Rattle.touring.proofs.block.Statement.{statement}
 use Rattle.touring.proofs.block.Tie as tie
 
 abbrev Inv-loop : tie.InvT-loop
-Inv-loop room₀ base width over which first more x₀ room x = (x ≤ width) × Blocking room₀ room base width over which first more x
+Inv-loop room₀ base width over which first more inside left₀ room left = Narrowed over width inside × Rowing room₀ room base width over which first more left
 
 abbrev μ-loop : tie.MeasureT-loop
-μ-loop room₀ base width over which first more x₀ room x = width - x
+μ-loop room₀ base width over which first more inside left₀ room left = count 64 (has left)
+
+below-requires : tie.Need-below-requires Inv-loop μ-loop
+below-requires c κs = search needs
+
+intersection-requires : tie.Need-intersection-requires Inv-loop μ-loop
+intersection-requires c κs = search needs
+
+returns : tie.Need-returns Inv-loop μ-loop
+returns c =
+    block-none _ _ _ _ _ _ _ _ (narrow _ _ _ _ (c .before .before .below .ensures) (c .before .intersection .ensures)) (c .if1 .taken)
 
 loop-holds : tie.Need-loop-holds Inv-loop μ-loop
-loop-holds c = (omega arith, blocking-start _ _ _ _ _ _ _)
+loop-holds c = (
+      record {
+        is = narrow _ _ _ _ (c .before .before .below .ensures) (c .before .intersection .ensures);
+        some = c .if1 .left;
+        small = omega (arith, c .before .intersection .ok);
+      },
+      rowing-start _ _ _ _ _ _ _ (c .before .before .before .before .fits .which .fits),
+    )
 
-member-requires : tie.Need-member-requires Inv-loop μ-loop
-member-requires c κs = omega arith
+lowest-requires : tie.Need-lowest-requires Inv-loop μ-loop
+lowest-requires c κs = search needs
 
-add-column : tie.Need-add-column Inv-loop μ-loop
-add-column c = omega arith
+below : (c : tie.After-lowest Inv-loop μ-loop) → c .lowest .result < 64
+below c =
+    let b = c .before .before in
+    lowest-below (b .loop .left) _ (b .loop .inv .1 .small) (c .before .loop-test .taken) (c .lowest .ensures)
 
-column-requires : tie.Need-column-requires Inv-loop μ-loop
-column-requires c κs =
-    let b = c .before .before .before .before in
-    fits-long _ _ _ _ _ _ _ (b .loop .inv .1 .long)
-    (b .before .before .pre .columns (b .loop .x) (c .before .before .before .loop-test .taken) (sym (c .before .before .member .ensures) ∙ c .before .if1 .taken))
+member : (c : tie.After-lowest Inv-loop μ-loop) → has (c .before .before .before .before .before .before .before .args .which) (c .lowest .result) ≡ true
+member c =
+    let b = c .before .before in
+    b .loop .inv .1 .inside _ (lowest-in (b .loop .left) _ (b .loop .inv .1 .small) (c .before .loop-test .taken) (c .lowest .ensures))
 
-add-x : tie.Need-add-x Inv-loop μ-loop
-add-x c = omega arith
+entry : (c : tie.After-lowest Inv-loop μ-loop) → c .before .before .before .before .before .before .before .args .first + c .before .before .before .before .before .before .before .args .more * c .lowest .result < 65536
+entry c = row-entry _ _ _ _ _ _ _ _ (c .before .before .before .before .before .before .before .pre) (c .before .before .loop .inv .0) _ (member c)
+
+place : (c : tie.After-lowest Inv-loop μ-loop)
+    → c .before .before .before .before .before .before .before .args .base + c .before .before .before .before .before .before .before .args .width * c .lowest .result < length (c .before .before .loop .room)
+place c =
+    omega (arith, row-place _ _ _ _ _ _ _ _ (c .before .before .before .before .before .before .before .pre) (c .before .before .loop .inv .0) _ (member c), c .before .before .loop .inv .1 .long)
+
+mul-row : tie.Need-mul-row Inv-loop μ-loop
+mul-row c = omega (arith, place (c .before))
+
+add-row : tie.Need-add-row Inv-loop μ-loop
+add-row c = omega (arith, place (c .before))
+
+cast-row : tie.Need-cast-row Inv-loop μ-loop
+cast-row c = omega (arith, below (c .before))
+
+mul-row-2 : tie.Need-mul-row-2 Inv-loop μ-loop
+mul-row-2 c = omega (arith, entry (c .before))
+
+add-row-2 : tie.Need-add-row-2 Inv-loop μ-loop
+add-row-2 c = omega (arith, entry (c .before))
+
+row-requires : tie.Need-row-requires Inv-loop μ-loop
+row-requires c κs = row-fits _ _ _ _ _ _ _ _ (c .before .before .before .before .before .before .before .before .pre) (c .before .before .before .loop .inv .0) _ (member (c .before)) _ (c .before .before .before .loop .inv .1 .long)
+
+insert-requires : tie.Need-insert-requires Inv-loop μ-loop
+insert-requires c κs = below (c .before .before .before .before)
+
+difference-requires : tie.Need-difference-requires Inv-loop μ-loop
+difference-requires c κs = search needs
 
 loop-less : tie.Need-loop-less Inv-loop μ-loop
-loop-less c = omega arith
+loop-less c =
+    let a = c .before .before .before .before .before .before in
+    let b = a .before .before in
+    rowing-falls _ _ _ _ _ _ _ _ (b .loop .left) _ _ _ (b .loop .inv .1) (a .before .loop-test .taken) (a .lowest .ensures) (c .before .insert .ensures)
+    (c .difference .ensures)
 
 loop-again : tie.Need-loop-again Inv-loop μ-loop
 loop-again c =
-    let b = c .before .before .before in
-    let at = sym (c .before .member .ensures) in (
-      omega arith,
-      ⊎-elim
-          (λ w. blocking-next _ _ _ _ _ _ _ _ _ (b .loop .inv .1) (c .before .before .loop-test .taken) (at ∙ w .0 .taken) (w .2 .ensures) (w .5))
-          (λ w. blocking-skip _ _ _ _ _ _ _ _ _ (b .loop .inv .1) (at ∙ w .0 .left) (w .1))
-          (c .if1 .came),
+    let a = c .before .before .before .before .before .before in
+    let b = a .before .before in (
+      b .loop .inv .0,
+      rowing-turn _ _ _ _ _ _ _ _ (b .loop .left) _ _ _ (b .loop .inv .1) (a .before .loop-test .taken) (a .lowest .ensures) (c .before .insert .ensures)
+      (c .difference .ensures) _ _ (b .loop .inv .0) (c .before .before .before .before .row .ensures) (omega (arith, c .difference .ok)),
     )
 
 same-length : tie.Need-same-length Inv-loop μ-loop
 same-length c = c .before .loop .inv .1 .long
 
-returns : tie.Need-returns Inv-loop μ-loop
-returns c = blocking-end _ _ _ _ _ _ _ _ _ (c .before .loop .inv .1) (c .loop-test .left)
+returns-2 : tie.Need-returns-2 Inv-loop μ-loop
+returns-2 c = rowing-end _ _ _ _ _ _ _ _ _ (c .before .loop .inv .1) (c .loop-test .left)
 
 pub block-spec : {M : Type 1} → statement M
 block-spec =
@@ -57,12 +124,20 @@ block-spec =
     (tie.spec
     Inv-loop
     μ-loop
+    below-requires
+    intersection-requires
+    returns
     loop-holds
-    member-requires
-    add-column
-    column-requires
-    add-x
+    lowest-requires
+    mul-row
+    add-row
+    cast-row
+    mul-row-2
+    add-row-2
+    row-requires
+    insert-requires
+    difference-requires
     loop-less
     loop-again
     same-length
-    returns)
+    returns-2)

@@ -1,25 +1,38 @@
--- `settle`: after s states the round is done for those below s.
-use Prim.Native.Nat.{_≤_, _-_}
+-- `settle` tries the lowest state that is left to try, until none is.
+use Prim.Native.Nat.{_<_}
 use mathlib.Core.Logic.{⊎-elim}
 use borrow.Author.Needs.{needs}
 use native.Mathlib.Omega.{arith}
-use Rattle.ways.specs.Search.{Settled}
-use Rattle.ways.proofs.Round.{choice-fits, settled-start, settled-hit, settled-miss, settled-end}
+use Rattle.finite.specs.Bounded.{count}
+use Rattle.sets.specs.Member.{has}
+use Rattle.ways.proofs.Round.{choice-fits, settled-hit, settled-miss}
+use Rattle.ways.proofs.Rest.{Trying, trying-start, try-small, try-at, trying-falls, trying-next, trying-end}
 use Rattle.ways.proofs.settle.Statement.{statement}
 use Rattle.ways.proofs.settle.Tie as tie
 
 abbrev Inv-loop : tie.InvT-loop
-Inv-loop rows n inside left reached next₀ settled₀ s₀ next settled s =
-    (s ≤ n) × Settled rows s inside left reached next₀ next settled
+Inv-loop rows n inside left reached next₀ settled₀ rest₀ next settled rest = Trying rows n inside left reached next₀ next settled rest
 
 abbrev μ-loop : tie.MeasureT-loop
-μ-loop rows n inside left reached next₀ settled₀ s₀ next settled s = n - s
+μ-loop rows n inside left reached next₀ settled₀ rest₀ next settled rest = count 64 (has rest)
+
+small : (c : tie.After-lowest Inv-loop μ-loop) → c .lowest .result < 64
+small c = try-small _ _ _ _ _ (c .before .before .loop .inv) (c .before .loop-test .taken) (c .lowest .ensures)
+
+below-requires : tie.Need-below-requires Inv-loop μ-loop
+below-requires c κs = search needs
+
+intersection-requires : tie.Need-intersection-requires Inv-loop μ-loop
+intersection-requires c κs = search needs
 
 loop-holds : tie.Need-loop-holds Inv-loop μ-loop
-loop-holds c = (omega arith, settled-start _ _ _ _ _)
+loop-holds c = trying-start _ _ _ _ _ _ _ _ (omega (arith, c .intersection .ok)) (c .before .below .ensures) (c .intersection .ensures)
+
+lowest-requires : tie.Need-lowest-requires Inv-loop μ-loop
+lowest-requires c κs = search needs
 
 choices-requires : tie.Need-choices-requires Inv-loop μ-loop
-choices-requires c κs = omega arith
+choices-requires c κs = small c
 
 prefer-requires : tie.Need-prefer-requires Inv-loop μ-loop
 prefer-requires c κs = search needs
@@ -29,30 +42,37 @@ cast-next c =
     record { fits = choice-fits _ (c .before .before .choices .result) (omega (arith, c .before .before .choices .ok)) (c .before .if1 .taken) (c .prefer .ensures) }
 
 element-write-next : tie.Need-element-write-next Inv-loop μ-loop
-element-write-next c = omega arith
+element-write-next c = small (c .before .before .before)
 
 insert-requires : tie.Need-insert-requires Inv-loop μ-loop
-insert-requires c κs = omega arith
+insert-requires c κs = small (c .before .before .before)
 
-add-s : tie.Need-add-s Inv-loop μ-loop
-add-s c = omega arith
+insert-requires-2 : tie.Need-insert-requires-2 Inv-loop μ-loop
+insert-requires-2 c κs = small (c .before .before)
+
+difference-requires : tie.Need-difference-requires Inv-loop μ-loop
+difference-requires c κs = search needs
 
 loop-less : tie.Need-loop-less Inv-loop μ-loop
-loop-less c = omega arith
+loop-less c =
+    let a = c .before .before .before .before in
+    trying-falls _ _ _ _ _ (a .before .before .loop .inv) (a .before .loop-test .taken) (a .lowest .ensures) _ _ (c .before .insert2 .ensures) (c .difference .ensures)
 
 loop-again : tie.Need-loop-again Inv-loop μ-loop
 loop-again c =
-    let done = c .before .before .before .loop .inv .1 in
-    let chosen = c .before .choices .ensures in (
-      omega arith,
-      ⊎-elim
-          (λ w. settled-hit _ _ _ _ done chosen (w .0 .taken) (w .1 .ensures) (w .2 .ensures) (w .3) (w .4))
-          (λ w. settled-miss _ _ _ _ done chosen (w .0 .left) (w .1) (w .2))
-          (c .if1 .came),
-    )
+    let a = c .before .before .before .before in
+    let tried = a .before .before .loop .inv in
+    let more = a .before .loop-test .taken in
+    let at = try-at _ _ _ _ _ tried more (a .lowest .ensures) in
+    let chosen = c .before .before .before .choices .ensures in
+    trying-next _ _ _ _ _ tried more (a .lowest .ensures) _ _ (c .before .insert2 .ensures) (c .difference .ensures) (omega (arith, c .difference .ok))
+    (⊎-elim
+    (λ w. settled-hit _ _ _ _ at chosen (w .0 .taken) (w .1 .ensures) (w .2 .ensures) (w .3) (w .4))
+    (λ w. settled-miss _ _ _ _ at chosen (w .0 .left) (w .1) (w .2))
+    (c .before .before .if1 .came))
 
 returns : tie.Need-returns Inv-loop μ-loop
-returns c = settled-end _ _ _ _ _ _ (c .before .loop .inv .0) (c .loop-test .left) (c .before .loop .inv .1)
+returns c = trying-end _ _ _ _ _ (c .before .loop .inv) (c .loop-test .left)
 
 pub settle-spec : {M : Type 1} → statement M
 settle-spec =
@@ -60,13 +80,17 @@ settle-spec =
     (tie.spec
     Inv-loop
     μ-loop
+    below-requires
+    intersection-requires
     loop-holds
+    lowest-requires
     choices-requires
     prefer-requires
     cast-next
     element-write-next
     insert-requires
-    add-s
+    insert-requires-2
+    difference-requires
     loop-less
     loop-again
     returns)
