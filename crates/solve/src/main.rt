@@ -1,9 +1,14 @@
 // Reads a game's text from standard input and prints the side that wins and its table, or the refusal.
 ghost use mathlib.Core.Path.{_≡_};
 ghost use Prim.Native.Nat.{_≤_};
-ghost use lib.ListN.{length};
+ghost use lib.ListN.{length, take};
 ghost use Rattle.game.specs.declared.Acceptance.the-variants.{Accepted};
 ghost use Rattle.game.specs.Acceptance.{acceptance};
+ghost use Rattle.play.specs.Play.{separatedOf};
+ghost use Rattle.theory.specs.Choice.{guarantees, assumptions};
+ghost use Rattle.put.specs.Put.{Puts};
+ghost use Rattle.answers.specs.Print.{controllerAnswer, environmentAnswer};
+ghost use Rattle.solve.specs.Printed.{gamePrint, Printed};
 
 use game::Game;
 use libc::STDOUT_FILENO;
@@ -24,22 +29,18 @@ fn print_front(buffer: &[u8; 1048576], n: usize) {
 
 // The print of the controller's table, the first n entries of its room.
 fn put_system(buffer: &mut [u8], g: Game, controller: &[u16], n: usize) -> usize
-    requires { ⌜ acceptance g ≡ Accepted ⌝ }
+    requires { ⌜ (acceptance g ≡ Accepted) × (n ≤ length (now controller)) ⌝ }
+    ensures { λ r. ⌜ Puts (now (buffer .entry)) 0 (controllerAnswer (g .input .states) (g .output .states) (length (guarantees (separatedOf g))) (take n (now (controller .entry)))) r (now (buffer .exit)) ⌝ }
 {
-    if controller.len() < n {
-        return 0;
-    }
     let sets = sizes::guarantee_count(g);
     answers::put_controller(buffer, g.input.states, g.output.states, sets, &controller[..n])
 }
 
 // The print of the panel's table, the first n entries of its room.
 fn put_panel(buffer: &mut [u8], g: Game, panel: &[u16], n: usize) -> usize
-    requires { ⌜ acceptance g ≡ Accepted ⌝ }
+    requires { ⌜ (acceptance g ≡ Accepted) × (n ≤ length (now panel)) ⌝ }
+    ensures { λ r. ⌜ Puts (now (buffer .entry)) 0 (environmentAnswer (g .input .states) (g .output .states) (length (assumptions (separatedOf g))) (take n (now (panel .entry)))) r (now (buffer .exit)) ⌝ }
 {
-    if panel.len() < n {
-        return 0;
-    }
     let sets = sizes::assumption_count(g);
     answers::put_environment(buffer, g.input.states, g.output.states, sets, &panel[..n])
 }
@@ -59,6 +60,7 @@ fn empty_print() -> [u8; 1048576] {
 // The print for an accepted game.
 fn solve(buffer: &mut [u8], g: Game) -> usize
     requires { ⌜ acceptance g ≡ Accepted ⌝ }
+    ensures { λ r. ⌜ Puts (now (buffer .entry)) 0 (gamePrint g) r (now (buffer .exit)) ⌝ }
 {
     let mut scratch = [0u64; 512];
     let mut controller = empty_room();
@@ -72,7 +74,9 @@ fn solve(buffer: &mut [u8], g: Game) -> usize
 }
 
 // The print for a file.
-fn answer(buffer: &mut [u8; 1048576], file: &[u8]) -> usize {
+fn answer(buffer: &mut [u8], file: &[u8]) -> usize
+    ensures { λ r. ⌜ Printed (now (file .entry)) (now (buffer .entry)) r (now (buffer .exit)) ⌝ }
+{
     let r = text::read(file);
     let a = r.answer;
     match a {
@@ -85,11 +89,16 @@ fn answer(buffer: &mut [u8; 1048576], file: &[u8]) -> usize {
     }
 }
 
+// The same, in the program's buffer.
+fn put_answer(buffer: &mut [u8; 1048576], file: &[u8]) -> usize {
+    answer(buffer, file)
+}
+
 // Prints the answer to the first n bytes.
 fn show(file: &[u8], n: usize) {
     if n <= file.len() {
         let mut buffer = empty_print();
-        let k = answer(&mut buffer, &file[..n]);
+        let k = put_answer(&mut buffer, &file[..n]);
         print_front(&buffer, k);
     }
 }

@@ -1,5 +1,6 @@
--- `answer`.
+-- `answer` meets its contract.
 use Rattle.text.proofs.OneText.{written-read}
+use Rattle.solve.proofs.Printed.{answers-game, answers-misshapen, answers-refused}
 use borrow.Author.Needs.{needs}
 use Rattle.solve.proofs.answer.Statement.{statement}
 use Rattle.solve.proofs.answer.Tie as tie
@@ -25,14 +26,23 @@ enum-told c = search needs
 solve-requires : tie.Need-solve-requires
 solve-requires c κs = written-read _ _ (c .before .before .before .before .read .ensures) (c .before .before .enum-told .given .1) .accepted
 
+same-length : tie.Need-same-length
+same-length c = search needs
+
 returns : tie.Need-returns
-returns c = search needs
+returns c = answers-misshapen (c .before .before .before .before .before .before .before .read .ensures) _ (c .before .before .before .before .before .a .given .1) (c .before .before .put-misshapen .ensures)
+
+same-length-2 : tie.Need-same-length-2
+same-length-2 c = search needs
 
 returns-2 : tie.Need-returns-2
-returns-2 c = search needs
+returns-2 c = answers-refused (c .before .before .before .before .before .before .before .read .ensures) _ (c .before .before .before .before .before .a2 .given .1) (c .before .before .put-refused .ensures)
+
+same-length-3 : tie.Need-same-length-3
+same-length-3 c = search needs
 
 returns-3 : tie.Need-returns-3
-returns-3 c = search needs
+returns-3 c = answers-game (c .before .before .before .before .before .before .before .read .ensures) (c .before .before .before .before .before .enum-told .given .1) (c .before .before .solve .ensures)
 
 pub answer-spec : {M : Type 1} → statement M
 answer-spec =
@@ -45,6 +55,9 @@ answer-spec =
     put-refused-requires
     enum-told
     solve-requires
+    same-length
     returns
+    same-length-2
     returns-2
+    same-length-3
     returns-3)

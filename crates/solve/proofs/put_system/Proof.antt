@@ -1,18 +1,16 @@
--- `put_system`.
+-- `put_system` meets its contract.
 use mathlib.Core.Path.{sym}
 use lib.Seq.{length-take-le}
+use Rattle.solve.proofs.Printed.{counted-controller}
 use borrow.Author.Needs.{needs}
 use Rattle.solve.proofs.put_system.Statement.{statement}
 use Rattle.solve.proofs.put_system.Tie as tie
-
-returns : tie.Need-returns
-returns c = search needs
 
 guarantee-count-requires : tie.Need-guarantee-count-requires
 guarantee-count-requires c κs = search needs
 
 slice-aggregate-put-controller : tie.Need-slice-aggregate-put-controller
-slice-aggregate-put-controller c = sym (length-take-le (c .before .before .before .before .before .before .args .n) (c .before .before .before .before .before .before .args .controller .now) (c .before .before .before .if1 .left))
+slice-aggregate-put-controller c = sym (length-take-le (c .before .before .before .before .before .args .n) (c .before .before .before .before .before .args .controller .now) (c .before .before .before .before .before .pre .1))
 
 put-controller-requires : tie.Need-put-controller-requires
 put-controller-requires c κs = search needs
@@ -20,16 +18,15 @@ put-controller-requires c κs = search needs
 same-length : tie.Need-same-length
 same-length c = search needs
 
-returns-2 : tie.Need-returns-2
-returns-2 c = search needs
+returns : tie.Need-returns
+returns c = counted-controller _ _ _ (c .before .before .before .before .before .guarantee-count .ensures) (c .before .before .put-controller .ensures)
 
 pub put-system-spec : {M : Type 1} → statement M
 put-system-spec =
     tie.close
     (tie.spec
-    returns
     guarantee-count-requires
     slice-aggregate-put-controller
     put-controller-requires
     same-length
-    returns-2)
+    returns)

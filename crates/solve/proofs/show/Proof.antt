@@ -8,11 +8,11 @@ use Rattle.solve.proofs.show.Tie as tie
 empty-print-requires : tie.Need-empty-print-requires
 empty-print-requires c κs = search needs
 
-slice-aggregate-answer : tie.Need-slice-aggregate-answer
-slice-aggregate-answer c = sym (length-take-le (c .before .before .before .before .before .args .n) (c .before .before .before .before .before .args .file .now) (c .before .before .before .if1 .taken))
+slice-aggregate-put-answer : tie.Need-slice-aggregate-put-answer
+slice-aggregate-put-answer c = sym (length-take-le (c .before .before .before .before .before .args .n) (c .before .before .before .before .before .args .file .now) (c .before .before .before .if1 .taken))
 
-answer-requires : tie.Need-answer-requires
-answer-requires c κs = search needs
+put-answer-requires : tie.Need-put-answer-requires
+put-answer-requires c κs = search needs
 
 print-front-requires : tie.Need-print-front-requires
 print-front-requires c κs = search needs
@@ -28,8 +28,8 @@ show-spec =
     tie.close
     (tie.spec
     empty-print-requires
-    slice-aggregate-answer
-    answer-requires
+    slice-aggregate-put-answer
+    put-answer-requires
     print-front-requires
     returns
     returns-2)
