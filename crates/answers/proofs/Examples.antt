@@ -15,12 +15,12 @@ use Rattle.answers.specs.Print.{none, unlessNone, winnerWord, winsLine, 
 --   (step 1 0 1 1 0)
 pub example-print : controllerAnswer 2 2 1 (0 ∷ none ∷ 1 ∷ 1 ∷ 1 ∷ 1 ∷ [])
     ≡
-      40 ∷ 119 ∷ 105 ∷ 110 ∷ 115 ∷ 32 ∷ 115 ∷ 121 ∷ 115 ∷ 116 ∷ 101 ∷ 109 ∷ 41 ∷ 10 ∷
-      40 ∷ 115 ∷ 116 ∷ 97 ∷ 114 ∷ 116 ∷ 32 ∷ 48 ∷ 32 ∷ 48 ∷ 41 ∷ 10 ∷
-      40 ∷ 115 ∷ 116 ∷ 101 ∷ 112 ∷ 32 ∷ 48 ∷ 32 ∷ 48 ∷ 32 ∷ 48 ∷ 32 ∷ 49 ∷ 32 ∷ 48 ∷ 41 ∷ 10 ∷
-      40 ∷ 115 ∷ 116 ∷ 101 ∷ 112 ∷ 32 ∷ 48 ∷ 32 ∷ 48 ∷ 32 ∷ 49 ∷ 32 ∷ 49 ∷ 32 ∷ 48 ∷ 41 ∷ 10 ∷
-      40 ∷ 115 ∷ 116 ∷ 101 ∷ 112 ∷ 32 ∷ 49 ∷ 32 ∷ 48 ∷ 32 ∷ 48 ∷ 32 ∷ 49 ∷ 32 ∷ 48 ∷ 41 ∷ 10 ∷
-      40 ∷ 115 ∷ 116 ∷ 101 ∷ 112 ∷ 32 ∷ 49 ∷ 32 ∷ 48 ∷ 32 ∷ 49 ∷ 32 ∷ 49 ∷ 32 ∷ 48 ∷ 41 ∷ 10 ∷ []
+    40 ∷ 119 ∷ 105 ∷ 110 ∷ 115 ∷ 32 ∷ 115 ∷ 121 ∷ 115 ∷ 116 ∷ 101 ∷ 109 ∷ 41 ∷ 10 ∷
+    40 ∷ 115 ∷ 116 ∷ 97 ∷ 114 ∷ 116 ∷ 32 ∷ 48 ∷ 32 ∷ 48 ∷ 41 ∷ 10 ∷
+    40 ∷ 115 ∷ 116 ∷ 101 ∷ 112 ∷ 32 ∷ 48 ∷ 32 ∷ 48 ∷ 32 ∷ 48 ∷ 32 ∷ 49 ∷ 32 ∷ 48 ∷ 41 ∷ 10 ∷
+    40 ∷ 115 ∷ 116 ∷ 101 ∷ 112 ∷ 32 ∷ 48 ∷ 32 ∷ 48 ∷ 32 ∷ 49 ∷ 32 ∷ 49 ∷ 32 ∷ 48 ∷ 41 ∷ 10 ∷
+    40 ∷ 115 ∷ 116 ∷ 101 ∷ 112 ∷ 32 ∷ 49 ∷ 32 ∷ 48 ∷ 32 ∷ 48 ∷ 32 ∷ 49 ∷ 32 ∷ 48 ∷ 41 ∷ 10 ∷
+    40 ∷ 115 ∷ 116 ∷ 101 ∷ 112 ∷ 32 ∷ 49 ∷ 32 ∷ 48 ∷ 32 ∷ 49 ∷ 32 ∷ 49 ∷ 32 ∷ 48 ∷ 41 ∷ 10 ∷ []
 unfolding controllerAnswer onlyIf controllerFits inRange controllerPrint winsLine winnerWord startLines startLine stepLines stepLine rowLine unlessNone line bracket items gapText word words decimal digits
 example-print = refl
 
@@ -30,9 +30,9 @@ example-print = refl
 --   (step 0 0 0 0 0)
 pub case-three : environmentAnswer 1 1 1 (0 ∷ 0 ∷ [])
     ≡
-      40 ∷ 119 ∷ 105 ∷ 110 ∷ 115 ∷ 32 ∷ 101 ∷ 110 ∷ 118 ∷ 105 ∷ 114 ∷ 111 ∷ 110 ∷ 109 ∷ 101 ∷ 110 ∷ 116 ∷ 41 ∷ 10 ∷
-      40 ∷ 115 ∷ 116 ∷ 97 ∷ 114 ∷ 116 ∷ 32 ∷ 48 ∷ 41 ∷ 10 ∷
-      40 ∷ 115 ∷ 116 ∷ 101 ∷ 112 ∷ 32 ∷ 48 ∷ 32 ∷ 48 ∷ 32 ∷ 48 ∷ 32 ∷ 48 ∷ 32 ∷ 48 ∷ 41 ∷ 10 ∷ []
+    40 ∷ 119 ∷ 105 ∷ 110 ∷ 115 ∷ 32 ∷ 101 ∷ 110 ∷ 118 ∷ 105 ∷ 114 ∷ 111 ∷ 110 ∷ 109 ∷ 101 ∷ 110 ∷ 116 ∷ 41 ∷ 10 ∷
+    40 ∷ 115 ∷ 116 ∷ 97 ∷ 114 ∷ 116 ∷ 32 ∷ 48 ∷ 41 ∷ 10 ∷
+    40 ∷ 115 ∷ 116 ∷ 101 ∷ 112 ∷ 32 ∷ 48 ∷ 32 ∷ 48 ∷ 32 ∷ 48 ∷ 32 ∷ 48 ∷ 32 ∷ 48 ∷ 41 ∷ 10 ∷ []
 unfolding environmentAnswer onlyIf environmentFits inRange environmentPrint winsLine winnerWord environmentStart stepLines stepLine rowLine unlessNone line bracket items gapText word words decimal digits
 case-three = refl
 
@@ -42,9 +42,9 @@ case-three = refl
 --   (step 0 0 1 0 0)
 pub none-skipped : environmentAnswer 1 2 1 (0 ∷ none ∷ 0 ∷ [])
     ≡
-      40 ∷ 119 ∷ 105 ∷ 110 ∷ 115 ∷ 32 ∷ 101 ∷ 110 ∷ 118 ∷ 105 ∷ 114 ∷ 111 ∷ 110 ∷ 109 ∷ 101 ∷ 110 ∷ 116 ∷ 41 ∷ 10 ∷
-      40 ∷ 115 ∷ 116 ∷ 97 ∷ 114 ∷ 116 ∷ 32 ∷ 48 ∷ 41 ∷ 10 ∷
-      40 ∷ 115 ∷ 116 ∷ 101 ∷ 112 ∷ 32 ∷ 48 ∷ 32 ∷ 48 ∷ 32 ∷ 49 ∷ 32 ∷ 48 ∷ 32 ∷ 48 ∷ 41 ∷ 10 ∷ []
+    40 ∷ 119 ∷ 105 ∷ 110 ∷ 115 ∷ 32 ∷ 101 ∷ 110 ∷ 118 ∷ 105 ∷ 114 ∷ 111 ∷ 110 ∷ 109 ∷ 101 ∷ 110 ∷ 116 ∷ 41 ∷ 10 ∷
+    40 ∷ 115 ∷ 116 ∷ 97 ∷ 114 ∷ 116 ∷ 32 ∷ 48 ∷ 41 ∷ 10 ∷
+    40 ∷ 115 ∷ 116 ∷ 101 ∷ 112 ∷ 32 ∷ 48 ∷ 32 ∷ 48 ∷ 32 ∷ 49 ∷ 32 ∷ 48 ∷ 32 ∷ 48 ∷ 41 ∷ 10 ∷ []
 unfolding environmentAnswer onlyIf environmentFits inRange environmentPrint winsLine winnerWord environmentStart stepLines stepLine rowLine unlessNone line bracket items gapText word words decimal digits
 none-skipped = refl
 

@@ -130,7 +130,14 @@ fn put_starts(buffer: &mut [u8], at: usize, n: usize, table: &[u16]) -> usize
 }
 
 // The rows, which are the entries from `first` on.
-fn put_steps(buffer: &mut [u8], at: usize, sets: usize, last: usize, first: usize, table: &[u16]) -> usize
+fn put_steps(
+    buffer: &mut [u8],
+    at: usize,
+    sets: usize,
+    last: usize,
+    first: usize,
+    table: &[u16],
+) -> usize
     requires { ⌜ (at ≤ 160 * 65) × (first ≤ length (now table)) × (length (now table) ≤ 2 ^ 18) ⌝ }
     ensures { λ r. ⌜ Puts (now (buffer .entry)) at (stepLines (length (now (table .entry)) - first) 0 sets last first (now (table .entry))) r (now (buffer .exit)) ⌝ }
 {
@@ -178,7 +185,13 @@ fn environment_fits(inputs: usize, outputs: usize, sets: usize, n: usize) -> boo
 }
 
 // The whole print of a controller's table; 0 bytes where it does not fit the dimensions. `sets` counts the guarantees.
-pub fn put_controller(buffer: &mut [u8], inputs: usize, outputs: usize, sets: usize, table: &[u16]) -> usize
+pub fn put_controller(
+    buffer: &mut [u8],
+    inputs: usize,
+    outputs: usize,
+    sets: usize,
+    table: &[u16],
+) -> usize
     ensures { λ r. ⌜ Puts (now (buffer .entry)) 0 (controllerAnswer inputs outputs sets (now (table .entry))) r (now (buffer .exit)) ⌝ }
 {
     if !controller_fits(inputs, outputs, sets, table.len()) {
@@ -190,7 +203,13 @@ pub fn put_controller(buffer: &mut [u8], inputs: usize, outputs: usize, sets: us
 }
 
 // The whole print of an environment's table; 0 bytes where it does not fit the dimensions. `sets` counts the assumptions.
-pub fn put_environment(buffer: &mut [u8], inputs: usize, outputs: usize, sets: usize, table: &[u16]) -> usize
+pub fn put_environment(
+    buffer: &mut [u8],
+    inputs: usize,
+    outputs: usize,
+    sets: usize,
+    table: &[u16],
+) -> usize
     ensures { λ r. ⌜ Puts (now (buffer .entry)) 0 (environmentAnswer inputs outputs sets (now (table .entry))) r (now (buffer .exit)) ⌝ }
 {
     if !environment_fits(inputs, outputs, sets, table.len()) {

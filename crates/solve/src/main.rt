@@ -9,7 +9,6 @@ ghost use Rattle.theory.specs.Choice.{guarantees, assumptions};
 ghost use Rattle.put.specs.Put.{Puts};
 ghost use Rattle.answers.specs.Print.{controllerAnswer, environmentAnswer};
 ghost use Rattle.solve.specs.Printed.{gamePrint, Printed};
-
 use game::Game;
 use libc::STDOUT_FILENO;
 use solver::Verdict;
@@ -33,7 +32,13 @@ fn put_system(buffer: &mut [u8], g: Game, controller: &[u16], n: usize) -> usize
     ensures { λ r. ⌜ Puts (now (buffer .entry)) 0 (controllerAnswer (g .input .states) (g .output .states) (length (guarantees (separatedOf g))) (take n (now (controller .entry)))) r (now (buffer .exit)) ⌝ }
 {
     let sets = sizes::guarantee_count(g);
-    answers::put_controller(buffer, g.input.states, g.output.states, sets, &controller[..n])
+    answers::put_controller(
+        buffer,
+        g.input.states,
+        g.output.states,
+        sets,
+        &controller[..n],
+    )
 }
 
 // The print of the panel's table, the first n entries of its room.
