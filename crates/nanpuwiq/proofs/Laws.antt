@@ -3,9 +3,10 @@ use Prim.Native.Nat.{ℕ}
 use mathlib.Core.Path.{_≡_, sym, ap, subst, _∙_}
 use mathlib.Core.List.{List}
 use Rattle.game.specs.declared.Game.{Game}
-use Rattle.solver.specs.declared.Mapped.{Mapped}
+use Rattle.map.specs.declared.Mapped.{Mapped}
 use Rattle.solver.specs.declared.Verdict.{Verdict}
-use Rattle.solver.specs.Promise.{MapMade, Solved}
+use Rattle.map.specs.Map.{MapMade}
+use Rattle.solver.specs.Promise.{Solved}
 use Rattle.text.specs.declared.Answer.{Answer}
 use Rattle.text.specs.declared.Reading.{Reading}
 use Rattle.text.specs.declared.WriteAnswer.{WriteAnswer}

@@ -9,7 +9,8 @@ use mathlib.Core.Path.{_≡_}
 use mathlib.Core.List.{List}
 use lib.ListN.{length}
 use Rattle.game.specs.declared.Game.{Game}
-use Rattle.solver.specs.Promise.{mapAnswer, MapMade, verdictAnswer, Solved}
+use Rattle.map.specs.Map.{mapAnswer, MapMade}
+use Rattle.solver.specs.Promise.{verdictAnswer, Solved}
 use Rattle.text.specs.declared.Reading.{Reading}
 use Rattle.text.specs.Read.{Reads}
 use Rattle.text.specs.Write.{writeAnswer, writeBuffer}

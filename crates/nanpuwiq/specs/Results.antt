@@ -10,8 +10,8 @@ use Prim.Native.Nat.{ℕ}
 use mathlib.Core.Bool.{true, false}
 use Rattle.game.specs.declared.Acceptance.{Acceptance}
 use Rattle.game.specs.declared.Acceptance.the-variants as acceptance·
-use Rattle.solver.specs.declared.Mapped.{Mapped}
-use Rattle.solver.specs.declared.Mapped.the-variants as mapped·
+use Rattle.map.specs.declared.Mapped.{Mapped}
+use Rattle.map.specs.declared.Mapped.the-variants as mapped·
 use Rattle.solver.specs.declared.Verdict.{Verdict}
 use Rattle.solver.specs.declared.Verdict.the-variants as verdict·
 use Rattle.text.specs.declared.Reading.{Reading}

@@ -9,10 +9,10 @@ use game::Acceptance;
 use game::Game;
 use game::InState;
 use game::OutState;
+use map::Mapped;
 use player::Moved;
 use player::Played;
 use player::Position;
-use solver::Mapped;
 use solver::Verdict;
 use text::Answer;
 use text::Reading;
@@ -143,7 +143,7 @@ pub extern "C" fn nanpuwiq_accept(g: Game) -> u8
 pub extern "C" fn nanpuwiq_won_map(g: Game, scratch: &mut [u64], map: &mut [u64]) -> u8
     ensures { λ r. ⌜ MapCalled g (now (scratch .entry)) (now (scratch .exit)) (now (map .entry)) (now (map .exit)) r ⌝ }
 {
-    map_code(solver::won_map(g, scratch, map))
+    map_code(map::won_map(g, scratch, map))
 }
 
 // Names the side that wins and writes its table into the front of its buffer.
