@@ -7,29 +7,47 @@ use game::OutSet;
 use game::OutState;
 ghost use mathlib.Core.Path.{_≡_};
 ghost use mathlib.Core.Bool.{true};
-ghost use Prim.Native.Nat.{_<_};
+ghost use Prim.Native.Nat.{ℕ, _<_};
 ghost use lib.ListN.{length};
+ghost use Rattle.sets.specs.Member.{has};
 ghost use Rattle.play.specs.Play.{separatedOf};
 ghost use Rattle.theory.specs.Choice.{environmentStart};
 ghost use Rattle.theory.specs.Entries.{entry};
 ghost use Rattle.environment_table.specs.Table.{Known, Roomy, Filled};
-ghost use Rattle.environment_table.specs.Reading.{Shaped, anyWon, unansweredAt, plain};
+ghost use Rattle.environment_table.specs.Reading.{Shaped, reachedAt, anyWon, unansweredAt, plain};
 
-// Whether some output of the set makes a won position with j, from scratch for n inputs and m outputs.
-fn some_won(s: &[u64], n: usize, m: usize, cores: InSet, j: InState, set: OutSet) -> bool
-    requires { ⌜ Shaped (length (now s)) n m × (j .0 < n) ⌝ }
-    ensures { λ r. ⌜ r ≡ anyWon (now (s .entry)) n m (cores .0) (j .0) (set .0) ⌝ }
+// What the outputs of the set reach, from scratch for n inputs and m outputs.
+fn reached(s: &[u64], n: usize, m: usize, set: OutSet) -> OutSet
+    requires { ⌜ Shaped (length (now s)) n m ⌝ }
+    ensures { λ r. ⌜ ((t : ℕ) → has (r .0) t ≡ reachedAt (now (s .entry)) n m (set .0) t) ⌝ }
 {
+    let mut x: u64 = 0;
     let mut p: usize = 0;
     while p < m {
-        if sets::member(set.0, p) {
-            if stored::won(s, n, cores.0, j.0, p) {
-                return true;
-            }
-        }
+        x = sets::union_if(x, s[n + n + p], sets::member(set.0, p));
         p += 1;
     }
-    false
+    OutSet(x)
+}
+
+// Whether some output of the set makes a won position with j. They reach `reach`: in a nontrivial component one of them wins where that has a home of j.
+fn some_won(
+    s: &[u64],
+    n: usize,
+    m: usize,
+    cores: InSet,
+    j: InState,
+    set: OutSet,
+    reach: OutSet,
+) -> bool
+    requires { ⌜ Shaped (length (now s)) n m × (j .0 < n) × ((t : ℕ) → has (reach .0) t ≡ reachedAt (now s) n m (set .0) t) ⌝ }
+    ensures { λ r. ⌜ r ≡ anyWon (now (s .entry)) n m (cores .0) (j .0) (set .0) ⌝ }
+{
+    let row = s[n + j.0];
+    if sets::member(cores.0, j.0) {
+        return sets::meets(row, reach.0);
+    }
+    sets::meets(row, sets::intersection(set.0, sets::below(m)))
 }
 
 // The lowest input of `from` with which no output of the set makes a won position; n where there is none.
@@ -37,10 +55,11 @@ fn unanswered(s: &[u64], n: usize, m: usize, cores: InSet, from: InSet, set: Out
     requires { ⌜ Shaped (length (now s)) n m ⌝ }
     ensures { λ r. ⌜ r ≡ unansweredAt (now (s .entry)) n m (cores .0) (from .0) (set .0) ⌝ }
 {
+    let reach = reached(s, n, m, set);
     let mut j: usize = 0;
     while j < n {
         if sets::member(from.0, j) {
-            if !some_won(s, n, m, cores, InState(j), set) {
+            if !some_won(s, n, m, cores, InState(j), set, reach) {
                 return j;
             }
         }

@@ -1,6 +1,7 @@
 -- What is read of scratch l with n inputs and m outputs.
 --
 --   Shaped k n m                       == scratch of k words holds n inputs and m outputs
+--   reachedAt l n m set t              == some output of the set reaches t
 --   anyWon l n m cores j set           == some output of the set makes a won position with j
 --   openAt l n m cores from set j      == j is an input of `from` with which none does
 --   unansweredAt l n m cores from set  == the lowest such input; n where there is none
@@ -9,6 +10,7 @@
 use Prim.Native.Nat.{ℕ, _+_, _≤_}
 use mathlib.Core.Bool.{Bool, _&&_, _||_, not}
 use mathlib.Core.List.{List}
+use lib.ListN.{getD}
 use Rattle.finite.specs.Bounded.{any, least}
 use Rattle.sets.specs.Member.{has}
 use Rattle.graphs.specs.Component.{nontrivial}
@@ -21,6 +23,9 @@ pub record Shaped (k n m : ℕ) : Type 0 where
   pub inputs : n ≤ 64
   pub outputs : m ≤ 64
   pub long : n + n + m ≤ k
+
+unfoldable pub reachedAt : List ℕ → ℕ → ℕ → ℕ → ℕ → Bool
+reachedAt l n m set t = any m (λ p. has set p && has (getD l (n + n + p) 0) t)
 
 unfoldable pub anyWon : List ℕ → ℕ → ℕ → ℕ → ℕ → ℕ → Bool
 anyWon l n m cores j set = any m (λ p. has set p && wonAt l n cores j p)

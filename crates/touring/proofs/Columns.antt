@@ -4,7 +4,7 @@
 --   columning-*       : how it begins, goes on and ends
 use Prim.Native.Nat.{ℕ, _+_, _*_, _<_, _≤_, _^_}
 use mathlib.Core.Path.{_≡_, refl, sym, _∙_, ap}
-use mathlib.Core.Bool.{Bool, true, false, _&&_, _||_, not}
+use mathlib.Core.Bool.{true, false, _&&_, _||_, not}
 use mathlib.Core.List.{List}
 use mathlib.Core.Logic.{_≢_}
 use native.Mathlib.Omega.{arith}
@@ -20,7 +20,7 @@ use Rattle.sets.proofs.Compare.{nonzero-below}
 use Rattle.sets.proofs.Remove.{rest-in, rest-other, rest-falls}
 use Rattle.filling.specs.Grows.{Right, Grows}
 use Rattle.filling.proofs.Grows.{grows-none, grows-more, grows-set, right-set}
-use Rattle.touring.specs.Column.{Agrees, Columned, Column}
+use Rattle.touring.specs.Column.{Agrees, Column}
 
 -- the lowest member of a word that is not 0
 module _ (x h : ℕ) (small : x < 2 ^ 64) (ne : x ≢ 0) (e : h ≡ least 64 (has x)) where

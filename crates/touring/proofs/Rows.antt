@@ -27,7 +27,6 @@ use Rattle.touring.specs.Column.{
   Agrees,
   Column,
   RunAgrees,
-  Ran,
   Run,
   RowFits,
   RowAgrees,
@@ -35,7 +34,6 @@ use Rattle.touring.specs.Column.{
   Row,
   BlockFits,
   BlockAgrees,
-  Blocked,
   Block,
 }
 use Rattle.touring.proofs.Columns.{lowest-below, lowest-in}
@@ -178,7 +176,7 @@ rowing-start l base width over which first more b = record {
 module _ (l m : List ℕ) (base width over which first more left h r y : ℕ) (C : Rowing l m base width over which first more left)
     (ne : left ≢ 0) (e : h ≡ least 64 (has left))
     (f : (s : ℕ) → has y s ≡ (has 0 s || eqb s h)) (d : (s : ℕ) → has r s ≡ (has left s && not (has y s))) where
-  pub row-member : has which h ≡ true
+  row-member : has which h ≡ true
   row-member = C .inside h (lowest-in left h (C .small) ne e)
 
   pub rowing-turn : (k : List ℕ) (inside : ℕ) → Narrowed over width inside → Row m k (base + width * h) inside (first + more * h) → r < 2 ^ 64

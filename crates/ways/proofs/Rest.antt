@@ -5,9 +5,9 @@
 --   trying-*               : how that begins, goes on and ends
 use Prim.Native.Nat.{ℕ, zero, suc, _+_, _^_, _≤_, _<_}
 use mathlib.Core.Path.{_≡_, refl, sym, _∙_, ap}
-use mathlib.Core.Bool.{Bool, true, false, not, _&&_, _||_}
+use mathlib.Core.Bool.{true, false, not, _&&_, _||_}
 use mathlib.Core.List.{List}
-use mathlib.Core.Logic.{_⊎_, inl, inr, _≢_}
+use mathlib.Core.Logic.{inl, inr, _≢_}
 use native.Mathlib.Omega.{arith}
 use native.Mathlib.Numerals.{add-one}
 use native.Mathlib.Decide.{ℕ-discrete}
@@ -20,7 +20,7 @@ use Rattle.sets.specs.Member.{has}
 use Rattle.sets.proofs.Membership.{has-zero}
 use Rattle.sets.proofs.Compare.{nonzero-below}
 use Rattle.sets.proofs.Remove.{rest-in, rest-out, rest-other, rest-falls}
-use Rattle.ways.specs.Search.{choices, Settled}
+use Rattle.ways.specs.Search.{Settled}
 use Rattle.ways.proofs.Round.{choices-none, settled-start, settled-miss, settled-end}
 
 pub record Rest (n left k rest : ℕ) : Type 0 where

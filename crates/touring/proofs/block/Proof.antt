@@ -16,7 +16,6 @@ use Rattle.touring.proofs.Rows.{
   row-place,
   Rowing,
   rowing-start,
-  row-member,
   rowing-turn,
   rowing-falls,
   rowing-end,

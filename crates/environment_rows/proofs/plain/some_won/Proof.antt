@@ -1,65 +1,57 @@
--- `some_won` passes the outputs below p.
-use Prim.Native.Nat.{_≤_, _-_}
-use mathlib.Core.Path.{_≡_, sym, _∙_}
-use mathlib.Core.Bool.{false}
-use mathlib.Core.Logic.{⊎-elim}
-use native.Mathlib.Omega.{arith}
-use Rattle.environment_table.specs.Reading.{anyWon}
-use Rattle.environment_table.proofs.Reading.{any-start, any-past, any-lost, any-won, any-end}
+-- `some_won` looks for a home in what the outputs reach, or for an output in the row of j.
+use mathlib.Core.Path.{sym, _∙_}
+use borrow.Author.Needs.{needs}
+use Rattle.environment_table.proofs.Reading.{some-in, some-out}
 use Rattle.environment_rows.proofs.plain.some_won.Statement.{statement}
 use Rattle.environment_rows.proofs.plain.some_won.Tie as tie
 
-abbrev Inv-loop : tie.InvT-loop
-Inv-loop s n m cores j set p₀ p = (p ≤ m) × (anyWon s n p (cores .0) (j .0) (set .0) ≡ false)
+add-row : tie.Need-add-row
+add-row c = search needs
 
-abbrev μ-loop : tie.MeasureT-loop
-μ-loop s n m cores j set p₀ p = m - p
+mul-row : tie.Need-mul-row
+mul-row c = search needs
 
-loop-holds : tie.Need-loop-holds Inv-loop μ-loop
-loop-holds c = (omega arith, any-start _ _ _ _ _)
+shared-slice-read-row : tie.Need-shared-slice-read-row
+shared-slice-read-row c = search needs
 
-member-requires : tie.Need-member-requires Inv-loop μ-loop
-member-requires c κs = omega arith
+member-requires : tie.Need-member-requires
+member-requires c κs = search needs
 
-won-requires : tie.Need-won-requires Inv-loop μ-loop
-won-requires c κs = omega arith
+meets-requires : tie.Need-meets-requires
+meets-requires c κs = search needs
 
-returns : tie.Need-returns Inv-loop μ-loop
+returns : tie.Need-returns
 returns c =
-    let b = c .before .before .before in
-    any-won _ _ _ _ _ _ (b .before .before .loop .p) (b .before .loop-test .taken)
-    (b .member .ensures) (c .before .before .if1 .taken) (c .before .won .ensures) (c .if2 .taken)
+    let b = c .before .before in
+    c .meets .ensures ∙ some-in _ _ _ _ _ _ _ (sym (b .member .ensures) ∙ c .before .if1 .taken) (b .before .before .before .before .pre .2)
 
-add-p : tie.Need-add-p Inv-loop μ-loop
-add-p c = omega arith
+below-requires : tie.Need-below-requires
+below-requires c κs = search needs
 
-loop-less : tie.Need-loop-less Inv-loop μ-loop
-loop-less c = omega arith
+intersection-requires : tie.Need-intersection-requires
+intersection-requires c κs = search needs
 
-loop-again : tie.Need-loop-again Inv-loop μ-loop
-loop-again c =
-    let b = c .before .before .before in (
-      omega arith,
-      ⊎-elim
-          (λ w. any-lost _ _ _ _ _ (b .loop .p) (b .loop .inv .1) (sym (w .1 .ensures) ∙ w .2 .left))
-          (λ w. any-past _ _ _ _ _ (b .loop .p) (b .loop .inv .1) (sym (c .before .member .ensures) ∙ w .left))
-          (c .if1 .came),
-    )
+meets-requires-2 : tie.Need-meets-requires-2
+meets-requires-2 c κs = search needs
 
-returns-2 : tie.Need-returns-2 Inv-loop μ-loop
-returns-2 c = any-end _ _ _ _ _ _ (c .before .loop .p) (c .before .loop .inv .0) (c .loop-test .left) (c .before .loop .inv .1)
+returns-2 : tie.Need-returns-2
+returns-2 c =
+    let b = c .before .before .before .before in
+    c .meets2 .ensures
+    ∙ some-out _ _ _ _ _ _ _ _ (b .before .before .before .before .pre .0 .outputs) (sym (b .member .ensures) ∙ c .before .before .before .if1 .left) (c .before .before .below .ensures)
+      (c .before .intersection .ensures)
 
 pub some-won-spec : {M : Type 1} → statement M
 some-won-spec =
     tie.close
     (tie.spec
-    Inv-loop
-    μ-loop
-    loop-holds
+    add-row
+    mul-row
+    shared-slice-read-row
     member-requires
-    won-requires
+    meets-requires
     returns
-    add-p
-    loop-less
-    loop-again
+    below-requires
+    intersection-requires
+    meets-requires-2
     returns-2)

@@ -2,6 +2,7 @@
 use Prim.Native.Nat.{_≤_, _-_}
 use mathlib.Core.Path.{sym, _∙_}
 use mathlib.Core.Logic.{⊎-elim}
+use borrow.Author.Needs.{needs}
 use native.Mathlib.Omega.{arith}
 use Rattle.finite.proofs.Truth.{not-true, not-false}
 use Rattle.environment_table.proofs.Reading.{Answered, open-start, open-past, open-answered, open-found, open-end}
@@ -9,19 +10,23 @@ use Rattle.environment_rows.proofs.plain.unanswered.Statement.{statemen
 use Rattle.environment_rows.proofs.plain.unanswered.Tie as tie
 
 abbrev Inv-loop : tie.InvT-loop
-Inv-loop s n m cores from set j₀ j = (j ≤ n) × Answered s n m (cores .0) (from .0) (set .0) j
+Inv-loop s n m cores from set reach j₀ j = (j ≤ n) × Answered s n m (cores .0) (from .0) (set .0) j
 
 abbrev μ-loop : tie.MeasureT-loop
-μ-loop s n m cores from set j₀ j = n - j
+μ-loop s n m cores from set reach j₀ j = n - j
 
 loop-holds : tie.Need-loop-holds Inv-loop μ-loop
 loop-holds c = (omega arith, open-start _ _ _ _ _ _)
+
+reached-requires : tie.Need-reached-requires Inv-loop μ-loop
+reached-requires c κs = search needs
 
 member-requires : tie.Need-member-requires Inv-loop μ-loop
 member-requires c κs = omega arith
 
 some-won-requires : tie.Need-some-won-requires Inv-loop μ-loop
-some-won-requires c κs = (c .before .before .before .before .before .pre, c .before .before .loop-test .taken)
+some-won-requires c κs =
+    (c .before .before .before .before .before .before .pre, c .before .before .loop-test .taken, c .before .before .before .before .reached .ensures)
 
 returns : tie.Need-returns Inv-loop μ-loop
 returns c =
@@ -54,6 +59,7 @@ unanswered-spec =
     (tie.spec
     Inv-loop
     μ-loop
+    reached-requires
     loop-holds
     member-requires
     some-won-requires
