@@ -73,6 +73,14 @@ module _ (i o c n : ℕ) where
       let e = eqb-true n (1 + i * max 1 c * o) (and-right (inRange i o c) (eqb n (1 + i * max 1 c * o)) h) in
       (e, omega (arith, e, entries-most i c (max 1 c) o (b .0) (b .2) (b .1) refl))
 
+  pub controller-sets : controllerFits i o c n ≡ true → c ≤ 32
+  unfolding controllerFits
+  controller-sets h = range-bounds i o c (and-left (inRange i o c) (eqb n (i + o * max 1 c * i)) h) .2
+
+  pub environment-sets : environmentFits i o c n ≡ true → (o ≤ 64) × (c ≤ 32)
+  unfolding environmentFits
+  environment-sets h = let b = range-bounds i o c (and-left (inRange i o c) (eqb n (1 + i * max 1 c * o)) h) in (b .1, b .2)
+
 module _ {d : List ℕ} (i o c : ℕ) (es : List ℕ) where
   pub controller-nothing : controllerFits i o c (length es) ≡ false → Puts d 0 (controllerAnswer i o c es) 0 d
   unfolding controllerAnswer onlyIf

@@ -38,6 +38,18 @@ pub number-short : (v b : ℕ) → v < 18446744073709551616 → length (decimal 
 unfolding tens
 number-short v b h = omega (arith, length-append (decimal v) (b ∷ []), digits-count 19 v (omega arith))
 
+pub two-digits : (v : ℕ) → v < 100 → length (decimal v) ≤ 2
+unfolding tens
+two-digits v h = digits-count 1 v h
+
+pub four-digits : (v : ℕ) → v < 10000 → length (decimal v) ≤ 4
+unfolding tens
+four-digits v h = digits-count 3 v h
+
+pub six-digits : (v : ℕ) → v < 1000000 → length (decimal v) ≤ 6
+unfolding tens
+six-digits v h = digits-count 5 v h
+
 pub opening-short : (w : ℕ) → length (opening w) ≤ 13
 opening-short w = omega (arith, opening-length w, word-short w)
 
@@ -56,7 +68,7 @@ pub some-line : (e : ℕ) (t : List ℕ) → (e ≡ 65535 → ⊥) → t ≡ unl
 unfolding unlessNone
 some-line e t h = sym (rw (ne-eqb e 65535 h, unlessNone))
 
-unless-short : (e n : ℕ) (t : List ℕ) → length t ≤ n → length (unlessNone e t) ≤ n
+pub unless-short : (e n : ℕ) (t : List ℕ) → length t ≤ n → length (unlessNone e t) ≤ n
 unfolding unlessNone
 unless-short e n t h =
     by-cases (eqb e 65535)
@@ -68,7 +80,7 @@ pub wins-pieces : (b : Bool) → opening 4 ++ (word (winnerWord b) ++ 41 ∷ 10 
 unfolding winsLine line bracket items gapText opening
 wins-pieces b = simp (append-assoc, append-nil)
 
-start-text : (i e : ℕ)
+pub start-text : (i e : ℕ)
     → opening 5 ++ ((decimal i ++ 32 ∷ []) ++ ((decimal (e % 64) ++ 41 ∷ []) ++ 10 ∷ [])) ≡ line (word 5 ∷ decimal i ∷ decimal (e % 64) ∷ [])
 unfolding line bracket items gapText opening
 start-text i e = simp (append-assoc, append-nil)
@@ -77,7 +89,7 @@ pub start-pieces : (i e : ℕ) → (e ≡ 65535 → ⊥) → opening 5 ++ ((deci
 unfolding startLine
 start-pieces i e h = start-text i e ∙ some-line e _ h
 
-environment-text : (e : ℕ) → opening 5 ++ ((decimal (e % 64) ++ 41 ∷ []) ++ 10 ∷ []) ≡ line (word 5 ∷ decimal (e % 64) ∷ [])
+pub environment-text : (e : ℕ) → opening 5 ++ ((decimal (e % 64) ++ 41 ∷ []) ++ 10 ∷ []) ≡ line (word 5 ∷ decimal (e % 64) ∷ [])
 unfolding line bracket items gapText opening
 environment-text e = simp (append-assoc, append-nil)
 
@@ -111,10 +123,10 @@ winner-word true w h = (omega arith, ap (λ (v : ℕ). opening 4 ++ (word v ++ 4
 winner-word false w h = (omega arith, ap (λ (v : ℕ). opening 4 ++ (word v ++ 41 ∷ 10 ∷ [])) h ∙ wins-pieces false)
 
 -- no line is longer than 160 bytes
-record Short (t : List ℕ) (n : ℕ) : Type 0 where
-  size : length t ≤ n
+pub record Short (t : List ℕ) (n : ℕ) : Type 0 where
+  pub size : length t ≤ n
 
-then-short : {t u : List ℕ} {m n : ℕ} → Short t m → Short u n → Short (t ++ u) (m + n)
+pub then-short : {t u : List ℕ} {m n : ℕ} → Short t m → Short u n → Short (t ++ u) (m + n)
 then-short {t} {u} T U = let a = T .size in let b = U .size in record { size = omega (arith, length-append t u) }
 
 opened : (w : ℕ) → Short (opening w) 13
@@ -123,7 +135,7 @@ opened w = record { size = opening-short w }
 number : (v b : ℕ) → v < 18446744073709551616 → Short (decimal v ++ b ∷ []) 21
 number v b h = record { size = number-short v b h }
 
-ended : Short (10 ∷ []) 1
+pub ended : Short (10 ∷ []) 1
 ended = record { size = omega arith }
 
 pub wins-short : (b : Bool) → length (winsLine b) ≤ 160
