@@ -45,8 +45,8 @@ row-room : (a g b e : ℕ) → a < 1000000 → g < 100 → b < 100 → e < 65536
 row-room a g b e p q s h =
     let next = then-short (number (e % 64) 32 2 (two-digits (e % 64) (omega arith))) (then-short (number (e / 64) 41 4 (four-digits (e / 64) (omega arith))) ended) in
     let all =
-        then-short step-opening
-        (then-short (number a 32 6 (six-digits a p)) (then-short (number g 32 2 (two-digits g q)) (then-short (number b 32 2 (two-digits b s)) next))) .size in
+    then-short step-opening
+    (then-short (number a 32 6 (six-digits a p)) (then-short (number g 32 2 (two-digits g q)) (then-short (number b 32 2 (two-digits b s)) next))) .size in
     omega (arith, all, ap length (row-pieces a g b e))
 
 step-room : (c n r e : ℕ) → c ≤ 32 → n ≤ 64 → r < 1000000 → e < 65536 → length (stepLine c n r e) ≤ 28

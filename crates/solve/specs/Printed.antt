@@ -3,8 +3,9 @@
 --   tablePrint g v     == the print for the game g and the solver's answer v
 --   gamePrint g        == the print for the accepted game g
 --   readingPrint r     == the print for what was read
---   Printed s d n e    == the buffer d has become e by writing the print for the file s at its front, n bytes
-use Prim.Native.Nat.{ℕ}
+--   Made d t n e       == the buffer d has become e by writing the print t at its front, n bytes, which 1 MiB holds
+--   Printed s d n e    == the same for the print of the file s
+use Prim.Native.Nat.{ℕ, _≤_}
 use mathlib.Core.List.{List}
 use lib.ListN.{length}
 use Rattle.game.specs.declared.Game.{Game}
@@ -39,7 +40,11 @@ answerPrint g (NotRead n) = refusedLine n
 unfoldable pub readingPrint : Reading → List ℕ
 readingPrint r = answerPrint (r .game) (r .answer)
 
+pub record Made (d t : List ℕ) (n : ℕ) (e : List ℕ) : Type 0 where
+  pub puts : Puts d 0 t n e
+  pub fits : n ≤ 1048576
+
 pub record Printed (s d : List ℕ) (n : ℕ) (e : List ℕ) : Type 0 where
   pub reading : Reading
   pub reads : Reads s reading
-  pub puts : Puts d 0 (readingPrint reading) n e
+  pub made : Made d (readingPrint reading) n e

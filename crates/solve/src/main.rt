@@ -6,30 +6,31 @@ ghost use Rattle.game.specs.declared.Acceptance.the-variants.{Accepted};
 ghost use Rattle.game.specs.Acceptance.{acceptance};
 ghost use Rattle.play.specs.Play.{separatedOf};
 ghost use Rattle.theory.specs.Choice.{guarantees, assumptions};
-ghost use Rattle.put.specs.Put.{Puts};
 ghost use Rattle.answers.specs.Print.{controllerAnswer, environmentAnswer};
-ghost use Rattle.solve.specs.Printed.{gamePrint, Printed};
+ghost use Rattle.solve.specs.Printed.{gamePrint, Made, Printed};
 use game::Game;
 use libc::STDOUT_FILENO;
 use solver::Verdict;
 use text::Answer;
 
 // The first n bytes.
-fn print(text: &[u8], n: usize) {
-    if n <= text.len() {
-        io::write_all(STDOUT_FILENO, &text[..n]);
-    }
+fn print(text: &[u8], n: usize)
+    requires { ⌜ n ≤ length (now text) ⌝ }
+{
+    io::write_all(STDOUT_FILENO, &text[..n]);
 }
 
 // The first n bytes of the buffer.
-fn print_front(buffer: &[u8; 1048576], n: usize) {
+fn print_front(buffer: &[u8; 1048576], n: usize)
+    requires { ⌜ n ≤ 1048576 ⌝ }
+{
     print(buffer, n);
 }
 
 // The print of the controller's table, the first n entries of its room.
 fn put_system(buffer: &mut [u8], g: Game, controller: &[u16], n: usize) -> usize
-    requires { ⌜ (acceptance g ≡ Accepted) × (n ≤ length (now controller)) ⌝ }
-    ensures { λ r. ⌜ Puts (now (buffer .entry)) 0 (controllerAnswer (g .input .states) (g .output .states) (length (guarantees (separatedOf g))) (take n (now (controller .entry)))) r (now (buffer .exit)) ⌝ }
+    requires { ⌜ (acceptance g ≡ Accepted) × (n ≤ length (now controller)) × (length (now controller) ≤ 32768) ⌝ }
+    ensures { λ r. ⌜ Made (now (buffer .entry)) (controllerAnswer (g .input .states) (g .output .states) (length (guarantees (separatedOf g))) (take n (now (controller .entry)))) r (now (buffer .exit)) ⌝ }
 {
     let sets = sizes::guarantee_count(g);
     answers::put_controller(
@@ -43,8 +44,8 @@ fn put_system(buffer: &mut [u8], g: Game, controller: &[u16], n: usize) -> usize
 
 // The print of the panel's table, the first n entries of its room.
 fn put_panel(buffer: &mut [u8], g: Game, panel: &[u16], n: usize) -> usize
-    requires { ⌜ (acceptance g ≡ Accepted) × (n ≤ length (now panel)) ⌝ }
-    ensures { λ r. ⌜ Puts (now (buffer .entry)) 0 (environmentAnswer (g .input .states) (g .output .states) (length (assumptions (separatedOf g))) (take n (now (panel .entry)))) r (now (buffer .exit)) ⌝ }
+    requires { ⌜ (acceptance g ≡ Accepted) × (n ≤ length (now panel)) × (length (now panel) ≤ 32768) ⌝ }
+    ensures { λ r. ⌜ Made (now (buffer .entry)) (environmentAnswer (g .input .states) (g .output .states) (length (assumptions (separatedOf g))) (take n (now (panel .entry)))) r (now (buffer .exit)) ⌝ }
 {
     let sets = sizes::assumption_count(g);
     answers::put_environment(buffer, g.input.states, g.output.states, sets, &panel[..n])
@@ -57,7 +58,7 @@ fn empty_room() -> [u16; 32768]
     [0; 32768]
 }
 
-// A buffer for the print of 32,768 entries: a line has at most 22 bytes.
+// A buffer that holds every print.
 fn empty_print() -> [u8; 1048576] {
     [0; 1048576]
 }
@@ -65,7 +66,7 @@ fn empty_print() -> [u8; 1048576] {
 // The print for an accepted game.
 fn solve(buffer: &mut [u8], g: Game) -> usize
     requires { ⌜ acceptance g ≡ Accepted ⌝ }
-    ensures { λ r. ⌜ Puts (now (buffer .entry)) 0 (gamePrint g) r (now (buffer .exit)) ⌝ }
+    ensures { λ r. ⌜ Made (now (buffer .entry)) (gamePrint g) r (now (buffer .exit)) ⌝ }
 {
     let mut scratch = [0u64; 512];
     let mut controller = empty_room();
@@ -95,7 +96,9 @@ fn answer(buffer: &mut [u8], file: &[u8]) -> usize
 }
 
 // The same, in the program's buffer.
-fn put_answer(buffer: &mut [u8; 1048576], file: &[u8]) -> usize {
+fn put_answer(buffer: &mut [u8; 1048576], file: &[u8]) -> usize
+    ensures { λ r. ⌜ r ≤ 1048576 ⌝ }
+{
     answer(buffer, file)
 }
 

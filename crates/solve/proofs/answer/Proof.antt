@@ -1,4 +1,5 @@
 -- `answer` meets its contract.
+use native.Mathlib.Omega.{arith}
 use Rattle.text.proofs.OneText.{written-read}
 use Rattle.solve.proofs.Printed.{answers-game, answers-misshapen, answers-refused}
 use borrow.Author.Needs.{needs}
@@ -30,13 +31,13 @@ same-length : tie.Need-same-length
 same-length c = search needs
 
 returns : tie.Need-returns
-returns c = answers-misshapen (c .before .before .before .before .before .before .before .read .ensures) _ (c .before .before .before .before .before .a .given .1) (c .before .before .put-misshapen .ensures)
+returns c = answers-misshapen (c .before .before .before .before .before .before .before .read .ensures) _ (c .before .before .before .before .before .a .given .1) (omega (arith, c .before .before .before .before .known-told .given)) (c .before .before .put-misshapen .ensures)
 
 same-length-2 : tie.Need-same-length-2
 same-length-2 c = search needs
 
 returns-2 : tie.Need-returns-2
-returns-2 c = answers-refused (c .before .before .before .before .before .before .before .read .ensures) _ (c .before .before .before .before .before .a2 .given .1) (c .before .before .put-refused .ensures)
+returns-2 c = answers-refused (c .before .before .before .before .before .before .before .read .ensures) _ (c .before .before .before .before .before .a2 .given .1) (omega (arith, c .before .before .before .before .known-told2 .given)) (c .before .before .put-refused .ensures)
 
 same-length-3 : tie.Need-same-length-3
 same-length-3 c = search needs

@@ -1,7 +1,8 @@
 -- `put_panel` meets its contract.
+use native.Mathlib.Omega.{arith}
 use mathlib.Core.Path.{sym}
 use lib.Seq.{length-take-le}
-use Rattle.solve.proofs.Printed.{counted-environment}
+use Rattle.solve.proofs.Printed.{makes-environment}
 use borrow.Author.Needs.{needs}
 use Rattle.solve.proofs.put_panel.Statement.{statement}
 use Rattle.solve.proofs.put_panel.Tie as tie
@@ -19,7 +20,7 @@ same-length : tie.Need-same-length
 same-length c = search needs
 
 returns : tie.Need-returns
-returns c = counted-environment _ _ _ (c .before .before .before .before .before .assumption-count .ensures) (c .before .before .put-environment .ensures)
+returns c = makes-environment _ _ (c .before .before .before .before .before .before .before .before .args .n) (c .before .before .before .before .before .before .before .before .args .panel .now) (λ j. omega (arith, c .before .before .before .before .before .before .shared-slice-known .given j)) (c .before .before .before .before .before .before .before .before .pre .2) (c .before .before .before .before .before .assumption-count .ensures) (c .before .before .put-environment .ensures)
 
 pub put-panel-spec : {M : Type 1} → statement M
 put-panel-spec =

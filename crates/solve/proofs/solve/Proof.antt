@@ -1,4 +1,5 @@
 -- `solve` meets its contract: the print of what the solver hands over is the game's.
+use native.Mathlib.Omega.{arith}
 use mathlib.Core.Path.{refl, sym}
 use Rattle.solve.proofs.Printed.{system-within, environment-within, prints-system, prints-environment, prints-refused}
 use borrow.Author.Needs.{needs}
@@ -30,7 +31,7 @@ slice-aggregate-put-system : tie.Need-slice-aggregate-put-system
 slice-aggregate-put-system c = search needs
 
 put-system-requires : tie.Need-put-system-requires
-put-system-requires c κs = (c .before .before .before .before .before .before .before .before .before .before .before .before .before .before .before .pre, system-within (c .before .before .before .before .before .before .before .before .solve-into .ensures) (c .before .before .before .v .given .1))
+put-system-requires c κs = (c .before .before .before .before .before .before .before .before .before .before .before .before .before .before .before .pre, system-within (c .before .before .before .before .before .before .before .before .solve-into .ensures) (c .before .before .before .v .given .1), omega (arith, c .before .before .before .before .before .before .before .before .solve-into .kept .1 .1 .0, c .before .before .before .before .before .before .before .before .before .before .before .before .before .empty-room .ensures))
 
 enum-known-v-2 : tie.Need-enum-known-v-2
 enum-known-v-2 c = search needs
@@ -39,7 +40,7 @@ slice-aggregate-put-panel : tie.Need-slice-aggregate-put-panel
 slice-aggregate-put-panel c = search needs
 
 put-panel-requires : tie.Need-put-panel-requires
-put-panel-requires c κs = (c .before .before .before .before .before .before .before .before .before .before .before .before .before .before .before .pre, environment-within (c .before .before .before .before .before .before .before .before .solve-into .ensures) (c .before .before .before .v2 .given .1))
+put-panel-requires c κs = (c .before .before .before .before .before .before .before .before .before .before .before .before .before .before .before .pre, environment-within (c .before .before .before .before .before .before .before .before .solve-into .ensures) (c .before .before .before .v2 .given .1), omega (arith, c .before .before .before .before .before .before .before .before .solve-into .kept .1 .1 .1 .0, c .before .before .before .before .before .before .before .before .before .before .before .before .empty-room2 .ensures))
 
 enum-known-v-3 : tie.Need-enum-known-v-3
 enum-known-v-3 c = search needs
@@ -63,7 +64,7 @@ same-length-3 : tie.Need-same-length-3
 same-length-3 c = search needs
 
 returns-3 : tie.Need-returns-3
-returns-3 c = prints-refused (c .before .before .before .before .before .before .before .before .before .before .solve-into .ensures) refl (sym (c .before .before .before .before .before .before .before .before .before .before .before .before .before .before .before .empty-room .ensures)) (sym (c .before .before .before .before .before .before .before .before .before .before .before .before .before .before .empty-room2 .ensures)) (c .before .before .before .before .before .v3 .given .1) (c .before .before .put-refused .ensures)
+returns-3 c = prints-refused (c .before .before .before .before .before .before .before .before .before .before .solve-into .ensures) refl (sym (c .before .before .before .before .before .before .before .before .before .before .before .before .before .before .before .empty-room .ensures)) (sym (c .before .before .before .before .before .before .before .before .before .before .before .before .before .before .empty-room2 .ensures)) (c .before .before .before .before .before .v3 .given .1) (omega (arith, c .before .before .before .before .known-told3 .given)) (c .before .before .put-refused .ensures)
 
 pub solve-spec : {M : Type 1} → statement M
 solve-spec =
