@@ -185,3 +185,12 @@ pub fn named(front: &str) -> Vec<Named> {
     all.retain(|(name, _)| name.starts_with(front));
     all
 }
+
+/// The game with the longest text: every row and every set holds all states.
+pub fn longest() -> Game {
+    let all: Vec<usize> = (0..64).collect();
+    let moves: Vec<&[usize]> = vec![&all; 64];
+    let sets: Vec<&[usize]> = vec![&all; 4];
+    let requirements: Vec<Requirement> = (0..8).map(|_| Requirement::new(&sets, &sets)).collect();
+    Game::new(Graph::new(&all, &moves), Graph::new(&all, &moves), &requirements)
+}

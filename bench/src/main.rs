@@ -2,9 +2,9 @@
 //!     rt staticlib nanpuwiq && cargo run --release --offline --manifest-path bench/Cargo.toml
 //! Times are the best of many runs, in microseconds. The buffers are made once, before the runs, and are not cleared between them.
 //! `bench NAME` runs the games whose name begins with NAME; `bench NAME N` only solves them N times each, for a profiler.
+mod apart;
 mod games;
 mod measure;
-mod second;
 
 use measure::{best, plain_loop, single_stores};
 use nanpuwiq::{Game, Winner, CONTROLLER_MOST, ENVIRONMENT_MOST, SCRATCH};
@@ -52,9 +52,23 @@ fn row(name: &str, g: &Game, b: &mut Buffers) -> f64 {
         solver / looped,
         microseconds(stores),
         solver / stores,
-        second::time(g).map_or("-".to_string(), microseconds),
+        microseconds(apart::time(g)),
     );
     solver / looped
+}
+
+/// The reader and the writer on the longest text that a game has.
+fn texts() {
+    let g = games::longest();
+    let text = g.write().expect("the game is accepted");
+    let mut buffer = vec![0; text.len()];
+    let read = best(|| {
+        black_box(Game::read(black_box(&text)).is_ok());
+    });
+    let written = best(|| {
+        black_box(g.write_into(black_box(&mut buffer)).is_ok());
+    });
+    println!("text of {} bytes: read in {} us, written in {} us", text.len(), microseconds(read), microseconds(written));
 }
 
 fn main() {
@@ -81,6 +95,7 @@ fn main() {
             largest = largest.max(ratio);
         }
     }
+    texts();
     println!("loop: entries written by a plain loop, which the compiler may widen; stores: one store at a time");
     println!("64 x 64: at most {largest:.1} times the plain loop; the target is 50");
 }

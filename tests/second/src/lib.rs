@@ -15,7 +15,7 @@ pub mod text;
 pub mod walks;
 
 pub use game::{Game, Refusal};
-pub use solve::{solve, Answer};
+pub use solve::{solve, solve_in, Answer};
 
 /// What the solve program has to print for these bytes.
 pub fn printed(bytes: &[u8]) -> String {

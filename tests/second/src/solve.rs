@@ -50,7 +50,12 @@ pub enum Way {
 
 /// The answer to a game; the rooms are those that the program lends.
 pub fn solve(game: &Game) -> Answer {
-    if let Some(number) = game.refusal().or_else(|| short_room(game)) {
+    solve_in(game, ROOM)
+}
+
+/// The same with rooms of another size.
+pub fn solve_in(game: &Game, room: usize) -> Answer {
+    if let Some(number) = game.refusal().or_else(|| short_room(game, room)) {
         return Answer::Refused(Refusal::Number(number));
     }
     let solved = Solved::new(game);
@@ -61,11 +66,11 @@ pub fn solve(game: &Game) -> Answer {
 }
 
 /// Number 9 or 10, each tried whoever wins.
-fn short_room(game: &Game) -> Option<usize> {
+fn short_room(game: &Game, room: usize) -> Option<usize> {
     let (inputs, outputs) = (game.inputs.len(), game.outputs.len());
     let controller = inputs + outputs * counters(&game.output_sets()) * inputs;
     let panel = 1 + inputs * counters(&game.input_sets()) * outputs;
-    match (controller > ROOM, panel > ROOM) {
+    match (controller > room, panel > room) {
         (true, _) => Some(9),
         (false, true) => Some(10),
         (false, false) => None,
