@@ -41,5 +41,5 @@ arenaOf S = record {
   inMove = edge (S .input);
   opening = λ i. begins (S .output);
   reply = λ j. edge (S .output);
-  requirements = S .requirements
+  requirements = S .requirements;
 }

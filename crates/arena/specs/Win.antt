@@ -30,14 +30,14 @@ use Rattle.arena.specs.Play.{
 pub record ControllerWins (A : Arena) (T : ControllerTable) : Type 0 where
   pub starts : (i : ℕ) → A .inInitial i ≡ true → Some (T .memories) (A .opening i) (T .start i)
   pub steps : (c : Configuration) → Reachable (ControllerFirst A T) (ControllerTurn A T) c → (j : ℕ) → A .inMove (c .input) j ≡ true
-    → Some (T .memories) (A .reply j (c .output)) (T .step (c .memory) (c .output) j)
+      → Some (T .memories) (A .reply j (c .output)) (T .step (c .memory) (c .output) j)
   pub rounds : (r : Cycle (ControllerFirst A T) (ControllerTurn A T)) → allOf (λ q. meets q (configurations _ _ r)) (A .requirements) ≡ true
 
 -- "a panel's when its start, and its step at every reachable configuration, is not none, and every reachable round breaks one."
 pub record EnvironmentWins (A : Arena) (P : EnvironmentTable) : Type 0 where
   pub starts : Some (P .memories) (A .inInitial) (P .start)
   pub steps : (c : Configuration) → Reachable (EnvironmentFirst A P) (EnvironmentTurn A P) c
-    → Some (P .memories) (A .inMove (c .input)) (P .step (c .memory) (c .input) (c .output))
+      → Some (P .memories) (A .inMove (c .input)) (P .step (c .memory) (c .input) (c .output))
   pub rounds : (r : Cycle (EnvironmentFirst A P) (EnvironmentTurn A P)) → anyOf (λ q. breaks q (configurations _ _ r)) (A .requirements) ≡ true
 
 -- A controller is a table whose start and step are none only where the system has no move left: "a start gives memory and initial output for each
@@ -51,7 +51,7 @@ pub record Controller (A : Arena) (T : ControllerTable) : Type 0 where
 pub record Keeps (A : Arena) (T : ControllerTable) (c : Configuration) : Type 0 where
   pub memory : c .memory < T .memories
   pub steps : (d : Configuration) → Reachable (_≡_ c) (ControllerTurn A T) d → (j : ℕ) → A .inMove (d .input) j ≡ true
-    → Some (T .memories) (A .reply j (d .output)) (T .step (d .memory) (d .output) j)
+      → Some (T .memories) (A .reply j (d .output)) (T .step (d .memory) (d .output) j)
   pub rounds : (r : Cycle (_≡_ c) (ControllerTurn A T)) → allOf (λ q. meets q (configurations _ _ r)) (A .requirements) ≡ true
 
 -- "A position is won when some controller started there makes all reachable rounds meet all requirements."

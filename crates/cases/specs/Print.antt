@@ -26,8 +26,8 @@ unfoldable pub stepLines : ℕ → ℕ → ℕ → List ℕ → List (List ℕ)
 stepLines B C r [] = []
 stepLines B C r (e ∷ l) =
     elim (eqb e 65535) [
-      true ↦ stepLines B C (suc r) l
-    | false ↦ (r / C / B ∷ r / C % B ∷ r % C ∷ e % 64 ∷ e / 64 ∷ []) ∷ stepLines B C (suc r) l
+      | true ↦ stepLines B C (suc r) l
+      | false ↦ (r / C / B ∷ r / C % B ∷ r % C ∷ e % 64 ∷ e / 64 ∷ []) ∷ stepLines B C (suc r) l
     ]
 
 -- "start input output"
@@ -41,18 +41,18 @@ printController S =
     record {
       wins = system;
       starts = startLines 0 (take (S .input .states) l);
-      steps = stepLines (controllerCounters S) (S .input .states) 0 (drop (S .input .states) l)
+      steps = stepLines (controllerCounters S) (S .input .states) 0 (drop (S .input .states) l);
     }
 
 -- "start input"
 unfoldable pub printEnvironment : Separated → Print
 printEnvironment S =
     elim (environmentEntries S) [
-      [] ↦ record { wins = environment; starts = []; steps = [] }
-    | e ∷ l ↦ record {
+      | [] ↦ record { wins = environment; starts = []; steps = [] }
+      | e ∷ l ↦ record {
         wins = environment;
         starts = (e % 64 ∷ []) ∷ [];
-        steps = stepLines (environmentCounters S) (S .output .states) 0 l
+        steps = stepLines (environmentCounters S) (S .output .states) 0 l;
       }
     ]
 

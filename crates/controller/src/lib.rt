@@ -2,12 +2,12 @@
 // numbers and words.
 use controller_rows::Home;
 use controller_rows::Size;
-use opening::starts;
-use opening::unsettled;
 use game::Game;
 use game::InSet;
 use game::OutSet;
 use game::OutState;
+use opening::starts;
+use opening::unsettled;
 ghost use mathlib.Core.Path.{_≡_};
 ghost use Prim.Native.Nat.{_≤_, _<_};
 ghost use lib.ListN.{length, drop};

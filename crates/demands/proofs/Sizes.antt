@@ -27,9 +27,12 @@ sets-few : (f : Requirement → List (ℕ → Bool)) (h : ℕ → Requirement) (
 unfolding setsOf tabulateFrom
 sets-few f h s zero e = omega arith
 sets-few f h s (suc k) e =
-    omega (arith, length-append (f (h s)) (setsOf f (tabulateFrom (suc s) k h)),
+    omega (
+      arith,
+      length-append (f (h s)) (setsOf f (tabulateFrom (suc s) k h)),
       subst (λ (n : ℕ). length (f (h n)) ≤ 4) (add-zero s) (e 0 (omega arith)),
-      sets-few f h (suc s) k (λ r b. subst (λ (n : ℕ). length (f (h n)) ≤ 4) (omega arith) (e (suc r) (omega arith))))
+      sets-few f h (suc s) k (λ r b. subst (λ (n : ℕ). length (f (h n)) ≤ 4) (omega arith) (e (suc r) (omega arith))),
+    )
 
 sets-at-most : (f : Requirement → List (ℕ → Bool)) (h : ℕ → Requirement) (k : ℕ)
     → ((r : ℕ) → r < k → length (f (h r)) ≤ 4) → length (setsOf f (tabulate k h)) ≤ 4 * k
@@ -48,14 +51,22 @@ module _ (g : Game) (F : Fits g) where
   pub guarantees-few : length (guarantees (separatedOf g)) ≤ 32
   unfolding guarantees separatedOf requirementsOf
   guarantees-few =
-      omega (arith, F .few, sets-at-most (λ (q : Requirement). q .guarantees) (λ r. requirementOf (requirementAt g r)) (g .k)
-        (λ r b. few-guarantees (requirementAt g r) (F .requirement r (omega (arith, F .few)) .few-guaranteed)))
+      omega (
+        arith,
+        F .few,
+        sets-at-most (λ (q : Requirement). q .guarantees) (λ r. requirementOf (requirementAt g r)) (g .k)
+            (λ r b. few-guarantees (requirementAt g r) (F .requirement r (omega (arith, F .few)) .few-guaranteed)),
+      )
 
   pub assumptions-few : length (assumptions (separatedOf g)) ≤ 32
   unfolding assumptions separatedOf requirementsOf
   assumptions-few =
-      omega (arith, F .few, sets-at-most (λ (q : Requirement). q .assumptions) (λ r. requirementOf (requirementAt g r)) (g .k)
-        (λ r b. few-assumptions (requirementAt g r) (F .requirement r (omega (arith, F .few)) .few-assumed)))
+      omega (
+        arith,
+        F .few,
+        sets-at-most (λ (q : Requirement). q .assumptions) (λ r. requirementOf (requirementAt g r)) (g .k)
+            (λ r b. few-assumptions (requirementAt g r) (F .requirement r (omega (arith, F .few)) .few-assumed)),
+      )
 
   pub controller-few : controllerCounters (separatedOf g) ≤ 32
   unfolding controllerCounters
@@ -71,7 +82,7 @@ module _ (g : Game) (F : Fits g) where
     inputs = F .input .most;
     outputs = F .output .most;
     controller = omega (arith, controller-few);
-    environment = omega (arith, environment-few)
+    environment = omega (arith, environment-few);
   }
 
 pub accepted-sized : (g : Game) → acceptance g ≡ Accepted → Sized (separatedOf g)

@@ -21,7 +21,7 @@ module _ (E : List ℕ) where
   grows-more p q = record {
     long = q .long ∙ p .long;
     rest = q .rest ∙ p .rest;
-    kept = λ k b r. q .kept k b (p .kept k b r)
+    kept = λ k b r. q .kept k b (p .kept k b r);
   }
 
   pub right-set : (l : List ℕ) (k v : ℕ) → k < length l → v ≡ getD E k 0 → Right E (set l k v) k
@@ -31,14 +31,14 @@ module _ (E : List ℕ) where
   grows-set l k v a b e = record {
     long = length-set l k v;
     rest = drop-set-lt (length E) l k v a;
-    kept = kept
+    kept = kept;
   }
     where
       kept : (j : ℕ) → j < length E → Right E l j → Right E (set l k v) j
       kept j c r =
           elim (ℕ-discrete j k) [
-            yes q ↦ rw q (right-set l k v b e)
-          | no q ↦ record { is = getD-set-other l k j v 0 q ∙ r .is }
+            | yes q ↦ rw q (right-set l k v b e)
+            | no q ↦ record { is = getD-set-other l k j v 0 q ∙ r .is }
           ]
 
   pub grows-done : (l m : List ℕ) → length E ≤ length l → Grows E l m → ((k : ℕ) → k < length E → Right E m k) → m ≡ E ++ drop (length E) l
@@ -48,5 +48,6 @@ module _ (E : List ℕ) where
     where
       long : length (take (length E) m) ≡ length E
       long = length-take-le (length E) m (omega (arith, g .long))
+
       front : take (length E) m ≡ E
       front = ext-getD 0 (take (length E) m) E long (λ i c. getD-take (length E) m i 0 (omega (arith, long)) ∙ r i (omega (arith, long)) .is)

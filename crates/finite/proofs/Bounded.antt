@@ -38,8 +38,8 @@ unfolding all
 all-elim zero p h k b = absurd (omega arith)
 all-elim (suc n) p h k b =
     elim (below-suc k n b) [
-      inl e ↦ rw e (and-left (p n) (all n p) h)
-    | inr c ↦ all-elim n p (and-right (p n) (all n p) h) k c
+      | inl e ↦ rw e (and-left (p n) (all n p) h)
+      | inr c ↦ all-elim n p (and-right (p n) (all n p) h) k c
     ]
 
 pub any-intro : (n : ℕ) (p : ℕ → Bool) (k : ℕ) → k < n → p k ≡ true → any n p ≡ true
@@ -47,8 +47,8 @@ unfolding any
 any-intro zero p k b h = absurd (omega arith)
 any-intro (suc n) p k b h =
     elim (below-suc k n b) [
-      inl e ↦ or-left (any n p) (rw e at h)
-    | inr c ↦ or-right (p n) (any-intro n p k c h)
+      | inl e ↦ or-left (any n p) (rw e at h)
+      | inr c ↦ or-right (p n) (any-intro n p k c h)
     ]
 
 -- a witness of any
@@ -109,18 +109,18 @@ from-member : (n : ℕ) (p : ℕ → Bool) (k : ℕ) → leastFrom n p k < k + n
 from-member zero p k h = absurd (omega (arith, from-none p k))
 from-member (suc n) p k h =
     elim (decide (p k)) [
-      inl e ↦ rw (from-here n p k e) e
-    | inr e ↦ rw (from-next n p k e) (from-member n p (suc k) (omega (arith, from-next n p k e)))
+      | inl e ↦ rw (from-here n p k e) e
+      | inr e ↦ rw (from-next n p k e) (from-member n p (suc k) (omega (arith, from-next n p k e)))
     ]
 
 from-before : (n : ℕ) (p : ℕ → Bool) (k j : ℕ) → k ≤ j → j < leastFrom n p k → p j ≡ false
 from-before zero p k j a h = absurd (omega (arith, from-none p k))
 from-before (suc n) p k j a h =
     elim (decide (p k)) [
-      inl e ↦ absurd (omega (arith, from-here n p k e))
-    | inr e ↦ elim (ℕ-discrete j k) [
-        yes q ↦ rw q e
-      | no q ↦ from-before n p (suc k) j (omega arith) (omega (arith, from-next n p k e))
+      | inl e ↦ absurd (omega (arith, from-here n p k e))
+      | inr e ↦ elim (ℕ-discrete j k) [
+        | yes q ↦ rw q e
+        | no q ↦ from-before n p (suc k) j (omega arith) (omega (arith, from-next n p k e))
       ]
     ]
 
@@ -128,8 +128,8 @@ from-le : (n : ℕ) (p : ℕ → Bool) (k : ℕ) → leastFrom n p k ≤ k + n
 from-le zero p k = omega (arith, from-none p k)
 from-le (suc n) p k =
     elim (decide (p k)) [
-      inl e ↦ omega (arith, from-here n p k e)
-    | inr e ↦ omega (arith, from-next n p k e, from-le n p (suc k))
+      | inl e ↦ omega (arith, from-here n p k e)
+      | inr e ↦ omega (arith, from-next n p k e, from-le n p (suc k))
     ]
 
 pub least-le : (n : ℕ) (p : ℕ → Bool) → least n p ≤ n
@@ -209,8 +209,8 @@ unfolding count
 count-less zero p q h m b f t = absurd (omega arith)
 count-less (suc n) p q h m b f t =
     elim (below-suc m n b) [
-      inl e ↦ omega (arith, one-false (rw e at f), one-true (rw e at t), count-mono n p q (λ k c. h k (omega arith)))
-    | inr c ↦ omega (arith, one-mono (p n) (q n) (h n (omega arith)), count-less n p q (λ k d. h k (omega arith)) m c f t)
+      | inl e ↦ omega (arith, one-false (rw e at f), one-true (rw e at t), count-mono n p q (λ k c. h k (omega arith)))
+      | inr c ↦ omega (arith, one-mono (p n) (q n) (h n (omega arith)), count-less n p q (λ k d. h k (omega arith)) m c f t)
     ]
 
 pub count-pos : (n : ℕ) (p : ℕ → Bool) (k : ℕ) → k < n → p k ≡ true → 0 < count n p
@@ -218,8 +218,8 @@ unfolding count
 count-pos zero p k b h = absurd (omega arith)
 count-pos (suc n) p k b h =
     elim (below-suc k n b) [
-      inl e ↦ omega (arith, one-true (rw e at h))
-    | inr c ↦ omega (arith, count-pos n p k c h)
+      | inl e ↦ omega (arith, one-true (rw e at h))
+      | inr c ↦ omega (arith, count-pos n p k c h)
     ]
 
 pub count-same : (n : ℕ) (p q : ℕ → Bool) → ((k : ℕ) → k < n → p k ≡ q k) → count n p ≡ count n q

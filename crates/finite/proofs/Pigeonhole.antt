@@ -27,8 +27,8 @@ redirect-cases : (v top x : ℕ) → ((x ≡ top) × (redirect v top x ≡ v)) �
 unfolding redirect
 redirect-cases v top x =
     elim (decide (eqb x top)) [
-      inl e ↦ inl (eqb-true x top e, rw (e, redirect) refl)
-    | inr e ↦ inr (eqb-false x top e, rw (e, redirect) refl)
+      | inl e ↦ inl (eqb-true x top e, rw (e, redirect) refl)
+      | inr e ↦ inr (eqb-false x top e, rw (e, redirect) refl)
     ]
 
 -- By induction on the number of values. If the last element's value v = f (n + 1) stands among the earlier ones, that is a repeat. Otherwise an
@@ -39,6 +39,7 @@ pigeonhole (suc n) f h = go (decide (any (suc n) (λ k. eqb (f k) (f (suc n)))))
   where
     g : ℕ → ℕ
     g k = redirect (f (suc n)) n (f k)
+
     found : any (suc n) (λ k. eqb (f k) (f (suc n))) ≡ true → Repeat f (suc n)
     found e =
         let w = any-elim (suc n) (λ k. eqb (f k) (f (suc n))) e in
@@ -47,28 +48,32 @@ pigeonhole (suc n) f h = go (decide (any (suc n) (λ k. eqb (f k) (f (suc n)))))
           second = suc n;
           before = w .1;
           within = omega arith;
-          same = eqb-true (f (w .0)) (f (suc n)) (w .2)
+          same = eqb-true (f (w .0)) (f (suc n)) (w .2);
         }
+
     fresh : any (suc n) (λ k. eqb (f k) (f (suc n))) ≡ false → (k : ℕ) → k < suc n → f k ≢ f (suc n)
     fresh e k b = eqb-false (f k) (f (suc n)) (any-false (suc n) (λ j. eqb (f j) (f (suc n))) e k b)
+
     small : any (suc n) (λ k. eqb (f k) (f (suc n))) ≡ false → (k : ℕ) → k ≤ n → g k < n
     small e k b =
         elim (redirect-cases (f (suc n)) n (f k)) [
-          inl c ↦ omega (arith, c .0, c .1, fresh e k (omega arith), h (suc n) (omega arith))
-        | inr c ↦ omega (arith, c .0, c .1, h k (omega arith))
+          | inl c ↦ omega (arith, c .0, c .1, fresh e k (omega arith), h (suc n) (omega arith))
+          | inr c ↦ omega (arith, c .0, c .1, h k (omega arith))
         ]
+
     back : any (suc n) (λ k. eqb (f k) (f (suc n))) ≡ false → (i j : ℕ) → i ≤ n → j ≤ n → g i ≡ g j → f i ≡ f j
     back e i j bi bj q =
         elim (redirect-cases (f (suc n)) n (f i)) [
-          inl c ↦ elim (redirect-cases (f (suc n)) n (f j)) [
-            inl d ↦ c .0 ∙ sym (d .0)
-          | inr d ↦ absurd (fresh e j (omega arith) (sym (d .1) ∙ sym q ∙ c .1))
+          | inl c ↦ elim (redirect-cases (f (suc n)) n (f j)) [
+            | inl d ↦ c .0 ∙ sym (d .0)
+            | inr d ↦ absurd (fresh e j (omega arith) (sym (d .1) ∙ sym q ∙ c .1))
           ]
-        | inr c ↦ elim (redirect-cases (f (suc n)) n (f j)) [
-            inl d ↦ absurd (fresh e i (omega arith) (sym (c .1) ∙ q ∙ d .1))
-          | inr d ↦ sym (c .1) ∙ q ∙ d .1
+          | inr c ↦ elim (redirect-cases (f (suc n)) n (f j)) [
+            | inl d ↦ absurd (fresh e i (omega arith) (sym (c .1) ∙ q ∙ d .1))
+            | inr d ↦ sym (c .1) ∙ q ∙ d .1
           ]
         ]
+
     go : (any (suc n) (λ k. eqb (f k) (f (suc n))) ≡ true) ⊎ (any (suc n) (λ k. eqb (f k) (f (suc n))) ≡ false)
         → ((f′ : ℕ → ℕ) → ((k : ℕ) → k ≤ n → f′ k < n) → Repeat f′ n) → Repeat f (suc n)
     go (inl e) rec = found e
@@ -79,5 +84,5 @@ pigeonhole (suc n) f h = go (decide (any (suc n) (λ k. eqb (f k) (f (suc n)))))
           second = r .second;
           before = r .before;
           within = omega (arith, r .within);
-          same = back e (r .first) (r .second) (omega (arith, r .before, r .within)) (r .within) (r .same)
+          same = back e (r .first) (r .second) (omega (arith, r .before, r .within)) (r .within) (r .same);
         }

@@ -34,16 +34,16 @@ module _ (G : Graph) where
   unfolding nearby
   near-path s t h =
       elim (or-cases (eqb s t) (edge G s t) h) [
-        inl e ↦ subst (λ (k : ℕ). Path G s k) (eqb-true s t e) stay
-      | inr e ↦ step e stay
+        | inl e ↦ subst (λ (k : ℕ). Path G s k) (eqb-true s t e) stay
+        | inr e ↦ step e stay
       ]
 
   joins-cases : (r : List ℕ) (k s t : ℕ) → joins r k s t ≡ true → (rel r s t ≡ true) ⊎ ((rel r s k ≡ true) × (rel r k t ≡ true))
   unfolding joins
   joins-cases r k s t h =
       elim (or-cases (rel r s t) (rel r s k && rel r k t) h) [
-        inl e ↦ inl e
-      | inr e ↦ inr (and-left (rel r s k) (rel r k t) e, and-right (rel r s k) (rel r k t) e)
+        | inl e ↦ inl e
+        | inr e ↦ inr (and-left (rel r s k) (rel r k t) e, and-right (rel r s k) (rel r k t) e)
       ]
 
   joins-once : (r : List ℕ) (k s t : ℕ) → rel r s t ≡ true → joins r k s t ≡ true
@@ -92,8 +92,8 @@ module _ (G : Graph) where
   via-path zero s t h = near-path s t (rel-holds (G .states) (G .states) (nearby G) s t h)
   via-path (suc k) s t h =
       elim (via-back k s t h) [
-        inl e ↦ via-path k s t e
-      | inr e ↦ join (via-path k s k (e .0)) (via-path k k t (e .1))
+        | inl e ↦ via-path k s t e
+        | inr e ↦ join (via-path k s k (e .0)) (via-path k k t (e .1))
       ]
 
   -- round k is transitive through every state below k
@@ -103,12 +103,15 @@ module _ (G : Graph) where
     where
       R : ℕ → ℕ → Type 0
       R a c = rel (via G k) a c ≡ true
+
       to-last : (R s m) ⊎ (R s k × R k m) → m ≡ k → R s k
       to-last (inl a) e = rw e at a
       to-last (inr a) e = a .0
+
       from-last : (R m t) ⊎ (R m k × R k t) → m ≡ k → R k t
       from-last (inl a) e = rw e at a
       from-last (inr a) e = a .1
+
       go : (m ≡ k) ⊎ (m < k) → (R s m) ⊎ (R s k × R k m) → (R m t) ⊎ (R m k × R k t)
           → ((a c : ℕ) → m < k → R a m → R m c → R a c) → rel (via G (suc k)) s t ≡ true
       go (inl e) a c rec = via-through k s t (to-last a e) (from-last c e)

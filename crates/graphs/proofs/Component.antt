@@ -92,7 +92,7 @@ module _ (G : Graph) where
   unfolding leaves
   leaves-elim s t h =
       let w = any-elim (G .states) (λ u. joined G s u && edge G u t)
-            (and-left (any (G .states) (λ u. joined G s u && edge G u t)) (not (joined G s t)) h) in
+      (and-left (any (G .states) (λ u. joined G s u && edge G u t)) (not (joined G s t)) h) in
       (w .0, and-left (joined G s (w .0)) (edge G (w .0) t) (w .2), and-right (joined G s (w .0)) (edge G (w .0) t) (w .2))
 
   pub leaves-apart : (s t : ℕ) → leaves G s t ≡ true → joined G s t ≡ false

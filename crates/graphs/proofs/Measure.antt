@@ -41,16 +41,16 @@ module _ {A : Type 0} {R : A → A → Type 0} where
             → ((p b || anyOf p (targets w)) ≡ true) ⊎ (suc (length (targets w)) + μ e ≤ μ a)
         go t rec =
             elim (t .1) [
-              inl h ↦ inl (or-left (anyOf p (targets w)) h)
-            | inr h ↦ elim rec [ inl k ↦ inl (or-right (p b) k) | inr k ↦ inr (omega arith) ]
+              | inl h ↦ inl (or-left (anyOf p (targets w)) h)
+              | inr h ↦ elim rec [ inl k ↦ inl (or-right (p b) k) | inr k ↦ inr (omega arith) ]
             ]
 
     pub closed-lands : {b : A} → R e b → (w : Walk R b e) → I e → anyOf p (passed w) ≡ true
     unfolding targets
     closed-lands {b} r w i =
         elim (lands (step r w) i) [
-          inl h ↦ rw (passed-targets w) h
-        | inr h ↦ absurd (omega arith)
+          | inl h ↦ rw (passed-targets w) h
+          | inr h ↦ absurd (omega arith)
         ]
 
   module _ (e : A) (I : A → Type 0) (turn : (a b : A) → I a → R a b → Walk R b e → I b) where

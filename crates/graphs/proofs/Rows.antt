@@ -25,15 +25,15 @@ module _ (n m : ℕ) (f : ℕ → ℕ → Bool) where
   unfolding rel rowsOf
   rel-from s t h =
       elim (decLt s n) [
-        yes a ↦ a
-      | no a ↦ clash h (ap (λ (x : ℕ). has x t) (getD-tabulate-past (λ (k : ℕ). pack m (f k)) n s 0 (omega arith)) ∙ has-zero t)
+        | yes a ↦ a
+        | no a ↦ clash h (ap (λ (x : ℕ). has x t) (getD-tabulate-past (λ (k : ℕ). pack m (f k)) n s 0 (omega arith)) ∙ has-zero t)
       ]
 
   pub rel-to : (s t : ℕ) → rel (rowsOf n m f) s t ≡ true → t < m
   rel-to s t h =
       elim (decLt t m) [
-        yes b ↦ b
-      | no b ↦ clash h (row-of s t (rel-from s t h) ∙ has-pack-past m (f s) t (omega arith))
+        | yes b ↦ b
+        | no b ↦ clash h (row-of s t (rel-from s t h) ∙ has-pack-past m (f s) t (omega arith))
       ]
 
   pub rel-holds : (s t : ℕ) → rel (rowsOf n m f) s t ≡ true → f s t ≡ true

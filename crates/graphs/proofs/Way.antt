@@ -92,8 +92,8 @@ module _ (n : ℕ) (r : ℕ → ℕ → Bool) (p : ℕ → Bool) where
       go (inl e) rec = clash e (f k (omega arith))
       go (inr w) rec =
           let first : (j : ℕ) → j < k → near n r p j (w .0) ≡ false =
-                λ j b. false-of (near n r p j (w .0))
-                  (λ a. clash (near-step j s (w .0) (near-below (suc k) s h) (w .2) a) (f (suc j) (omega arith))) in
+          λ j b. false-of (near n r p j (w .0))
+          (λ a. clash (near-step j s (w .0) (near-below (suc k) s h) (w .2) a) (f (suc j) (omega arith))) in
           omega (arith, rec (w .0) (w .3) first, count-less n (near n r p k) (near n r p (suc k)) (λ u b a. near-more k u a) s (near-below (suc k) s h) (f k (omega arith)) h)
 
   pub near-short : (k s : ℕ) → near n r p k s ≡ true → (j : ℕ) × (j < n) × (near n r p j s ≡ true)
@@ -181,8 +181,8 @@ module _ (n : ℕ) (r : ℕ → ℕ → Bool) (p : ℕ → Bool) where
       go e =
           false-of (near n r p (suc j) s)
           (λ h. elim (near-cases j s h) [
-            inl a ↦ clash a e
-          | inr v ↦ absurd (omega (arith, approach-best s (v .0) j (v .2) (v .3)))
+            | inl a ↦ clash a e
+            | inr v ↦ absurd (omega (arith, approach-best s (v .0) j (v .2) (v .3)))
           ])
 
   pub approach-short : (s : ℕ) → s < n → p s ≡ false → Leads s → suc (approach n r p s) < n

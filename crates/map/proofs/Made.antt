@@ -49,6 +49,7 @@ cleared-kept g F l m K = ap (λ (x : List ℕ). tabulate 512 (λ k. 0) ++ x) (sy
   where
     used : ℕ
     used = g .input .states + g .input .states + g .output .states
+
     after : (x : List ℕ) → drop (512 - used) (drop used x) ≡ drop 512 x
     after x = let q : used + (512 - used) ≡ 512 = omega (arith, F .input .most, F .output .most) in drop-drop (512 - used) used x ∙ ap (λ (k : ℕ). drop k x) q
 
@@ -57,7 +58,7 @@ pub reading-made : (g : Game) → Fits g → (l m : List ℕ) {cores : ℕ} → 
 reading-made g F l m P e = record {
   fits = F;
   ready = P .ready;
-  inner = e ∙ cores-closed (g .input) m (laid-closes g m (P .ready .laid)) (F .input .most)
+  inner = e ∙ cores-closed (g .input) m (laid-closes g m (P .ready .laid)) (F .input .most);
 }
 
 -- ---- the map
@@ -94,12 +95,13 @@ map-done g s s′ m m′ a b c e f = record {
   answer = map-room g (length s) (length m) true a (and-intro (le-leb 512 (length s) b) (le-leb (g .input .states) (length m) c)) refl;
   map = f;
   scratch = e;
-  won = λ q i o li lo. marks i o li lo
+  won = λ q i o li lo. marks i o li lo;
 }
   where
     bit : (i o : ℕ) → i < g .input .states → o < g .output .states → has (getD m′ i 0) o ≡ region (separatedOf g) i o
     bit i o li lo =
         ap (λ (x : List ℕ). has (getD x i 0) o) f ∙ ap (λ (x : ℕ). has x o) (front-at (mapRow g) m (g .input .states) i 0 li) ∙ row-bit g i o lo
+
     marks : (i o : ℕ) → i < g .input .states → o < g .output .states → (has (getD m′ i 0) o ≡ true) ↔ Won (playOf g) i o
     marks i o li lo =
         let d = demand-two g .marks i o li lo in

@@ -9,7 +9,6 @@ ghost use Rattle.game.specs.Acceptance.{acceptance};
 ghost use Rattle.game.proofs.Laws.{Fits};
 ghost use Rattle.map.specs.Read.{Reading, mapRow};
 ghost use Rattle.map.specs.Map.{cleared, MapMade};
-
 use game::Acceptance;
 use game::Game;
 

@@ -23,7 +23,7 @@ graphOf g = record { states = g .states; initial = has (g .initial); moves = λ 
 unfoldable pub requirementOf : RequirementRecord → Requirement
 requirementOf q = record {
   assumptions = tabulate (q .assumed) (λ j. has (getD (q .assumptions) j noInput .0));
-  guarantees = tabulate (q .guaranteed) (λ j. has (getD (q .guarantees) j noOutput .0))
+  guarantees = tabulate (q .guaranteed) (λ j. has (getD (q .guarantees) j noOutput .0));
 }
 
 unfoldable pub requirementsOf : Game → List Requirement

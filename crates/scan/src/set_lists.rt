@@ -1,9 +1,9 @@
 // Lists of sets, and the lines that have them, read from a place on.
-use pieces::Set;
-use pieces::Step;
 use game::InSet;
 use game::OutSet;
 use game::Requirement;
+use pieces::Set;
+use pieces::Step;
 ghost use mathlib.Core.Path.{_≡_};
 ghost use mathlib.Core.List.{[], _∷_, map};
 ghost use Prim.Native.Nat.{ℕ, _+_, _<_, _≤_};

@@ -1,11 +1,11 @@
 // A whole text: its graphs, its requirements, the game.
-use lines::Header;
-use lines::Row;
-use pieces::Step;
 use crate::set_lists;
 use game::Game;
 use game::Graph;
 use game::Requirement;
+use lines::Header;
+use lines::Row;
+use pieces::Step;
 ghost use mathlib.Core.Path.{_≡_};
 ghost use Prim.Native.Nat.{_+_, _<_, _≤_};
 ghost use lib.ListN.{replicate, length};

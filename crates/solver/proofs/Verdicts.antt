@@ -43,9 +43,9 @@ pub controller-long : (g : Game) → length (controllerEntries (separatedOf g)) 
 unfolding controllerEntries controllerLength separatedOf graphOf
 controller-long g =
     length-append (tabulate (g .input .states) (λ i. entry (controllerStart (separatedOf g) i)))
-      (tabulate (g .output .states * controllerCounters (separatedOf g) * g .input .states) (rowOf (controllerCounters (separatedOf g)) (g .input .states) (controllerRow (separatedOf g))))
+    (tabulate (g .output .states * controllerCounters (separatedOf g) * g .input .states) (rowOf (controllerCounters (separatedOf g)) (g .input .states) (controllerRow (separatedOf g))))
     ∙ ap₂ _+_ (length-tabulate (λ i. entry (controllerStart (separatedOf g) i)) (g .input .states))
-      (length-tabulate (rowOf (controllerCounters (separatedOf g)) (g .input .states) (controllerRow (separatedOf g))) (g .output .states * controllerCounters (separatedOf g) * g .input .states))
+    (length-tabulate (rowOf (controllerCounters (separatedOf g)) (g .input .states) (controllerRow (separatedOf g))) (g .output .states * controllerCounters (separatedOf g) * g .input .states))
 
 pub environment-long : (g : Game) → length (environmentEntries (separatedOf g)) ≡ environmentLength g
 unfolding environmentEntries environmentLength separatedOf graphOf
@@ -100,7 +100,7 @@ module _ (g : Game) (s c e : List ℕ) where
         scratch = p;
         controller = q;
         environment = refl;
-        demand = subst⁻¹ (λ (x : List ℕ). DemandThree (playOf g) (system (controllerOf g x))) front (demand-three-system g a v)
+        demand = subst⁻¹ (λ (x : List ℕ). DemandThree (playOf g) (system (controllerOf g x))) front (demand-three-system g a v);
       }
         where
           front : take (controllerLength g) c′ ≡ controllerEntries (separatedOf g)
@@ -117,7 +117,7 @@ module _ (g : Game) (s c e : List ℕ) where
         scratch = p;
         controller = refl;
         environment = q;
-        demand = subst⁻¹ (λ (x : List ℕ). DemandThree (playOf g) (environment (environmentOf g x))) front (demand-three-environment g a v)
+        demand = subst⁻¹ (λ (x : List ℕ). DemandThree (playOf g) (environment (environmentOf g x))) front (demand-three-environment g a v);
       }
         where
           front : take (environmentLength g) e′ ≡ environmentEntries (separatedOf g)
@@ -140,10 +140,11 @@ module _ (g : Game) (s s′ c c′ e e′ : List ℕ) {r : Bool} (W : Written g 
   written-system v =
       subst⁻¹ (λ (n : ℕ). Solved g s s′ c c′ e e′ (System n)) lc
       (subst⁻¹ (λ (t : List ℕ). Solved g s s′ c c′ e t (System (controllerLength g))) same
-        (solved-system g s c e a h (subst (λ (n : ℕ). n ≤ length c) lc k) (subst (λ (n : ℕ). n ≤ length e) le l) s′ c′ (sym (W .wins) ∙ v) (W .scratch) front))
+      (solved-system g s c e a h (subst (λ (n : ℕ). n ≤ length c) lc k) (subst (λ (n : ℕ). n ≤ length e) le l) s′ c′ (sym (W .wins) ∙ v) (W .scratch) front))
     where
       same : e′ ≡ e
       same = W .environment ∙ ap (λ (b : Bool). elim b as (λ t. List ℕ) [ true ↦ e | false ↦ environmentEntries (separatedOf g) ++ drop (length (environmentEntries (separatedOf g))) e ]) v
+
       front : c′ ≡ controllerEntries (separatedOf g) ++ drop (controllerLength g) c
       front =
           W .controller
@@ -154,12 +155,13 @@ module _ (g : Game) (s s′ c c′ e e′ : List ℕ) {r : Bool} (W : Written g 
   written-environment v =
       subst⁻¹ (λ (n : ℕ). Solved g s s′ c c′ e e′ (Environment n)) le
       (subst⁻¹ (λ (t : List ℕ). Solved g s s′ c t e e′ (Environment (environmentLength g))) same
-        (solved-environment g s c e a h (subst (λ (n : ℕ). n ≤ length c) lc k) (subst (λ (n : ℕ). n ≤ length e) le l) s′ e′ (sym (W .wins) ∙ v) (W .scratch) front))
+      (solved-environment g s c e a h (subst (λ (n : ℕ). n ≤ length c) lc k) (subst (λ (n : ℕ). n ≤ length e) le l) s′ e′ (sym (W .wins) ∙ v) (W .scratch) front))
     where
       same : c′ ≡ c
       same =
           W .controller
           ∙ ap (λ (b : Bool). elim b as (λ t. List ℕ) [ true ↦ controllerEntries (separatedOf g) ++ drop (length (controllerEntries (separatedOf g))) c | false ↦ c ]) v
+
       front : e′ ≡ environmentEntries (separatedOf g) ++ drop (environmentLength g) e
       front =
           W .environment

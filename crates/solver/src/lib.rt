@@ -8,7 +8,6 @@ ghost use Rattle.game.specs.Acceptance.{acceptance};
 ghost use Rattle.play.specs.Play.{separatedOf};
 ghost use Rattle.theory.specs.Entries.{controllerEntries, environmentEntries};
 ghost use Rattle.solver.specs.Promise.{Written, Solved, verdictAnswer, Handed};
-
 use game::Acceptance;
 use game::Game;
 
@@ -38,7 +37,12 @@ fn write_winner(g: Game, scratch: &mut [u64], controller: &mut [u16], panel: &mu
 }
 
 // The solver on an accepted game, where the buffers are long enough.
-fn solve_accepted(g: Game, scratch: &mut [u64], controller: &mut [u16], panel: &mut [u16]) -> Verdict
+fn solve_accepted(
+    g: Game,
+    scratch: &mut [u64],
+    controller: &mut [u16],
+    panel: &mut [u16],
+) -> Verdict
     requires { ⌜ acceptance g ≡ Accepted ⌝ }
     ensures { λ r. ⌜ Solved g (now (scratch .entry)) (now (scratch .exit)) (now (controller .entry)) (now (controller .exit)) (now (panel .entry)) (now (panel .exit)) r ⌝ }
 {
@@ -60,7 +64,12 @@ fn solve_accepted(g: Game, scratch: &mut [u64], controller: &mut [u16], panel: &
 }
 
 // Names the side that wins and writes its table into the front of its buffer.
-pub fn solve_into(g: Game, scratch: &mut [u64], controller: &mut [u16], panel: &mut [u16]) -> Verdict
+pub fn solve_into(
+    g: Game,
+    scratch: &mut [u64],
+    controller: &mut [u16],
+    panel: &mut [u16],
+) -> Verdict
     ensures { λ r. ⌜ Solved g (now (scratch .entry)) (now (scratch .exit)) (now (controller .entry)) (now (controller .exit)) (now (panel .entry)) (now (panel .exit)) r ⌝ }
 {
     let accepted = game::accept(g);
@@ -72,7 +81,14 @@ pub fn solve_into(g: Game, scratch: &mut [u64], controller: &mut [u16], panel: &
 
 // The winner's table: the filled front of the controller's room or of the panel's. On a refusal that front is empty.
 // Beside it stand the number of the refusal, or 0, and whether the system wins.
-pub fn solve<'a>(g: Game, scratch: &mut [u64], refusal: &mut u8, system: &mut bool, controller: &'a mut [u16], panel: &'a mut [u16]) -> &'a mut [u16]
+pub fn solve<'a>(
+    g: Game,
+    scratch: &mut [u64],
+    refusal: &mut u8,
+    system: &mut bool,
+    controller: &'a mut [u16],
+    panel: &'a mut [u16],
+) -> &'a mut [u16]
     ensures { λ r. ⌜ Handed g (verdictAnswer g (length (now (scratch .entry))) (length (now (controller .entry))) (length (now (panel .entry))))
         (now (scratch .entry)) (now (scratch .exit)) (now (refusal .exit)) (now (system .entry)) (now (system .exit))
         (ptr (controller .entry)) (ptr (panel .entry)) (ptr r) (now r) ⌝ }

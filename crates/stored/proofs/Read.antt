@@ -42,6 +42,7 @@ meets-packed m p q b = same-test (meets 64 (pack m p) (pack m q)) (any m (λ d. 
         let v = meets-elim 64 (pack m p) (pack m q) e in
         let l = has-lt m (pack m p) (v .0) (pack-lt m p) (v .2) in
         any-intro m (λ d. q d && p d) (v .0) l (and-intro (sym (has-pack-below m q (v .0) l) ∙ v .3) (sym (has-pack-below m p (v .0) l) ∙ v .2))
+
     back : any m (λ d. q d && p d) ≡ true → meets 64 (pack m p) (pack m q) ≡ true
     back e =
         let v = any-elim m (λ d. q d && p d) e in
@@ -79,8 +80,10 @@ won-region g l cores j o m a b c row out = go (decide (nontrivial (S .input) j))
   where
     S : Separated
     S = separatedOf g
+
     core : has cores j ≡ nontrivial (S .input) j
     core = ap (λ (x : ℕ). has x j) c ∙ has-pack-below (g .input .states) (nontrivial (graphOf (g .input))) j a
+
     go : (nontrivial (S .input) j ≡ true) ⊎ (nontrivial (S .input) j ≡ false) → wonAt l (g .input .states) cores j o ≡ region S j o
     go (inl t) =
         sym (won-in l (g .input .states) cores j o (core ∙ t) refl)

@@ -33,7 +33,7 @@ pub record Laid (g : Game) (l : List ℕ) : Type 0 where
   pub long : g .input .states + g .input .states + g .output .states ≤ length l
   pub inputs : (i : ℕ) → i < g .input .states → getD l i 0 ≡ pack (g .input .states) (reaches (graphOf (g .input)) i)
   pub outputs : (o : ℕ) → o < g .output .states
-    → getD l (g .input .states + g .input .states + o) 0 ≡ pack (g .output .states) (reaches (graphOf (g .output)) o)
+      → getD l (g .input .states + g .input .states + o) 0 ≡ pack (g .output .states) (reaches (graphOf (g .output)) o)
 
 pub record Ready (g : Game) (l : List ℕ) : Type 0 where
   pub laid : Laid g l

@@ -14,8 +14,8 @@ pub around-cases : (m g k : ℕ) → ((g + k < m) × (around m g k ≡ g + k)) �
 unfolding around
 around-cases m g k =
     elim (decide (ltb (g + k) m)) [
-      inl e ↦ inl (ltb-true (g + k) m e, rw (e, around) refl)
-    | inr e ↦ let b = ltb-false (g + k) m e in inr (b, rw (e, around) (omega arith))
+      | inl e ↦ inl (ltb-true (g + k) m e, rw (e, around) refl)
+      | inr e ↦ let b = ltb-false (g + k) m e in inr (b, rw (e, around) (omega arith))
     ]
 
 pub around-below : (m g k : ℕ) → g < m → k ≤ m → around m g k < m
@@ -29,8 +29,8 @@ pub distance-cases : (m g q : ℕ) → g < m → ((q < g) × (distance m g q + g
 unfolding distance
 distance-cases m g q a =
     elim (decide (ltb q g)) [
-      inl e ↦ let b = ltb-true q g e in inl (b, rw (e, distance) (omega arith))
-    | inr e ↦ let b = ltb-false q g e in inr (b, rw (e, distance) (omega arith))
+      | inl e ↦ let b = ltb-true q g e in inl (b, rw (e, distance) (omega arith))
+      | inr e ↦ let b = ltb-false q g e in inr (b, rw (e, distance) (omega arith))
     ]
 
 pub distance-below : (m g q : ℕ) → g < m → q < m → distance m g q < m
@@ -39,8 +39,8 @@ distance-below m g q a b = elim (distance-cases m g q a) [ inl c ↦ omega arith
 pub around-distance : (m g q : ℕ) → g < m → q < m → around m g (distance m g q) ≡ q
 around-distance m g q a b =
     elim (distance-cases m g q a) [
-      inl c ↦ elim (around-cases m g (distance m g q)) [ inl d ↦ omega arith | inr d ↦ omega arith ]
-    | inr c ↦ elim (around-cases m g (distance m g q)) [ inl d ↦ omega arith | inr d ↦ omega arith ]
+      | inl c ↦ elim (around-cases m g (distance m g q)) [ inl d ↦ omega arith | inr d ↦ omega arith ]
+      | inr c ↦ elim (around-cases m g (distance m g q)) [ inl d ↦ omega arith | inr d ↦ omega arith ]
     ]
 
 pub distance-around : (m g q k : ℕ) → g < m → q < m → k ≤ distance m g q → distance m (around m g k) q + k ≡ distance m g q
@@ -48,6 +48,7 @@ distance-around m g q k a b h = go (distance-cases m g q a) (around-cases m g k)
   where
     below : around m g k < m
     below = around-below m g k a (omega (arith, distance-below m g q a b))
+
     go : ((q < g) × (distance m g q + g ≡ q + m)) ⊎ ((g ≤ q) × (distance m g q + g ≡ q))
         → ((g + k < m) × (around m g k ≡ g + k)) ⊎ ((m ≤ g + k) × (around m g k + m ≡ g + k))
         → ((q < around m g k) × (distance m (around m g k) q + around m g k ≡ q + m)) ⊎ ((around m g k ≤ q) × (distance m (around m g k) q + around m g k ≡ q))

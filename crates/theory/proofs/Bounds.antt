@@ -39,8 +39,8 @@ module _ (G : Graph) (d : ℕ) (n : nontrivial G d ≡ true) where
       → approach (G .states) (edge G) (joined G d) t < approach (G .states) (edge G) (joined G d) s
   falls s t u a b =
       elim (toward-falls (G .states) (edge G) (joined G d) s (home-leads G d s (a .ahead) n)) [
-        inl h ↦ clash (subst (λ (k : ℕ). joined G d k ≡ true) (a .is) h) (b .away)
-      | inr h ↦ subst (λ (k : ℕ). approach (G .states) (edge G) (joined G d) k < approach (G .states) (edge G) (joined G d) s) (a .is) (h .1)
+        | inl h ↦ clash (subst (λ (k : ℕ). joined G d k ≡ true) (a .is) h) (b .away)
+        | inr h ↦ subst (λ (k : ℕ). approach (G .states) (edge G) (joined G d) k < approach (G .states) (edge G) (joined G d) s) (a .is) (h .1)
       ]
 
   count-away : {s t : ℕ} (w : Walk (AwayMove G d) s t) → length (targets w) ≤ suc (approach (G .states) (edge G) (joined G d) s)
@@ -74,14 +74,15 @@ module _ (G : Graph) (c : ℕ) (l : List (ℕ → Bool)) (n : nontrivial G c ≡
       → Touring y × ((goalAt l q (y .state) ≡ true) ⊎ (toGo G c l q (y .state) (y .counter) < toGo G c l q (x .state) (x .counter)))
   touring-move q b m x y t v =
       let w = toured G c l (x .state) (x .counter) (t .here) (sym (nontrivial-same G c (x .state) (t .here)) ∙ n) (t .range) in
-      let e = sym (w .is) ∙ v .is in
-      (record {
-        here = subst (λ (k : ℕ). joined G c k ≡ true) (same-state e) (inside-to G c (x .state) (w .state) (w .moves));
-        range = subst (λ (k : ℕ). k < max 1 (length l)) (same-counter e) (w .range)
-      },
-      subst (λ (k : ℕ). (goalAt l q k ≡ true) ⊎ (toGo G c l q k (y .counter) < toGo G c l q (x .state) (x .counter))) (same-state e)
-      (subst (λ (g : ℕ). (goalAt l q (w .state) ≡ true) ⊎ (toGo G c l q (w .state) g < toGo G c l q (x .state) (x .counter))) (same-counter e)
-        (w .lands q b m)))
+      let e = sym (w .is) ∙ v .is in (
+        record {
+          here = subst (λ (k : ℕ). joined G c k ≡ true) (same-state e) (inside-to G c (x .state) (w .state) (w .moves));
+          range = subst (λ (k : ℕ). k < max 1 (length l)) (same-counter e) (w .range);
+        },
+        subst (λ (k : ℕ). (goalAt l q k ≡ true) ⊎ (toGo G c l q k (y .counter) < toGo G c l q (x .state) (x .counter))) (same-state e)
+            (subst (λ (g : ℕ). (goalAt l q (w .state) ≡ true) ⊎ (toGo G c l q (w .state) g < toGo G c l q (x .state) (x .counter))) (same-counter e)
+            (w .lands q b m)),
+      )
 
   -- Within sets × states moves each set that meets the component is entered.
   pub tour-within : (q : ℕ) → q < length l → meetsAt G c (goalAt l q) ≡ true → {x y : Place} → joined G c (x .state) ≡ true → x .counter < length l
@@ -89,7 +90,7 @@ module _ (G : Graph) (c : ℕ) (l : List (ℕ → Bool)) (n : nontrivial G c ≡
   unfolding toGo
   tour-within q b m {x} {y} a r w h =
       elim (lands y Touring (λ z. goalAt l q (z .state)) (λ z. toGo G c l q (z .state) (z .counter))
-          (λ u v t e k. touring-move q b m u v t e) w (record { here = a; range = subst (λ (k : ℕ). x .counter < k) (sym (max-eq-right (omega arith))) r })) [
-        inl k ↦ k
-      | inr k ↦ absurd (omega (arith, toGo-most G c l q (x .state) (x .counter) b m r a (sym (nontrivial-same G c (x .state) a) ∙ n)))
+      (λ u v t e k. touring-move q b m u v t e) w (record { here = a; range = subst (λ (k : ℕ). x .counter < k) (sym (max-eq-right (omega arith))) r })) [
+        | inl k ↦ k
+        | inr k ↦ absurd (omega (arith, toGo-most G c l q (x .state) (x .counter) b m r a (sym (nontrivial-same G c (x .state) a) ∙ n)))
       ]

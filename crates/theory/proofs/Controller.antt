@@ -49,14 +49,13 @@ use Rattle.theory.proofs.Tour.{Toured, toured, toGo, inside-edge, insid
 use Rattle.arena.proofs.Meets.{meets-intro}
 use Rattle.theory.proofs.Sets.{guarantee-at}
 use Rattle.theory.proofs.Loop.{Along, along-first, along-turn, nontrivial-input, nontrivial-along, cycle-lands, cycle-finds, nowhere}
-
 use Rattle.theory.proofs.ControllerRow.{same-counter, same-state, home-leads, home-reached, home-homeFor, home-same, row-answers, settled-nontrivial, homeward-at, homeward-away, Replied, replied}
 
 -- A table that does what the rows say wherever some reply is won.
 pub record Follows (S : Separated) (T : ControllerTable) : Type 0 where
   pub counters : T .memories ≡ controllerCounters S
   pub rows : (g o j : ℕ) → g < controllerCounters S → o < S .output .states → j < S .input .states → answers S (region S) j o ≡ true
-    → T .step g o j ≡ controllerRow S o g j
+      → T .step g o j ≡ controllerRow S o g j
 
 -- What every reachable configuration keeps.
 pub record Kept (S : Separated) (c : Configuration) : Type 0 where
@@ -96,7 +95,7 @@ module _ (S : Separated) (T : ControllerTable) (F : Follows S T) where
       let e = sym (v .is) ∙ turn-row x y k t in
       record {
         won = subst (λ (p : ℕ). region S (y .input) p ≡ true) (same-state e) (v .won);
-        range = subst (λ (g : ℕ). g < controllerCounters S) (same-counter e) (v .range)
+        range = subst (λ (g : ℕ). g < controllerCounters S) (same-counter e) (v .range);
       }
 
   pub step-some : (x : Configuration) (j : ℕ) → Kept S x → edge (S .input) (x .input) j ≡ true
@@ -106,7 +105,7 @@ module _ (S : Separated) (T : ControllerTable) (F : Follows S T) where
       record {
         memory = v .counter;
         state = v .state;
-        names = record { is = step-row x j k e ∙ v .is; memory = subst⁻¹ (λ (k : ℕ). v .counter < k) (F .counters) (v .range); state = v .move }
+        names = record { is = step-row x j k e ∙ v .is; memory = subst⁻¹ (λ (k : ℕ). v .counter < k) (F .counters) (v .range); state = v .move };
       }
 
   module _ (First : Configuration → Type 0) (r : Cycle First Turn) (kept : Kept S (r .at)) where
@@ -121,7 +120,7 @@ module _ (S : Separated) (T : ControllerTable) (F : Follows S T) where
     round-turn : (x y : Configuration) → Round x → Turn x y → Walk Turn y (r .last) → Round y
     round-turn x y i t w = record {
       keeps = turn-kept x y (i .keeps) t;
-      along = along-turn S First Turn turn-in turn-out r x y (i .along) t w
+      along = along-turn S First Turn turn-in turn-out r x y (i .along) t w;
     }
 
     abbrev I : Graph
@@ -170,12 +169,15 @@ module _ (S : Separated) (T : ControllerTable) (F : Follows S T) where
       where
         x-away : joined O d (x .output) ≡ false
         x-away = false-of (joined O d (x .output)) (λ h. clash (joined-trans O d (x .output) o h (joined-sym O o (x .output) (a .along .outputs))) n)
+
         leads : Leads (O .states) (edge O) (joined O d) (x .output)
         leads =
             home-leads O d (x .output) (reaches-trans O (x .output) o d (joined-back O o (x .output) (a .along .outputs)) o-reaches)
             (homeFor-nontrivial S (region S) i d d-home)
+
         is : toward (O .states) (edge O) (joined O d) (x .output) ≡ y .output
         is = same-state (sym (homeward-away S d (x .output) (x .memory) x-away) ∙ turn-homeward x y a t b)
+
         go : (joined O d (toward (O .states) (edge O) (joined O d) (x .output)) ≡ true)
             ⊎ (Leads (O .states) (edge O) (joined O d) (toward (O .states) (edge O) (joined O d) (x .output)) × (approach (O .states) (edge O) (joined O d) (toward (O .states) (edge O) (joined O d) (x .output)) < approach (O .states) (edge O) (joined O d) (x .output)))
             → approach (O .states) (edge O) (joined O d) (y .output) < approach (O .states) (edge O) (joined O d) (x .output)
@@ -186,8 +188,8 @@ module _ (S : Separated) (T : ControllerTable) (F : Follows S T) where
     at-home =
         true-of (joined O d o)
         (λ n. nowhere (configurations First Turn r)
-          (cycle-lands S First Turn turn-in turn-out r Round (λ c. false) (λ c. approach (O .states) (edge O) (joined O d) (c .output))
-            (λ x y a t w. let b = round-turn x y a t w in (b, inr (away-turn n x y a t b))) round-first))
+        (cycle-lands S First Turn turn-in turn-out r Round (λ c. false) (λ c. approach (O .states) (edge O) (joined O d) (c .output))
+        (λ x y a t w. let b = round-turn x y a t w in (b, inr (away-turn n x y a t b))) round-first))
 
     -- at home the round is a tour
     tour-turn : (k : ℕ) → k < length (guarantees S) → meetsAt O d (goalAt (guarantees S) k) ≡ true → (x y : Configuration) → Round x → Turn x y → Round y
@@ -197,13 +199,15 @@ module _ (S : Separated) (T : ControllerTable) (F : Follows S T) where
         subst (λ (p : ℕ). (goalAt (guarantees S) k p ≡ true) ⊎ (toGo O d (guarantees S) k p (y .memory) < toGo O d (guarantees S) k (x .output) (x .memory)))
         (same-state is)
         (subst (λ (g : ℕ). (goalAt (guarantees S) k (v .state) ≡ true) ⊎ (toGo O d (guarantees S) k (v .state) g < toGo O d (guarantees S) k (x .output) (x .memory)))
-          (same-counter is) (v .lands k l m))
+        (same-counter is) (v .lands k l m))
       where
         x-home : joined O d (x .output) ≡ true
         x-home = joined-trans O d o (x .output) at-home (a .along .outputs)
+
         v : Toured O d (guarantees S) (x .output) (x .memory)
         v = toured O d (guarantees S) (x .output) (x .memory) x-home
-              (sym (nontrivial-same O d (x .output) x-home) ∙ homeFor-nontrivial S (region S) i d d-home) (a .keeps .range)
+            (sym (nontrivial-same O d (x .output) x-home) ∙ homeFor-nontrivial S (region S) i d d-home) (a .keeps .range)
+
         is : gives (v .counter) (v .state) ≡ gives (y .memory) (y .output)
         is = sym (v .is) ∙ sym (homeward-at S d (x .output) (x .memory) x-home) ∙ turn-homeward x y a t b
 
@@ -231,15 +235,15 @@ module _ (S : Separated) (T : ControllerTable) (F : Follows S T) where
     meets-one q m =
         meets-intro q (configurations First Turn r)
         (λ visited.
-          let e : due S i q ≡ true =
-                allOf-intro (meetsAt I i) (q .assumptions)
-                (λ u k. visited-meets u (allOf-elim (λ t. visitsInput t (configurations First Turn r)) (q .assumptions) visited u k)) in
-          allOf-intro (λ t. visitsOutput t (configurations First Turn r)) (q .guarantees)
-          (λ s n.
-            let h = allOf-elim (meetsAt O d) (q .guarantees) (served-when-due q m e) s n in
-            let k = guarantee-at S q s m n in
-            subst (λ (u : ℕ → Bool). visitsOutput u (configurations First Turn r) ≡ true) (k .2)
-            (visits-goal (k .0) (k .1) (subst⁻¹ (λ (u : ℕ → Bool). meetsAt O d u ≡ true) (k .2) h))))
+        let e : due S i q ≡ true =
+        allOf-intro (meetsAt I i) (q .assumptions)
+        (λ u k. visited-meets u (allOf-elim (λ t. visitsInput t (configurations First Turn r)) (q .assumptions) visited u k)) in
+        allOf-intro (λ t. visitsOutput t (configurations First Turn r)) (q .guarantees)
+        (λ s n.
+        let h = allOf-elim (meetsAt O d) (q .guarantees) (served-when-due q m e) s n in
+        let k = guarantee-at S q s m n in
+        subst (λ (u : ℕ → Bool). visitsOutput u (configurations First Turn r) ≡ true) (k .2)
+        (visits-goal (k .0) (k .1) (subst⁻¹ (λ (u : ℕ → Bool). meetsAt O d u ≡ true) (k .2) h))))
 
     -- Every reachable round meets all requirements.
     pub cycle-meets : allOf (λ q. meets q (configurations First Turn r)) (S .requirements) ≡ true

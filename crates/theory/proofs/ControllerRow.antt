@@ -58,8 +58,8 @@ near-reaches : (G : Graph) (d k s : ℕ) → near (G .states) (edge G) (joined G
 near-reaches G d zero s h = joined-back G d s (near-zero (G .states) (edge G) (joined G d) s h)
 near-reaches G d (suc k) s h =
     elim (near-cases (G .states) (edge G) (joined G d) k s h) [
-      inl e ↦ near-reaches G d k s e
-    | inr v ↦ reaches-trans G s (v .0) d (reaches-edge G s (v .0) (v .2)) (near-reaches G d k (v .0) (v .3))
+      | inl e ↦ near-reaches G d k s e
+      | inr v ↦ reaches-trans G s (v .0) d (reaches-edge G s (v .0) (v .2)) (near-reaches G d k (v .0) (v .3))
     ]
 
 -- where o reaches the component of d, a move of o has a way there
@@ -96,7 +96,7 @@ module _ (S : Separated) where
       let v = settles-elim S (region S) j o h in
       rw (home-at j o)
       (least-member (S .output .states) (fits-home j o)
-        (least-below (S .output .states) (fits-home j o) (v .0) (reaches-to (S .output) o (v .0) (v .1)) (fits-intro j o (v .0) (v .1) (v .2))))
+      (least-below (S .output .states) (fits-home j o) (v .0) (reaches-to (S .output) o (v .0) (v .1)) (fits-intro j o (v .0) (v .1) (v .2))))
 
   pub home-reached : (j o : ℕ) → settles S (region S) j o ≡ true → reaches (S .output) o (home S j o) ≡ true
   home-reached j o h = fits-reaches j o (home S j o) (home-fits j o h)
@@ -113,6 +113,7 @@ module _ (S : Separated) where
       carry i i′ p p′ d e f h =
           fits-intro i′ p′ d (reaches-trans (S .output) p′ p d (joined-back (S .output) p p′ f) (fits-reaches i p d h))
           (homeFor-same S (region S) i i′ d e (fits-homeFor i p d h))
+
       same : (d : ℕ) → fits-home j o d ≡ fits-home j′ o′ d
       same d =
           same-test (fits-home j o d) (fits-home j′ o′ d) (carry j j′ o o′ d a b)
@@ -158,7 +159,7 @@ module _ (S : Separated) where
   answers-settles j o t h =
       let v = answers-elim S (region S) j o h in
       let w = settles-elim S (region S) j (v .0)
-            (sym (region-settles S j (v .0) (region-in S j (v .0) (v .2)) (region-out S j (v .0) (v .2)) t) ∙ v .2) in
+      (sym (region-settles S j (v .0) (region-in S j (v .0) (v .2)) (region-out S j (v .0) (v .2)) t) ∙ v .2) in
       settles-intro S (region S) j o (w .0) (reaches-trans (S .output) o (v .0) (w .0) (reaches-edge (S .output) o (v .0) (v .1)) (w .1)) (w .2)
 
   module _ (o g j : ℕ) (h : answers S (region S) j o ≡ true) (r : g < controllerCounters S) where
@@ -168,14 +169,14 @@ module _ (S : Separated) where
         let v = answers-elim S (region S) j o h in
         let p = least (S .output .states) (won-move o j) in
         let e = least-member (S .output .states) (won-move o j)
-              (least-below (S .output .states) (won-move o j) (v .0) (edge-to (S .output) o (v .0) (v .1)) (and-intro (v .1) (v .2))) in
+        (least-below (S .output .states) (won-move o j) (v .0) (edge-to (S .output) o (v .0) (v .1)) (and-intro (v .1) (v .2))) in
         record {
           counter = g;
           state = p;
           is = row-answers o g j h ∙ settled-trivial o g j t;
           move = and-left (edge (S .output) o p) (region S j p) e;
           won = and-right (edge (S .output) o p) (region S j p) e;
-          range = r
+          range = r;
         }
 
     module _ (t : nontrivial (S .input) j ≡ true) where
@@ -208,7 +209,7 @@ module _ (S : Separated) where
       unfolding controllerCounters
       replied-home a =
           let v = toured (S .output) d (guarantees S) o g a
-                (sym (nontrivial-same (S .output) d o a) ∙ homeFor-nontrivial S (region S) j d d-home) r in
+          (sym (nontrivial-same (S .output) d o a) ∙ homeFor-nontrivial S (region S) j d d-home) r in
           let e = inside-edge (S .output) d o (v .state) (v .moves) in
           record {
             counter = v .counter;
@@ -216,7 +217,7 @@ module _ (S : Separated) where
             is = row-is ∙ homeward-at d o g a ∙ v .is;
             move = e;
             won = still-won (v .state) e (joined-back (S .output) d (v .state) (inside-to (S .output) d o (v .state) (v .moves)));
-            range = v .range
+            range = v .range;
           }
 
       replied-away : joined (S .output) d o ≡ false → Replied o g j
@@ -231,7 +232,7 @@ module _ (S : Separated) where
             is = row-is ∙ homeward-away d o g a;
             move = e;
             won = still-won p e (near-reaches (S .output) d (approach n (edge (S .output)) (joined (S .output) d) o) p (toward-near n (edge (S .output)) (joined (S .output) d) o w));
-            range = r
+            range = r;
           }
 
       replied-nontrivial : Replied o g j

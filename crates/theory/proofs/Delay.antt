@@ -56,7 +56,7 @@ module _ (S : Separated) where
   back-replies k i o′ o t l e rec h =
       replies-intro S (region S) i o′
       (λ j m. let v = answers-elim S (region S) j o (replies-elim S (region S) i o j h m) in
-        answers-intro S (region S) j o′ o e (rec j (v .0) (omega (arith, rank-trivial (S .input) i j t m)) (v .1) (v .2)))
+      answers-intro S (region S) j o′ o e (rec j (v .0) (omega (arith, rank-trivial (S .input) i j t m)) (v .1) (v .2)))
 
   back-fuel : (k i o′ o : ℕ) → rank (S .input) i ≤ k → edge (S .output) o′ o ≡ true → region S i o ≡ true → region S i o′ ≡ true
   back-fuel zero i o′ o l e h = absurd (omega (arith, rank-pos (S .input) i (region-in S i o h)))
@@ -64,6 +64,7 @@ module _ (S : Separated) where
     where
       a : i < S .input .states
       a = region-in S i o h
+
       go : (nontrivial (S .input) i ≡ true) ⊎ (nontrivial (S .input) i ≡ false)
           → ((j p : ℕ) → rank (S .input) j ≤ k → edge (S .output) o p ≡ true → region S j p ≡ true → region S j o ≡ true)
           → region S i o′ ≡ true
@@ -90,10 +91,13 @@ module _ (S : Separated) where
     where
       a : i < S .input .states
       a = region-in S i o h
+
       b : o < S .output .states
       b = region-out S i o h
+
       a′ : i′ < S .input .states
       a′ = edge-to (S .input) i i′ e
+
       within : (d : ℕ) → reaches (S .output) o d ≡ true → homeFor S (region S) i d ≡ true → nontrivial (S .input) i ≡ true
           → (joined (S .input) i i′ ≡ true) ⊎ (joined (S .input) i i′ ≡ false) → region S i′ o ≡ true
       within d r m t (inl j) =
@@ -102,7 +106,8 @@ module _ (S : Separated) where
       within d r m t (inr j) =
           output-delay i′ o d r
           (safe-elim S (region S) i d i′ d (homeFor-safe S (region S) i d m) (leaves-intro (S .input) i i i′ (joined-self (S .input) i a) e j)
-            (joined-self (S .output) d (reaches-to (S .output) o d r)))
+          (joined-self (S .output) d (reaches-to (S .output) o d r)))
+
       go : (nontrivial (S .input) i ≡ true) ⊎ (nontrivial (S .input) i ≡ false) → region S i′ o ≡ true
       go (inl t) =
           let v = settles-elim S (region S) i o (sym (region-settles S i o a b t) ∙ h) in
@@ -134,13 +139,15 @@ module _ (S : Separated) where
     where
       a : i < S .input .states
       a = region-in S i o h
+
       b : o < S .output .states
       b = region-out S i o h
+
       go : (nontrivial (S .input) i ≡ true) ⊎ (nontrivial (S .input) i ≡ false) → answers S (region S) j o ≡ true
       go (inl t) =
           let v = settles-elim S (region S) i o (sym (region-settles S i o a b t) ∙ h) in
           let m = first-move (S .output) o (v .0) (reaches-path (S .output) o (v .0) (v .1)) (homeFor-nontrivial S (region S) i (v .0) (v .2)) in
           answers-intro S (region S) j o (m .0) (m .1)
           (input-on i j (m .0) e
-            (region-settles S i (m .0) a (edge-to (S .output) o (m .0) (m .1)) t ∙ settles-intro S (region S) i (m .0) (v .0) (m .2) (v .2)))
+          (region-settles S i (m .0) a (edge-to (S .output) o (m .0) (m .1)) t ∙ settles-intro S (region S) i (m .0) (v .0) (m .2) (v .2)))
       go (inr t) = replies-elim S (region S) i o j (sym (region-replies S i o a b t) ∙ h) e

@@ -66,15 +66,15 @@ module _ (S : Separated) where
   completedStep : ℕ → ℕ → ℕ → Answer
   completedStep g o j =
       elim (answers S (region S) j o) [
-        true ↦ controllerRow S o g j
-      | false ↦ gives 0 (least (S .output .states) (edge (S .output) o))
+        | true ↦ controllerRow S o g j
+        | false ↦ gives 0 (least (S .output .states) (edge (S .output) o))
       ]
 
   completed : ControllerTable
   completed = record {
     memories = controllerCounters S;
     start = λ i. gives 0 (least (S .output .states) (begins (S .output)));
-    step = λ g o j. completedStep g o j
+    step = λ g o j. completedStep g o j;
   }
 
   completed-won : (g o j : ℕ) → answers S (region S) j o ≡ true → completed .step g o j ≡ controllerRow S o g j
@@ -102,8 +102,8 @@ module _ (S : Separated) where
         names = record {
           is = completed-else g o j h;
           memory = controller-counts;
-          state = least-member (S .output .states) (edge (S .output) o) (least-below (S .output .states) (edge (S .output) o) p (edge-to (S .output) o p e) e)
-        }
+          state = least-member (S .output .states) (edge (S .output) o) (least-below (S .output .states) (edge (S .output) o) p (edge-to (S .output) o p e) e);
+        };
       }
 
   completed-starts : (i o : ℕ) → begins (S .output) o ≡ true → Some (controllerCounters S) (begins (S .output)) (completed .start i)
@@ -114,15 +114,15 @@ module _ (S : Separated) where
     names = record {
       is = refl;
       memory = controller-counts;
-      state = least-member (S .output .states) (begins (S .output)) (least-below (S .output .states) (begins (S .output)) o (begins-below (S .output) o e) e)
-    }
+      state = least-member (S .output .states) (begins (S .output)) (least-below (S .output .states) (begins (S .output)) o (begins-below (S .output) o e) e);
+    };
   }
 
   completed-controller : Controller (arenaOf S) completed
   unfolding arenaOf completed
   completed-controller = record {
     starts = λ i o a e. completed-starts i o e;
-    steps = λ m o j p r e. completed-steps m o j p r e
+    steps = λ m o j p r e. completed-steps m o j p r e;
   }
 
   pub region-won : (i o : ℕ) → region S i o ≡ true → Won (arenaOf S) i o
@@ -131,13 +131,15 @@ module _ (S : Separated) where
     where
       c : Configuration
       c = record { input = i; output = o; memory = 0 }
+
       first : (d : Configuration) → c ≡ d → Kept S d
       first d e = subst (Kept S) e (record { won = h; range = controller-counts })
+
       keeps : Keeps (arenaOf S) completed c
       keeps = record {
         memory = controller-counts;
         steps = λ d r j e. step-some S completed completed-follows d j (reached-kept completed completed-follows (_≡_ c) first d r) e;
-        rounds = λ r. cycle-meets S completed completed-follows (_≡_ c) r (reached-kept completed completed-follows (_≡_ c) first (r .at) (r .reachable))
+        rounds = λ r. cycle-meets S completed completed-follows (_≡_ c) r (reached-kept completed completed-follows (_≡_ c) first (r .at) (r .reachable));
       }
 
   -- the rows alone, started anywhere
@@ -154,11 +156,12 @@ module _ (S : Separated) where
   region-beaten i o a b h = record {
     memory = environment-counts;
     steps = λ d r. E.step-some S pressed pressed-presses d (reached-lost pressed pressed-presses (_≡_ c) first d r);
-    rounds = λ r. cycle-breaks S pressed pressed-presses (_≡_ c) r (reached-lost pressed pressed-presses (_≡_ c) first (r .at) (r .reachable))
+    rounds = λ r. cycle-breaks S pressed pressed-presses (_≡_ c) r (reached-lost pressed pressed-presses (_≡_ c) first (r .at) (r .reachable));
   }
     where
       c : Configuration
       c = record { input = i; output = o; memory = 0 }
+
       first : (d : Configuration) → c ≡ d → Lost S d
       first d e = subst (Lost S) e (record { input = a; output = b; lost = h; range = environment-counts })
 
@@ -184,9 +187,9 @@ module _ (S : Separated) where
   wins-verdict w =
       verdict-intro S
       (λ i e.
-        let v = w .openings i e in
-        opens-intro S i (v .output) (v .allowed)
-        (won-region i (v .output) (begins-below (S .input) i e) (begins-below (S .output) (v .output) (v .allowed)) (v .won)))
+      let v = w .openings i e in
+      opens-intro S i (v .output) (v .allowed)
+      (won-region i (v .output) (begins-below (S .input) i e) (begins-below (S .output) (v .output) (v .allowed)) (v .won)))
 
   -- The verdict is the system's exactly when the system wins the game.
   pub system-wins : (verdict S ≡ true) ↔ SystemWins (arenaOf S)
@@ -235,7 +238,7 @@ module _ (S : Separated) where
           let e = sym (start-read i (f .initial)) ∙ f .start .is in
           record {
             won = opening-won i (c .output) (subst (λ (o : ℕ). won-opening i o ≡ true) (same-state e) (start-good i (f .initial)));
-            range = subst (λ (g : ℕ). g < controllerCounters S) (same-counter e) controller-counts
+            range = subst (λ (g : ℕ). g < controllerCounters S) (same-counter e) controller-counts;
           }
 
       follows : Follows S readController
@@ -252,8 +255,8 @@ module _ (S : Separated) where
         names = record {
           is = start-read i e;
           memory = controller-counts;
-          state = opening-begins i (least (S .output .states) (won-opening i)) (start-good i e)
-        }
+          state = opening-begins i (least (S .output .states) (won-opening i)) (start-good i e);
+        };
       }
 
       -- The controller's table wins when the verdict is the system's.
@@ -262,7 +265,7 @@ module _ (S : Separated) where
       controller-wins = record {
         starts = starts-some;
         steps = λ c r j e. step-some S readController follows c j (kept-reached c r) e;
-        rounds = λ r. cycle-meets S readController follows (ControllerFirst (arenaOf S) readController) r (kept-reached (r .at) (r .reachable))
+        rounds = λ r. cycle-meets S readController follows (ControllerFirst (arenaOf S) readController) r (kept-reached (r .at) (r .reachable));
       }
 
     module _ (v : verdict S ≡ false) where
@@ -294,7 +297,7 @@ module _ (S : Separated) where
             input = begins-below (S .input) (c .input) (refused-begins (c .input) q);
             output = begins-below (S .output) (c .output) (f .opening);
             lost = opens-false S (c .input) (c .output) (refused-opens (c .input) q) (f .opening);
-            range = subst (λ (h : ℕ). h < environmentCounters S) (same-counter e) environment-counts
+            range = subst (λ (h : ℕ). h < environmentCounters S) (same-counter e) environment-counts;
           }
 
       presses : Presses S readEnvironment
@@ -308,7 +311,7 @@ module _ (S : Separated) where
       start-some = record {
         memory = 0;
         state = least (S .input .states) (refused S);
-        names = record { is = read-refused; memory = environment-counts; state = refused-begins (least (S .input .states) (refused S)) refused-least }
+        names = record { is = read-refused; memory = environment-counts; state = refused-begins (least (S .input .states) (refused S)) refused-least };
       }
 
       -- Otherwise the environment's table wins.
@@ -317,7 +320,7 @@ module _ (S : Separated) where
       environment-wins = record {
         starts = start-some;
         steps = λ c r. E.step-some S readEnvironment presses c (lost-reached c r);
-        rounds = λ r. cycle-breaks S readEnvironment presses (EnvironmentFirst (arenaOf S) readEnvironment) r (lost-reached (r .at) (r .reachable))
+        rounds = λ r. cycle-breaks S readEnvironment presses (EnvironmentFirst (arenaOf S) readEnvironment) r (lost-reached (r .at) (r .reachable));
       }
 
     outcome-system : verdict S ≡ true → outcome S ≡ system readController
@@ -333,6 +336,6 @@ module _ (S : Separated) where
     pub demand-three : DemandThree (arenaOf S) (outcome S)
     demand-three =
         elim (decide (verdict S)) [
-          inl v ↦ subst⁻¹ (DemandThree (arenaOf S)) (outcome-system v) (demand-system (bounded-arenaOf S) (controller-wins v))
-        | inr v ↦ subst⁻¹ (DemandThree (arenaOf S)) (outcome-environment v) (demand-environment (bounded-arenaOf S) (environment-wins v))
+          | inl v ↦ subst⁻¹ (DemandThree (arenaOf S)) (outcome-system v) (demand-system (bounded-arenaOf S) (controller-wins v))
+          | inr v ↦ subst⁻¹ (DemandThree (arenaOf S)) (outcome-environment v) (demand-environment (bounded-arenaOf S) (environment-wins v))
         ]

@@ -68,8 +68,8 @@ answer-entry none small-none = refl
 answer-entry (gives c s) (small-gives counter state a b) =
     rw (ne-eqb (state + 64 * counter) 65535 (omega arith), answer)
     (ap₂ gives
-      (add-mul-div-left state counter (omega arith) ∙ ap (λ (k : ℕ). k + counter) (div-eq-of-lt b) ∙ zero-add counter)
-      (add-mul-mod-self-left state 64 counter ∙ mod-eq-of-lt b))
+    (add-mul-div-left state counter (omega arith) ∙ ap (λ (k : ℕ). k + counter) (div-eq-of-lt b) ∙ zero-add counter)
+    (add-mul-mod-self-left state 64 counter ∙ mod-eq-of-lt b))
 
 -- the row of rows by a, b and c, and its place
 module _ (A B C a b c : ℕ) (la : a < A) (lb : b < B) (lc : c < C) where
@@ -90,6 +90,7 @@ module _ (S : Separated) (Z : Sized S) where
     where
       p : ℕ → Bool
       p o = begins (S .output) o && region S i o
+
       go : ((begins (S .input) i && opens S i) ≡ true) ⊎ ((begins (S .input) i && opens S i) ≡ false) → Small (controllerStart S i)
       go (inl e) =
           let f = least-found (S .output .states) p (and-right (begins (S .input) i) (any (S .output .states) p) e) in
@@ -116,9 +117,9 @@ module _ (S : Separated) (Z : Sized S) where
   controller-start i b =
       ap answer
       (List·getD-append (tabulate (S .input .states) (λ k. entry (controllerStart S k)))
-        (tabulate (S .output .states * controllerCounters S * S .input .states) (rowOf (controllerCounters S) (S .input .states) (controllerRow S))) 65535 i
-        (rw starts-length b)
-        ∙ getD-tabulate (λ k. entry (controllerStart S k)) (S .input .states) i 65535 b)
+      (tabulate (S .output .states * controllerCounters S * S .input .states) (rowOf (controllerCounters S) (S .input .states) (controllerRow S))) 65535 i
+      (rw starts-length b)
+      ∙ getD-tabulate (λ k. entry (controllerStart S k)) (S .input .states) i 65535 b)
       ∙ answer-entry (controllerStart S i) (small-start i)
 
   pub controller-step : (g o j : ℕ) → g < controllerCounters S → o < S .output .states → j < S .input .states
@@ -127,17 +128,20 @@ module _ (S : Separated) (Z : Sized S) where
   controller-step g o j lg lo lj =
       ap answer
       (ap (λ (k : ℕ). getD (starts ++ rows) (k + r) 65535) (sym starts-length)
-        ∙ getD-append-add starts rows r 65535
-        ∙ getD-tabulate f (S .output .states * controllerCounters S * S .input .states) r 65535 (place-below (S .output .states) (controllerCounters S) (S .input .states) o g j lo lg lj)
-        ∙ row-at (S .output .states) (controllerCounters S) (S .input .states) o g j lo lg lj (controllerRow S))
+      ∙ getD-append-add starts rows r 65535
+      ∙ getD-tabulate f (S .output .states * controllerCounters S * S .input .states) r 65535 (place-below (S .output .states) (controllerCounters S) (S .input .states) o g j lo lg lj)
+      ∙ row-at (S .output .states) (controllerCounters S) (S .input .states) o g j lo lg lj (controllerRow S))
       ∙ answer-entry (controllerRow S o g j) (small-row o g j lg)
     where
       f : ℕ → ℕ
       f = rowOf (controllerCounters S) (S .input .states) (controllerRow S)
+
       starts : List ℕ
       starts = tabulate (S .input .states) (λ i. entry (controllerStart S i))
+
       rows : List ℕ
       rows = tabulate (S .output .states * controllerCounters S * S .input .states) f
+
       r : ℕ
       r = (o * controllerCounters S + g) * S .input .states + j
 
@@ -178,14 +182,16 @@ module _ (S : Separated) (Z : Sized S) where
   environment-step h i o lh li lo =
       ap answer
       (ap (λ (k : ℕ). getD (entry (environmentStart S) ∷ rows) k 65535) (one-add r)
-        ∙ getD-tabulate f (S .input .states * environmentCounters S * S .output .states) r 65535 (place-below (S .input .states) (environmentCounters S) (S .output .states) i h o li lh lo)
-        ∙ row-at (S .input .states) (environmentCounters S) (S .output .states) i h o li lh lo (environmentRow S))
+      ∙ getD-tabulate f (S .input .states * environmentCounters S * S .output .states) r 65535 (place-below (S .input .states) (environmentCounters S) (S .output .states) i h o li lh lo)
+      ∙ row-at (S .input .states) (environmentCounters S) (S .output .states) i h o li lh lo (environmentRow S))
       ∙ answer-entry (environmentRow S i h o) (small-push i h o lh li lo)
     where
       f : ℕ → ℕ
       f = rowOf (environmentCounters S) (S .output .states) (environmentRow S)
+
       rows : List ℕ
       rows = tabulate (S .input .states * environmentCounters S * S .output .states) f
+
       r : ℕ
       r = (i * environmentCounters S + h) * S .output .states + o
 

@@ -59,7 +59,7 @@ use Rattle.theory.proofs.EnvironmentRow.{
 pub record Presses (S : Separated) (P : EnvironmentTable) : Type 0 where
   pub counters : P .memories ≡ environmentCounters S
   pub rows : (h i o : ℕ) → h < environmentCounters S → i < S .input .states → o < S .output .states → region S i o ≡ false
-    → P .step h i o ≡ environmentRow S i h o
+      → P .step h i o ≡ environmentRow S i h o
 
 -- What every reachable configuration keeps.
 pub record Lost (S : Separated) (c : Configuration) : Type 0 where
@@ -98,7 +98,7 @@ module _ (S : Separated) (P : EnvironmentTable) (F : Presses S P) where
         input = edge-to (S .input) (x .input) (y .input) (turn-in x y t);
         output = edge-to (S .output) (x .output) (y .output) (turn-out x y t);
         lost = subst (λ (j : ℕ). region S j (y .output) ≡ false) (same-state e) (v .keeps (y .output) (turn-out x y t));
-        range = subst (λ (g : ℕ). g < environmentCounters S) (same-counter e) (v .range)
+        range = subst (λ (g : ℕ). g < environmentCounters S) (same-counter e) (v .range);
       }
 
   pub step-some : (x : Configuration) → Lost S x → Some (P .memories) (edge (S .input) (x .input)) (P .step (x .memory) (x .input) (x .output))
@@ -107,7 +107,7 @@ module _ (S : Separated) (P : EnvironmentTable) (F : Presses S P) where
       record {
         memory = v .counter;
         state = v .state;
-        names = record { is = step-row x k ∙ v .is; memory = subst⁻¹ (λ (m : ℕ). v .counter < m) (F .counters) (v .range); state = v .move }
+        names = record { is = step-row x k ∙ v .is; memory = subst⁻¹ (λ (m : ℕ). v .counter < m) (F .counters) (v .range); state = v .move };
       }
 
   module _ (First : Configuration → Type 0) (r : Cycle First Turn) (kept : Lost S (r .at)) where
@@ -122,7 +122,7 @@ module _ (S : Separated) (P : EnvironmentTable) (F : Presses S P) where
     round-turn : (x y : Configuration) → Round x → Turn x y → Walk Turn y (r .last) → Round y
     round-turn x y a t w = record {
       keeps = turn-lost x y (a .keeps) t;
-      along = along-turn S First Turn turn-in turn-out r x y (a .along) t w
+      along = along-turn S First Turn turn-in turn-out r x y (a .along) t w;
     }
 
     abbrev I : Graph
@@ -160,9 +160,9 @@ module _ (S : Separated) (P : EnvironmentTable) (F : Presses S P) where
     no-way x y a t b e =
         false-of (wayOut S (x .output) (x .input))
         (λ w.
-          let is = same-state (sym (outward-here S (x .input) (x .memory) (x .output) w) ∙ sym (pressing-escapes S (x .input) (x .memory) (x .output) e) ∙ turn-pressing x y a t) in
-          clash (joined-trans I (x .input) i (y .input) (joined-sym I i (x .input) (a .along .inputs)) (b .along .inputs))
-          (subst (λ (j : ℕ). joined I (x .input) j ≡ false) is (lost-apart S (x .output) (x .input) (least (I .states) (lost S (x .output) (x .input))) (wayOut-lost S (x .output) (x .input) w))))
+        let is = same-state (sym (outward-here S (x .input) (x .memory) (x .output) w) ∙ sym (pressing-escapes S (x .input) (x .memory) (x .output) e) ∙ turn-pressing x y a t) in
+        clash (joined-trans I (x .input) i (y .input) (joined-sym I i (x .input) (a .along .inputs)) (b .along .inputs))
+        (subst (λ (j : ℕ). joined I (x .input) j ≡ false) is (lost-apart S (x .output) (x .input) (least (I .states) (lost S (x .output) (x .input))) (wayOut-lost S (x .output) (x .input) w))))
 
     escapes-along : (x : Configuration) → Round x → escapes S (x .input) (x .output) ≡ escapes S i o
     escapes-along x a =
@@ -179,6 +179,7 @@ module _ (S : Separated) (P : EnvironmentTable) (F : Presses S P) where
           from-turn : (x z : Configuration) → Round x → Turn x z → Walk Turn z (r .last) → wayOut S o (x .input) ≡ false
           from-turn x z a t v =
               wayOut-same S o (x .output) (x .input) (a .along .outputs) ∙ no-way x z a t (round-turn x z a t v) (escapes-at x a)
+
           go : (y ≡ r .last) ⊎ ((z : Configuration) × Turn y z × Walk Turn z (r .last)) → wayOut S o (y .input) ≡ false
           go (inl q) =
               subst⁻¹ (λ (x : Configuration). wayOut S o (x .input) ≡ false) (q ∙ r .back) (from-turn (r .at) (r .next) round-first (r .turn) (r .rest))
@@ -197,16 +198,19 @@ module _ (S : Separated) (P : EnvironmentTable) (F : Presses S P) where
           same-toward =
               ap (λ (k : ℕ). toward (I .states) (inside I k) (gate S (x .output) k) (x .input)) (number-along x a)
               ∙ ap (λ (p : ℕ → Bool). toward (I .states) (inside I c) p (x .input)) (sym (gate-same S o (x .output) c (a .along .outputs)))
+
           leads : Leads (I .states) (inside I c) (gate S o c) (x .input)
           leads =
               subst (λ (p : ℕ → Bool). Leads (I .states) (inside I c) p (x .input)) (sym (gate-same S o (x .output) c (a .along .outputs)))
               (subst (λ (k : ℕ). Leads (I .states) (inside I k) (gate S (x .output) k) (x .input)) (number-along x a)
-                (gate-leads S (x .input) (x .output) (a .keeps .input) (nontrivial-along S First Turn turn-in turn-out r x (a .along)) (escapes-at x a)))
+              (gate-leads S (x .input) (x .output) (a .keeps .input) (nontrivial-along S First Turn turn-in turn-out r x (a .along)) (escapes-at x a)))
+
           is : toward (I .states) (inside I c) (gate S o c) (x .input) ≡ y .input
           is =
               sym same-toward
               ∙ same-state (sym (outward-on S (x .input) (x .memory) (x .output) (no-way x y a t b (escapes-at x a)))
-                ∙ sym (pressing-escapes S (x .input) (x .memory) (x .output) (escapes-at x a)) ∙ turn-pressing x y a t)
+              ∙ sym (pressing-escapes S (x .input) (x .memory) (x .output) (escapes-at x a)) ∙ turn-pressing x y a t)
+
           go : (gate S o c (toward (I .states) (inside I c) (gate S o c) (x .input)) ≡ true)
               ⊎ (Leads (I .states) (inside I c) (gate S o c) (toward (I .states) (inside I c) (gate S o c) (x .input)) × (approach (I .states) (inside I c) (gate S o c) (toward (I .states) (inside I c) (gate S o c) (x .input)) < approach (I .states) (inside I c) (gate S o c) (x .input)))
               → approach (I .states) (inside I c) (gate S o c) (y .input) < approach (I .states) (inside I c) (gate S o c) (x .input)
@@ -217,7 +221,7 @@ module _ (S : Separated) (P : EnvironmentTable) (F : Presses S P) where
       never-escapes =
           nowhere (configurations First Turn r)
           (cycle-lands S First Turn turn-in turn-out r Round (λ x. false) (λ x. way (x .input))
-            (λ x y a t w. let b = round-turn x y a t w in (b, inr (nearer x y a t b (closed-in y b w)))) round-first)
+          (λ x y a t w. let b = round-turn x y a t w in (b, inr (nearer x y a t b (closed-in y b w)))) round-first)
 
     -- So the round is a tour of the component.
     stays-in : escapes S i o ≡ false
@@ -230,10 +234,11 @@ module _ (S : Separated) (P : EnvironmentTable) (F : Presses S P) where
         subst (λ (p : ℕ). (goalAt (assumptions S) k p ≡ true) ⊎ (toGo I c (assumptions S) k p (y .memory) < toGo I c (assumptions S) k (x .input) (x .memory)))
         (same-state is)
         (subst (λ (g : ℕ). (goalAt (assumptions S) k (v .state) ≡ true) ⊎ (toGo I c (assumptions S) k (v .state) g < toGo I c (assumptions S) k (x .input) (x .memory)))
-          (same-counter is) (v .lands k l m))
+        (same-counter is) (v .lands k l m))
       where
         v : Toured I c (assumptions S) (x .input) (x .memory)
         v = toured I c (assumptions S) (x .input) (x .memory) (joined-along x a) (nontrivial-along S First Turn turn-in turn-out r x (a .along)) (a .keeps .range)
+
         is : gives (v .counter) (v .state) ≡ gives (y .memory) (y .input)
         is =
             sym (v .is)
@@ -252,8 +257,8 @@ module _ (S : Separated) (P : EnvironmentTable) (F : Presses S P) where
     unvisited s h =
         false-of (anyOf (λ x. s (x .output)) (configurations First Turn r))
         (λ e.
-          let v = cycle-finds S First Turn turn-in turn-out r Round round-turn round-first (λ x. s (x .output)) e in
-          clash (meetsAt-intro O o s (v .0 .output) (v .2) (v .1 .along .outputs)) h)
+        let v = cycle-finds S First Turn turn-in turn-out r Round round-turn round-first (λ x. s (x .output)) e in
+        clash (meetsAt-intro O o s (v .0 .output) (v .2) (v .1 .along .outputs)) h)
 
     -- every exit is won with the outputs of the round
     exits-safe : safe S (region S) i o ≡ true
@@ -261,23 +266,23 @@ module _ (S : Separated) (P : EnvironmentTable) (F : Presses S P) where
     exits-safe =
         safe-intro S (region S) i o
         (λ j e l b.
-          let v = leaves-elim I i j l in
-          let apart : joined I (v .0) j ≡ false = sym (joined-same I i (v .0) j (v .1)) ∙ leaves-apart I i j l in
-          let inner : joined I (number I i) (v .0) ≡ true =
-                joined-trans I (number I i) i (v .0) (joined-sym I i (number I i) (number-joined I i (kept .input))) (v .1) in
-          output-delay S j e o (joined-back O o e b)
-          (no-wayOut S o (v .0) j (escapes-false S i o (v .0) stays-in inner) (v .2) apart))
+        let v = leaves-elim I i j l in
+        let apart : joined I (v .0) j ≡ false = sym (joined-same I i (v .0) j (v .1)) ∙ leaves-apart I i j l in
+        let inner : joined I (number I i) (v .0) ≡ true =
+        joined-trans I (number I i) i (v .0) (joined-sym I i (number I i) (number-joined I i (kept .input))) (v .1) in
+        output-delay S j e o (joined-back O o e b)
+        (no-wayOut S o (v .0) j (escapes-false S i o (v .0) stays-in inner) (v .2) apart))
 
     -- were the outputs' component accepting, it would be a home, and the position won
     not-accepting : accepting S i o ≡ false
     not-accepting =
         false-of (accepting S i o)
         (λ a.
-          clash
-          (region-settles S i o (kept .input) (kept .output) (nontrivial-input S First Turn turn-in turn-out r)
-            ∙ settles-intro S (region S) i o o (reaches-self O o (kept .output))
-              (homeFor-intro S (region S) i o (nontrivial-output S First Turn turn-in turn-out r) a exits-safe))
-          (kept .lost))
+        clash
+        (region-settles S i o (kept .input) (kept .output) (nontrivial-input S First Turn turn-in turn-out r)
+        ∙ settles-intro S (region S) i o o (reaches-self O o (kept .output))
+        (homeFor-intro S (region S) i o (nontrivial-output S First Turn turn-in turn-out r) a exits-safe))
+        (kept .lost))
 
     -- Every reachable round breaks some requirement: one that is due, and misses an output set.
     pub cycle-breaks : anyOf (λ q. breaks q (configurations First Turn r)) (S .requirements) ≡ true
@@ -288,10 +293,10 @@ module _ (S : Separated) (P : EnvironmentTable) (F : Presses S P) where
         let s = allOf-false (meetsAt O o) (q .0 .guarantees) (or-false-right (not (due S i (q .0))) (served S o (q .0)) (q .2)) in
         anyOf-intro (λ x. breaks x (configurations First Turn r)) (q .1)
         (breaks-when (q .0) (configurations First Turn r)
-          (λ u m.
-            let k = assumption-at S (q .0) u (q .1) m in
-            let h : meetsAt I (number I i) u ≡ true =
-                  sym (meetsAt-same I i (number I i) u (number-joined I i (kept .input))) ∙ allOf-elim (meetsAt I i) (q .0 .assumptions) d u m in
-            subst (λ (w : ℕ → Bool). visitsInput w (configurations First Turn r) ≡ true) (k .2)
-            (visits-goal (k .0) (k .1) (subst⁻¹ (λ (w : ℕ → Bool). meetsAt I (number I i) w ≡ true) (k .2) h)))
-          (s .0) (s .1) (unvisited (s .0) (s .2)))
+        (λ u m.
+        let k = assumption-at S (q .0) u (q .1) m in
+        let h : meetsAt I (number I i) u ≡ true =
+        sym (meetsAt-same I i (number I i) u (number-joined I i (kept .input))) ∙ allOf-elim (meetsAt I i) (q .0 .assumptions) d u m in
+        subst (λ (w : ℕ → Bool). visitsInput w (configurations First Turn r) ≡ true) (k .2)
+        (visits-goal (k .0) (k .1) (subst⁻¹ (λ (w : ℕ → Bool). meetsAt I (number I i) w ≡ true) (k .2) h)))
+        (s .0) (s .1) (unvisited (s .0) (s .2)))

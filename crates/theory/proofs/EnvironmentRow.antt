@@ -92,7 +92,7 @@ module _ (S : Separated) where
   escapes-false i o k h a =
       false-of (wayOut S o k)
       (λ t. clash (gate-intro o (number (S .input) i) k a t)
-        (any-false (S .input .states) (gate S o (number (S .input) i)) h k (joined-to (S .input) (number (S .input) i) k a)))
+      (any-false (S .input .states) (gate S o (number (S .input) i)) h k (joined-to (S .input) (number (S .input) i) k a)))
 
   -- ways out depend on the output's component only
 
@@ -177,7 +177,7 @@ module _ (S : Separated) where
         let v = replies-false S (region S) i o (sym (region-replies S i o b c t) ∙ l) in
         let j = least (S .input .states) (unanswered i o) in
         let e = least-member (S .input .states) (unanswered i o)
-              (least-below (S .input .states) (unanswered i o) (v .0) (edge-to (S .input) i (v .0) (v .1)) (and-intro (v .1) (ap not (v .2)))) in
+        (least-below (S .input .states) (unanswered i o) (v .0) (edge-to (S .input) i (v .0) (v .1)) (and-intro (v .1) (ap not (v .2)))) in
         let n = not-true (answers S (region S) j o) (and-right (edge (S .input) i j) (not (answers S (region S) j o)) e) in
         record {
           counter = h;
@@ -185,7 +185,7 @@ module _ (S : Separated) where
           is = row-lost i h o l ∙ pushing-trivial i h o t;
           move = and-left (edge (S .input) i j) (not (answers S (region S) j o)) e;
           keeps = λ p q. answers-false S (region S) j o p n q;
-          range = r
+          range = r;
         }
 
     module _ (t : nontrivial (S .input) i ≡ true) where
@@ -211,7 +211,7 @@ module _ (S : Separated) where
             is = row-is ∙ pressing-escapes i h o e ∙ outward-here i h o w;
             move = lost-edge o i j m;
             keeps = λ p q. lost-out j o p (lost-region o i j m) q;
-            range = r
+            range = r;
           }
 
       pushed-on : escapes S i o ≡ true → wayOut S o i ≡ false → Pushed i h o
@@ -226,7 +226,7 @@ module _ (S : Separated) where
             is = row-is ∙ pressing-escapes i h o e ∙ outward-on i h o w;
             move = inside-edge (S .input) k i j m;
             keeps = stays j m;
-            range = r
+            range = r;
           }
 
       pushed-tour : escapes S i o ≡ false → Pushed i h o
@@ -239,14 +239,14 @@ module _ (S : Separated) where
             is = row-is ∙ pressing-tours i h o e ∙ v .is;
             move = inside-edge (S .input) (number (S .input) i) i (v .state) (v .moves);
             keeps = stays (v .state) (v .moves);
-            range = v .range
+            range = v .range;
           }
 
       pushed-nontrivial : Pushed i h o
       pushed-nontrivial =
           elim (decide (escapes S i o)) [
-            inl e ↦ elim (decide (wayOut S o i)) [ inl w ↦ pushed-here e w | inr w ↦ pushed-on e w ]
-          | inr e ↦ pushed-tour e
+            | inl e ↦ elim (decide (wayOut S o i)) [ inl w ↦ pushed-here e w | inr w ↦ pushed-on e w ]
+            | inr e ↦ pushed-tour e
           ]
 
     pub pushed : Pushed i h o

@@ -49,13 +49,13 @@ module _ (S : Separated) (First : Configuration → Type 0) (Turn : Configuratio
     pub along-first : Along S (r .at) (r .at)
     along-first = record {
       inputs = joined-self (S .input) (r .at .input) (edge-from (S .input) (r .at .input) (r .next .input) (turn-in (r .at) (r .next) (r .turn)));
-      outputs = joined-self (S .output) (r .at .output) (edge-from (S .output) (r .at .output) (r .next .output) (turn-out (r .at) (r .next) (r .turn)))
+      outputs = joined-self (S .output) (r .at .output) (edge-from (S .output) (r .at .output) (r .next .output) (turn-out (r .at) (r .next) (r .turn)));
     }
 
     pub along-turn : (x y : Configuration) → Along S (r .at) x → Turn x y → Walk Turn y (r .last) → Along S (r .at) y
     along-turn x y a t w = record {
       inputs = closes (S .input) (r .at .input) (x .input) (y .input) (a .inputs) (turn-in x y t) (inputs-back (subst (Walk Turn y) (r .back) w));
-      outputs = closes (S .output) (r .at .output) (x .output) (y .output) (a .outputs) (turn-out x y t) (outputs-back (subst (Walk Turn y) (r .back) w))
+      outputs = closes (S .output) (r .at .output) (x .output) (y .output) (a .outputs) (turn-out x y t) (outputs-back (subst (Walk Turn y) (r .back) w));
     }
 
     along-next : Along S (r .at) (r .next)
@@ -81,8 +81,8 @@ module _ (S : Separated) (First : Configuration → Type 0) (Turn : Configuratio
     unfolding configurations targets anyOf
     cycle-lands I p μ f i =
         elim (lands (r .last) I p μ f (step (r .turn) (r .rest)) i) [
-          inl h ↦ or-right (p (r .at)) (rw (passed-targets (r .rest)) h)
-        | inr h ↦ absurd (omega (arith, ap μ (r .back)))
+          | inl h ↦ or-right (p (r .at)) (rw (passed-targets (r .rest)) h)
+          | inr h ↦ absurd (omega (arith, ap μ (r .back)))
         ]
 
     -- what holds at first and is kept by the turns holds of what the round visits

@@ -74,6 +74,7 @@ module _ (S : Separated) where
       fails-left : (a b : Bool) → (not a || b) ≡ false → a ≡ true
       fails-left true b e = refl
       fails-left false b e = clash refl e
+
       fails-right : (a b : Bool) → (not a || b) ≡ false → b ≡ false
       fails-right true b e = e
       fails-right false b e = clash refl e
@@ -83,8 +84,8 @@ module _ (S : Separated) where
   safe-intro w i d f =
       all-intro (S .input .states) (λ j. not (leaves (S .input) i j) || all (S .output .states) (λ e. not (joined (S .output) d e) || w j e))
       (λ j b. implies-intro (leaves (S .input) i j) (all (S .output .states) (λ e. not (joined (S .output) d e) || w j e))
-        (λ l. all-intro (S .output .states) (λ e. not (joined (S .output) d e) || w j e)
-          (λ e c. implies-intro (joined (S .output) d e) (w j e) (f j e l))))
+      (λ l. all-intro (S .output .states) (λ e. not (joined (S .output) d e) || w j e)
+      (λ e c. implies-intro (joined (S .output) d e) (w j e) (f j e l))))
 
   leaves-below : (i j : ℕ) → leaves (S .input) i j ≡ true → j < S .input .states
   leaves-below i j l = let v = leaves-elim (S .input) i j l in edge-to (S .input) (v .0) j (v .2)
@@ -94,9 +95,9 @@ module _ (S : Separated) where
   safe-elim w i d j e h l a =
       implies-elim (joined (S .output) d e) (w j e)
       (all-elim (S .output .states) (λ k. not (joined (S .output) d k) || w j k)
-        (implies-elim (leaves (S .input) i j) (all (S .output .states) (λ k. not (joined (S .output) d k) || w j k))
-          (all-elim (S .input .states) (λ u. not (leaves (S .input) i u) || all (S .output .states) (λ k. not (joined (S .output) d k) || w u k)) h j (leaves-below i j l)) l)
-        e (joined-to (S .output) d e a)) a
+      (implies-elim (leaves (S .input) i j) (all (S .output .states) (λ k. not (joined (S .output) d k) || w j k))
+      (all-elim (S .input .states) (λ u. not (leaves (S .input) i u) || all (S .output .states) (λ k. not (joined (S .output) d k) || w u k)) h j (leaves-below i j l)) l)
+      e (joined-to (S .output) d e a)) a
 
   pub homeFor-intro : (w : ℕ → ℕ → Bool) (i d : ℕ) → nontrivial (S .output) d ≡ true → accepting S i d ≡ true → safe S w i d ≡ true → homeFor S w i d ≡ true
   unfolding homeFor
@@ -142,7 +143,7 @@ module _ (S : Separated) where
   accepting-same i i′ d h =
       allOf-same (λ q. not (due S i q) || served S d q) (λ q. not (due S i′ q) || served S d q) (S .requirements)
       (λ q e. ap (λ (b : Bool). not b || served S d q)
-        (allOf-same (meetsAt (S .input) i) (meetsAt (S .input) i′) (q .assumptions) (λ p e′. meetsAt-same (S .input) i i′ p h)))
+      (allOf-same (meetsAt (S .input) i) (meetsAt (S .input) i′) (q .assumptions) (λ p e′. meetsAt-same (S .input) i i′ p h)))
 
   pub safe-same : (w : ℕ → ℕ → Bool) (i i′ d : ℕ) → joined (S .input) i i′ ≡ true → safe S w i d ≡ true → safe S w i′ d ≡ true
   safe-same w i i′ d h a = safe-intro w i′ d (λ j e l b. safe-elim w i d j e a (leaves-same (S .input) i i′ j h ∙ l) b)
@@ -162,9 +163,9 @@ module _ (S : Separated) where
         all-same (S .input .states) (λ j. not (leaves (S .input) i j) || all (S .output .states) (λ e. not (joined (S .output) d e) || w j e))
         (λ j. not (leaves (S .input) i j) || all (S .output .states) (λ e. not (joined (S .output) d e) || v j e))
         (λ j b. implies-same (leaves (S .input) i j) (all (S .output .states) (λ e. not (joined (S .output) d e) || w j e))
-          (all (S .output .states) (λ e. not (joined (S .output) d e) || v j e))
-          (λ l. all-same (S .output .states) (λ e. not (joined (S .output) d e) || w j e) (λ e. not (joined (S .output) d e) || v j e)
-            (λ e c. ap (λ (x : Bool). not (joined (S .output) d e) || x) (agree j e (rank-leaves (S .input) i j l) b c))))
+        (all (S .output .states) (λ e. not (joined (S .output) d e) || v j e))
+        (λ l. all-same (S .output .states) (λ e. not (joined (S .output) d e) || w j e) (λ e. not (joined (S .output) d e) || v j e)
+        (λ e c. ap (λ (x : Bool). not (joined (S .output) d e) || x) (agree j e (rank-leaves (S .input) i j l) b c))))
 
     settles-agrees : (o : ℕ) → settles S w i o ≡ settles S v i o
     unfolding settles homeFor
@@ -177,14 +178,14 @@ module _ (S : Separated) where
     replies-agrees o t =
         all-same (S .input .states) (λ j. not (edge (S .input) i j) || answers S w j o) (λ j. not (edge (S .input) i j) || answers S v j o)
         (λ j b. implies-same (edge (S .input) i j) (answers S w j o) (answers S v j o)
-          (λ e. any-same (S .output .states) (λ p. edge (S .output) o p && w j p) (λ p. edge (S .output) o p && v j p)
-            (λ p c. ap (λ (x : Bool). edge (S .output) o p && x) (agree j p (rank-trivial (S .input) i j t e) b c))))
+        (λ e. any-same (S .output .states) (λ p. edge (S .output) o p && w j p) (λ p. edge (S .output) o p && v j p)
+        (λ p c. ap (λ (x : Bool). edge (S .output) o p && x) (agree j p (rank-trivial (S .input) i j t e) b c))))
 
     rule-agrees : (o : ℕ) → rule S w i o ≡ rule S v i o
     rule-agrees o =
         elim (decide (nontrivial (S .input) i)) [
-          inl t ↦ rule-nontrivial w i o t ∙ settles-agrees o ∙ sym (rule-nontrivial v i o t)
-        | inr t ↦ rule-trivial w i o t ∙ replies-agrees o t ∙ sym (rule-trivial v i o t)
+          | inl t ↦ rule-nontrivial w i o t ∙ settles-agrees o ∙ sym (rule-nontrivial v i o t)
+          | inr t ↦ rule-trivial w i o t ∙ replies-agrees o t ∙ sym (rule-trivial v i o t)
         ]
 
   rows-suc : (k i o : ℕ) → i < S .input .states → o < S .output .states → rel (regionRows S (suc k)) i o ≡ rule S (rel (regionRows S k)) i o

@@ -52,6 +52,6 @@ pub breaks-when : (q : Requirement) (cs : List Configuration)
 breaks-when q cs f s m h =
     breaks-intro q cs
     (false-of (meets q cs)
-      (λ e. clash
-        (meets-elim q cs e (allOf-intro (λ t. visitsInput t cs) (q .assumptions) f))
-        (allOf-fails (λ t. visitsOutput t cs) m h)))
+    (λ e. clash
+    (meets-elim q cs e (allOf-intro (λ t. visitsInput t cs) (q .assumptions) f))
+    (allOf-fails (λ t. visitsOutput t cs) m h)))

@@ -189,7 +189,7 @@ module _ (G : Graph) (c : ℕ) (l : List (ℕ → Bool)) where
           is = tour-none s g h;
           moves = prefer-member (G .states) s (inside G c s) (v .0) (joined-to G c (v .0) (inside-to G c s (v .0) (v .1))) (v .1);
           range = r;
-          lands = λ q b m. clash (hasGoal-intro q b m) h
+          lands = λ q b m. clash (hasGoal-intro q b m) h;
         }
 
     module _ (q₀ : ℕ) (b₀ : q₀ < length l) (m₀ : meetsAt G c (goalAt l q₀) ≡ true) where
@@ -249,8 +249,8 @@ module _ (G : Graph) (c : ℕ) (l : List (ℕ → Bool)) where
           go (yes d) =
               inr
               (nearer-counter q s g next (around (length l) aim 1)
-                (omega (arith, moved q b m, distance-around (length l) aim q 1 aim-below b d))
-                (next-approach q (around (length l) aim 1) b m after-below))
+              (omega (arith, moved q b m, distance-around (length l) aim q 1 aim-below b d))
+              (next-approach q (around (length l) aim 1) b m after-below))
           go (no d) = inl (subst (λ (k : ℕ). goalAt l k next ≡ true) (distance-zero (length l) aim q aim-below b (omega arith)) h)
 
       passes-goal : goalAt l aim next ≡ false → (q : ℕ) → q < length l → meetsAt G c (goalAt l q) ≡ true → toGo q next aim < toGo q s g
@@ -263,34 +263,34 @@ module _ (G : Graph) (c : ℕ) (l : List (ℕ → Bool)) where
           go (inr t) =
               nearer-state q s g next aim (omega (arith, moved q b m))
               (subst⁻¹ (λ (k : ℕ). approach (G .states) (inside G c) (target G c l k) next < approach (G .states) (inside G c) (target G c l (goal G c l g)) s)
-                (goal-stays aim aim-below aim-meets) (t .1))
+              (goal-stays aim aim-below aim-meets) (t .1))
 
       toured-goal : hasGoal G c l ≡ true → Toured s g
       toured-goal h =
           elim (decide (goalAt l aim next)) [
-            inl t ↦ record {
+            | inl t ↦ record {
               counter = around (length l) aim 1;
               state = next;
               is = is-tour h ∙ arrive-lands aim next t;
               moves = next-inside;
               range = omega (arith, after-below, le-max-right 1 (length l));
-              lands = lands-goal t
+              lands = lands-goal t;
             }
-          | inr t ↦ record {
+            | inr t ↦ record {
               counter = aim;
               state = next;
               is = is-tour h ∙ arrive-passes aim next t;
               moves = next-inside;
               range = omega (arith, aim-below, le-max-right 1 (length l));
-              lands = λ q b m. inr (passes-goal t q b m)
+              lands = λ q b m. inr (passes-goal t q b m);
             }
           ]
 
     pub toured : Toured s g
     toured =
         elim (decide (hasGoal G c l)) [
-          inl h ↦ let v = hasGoal-elim h in toured-goal (v .0) (v .1) (v .2) h
-        | inr h ↦ toured-none h
+          | inl h ↦ let v = hasGoal-elim h in toured-goal (v .0) (v .1) (v .2) h
+          | inr h ↦ toured-none h
         ]
 
   -- at most sets × states
@@ -298,5 +298,9 @@ module _ (G : Graph) (c : ℕ) (l : List (ℕ → Bool)) where
       → toGo q s g ≤ length l * G .states
   unfolding toGo
   toGo-most q s g b m d a n =
-      omega (arith, mul-le-mul-right (G .states) (distance-below (length l) g q d b), suc-mul (distance (length l) g q) (G .states),
-        approach-below (G .states) (inside G c) (target G c l (goal G c l g)) s (aim-leads (goal G c l g) s a n (goal-meets q g b m d)))
+      omega (
+        arith,
+        mul-le-mul-right (G .states) (distance-below (length l) g q d b),
+        suc-mul (distance (length l) g q) (G .states),
+        approach-below (G .states) (inside G c) (target G c l (goal G c l g)) s (aim-leads (goal G c l g) s a n (goal-meets q g b m d)),
+      )

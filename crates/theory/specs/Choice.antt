@@ -41,16 +41,16 @@ home S j o = least (S .output .states) (λ d. reaches (S .output) o d && homeFor
 unfoldable pub homeward : Separated → ℕ → ℕ → ℕ → Answer
 homeward S d o g =
     elim (joined (S .output) d o) [
-      true ↦ tour (S .output) d (guarantees S) o g
-    | false ↦ gives g (toward (S .output .states) (edge (S .output)) (joined (S .output) d) o)
+      | true ↦ tour (S .output) d (guarantees S) o g
+      | false ↦ gives g (toward (S .output .states) (edge (S .output)) (joined (S .output) d) o)
     ]
 
 -- "The component of j is not stayable: the lowest move to a won position; g stays."
 unfoldable pub settled : Separated → ℕ → ℕ → ℕ → Answer
 settled S o g j =
     elim (nontrivial (S .input) j) [
-      true ↦ homeward S (home S j o) o g
-    | false ↦ gives g (least (S .output .states) (λ p. edge (S .output) o p && region S j p))
+      | true ↦ homeward S (home S j o) o g
+      | false ↦ gives g (least (S .output .states) (λ p. edge (S .output) o p && region S j p))
     ]
 
 -- "Controller row (output o, counter g, new input j)." "No output move leads to a won position with j: none."
@@ -61,8 +61,8 @@ controllerRow S o g j = elim (answers S (region S) j o) [ true ↦ settled S o g
 unfoldable pub controllerStart : Separated → ℕ → Answer
 controllerStart S i =
     elim (begins (S .input) i && opens S i) [
-      true ↦ gives 0 (least (S .output .states) (λ o. begins (S .output) o && region S i o))
-    | false ↦ none
+      | true ↦ gives 0 (least (S .output .states) (λ o. begins (S .output) o && region S i o))
+      | false ↦ none
     ]
 
 -- "a j with (j, o) not won" that a move of i enters, leaving the component
@@ -80,8 +80,8 @@ gate S o c k = joined (S .input) c k && wayOut S o k
 unfoldable pub outward : Separated → ℕ → ℕ → ℕ → Answer
 outward S i h o =
     elim (wayOut S o i) [
-      true ↦ gives h (least (S .input .states) (lost S o i))
-    | false ↦ gives h (toward (S .input .states) (inside (S .input) (number (S .input) i)) (gate S o (number (S .input) i)) i)
+      | true ↦ gives h (least (S .input .states) (lost S o i))
+      | false ↦ gives h (toward (S .input .states) (inside (S .input) (number (S .input) i)) (gate S o (number (S .input) i)) i)
     ]
 
 -- "Some move leaves the component to a j with (j, o) not won: .." "Otherwise tour the input sets inside the component as the controller does at home."
@@ -91,16 +91,16 @@ escapes S i o = any (S .input .states) (gate S o (number (S .input) i))
 unfoldable pub pressing : Separated → ℕ → ℕ → ℕ → Answer
 pressing S i h o =
     elim (escapes S i o) [
-      true ↦ outward S i h o
-    | false ↦ tour (S .input) (number (S .input) i) (assumptions S) i h
+      | true ↦ outward S i h o
+      | false ↦ tour (S .input) (number (S .input) i) (assumptions S) i h
     ]
 
 -- "i's component not stayable: the lowest move to a j for which no output move from o makes a won position; h stays."
 unfoldable pub pushing : Separated → ℕ → ℕ → ℕ → Answer
 pushing S i h o =
     elim (nontrivial (S .input) i) [
-      true ↦ pressing S i h o
-    | false ↦ gives h (least (S .input .states) (λ j. edge (S .input) i j && not (answers S (region S) j o)))
+      | true ↦ pressing S i h o
+      | false ↦ gives h (least (S .input .states) (λ j. edge (S .input) i j && not (answers S (region S) j o)))
     ]
 
 -- "Panel row (input i, counter h, output o)." "Position won: none."
@@ -114,6 +114,6 @@ refused S i = begins (S .input) i && not (opens S i)
 unfoldable pub environmentStart : Separated → Answer
 environmentStart S =
     elim (any (S .input .states) (refused S)) [
-      true ↦ gives 0 (least (S .input .states) (refused S))
-    | false ↦ none
+      | true ↦ gives 0 (least (S .input .states) (refused S))
+      | false ↦ none
     ]

@@ -66,20 +66,20 @@ unfoldable pub controllerTable : (I M : ℕ) → List ℕ → ControllerTable
 controllerTable I M l = record {
   memories = M;
   start = λ i. answer (getD l i 65535);
-  step = λ g o j. answer (getD l (I + ((o * M + g) * I + j)) 65535)
+  step = λ g o j. answer (getD l (I + ((o * M + g) * I + j)) 65535);
 }
 
 unfoldable pub environmentTable : (O M : ℕ) → List ℕ → EnvironmentTable
 environmentTable O M l = record {
   memories = M;
   start = answer (getD l 0 65535);
-  step = λ h i o. answer (getD l (1 + ((i * M + h) * O + o)) 65535)
+  step = λ h i o. answer (getD l (1 + ((i * M + h) * O + o)) 65535);
 }
 
 -- The side that the verdict names, with its table read from the list of entries.
 unfoldable pub outcome : Separated → Outcome
 outcome S =
     elim (verdict S) [
-      true ↦ system (controllerTable (S .input .states) (controllerCounters S) (controllerEntries S))
-    | false ↦ environment (environmentTable (S .output .states) (environmentCounters S) (environmentEntries S))
+      | true ↦ system (controllerTable (S .input .states) (controllerCounters S) (controllerEntries S))
+      | false ↦ environment (environmentTable (S .output .states) (environmentCounters S) (environmentEntries S))
     ]

@@ -51,6 +51,6 @@ arrive l a t = elim (goalAt l a t) [ true ↦ gives (around (length l) a 1) t | 
 unfoldable pub tour : Graph → ℕ → List (ℕ → Bool) → ℕ → ℕ → Answer
 tour G c l s g =
     elim (hasGoal G c l) [
-      true ↦ arrive l (goal G c l g) (toward (G .states) (inside G c) (target G c l (goal G c l g)) s)
-    | false ↦ gives g (prefer (G .states) s (inside G c s))
+      | true ↦ arrive l (goal G c l g) (toward (G .states) (inside G c) (target G c l (goal G c l g)) s)
+      | false ↦ gives g (prefer (G .states) s (inside G c s))
     ]

@@ -64,7 +64,13 @@ pub fn block(
     let mut left = which;
     while left != 0 {
         let h = sets::lowest(left);
-        row(room, base + width * h, width, inside, first + more * (h as u16));
+        row(
+            room,
+            base + width * h,
+            width,
+            inside,
+            first + more * (h as u16),
+        );
         left = sets::difference(left, sets::insert(0, h));
     }
 }

@@ -5,7 +5,6 @@ ghost use Rattle.play.specs.Play.{separatedOf};
 ghost use Rattle.theory.specs.Region.{opens as opensAt, verdict as verdictOf};
 ghost use Rattle.map.specs.Read.{Reading};
 ghost use Rattle.verdict.specs.Opens.{opensWith, opensIf};
-
 use game::Game;
 
 // Whether o is an initial output that is won with i.

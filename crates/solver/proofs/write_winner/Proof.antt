@@ -33,7 +33,7 @@ returns c = record {
   wins = sym (sym (c .before .before .before .before .before .before .before .before .before .before .system-wins .ensures) ∙ c .before .before .before .before .before .before .before .before .before .if1 .taken);
   scratch = c .before .before .clear .ensures ∙ cleared-kept _ (accepted-fits _ (c .before .before .before .before .before .before .before .before .before .before .before .before .before .before .before .before .before .before .before .before .before .pre .0)) _ _ (c .before .before .before .before .before .before .before .before .before .before .before .before .before .before .before .before .prepare .ensures .kept);
   controller = c .before .before .before .before .before .before .fill .ensures;
-  environment = refl
+  environment = refl;
 }
 
 fill-requires-2 : tie.Need-fill-requires-2
@@ -53,7 +53,7 @@ returns-2 c = record {
   wins = sym (sym (c .before .before .before .before .before .before .before .before .before .before .system-wins .ensures) ∙ c .before .before .before .before .before .before .before .before .before .if1 .left);
   scratch = c .before .before .clear2 .ensures ∙ cleared-kept _ (accepted-fits _ (c .before .before .before .before .before .before .before .before .before .before .before .before .before .before .before .before .before .before .before .before .before .pre .0)) _ _ (c .before .before .before .before .before .before .before .before .before .before .before .before .before .before .before .before .prepare .ensures .kept);
   controller = refl;
-  environment = c .before .before .before .before .before .before .fill2 .ensures
+  environment = c .before .before .before .before .before .before .fill2 .ensures;
 }
 
 pub write-winner-spec : {M : Type 1} → statement M

@@ -42,13 +42,13 @@ returns c =
 
 loop-holds : tie.Need-loop-holds Inv-loop μ-loop
 loop-holds c = (
-      record {
-        is = narrow _ _ _ _ (c .before .before .below .ensures) (c .before .intersection .ensures);
-        some = c .if1 .left;
-        small = omega (arith, c .before .intersection .ok);
-      },
-      rowing-start _ _ _ _ _ _ _ (c .before .before .before .before .fits .which .fits),
-    )
+  record {
+    is = narrow _ _ _ _ (c .before .before .below .ensures) (c .before .intersection .ensures);
+    some = c .if1 .left;
+    small = omega (arith, c .before .intersection .ok);
+  },
+  rowing-start _ _ _ _ _ _ _ (c .before .before .before .before .fits .which .fits),
+)
 
 lowest-requires : tie.Need-lowest-requires Inv-loop μ-loop
 lowest-requires c κs = search needs
@@ -108,7 +108,7 @@ loop-again c =
     let b = a .before .before in (
       b .loop .inv .0,
       rowing-turn _ _ _ _ _ _ _ _ (b .loop .left) _ _ _ (b .loop .inv .1) (a .before .loop-test .taken) (a .lowest .ensures) (c .before .insert .ensures)
-      (c .difference .ensures) _ _ (b .loop .inv .0) (c .before .before .before .before .row .ensures) (omega (arith, c .difference .ok)),
+          (c .difference .ensures) _ _ (b .loop .inv .0) (c .before .before .before .before .row .ensures) (omega (arith, c .difference .ok)),
     )
 
 same-length : tie.Need-same-length Inv-loop μ-loop
