@@ -7,16 +7,14 @@
 use Prim.Native.Nat.{ℕ, zero, suc, _+_, _-_, _*_, _/_, _%_, _≤_, _<_}
 use native.Mathlib.Nat.{div-add-mod', mod-lt, div-lt-iff-lt-mul, mul-zero, le-max-left}
 use mathlib.Core.Path.{_≡_, sym, _∙_, ap, ap₂}
-use mathlib.Core.List.{List, _++_}
 use native.Mathlib.Omega.{arith}
-use lib.ListN.{length, getD, length-append, List·getD-append}
-use lib.Seq.{getD-append-add}
+use lib.ListN.{length, getD, length-append}
 use Rattle.finite.specs.Tabulate.{tabulate}
-use Rattle.finite.proofs.Tabulate.{length-tabulate, getD-tabulate}
+use Rattle.finite.proofs.Tabulate.{length-tabulate}
 use Rattle.arena.specs.Arena.{Separated}
 use Rattle.theory.specs.Choice.{guarantees, controllerRow, controllerStart}
 use Rattle.theory.specs.Entries.{entry, controllerCounters, rowOf, controllerEntries}
-use Rattle.theory.proofs.Entries.{place-below, row-at}
+use Rattle.theory.proofs.Entries.{place-below, controller-start-at, controller-row-at}
 use Rattle.controller_table.specs.Filled.{place}
 
 module _ (S : Separated) where
@@ -35,12 +33,7 @@ module _ (S : Separated) where
       ∙ ap₂ _+_ starts-length (length-tabulate (rowOf (controllerCounters S) (S .input .states) (controllerRow S)) (S .output .states * controllerCounters S * S .input .states))
 
   pub start-at : (i : ℕ) → i < S .input .states → getD (controllerEntries S) i 0 ≡ entry (controllerStart S i)
-  unfolding controllerEntries
-  start-at i b =
-      List·getD-append (tabulate (S .input .states) (λ k. entry (controllerStart S k)))
-      (tabulate (S .output .states * controllerCounters S * S .input .states) (rowOf (controllerCounters S) (S .input .states) (controllerRow S))) 0 i
-      (rw starts-length b)
-      ∙ getD-tabulate (λ k. entry (controllerStart S k)) (S .input .states) i 0 b
+  start-at = controller-start-at S 0
 
   module _ (o c j : ℕ) (a : o < S .output .states) (b : c < controllerCounters S) (d : j < S .input .states) where
     pub place-in : place S o c j < length (controllerEntries S)
@@ -48,24 +41,8 @@ module _ (S : Separated) where
     place-in = omega (arith, table-length, place-below (S .output .states) (controllerCounters S) (S .input .states) o c j a b d)
 
     pub row-entry : getD (controllerEntries S) (place S o c j) 0 ≡ entry (controllerRow S o c j)
-    unfolding place controllerEntries
-    row-entry =
-        ap (λ (k : ℕ). getD (starts ++ rows) (k + r) 0) (sym starts-length)
-        ∙ getD-append-add starts rows r 0
-        ∙ getD-tabulate f (S .output .states * controllerCounters S * S .input .states) r 0 (place-below (S .output .states) (controllerCounters S) (S .input .states) o c j a b d)
-        ∙ row-at (S .output .states) (controllerCounters S) (S .input .states) o c j a b d (controllerRow S)
-      where
-        f : ℕ → ℕ
-        f = rowOf (controllerCounters S) (S .input .states) (controllerRow S)
-
-        starts : List ℕ
-        starts = tabulate (S .input .states) (λ i. entry (controllerStart S i))
-
-        rows : List ℕ
-        rows = tabulate (S .output .states * controllerCounters S * S .input .states) f
-
-        r : ℕ
-        r = (o * controllerCounters S + c) * S .input .states + j
+    unfolding place
+    row-entry = controller-row-at S 0 o c j a b d
 
   -- a place past the starts
   pub record Cell (k : ℕ) : Type 0 where

@@ -8,7 +8,6 @@
 --   filled-skip, filled-next  : the states of a set, one after the other
 use Prim.Native.Nat.{ℕ, suc, _+_, _-_, _*_, _<_, _≤_}
 use native.Mathlib.Nat.{mul-comm, mul-zero, add-mul, mul-le-mul, le-max-left}
-use native.Mathlib.Numerals.{one-add}
 use mathlib.Core.Path.{_≡_, sym, _∙_, ap, subst}
 use mathlib.Core.Bool.{true, false}
 use mathlib.Core.List.{List, _∷_}
@@ -19,7 +18,7 @@ use lib.Dec.{ltb}
 use lib.ListN.{length, getD}
 use borrow.Author.Tests.{ltb-true, lt-ltb}
 use Rattle.finite.specs.Tabulate.{tabulate}
-use Rattle.finite.proofs.Tabulate.{length-tabulate, getD-tabulate}
+use Rattle.finite.proofs.Tabulate.{length-tabulate}
 use Rattle.finite.proofs.Truth.{decide}
 use Rattle.sets.specs.Member.{has}
 use Rattle.graphs.proofs.Graph.{edge-to}
@@ -30,9 +29,9 @@ use Rattle.game.proofs.Laws.{accepted-fits}
 use Rattle.play.specs.Play.{graphOf, separatedOf}
 use Rattle.arena.specs.Arena.{Separated}
 use Rattle.theory.specs.Region.{region}
-use Rattle.theory.specs.Choice.{assumptions, environmentRow, environmentStart}
+use Rattle.theory.specs.Choice.{assumptions, environmentRow}
 use Rattle.theory.specs.Entries.{entry, rowOf, environmentCounters, environmentEntries}
-use Rattle.theory.proofs.Entries.{place-below, row-at}
+use Rattle.theory.proofs.Entries.{place-below, environment-row-at}
 use Rattle.theory.proofs.EnvironmentRow.{pushed}
 use Rattle.demands.proofs.Sizes.{environment-few}
 use Rattle.filling.specs.Grows.{Right}
@@ -55,24 +54,8 @@ module _ (g : Game) (i h o : ℕ) (li : i < g .input .states) (lh : h < environm
   place-in = omega (arith, entries-length g, place-below (g .input .states) (environmentCounters (separatedOf g)) (g .output .states) i h o li lh lo)
 
   pub entry-at : getD (entriesOf g) (place (environmentCounters (separatedOf g)) (g .output .states) i h o) 0 ≡ entry (environmentRow (separatedOf g) i h o)
-  unfolding place entriesOf environmentEntries separatedOf graphOf
-  entry-at =
-      ap (λ (k : ℕ). getD (entry (environmentStart S) ∷ rows) k 0) (one-add r)
-      ∙ getD-tabulate f (g .input .states * environmentCounters S * g .output .states) r 0
-      (place-below (g .input .states) (environmentCounters S) (g .output .states) i h o li lh lo)
-      ∙ row-at (g .input .states) (environmentCounters S) (g .output .states) i h o li lh lo (environmentRow S)
-    where
-      S : Separated
-      S = separatedOf g
-
-      f : ℕ → ℕ
-      f = rowOf (environmentCounters S) (g .output .states) (environmentRow S)
-
-      rows : List ℕ
-      rows = tabulate (g .input .states * environmentCounters S * g .output .states) f
-
-      r : ℕ
-      r = (i * environmentCounters S + h) * g .output .states + o
+  unfolding place entriesOf separatedOf graphOf
+  entry-at = environment-row-at (separatedOf g) 0 i h o li lh lo
 
   pub entry-small : acceptance g ≡ Accepted → entry (environmentRow (separatedOf g) i h o) < 65536
   unfolding environmentRow entry separatedOf graphOf

@@ -83,6 +83,44 @@ module _ (A B C a b c : ℕ) (la : a < A) (lb : b < B) (lc : c < C) where
 
 -- the controller's table
 
+-- what stands at a place of a list of entries, d standing past its end
+module _ (S : Separated) (d : ℕ) where
+  abbrev starts : List ℕ
+  starts = tabulate (S .input .states) (λ i. entry (controllerStart S i))
+
+  abbrev replies : List ℕ
+  replies = tabulate (S .output .states * controllerCounters S * S .input .states) (rowOf (controllerCounters S) (S .input .states) (controllerRow S))
+
+  starts-length : length starts ≡ S .input .states
+  starts-length = length-tabulate (λ i. entry (controllerStart S i)) (S .input .states)
+
+  pub controller-start-at : (i : ℕ) → i < S .input .states → getD (controllerEntries S) i d ≡ entry (controllerStart S i)
+  unfolding controllerEntries
+  controller-start-at i b =
+      List·getD-append starts replies d i (rw starts-length b) ∙ getD-tabulate (λ k. entry (controllerStart S k)) (S .input .states) i d b
+
+  pub controller-row-at : (o g j : ℕ) → o < S .output .states → g < controllerCounters S → j < S .input .states
+      → getD (controllerEntries S) (S .input .states + ((o * controllerCounters S + g) * S .input .states + j)) d ≡ entry (controllerRow S o g j)
+  unfolding controllerEntries
+  controller-row-at o g j lo lg lj =
+      let r : ℕ = (o * controllerCounters S + g) * S .input .states + j in
+      ap (λ (k : ℕ). getD (starts ++ replies) (k + r) d) (sym starts-length)
+      ∙ getD-append-add starts replies r d
+      ∙ getD-tabulate (rowOf (controllerCounters S) (S .input .states) (controllerRow S)) (S .output .states * controllerCounters S * S .input .states) r d
+        (place-below (S .output .states) (controllerCounters S) (S .input .states) o g j lo lg lj)
+      ∙ row-at (S .output .states) (controllerCounters S) (S .input .states) o g j lo lg lj (controllerRow S)
+
+  pub environment-row-at : (i h o : ℕ) → i < S .input .states → h < environmentCounters S → o < S .output .states
+      → getD (environmentEntries S) (1 + ((i * environmentCounters S + h) * S .output .states + o)) d ≡ entry (environmentRow S i h o)
+  unfolding environmentEntries
+  environment-row-at i h o li lh lo =
+      let r : ℕ = (i * environmentCounters S + h) * S .output .states + o in
+      let rows : List ℕ = tabulate (S .input .states * environmentCounters S * S .output .states) (rowOf (environmentCounters S) (S .output .states) (environmentRow S)) in
+      ap (λ (k : ℕ). getD (entry (environmentStart S) ∷ rows) k d) (one-add r)
+      ∙ getD-tabulate (rowOf (environmentCounters S) (S .output .states) (environmentRow S)) (S .input .states * environmentCounters S * S .output .states) r d
+        (place-below (S .input .states) (environmentCounters S) (S .output .states) i h o li lh lo)
+      ∙ row-at (S .input .states) (environmentCounters S) (S .output .states) i h o li lh lo (environmentRow S)
+
 module _ (S : Separated) (Z : Sized S) where
   small-start : (i : ℕ) → Small (controllerStart S i)
   unfolding controllerStart opens
@@ -108,42 +146,15 @@ module _ (S : Separated) (Z : Sized S) where
           (small-gives (v .counter) (v .state) (omega (arith, v .range, Z .controller)) (omega (arith, edge-to (S .output) o (v .state) (v .move), Z .outputs)))
       go (inr e) = rw (e, controllerRow) small-none
 
-  starts-length : length (tabulate (S .input .states) (λ i. entry (controllerStart S i))) ≡ S .input .states
-  starts-length = length-tabulate (λ i. entry (controllerStart S i)) (S .input .states)
-
   pub controller-start : (i : ℕ) → i < S .input .states
       → controllerTable (S .input .states) (controllerCounters S) (controllerEntries S) .start i ≡ controllerStart S i
-  unfolding controllerTable controllerEntries
-  controller-start i b =
-      ap answer
-      (List·getD-append (tabulate (S .input .states) (λ k. entry (controllerStart S k)))
-      (tabulate (S .output .states * controllerCounters S * S .input .states) (rowOf (controllerCounters S) (S .input .states) (controllerRow S))) 65535 i
-      (rw starts-length b)
-      ∙ getD-tabulate (λ k. entry (controllerStart S k)) (S .input .states) i 65535 b)
-      ∙ answer-entry (controllerStart S i) (small-start i)
+  unfolding controllerTable
+  controller-start i b = ap answer (controller-start-at S 65535 i b) ∙ answer-entry (controllerStart S i) (small-start i)
 
   pub controller-step : (g o j : ℕ) → g < controllerCounters S → o < S .output .states → j < S .input .states
       → controllerTable (S .input .states) (controllerCounters S) (controllerEntries S) .step g o j ≡ controllerRow S o g j
-  unfolding controllerTable controllerEntries
-  controller-step g o j lg lo lj =
-      ap answer
-      (ap (λ (k : ℕ). getD (starts ++ rows) (k + r) 65535) (sym starts-length)
-      ∙ getD-append-add starts rows r 65535
-      ∙ getD-tabulate f (S .output .states * controllerCounters S * S .input .states) r 65535 (place-below (S .output .states) (controllerCounters S) (S .input .states) o g j lo lg lj)
-      ∙ row-at (S .output .states) (controllerCounters S) (S .input .states) o g j lo lg lj (controllerRow S))
-      ∙ answer-entry (controllerRow S o g j) (small-row o g j lg)
-    where
-      f : ℕ → ℕ
-      f = rowOf (controllerCounters S) (S .input .states) (controllerRow S)
-
-      starts : List ℕ
-      starts = tabulate (S .input .states) (λ i. entry (controllerStart S i))
-
-      rows : List ℕ
-      rows = tabulate (S .output .states * controllerCounters S * S .input .states) f
-
-      r : ℕ
-      r = (o * controllerCounters S + g) * S .input .states + j
+  unfolding controllerTable
+  controller-step g o j lg lo lj = ap answer (controller-row-at S 65535 o g j lo lg lj) ∙ answer-entry (controllerRow S o g j) (small-row o g j lg)
 
   pub read-follows : Follows S (controllerTable (S .input .states) (controllerCounters S) (controllerEntries S))
   unfolding controllerTable
@@ -178,22 +189,8 @@ module _ (S : Separated) (Z : Sized S) where
 
   pub environment-step : (h i o : ℕ) → h < environmentCounters S → i < S .input .states → o < S .output .states
       → environmentTable (S .output .states) (environmentCounters S) (environmentEntries S) .step h i o ≡ environmentRow S i h o
-  unfolding environmentTable environmentEntries
-  environment-step h i o lh li lo =
-      ap answer
-      (ap (λ (k : ℕ). getD (entry (environmentStart S) ∷ rows) k 65535) (one-add r)
-      ∙ getD-tabulate f (S .input .states * environmentCounters S * S .output .states) r 65535 (place-below (S .input .states) (environmentCounters S) (S .output .states) i h o li lh lo)
-      ∙ row-at (S .input .states) (environmentCounters S) (S .output .states) i h o li lh lo (environmentRow S))
-      ∙ answer-entry (environmentRow S i h o) (small-push i h o lh li lo)
-    where
-      f : ℕ → ℕ
-      f = rowOf (environmentCounters S) (S .output .states) (environmentRow S)
-
-      rows : List ℕ
-      rows = tabulate (S .input .states * environmentCounters S * S .output .states) f
-
-      r : ℕ
-      r = (i * environmentCounters S + h) * S .output .states + o
+  unfolding environmentTable
+  environment-step h i o lh li lo = ap answer (environment-row-at S 65535 i h o li lh lo) ∙ answer-entry (environmentRow S i h o) (small-push i h o lh li lo)
 
   pub read-presses : Presses S (environmentTable (S .output .states) (environmentCounters S) (environmentEntries S))
   unfolding environmentTable
