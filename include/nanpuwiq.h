@@ -20,8 +20,8 @@
  * in crates/nanpuwiq (specs/Calls.antt and specs/Results.antt), on the following, which C cannot check and a caller keeps to:
  *  - a pointer is not null, also where its length is 0, and is aligned for its type;
  *  - a length counts elements, not bytes, and that many elements can be read (written, where the pointer is not const);
- *  - buffers that are written overlap no other buffer of the same call, and no other thread uses them during it.
- * Games, positions and results go by value. No entry keeps a pointer, allocates, or has state of its own.
+ *  - buffers and positions that are written overlap no other buffer of the same call, and no other thread uses them during it.
+ * Games, results and other positions go by value. No entry keeps a pointer, allocates, or has state of its own.
  */
 #ifndef NANPUWIQ_H
 #define NANPUWIQ_H
@@ -137,6 +137,9 @@ nanpuwiq_moved nanpuwiq_begin(nanpuwiq_game game, const uint16_t *table, size_t 
 /* The position after the next input, with the output and the counter of the table's row. On a refusal the position is the old one.
  * Code 0, 1 to 7, 16, 14 or 15. */
 nanpuwiq_moved nanpuwiq_step(nanpuwiq_game game, const uint16_t *table, size_t entries, nanpuwiq_position at, nanpuwiq_in_state next);
+
+/* Moves the position on by the next input, as nanpuwiq_step does; a refusal leaves it as it was. Code 0, 1 to 7, 16, 14 or 15. */
+uint8_t nanpuwiq_advance(nanpuwiq_game game, const uint16_t *table, size_t entries, nanpuwiq_position *at, nanpuwiq_in_state next);
 
 #ifdef __cplusplus
 }

@@ -152,6 +152,81 @@ static void playing(void)
     same("step refused: counter", m.at.counter, 1);
 }
 
+static void same_position(const char *what, nanpuwiq_position got, size_t input, size_t output, size_t counter)
+{
+    same(what, got.input.number, input);
+    same(what, got.output.number, output);
+    same(what, got.counter, counter);
+}
+
+static void advancing(void)
+{
+    nanpuwiq_game g = example();
+    nanpuwiq_in_state zero = {0}, one = {1}, two = {2};
+    nanpuwiq_position at = nanpuwiq_begin(g, table, 6, zero).at;
+    same("advance", nanpuwiq_advance(g, table, 6, &at, one), 0);
+    same_position("advance: position", at, 1, 1, 0);
+    same("advance, table short", nanpuwiq_advance(g, table, 5, &at, zero), 16);
+    same_position("advance refused 16: position", at, 1, 1, 0);
+    same("advance, no move", nanpuwiq_advance(g, table, 6, &at, two), 14);
+    same_position("advance refused 14: position", at, 1, 1, 0);
+    uint16_t none[6] = {0, NANPUWIQ_NONE, 1, 1, NANPUWIQ_NONE, 1};
+    same("advance, row of none", nanpuwiq_advance(g, none, 6, &at, zero), 15);
+    same_position("advance refused 15: position", at, 1, 1, 0);
+    at.counter = 1;
+    same("advance, no such position", nanpuwiq_advance(g, table, 6, &at, zero), 16);
+    same_position("advance refused, no such position: position", at, 1, 1, 1);
+    at.counter = 0;
+    g.input.states = 65;
+    same("advance, 65 states", nanpuwiq_advance(g, table, 6, &at, zero), 1);
+    same_position("advance refused 1: position", at, 1, 1, 0);
+}
+
+/* A won game with three guarantees, played for 10,000 inputs, of which one in four is no state: the lent position goes where the step by value says. */
+static void long_run(void)
+{
+    nanpuwiq_game g;
+    memset(&g, 0, sizeof g);
+    g.input.states = g.output.states = 3;
+    g.input.initial = 7;
+    g.output.initial = 1;
+    for (size_t s = 0; s < 3; s++)
+        g.input.moves[s] = g.output.moves[s] = 7;
+    g.k = 2;
+    g.requirements[0].assumptions[0].states = 2;
+    g.requirements[0].guarantees[0].states = 2;
+    g.requirements[0].guarantees[1].states = 4;
+    g.requirements[0].assumed = 1;
+    g.requirements[0].guaranteed = 2;
+    g.requirements[1].assumptions[0].states = 4;
+    g.requirements[1].guarantees[0].states = 1;
+    g.requirements[1].assumed = g.requirements[1].guaranteed = 1;
+    uint64_t scratch[NANPUWIQ_SCRATCH];
+    uint16_t controller[30], panel[19];
+    nanpuwiq_solved won = nanpuwiq_solve(g, scratch, NANPUWIQ_SCRATCH, controller, 30, panel, 19);
+    same("long run: solve", won.code, 0);
+    same("long run: system", won.system, true);
+    nanpuwiq_in_state next = {0};
+    nanpuwiq_moved other = nanpuwiq_begin(g, controller, won.entries, next);
+    nanpuwiq_position at = other.at;
+    same("long run: begin", other.code, 0);
+    uint64_t seed = 1;
+    int codes = 0, apart = 0, moved = 0;
+    for (int k = 0; k < 10000; k++) {
+        seed = seed * 6364136223846793005u + 1442695040888963407u;
+        next.number = seed >> 62;
+        uint8_t code = nanpuwiq_advance(g, controller, won.entries, &at, next);
+        other = nanpuwiq_step(g, controller, won.entries, other.at, next);
+        codes += code != (next.number < 3 ? 0 : 14);
+        apart += code != other.code || at.input.number != other.at.input.number || at.output.number != other.at.output.number
+            || at.counter != other.at.counter;
+        moved += code == 0;
+    }
+    same("long run: other codes than 0 for an input and 14 for none", codes, 0);
+    same("long run: positions that are not the step's", apart, 0);
+    same("long run: moves", moved > 7000 && moved < 8000, true);
+}
+
 int main(void)
 {
     acceptance();
@@ -159,6 +234,8 @@ int main(void)
     solving();
     texts();
     playing();
+    advancing();
+    long_run();
     printf("%d passed, %d failed\n", passed, failed);
     return failed != 0;
 }

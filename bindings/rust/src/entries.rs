@@ -43,10 +43,11 @@ extern "C" {
     fn nanpuwiq_write(game: Game, buffer: *mut u8, bytes: usize) -> WriteResult;
     fn nanpuwiq_begin(game: Game, table: *const u16, entries: usize, first: InState) -> Moved;
     fn nanpuwiq_step(game: Game, table: *const u16, entries: usize, at: Position, next: InState) -> Moved;
+    fn nanpuwiq_advance(game: Game, table: *const u16, entries: usize, at: *mut Position, next: InState) -> u8;
 }
 
-// SAFETY, for every call below: a slice's pointer is not null, is aligned and has as many elements as its length says, and two mutable slices
-// do not overlap. The entries ask for nothing else.
+// SAFETY, for every call below: a slice's pointer is not null, is aligned and has as many elements as its length says, a reference is as a slice
+// of one, and what is lent to be written overlaps nothing else. The entries ask for nothing else.
 
 pub fn accept(game: Game) -> u8 {
     unsafe { nanpuwiq_accept(game) }
@@ -84,4 +85,8 @@ pub fn begin(game: Game, table: &[u16], first: InState) -> Moved {
 
 pub fn step(game: Game, table: &[u16], at: Position, next: InState) -> Moved {
     unsafe { nanpuwiq_step(game, table.as_ptr(), table.len(), at, next) }
+}
+
+pub fn advance(game: Game, table: &[u16], at: &mut Position, next: InState) -> u8 {
+    unsafe { nanpuwiq_advance(game, table.as_ptr(), table.len(), at, next) }
 }

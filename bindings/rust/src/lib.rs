@@ -234,10 +234,15 @@ impl Game {
         Ok(r.at)
     }
 
-    /// Moves the position on by the next input; a refusal leaves it as it was: 1 to 7, 16, 14, 15.
+    /// Moves the position on by the next input, by the entry that takes and gives it by value; a refusal leaves it as it was: 1 to 7, 16, 14, 15.
     pub fn step(&self, table: &[u16], at: &mut Position, next: InState) -> Result<(), Error> {
         let r = entries::step(*self, table, *at, next);
         *at = r.at;
         refusal(r.code)
+    }
+
+    /// The same by the entry that moves a lent position on in place.
+    pub fn advance(&self, table: &[u16], at: &mut Position, next: InState) -> Result<(), Error> {
+        refusal(entries::advance(*self, table, at, next))
     }
 }

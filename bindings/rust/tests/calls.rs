@@ -123,6 +123,8 @@ fn faulty_games_are_refused_by_every_entry() {
         let mut at = old;
         assert_eq!(g.step(&controller, &mut at, InState(0)), Err(refused(number)));
         assert_eq!(at, old);
+        assert_eq!(g.advance(&controller, &mut at, InState(0)), Err(refused(number)));
+        assert_eq!(at, old);
         assert!(scratch.iter().all(|&x| x == 7) && map.iter().all(|&x| x == 8) && text.iter().all(|&x| x == 11));
         assert!(controller.iter().all(|&x| x == 9) && environment.iter().all(|&x| x == 10));
     }
@@ -242,7 +244,59 @@ fn a_players_refusals() {
         let mut at = old;
         assert_eq!(g.step(&table, &mut at, InState(next)), Err(refused(number)));
         assert_eq!(at, old);
+        assert_eq!(g.advance(&table, &mut at, InState(next)), Err(refused(number)));
+        assert_eq!(at, old);
     }
+}
+
+// Three inputs and three outputs, every move there, two requirements with three guarantees in all.
+fn three() -> Game {
+    let all: &[usize] = &[0, 1, 2];
+    Game::new(
+        Graph::new(all, &[all; 3]),
+        Graph::new(&[0], &[all; 3]),
+        &[Requirement::new(&[&[1]], &[&[1], &[2]]), Requirement::new(&[&[2]], &[&[0]])],
+    )
+}
+
+#[test]
+fn a_lent_position_moves_on() {
+    let g = example();
+    let table = g.solve().unwrap().table;
+    let mut at = g.begin(&table, InState(0)).unwrap();
+    assert_eq!(g.advance(&table, &mut at, InState(1)), Ok(()));
+    assert_eq!(at, Position { input: InState(1), output: OutState(1), counter: 0 });
+}
+
+#[test]
+fn a_long_run() {
+    let g = three();
+    let v = g.solve().unwrap();
+    assert_eq!(v.winner, Winner::System);
+    let mut at = g.begin(&v.table, InState(0)).unwrap();
+    let mut seed = 1u64;
+    let mut kept = 0;
+    let mut counters = [false; 3];
+    for k in 0..10_000 {
+        seed = seed.wrapping_mul(6_364_136_223_846_793_005).wrapping_add(1_442_695_040_888_963_407);
+        // one in four is no input
+        let next = InState((seed >> 62) as usize);
+        let mut other = at;
+        let old = at;
+        let said = g.advance(&v.table, &mut at, next);
+        assert_eq!(said, g.step(&v.table, &mut other, next), "step {k}");
+        assert_eq!(at, other, "step {k}");
+        assert_eq!(said, if next.0 < 3 { Ok(()) } else { Err(refused(14)) }, "step {k}");
+        if said.is_err() {
+            kept += 1;
+            assert_eq!(at, old, "step {k}");
+        } else {
+            assert_eq!(at.input, next, "step {k}");
+        }
+        counters[at.counter] = true;
+    }
+    assert!(kept > 2_000 && kept < 3_000, "{kept}");
+    assert_eq!(counters, [true; 3]);
 }
 
 #[test]

@@ -2,7 +2,7 @@
 // A code is document 01's number of a refusal, 0 for none.
 ghost use mathlib.Core.Path.{_≡_};
 ghost use Rattle.game.specs.Acceptance.{acceptance};
-ghost use Rattle.player.specs.Player.{movedOf, beginning, stepping};
+ghost use Rattle.player.specs.Player.{movedOf, beginning, stepping, Advanced};
 ghost use Rattle.nanpuwiq.specs.Results.{acceptCode, mapCode, solveResult, readResult, writeResult, nowhere};
 ghost use Rattle.nanpuwiq.specs.Calls.{MapCalled, SolveCalled, ReadCalled, WriteCalled};
 use game::Acceptance;
@@ -189,4 +189,12 @@ pub extern "C" fn nanpuwiq_step(g: Game, table: &[u16], at: Position, next: InSt
     ensures { λ r. ⌜ r ≡ movedOf at (stepping g (now (table .entry)) at next) ⌝ }
 {
     player::step_or_stay(g, table, at, next)
+}
+
+// Moves the position on and answers 0; a refusal leaves it as it was and answers its code.
+#[no_mangle]
+pub extern "C" fn nanpuwiq_advance(g: Game, table: &[u16], at: &mut Position, next: InState) -> u8
+    ensures { λ r. ⌜ Advanced (now (at .entry)) (stepping g (now (table .entry)) (now (at .entry)) next) (now (at .exit)) r ⌝ }
+{
+    player::advance(g, table, at, next)
 }
