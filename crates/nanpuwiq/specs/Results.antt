@@ -19,7 +19,7 @@ use Rattle.text.specs.declared.Answer.{Answer}
 use Rattle.text.specs.declared.Answer.the-variants as answer·
 use Rattle.text.specs.declared.WriteAnswer.{WriteAnswer}
 use Rattle.text.specs.declared.WriteAnswer.the-variants as write·
-use Rattle.player.specs.declared.Position.{Position}
+use Rattle.place.specs.declared.Position.{Position}
 use Rattle.game.specs.declared.Game.{Game}
 use Rattle.nanpuwiq.specs.declared.SolveResult.{SolveResult}
 use Rattle.nanpuwiq.specs.declared.ReadResult.{ReadResult}

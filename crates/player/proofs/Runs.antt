@@ -31,12 +31,14 @@ use Rattle.theory.specs.Region.{verdict}
 use Rattle.theory.specs.Entries.{controllerCounters, controllerEntries, controllerTable}
 use Rattle.demands.specs.Demands.{playOf, controllerOf}
 use Rattle.demands.proofs.Demands.{demand-three-system}
-use Rattle.player.specs.declared.Position.{Position}
-use Rattle.player.specs.declared.Played.{Played}
-use Rattle.player.specs.declared.Played.the-variants.{At, Refused}
-use Rattle.player.specs.Player.{provided, arrives, fitting, hasPosition, begun, stepped, beginning, stepping}
+use Rattle.place.specs.declared.Position.{Position}
+use Rattle.place.specs.declared.Played.{Played}
+use Rattle.place.specs.declared.Played.the-variants.{At, Refused}
+use Rattle.place.specs.Place.{provided, arrives, hasPosition}
+use Rattle.player.specs.Player.{fitting, begun, stepped, beginning, stepping}
 use Rattle.player.specs.Runs.{configuration, along, next, runOf, positionOf, trailOf, run, trail, Reached, Ran}
-use Rattle.player.proofs.Answers.{held, counter-last, beginning-accepted, stepping-accepted}
+use Rattle.place.proofs.Tests.{held, counter-last}
+use Rattle.player.proofs.Answers.{beginning-accepted, stepping-accepted}
 use Rattle.player.proofs.Inverse.{arrives-some, began, turned}
 
 -- nothing follows a refusal

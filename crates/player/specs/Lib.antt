@@ -1,4 +1,3 @@
 -- What the contracts of the player cite, and its runs.
-pub mod Rows
 pub mod Player
 pub mod Runs

@@ -1,9 +1,6 @@
 -- The player: a controller's table run step by step.
 --
---   provided b n p            == p where b holds; else the refusal n
---   arrives M ok i a          == the position that the answer a gives after input i, if it names one of M counters and an output that is allowed
 --   fitting g l               == the list l has the controller's length
---   hasPosition g M p         == the game has the position p, there being M counters
 --   begun g l i               == the answer to begin with input i, for an accepted game
 --   stepped g l p j           == the answer to step from position p with input j, for an accepted game
 --   afterAcceptance a p       == p where a is accepted; else the refusal
@@ -13,12 +10,11 @@
 --   Advanced p a q n          == q and n are that position and that code
 use Prim.Native.Nat.{ℕ}
 use mathlib.Core.Path.{_≡_}
-use mathlib.Core.Bool.{Bool, true, false, _&&_}
+use mathlib.Core.Bool.{Bool, _&&_}
 use mathlib.Core.List.{List}
-use lib.Dec.{eqb, ltb}
+use lib.Dec.{eqb}
 use lib.ListN.{length}
 use Rattle.graphs.specs.Graph.{edge, begins}
-use Rattle.arena.specs.Table.{Answer, none, gives}
 use Rattle.game.specs.declared.InState.{InState}
 use Rattle.game.specs.declared.Game.{Game}
 use Rattle.game.specs.declared.Acceptance.{Acceptance}
@@ -27,28 +23,15 @@ use Rattle.game.specs.Acceptance.{acceptance}
 use Rattle.play.specs.Play.{graphOf, separatedOf}
 use Rattle.theory.specs.Entries.{controllerCounters, controllerEntries}
 use Rattle.demands.specs.Demands.{controllerOf}
-use Rattle.player.specs.declared.Position.{Position}
+use Rattle.place.specs.declared.Position.{Position}
+use Rattle.place.specs.Place.{provided, arrives, hasPosition}
 use Rattle.player.specs.declared.Moved.{Moved}
-use Rattle.player.specs.declared.Played.{Played}
-use Rattle.player.specs.declared.Played.the-variants.{At, Refused}
-
-unfoldable pub provided : Bool → ℕ → Played → Played
-provided true n p = p
-provided false n p = Refused n
-
--- "15 the row is none, or names a counter out of range or an output that is no move (at the start, not initial)"
-unfoldable pub arrives : ℕ → (ℕ → Bool) → InState → Answer → Played
-unfolding provided
-arrives M ok i none = Refused 15
-arrives M ok i (gives c s) = provided (ltb c M && ok s) 15 (At (record { input = i; output = record { 0 = s }; counter = c }))
+use Rattle.place.specs.declared.Played.{Played}
+use Rattle.place.specs.declared.Played.the-variants.{At, Refused}
 
 -- "16 table not of the controller's length"
 unfoldable pub fitting : Game → List ℕ → Bool
 fitting g l = eqb (length l) (length (controllerEntries (separatedOf g)))
-
--- "or a place the game lacks"
-unfoldable pub hasPosition : Game → ℕ → Position → Bool
-hasPosition g M p = ltb (p .input .0) (g .input .states) && (ltb (p .output .0) (g .output .states) && ltb (p .counter) M)
 
 -- "14 first input not initial"
 unfoldable pub begun : Game → List ℕ → InState → Played

@@ -1,7 +1,7 @@
 // Executed cases of the player: each line is a case's name and the position (input, output, counter) or the refusal's code.
 use game::InState;
 use game::OutState;
-use player::Position;
+use place::Position;
 use runs::steady;
 use show::show;
 use tables::EIGHT;

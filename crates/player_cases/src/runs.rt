@@ -1,7 +1,7 @@
 // Runs of a player.
 use game::Game;
 use game::InState;
-use player::Played;
+use place::Played;
 
 // One input more; a refusal ends the run.
 fn then(g: Game, table: &[u16], a: Played, next: InState) -> Played {

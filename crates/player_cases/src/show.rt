@@ -1,7 +1,7 @@
 // The line of a case: its name, and the position or the refusal's code.
 use libc::STDOUT_FILENO;
-use player::Played;
-use player::Position;
+use place::Played;
+use place::Position;
 
 fn number(n: usize) {
     io::write_all(STDOUT_FILENO, b" ");

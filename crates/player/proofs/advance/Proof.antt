@@ -48,11 +48,11 @@ use Rattle.game.proofs.Game as G
 use Rattle.game.proofs.Game.Laws as G′
 use Rattle.game.proofs.InState as N
 use Rattle.game.proofs.InState.Laws as N′
-use Rattle.player.specs.declared.Position.{Position}
+use Rattle.place.specs.declared.Position.{Position}
 use Rattle.player.specs.declared.Moved.{Moved}
 use Rattle.player.specs.Player.{stepping, movedOf}
-use Rattle.player.proofs.Position as P
-use Rattle.player.proofs.Position.Laws as P′
+use Rattle.place.proofs.Position as P
+use Rattle.place.proofs.Position.Laws as P′
 use Rattle.player.proofs.Moved as Q
 use Rattle.player.proofs.Moved.Laws as Q′
 use Rattle.player.proofs.step_or_stay as step

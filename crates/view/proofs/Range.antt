@@ -10,7 +10,7 @@ use lib.ListN.{length, getD}
 use borrow.Author.Tests.{ltb-true, leb-true, lt-ltb, le-ltb, le-leb, lt-leb}
 use Rattle.finite.proofs.Truth.{and-left, and-right}
 use Rattle.finite.proofs.Loops.{and-stop, and-next}
-use Rattle.player.specs.Rows.{inRange, rowEntry}
+use Rattle.view.specs.Rows.{inRange, rowEntry}
 
 -- what is read inside a list does not depend on what is read past it
 pub inside : (l : List ℕ) (k d e : ℕ) → k < length l → getD l k d ≡ getD l k e

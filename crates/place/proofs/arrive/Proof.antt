@@ -1,9 +1,9 @@
 -- `arrive` tests the entry, its counter and its state in order.
-use Rattle.player.proofs.Answers.{arrive-none, arrive-counter, arrive-output, arrive-at}
+use Rattle.place.proofs.Tests.{arrive-none, arrive-counter, arrive-output, arrive-at}
 use Rattle.finite.proofs.Loops.{failed, passed}
 use borrow.Author.Needs.{needs}
-use Rattle.player.proofs.arrive.Statement.{statement}
-use Rattle.player.proofs.arrive.Tie as tie
+use Rattle.place.proofs.arrive.Statement.{statement}
+use Rattle.place.proofs.arrive.Tie as tie
 
 returns : tie.Need-returns
 returns c = arrive-none _ _ _ _ (c .if1 .taken)

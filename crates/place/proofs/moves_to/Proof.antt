@@ -1,8 +1,8 @@
 -- `moves_to` from what `holds` ensures.
-use Rattle.player.proofs.Moves.{edge-of}
+use Rattle.place.proofs.Moves.{edge-of}
 use borrow.Author.Needs.{needs}
-use Rattle.player.proofs.moves_to.Statement.{statement}
-use Rattle.player.proofs.moves_to.Tie as tie
+use Rattle.place.proofs.moves_to.Statement.{statement}
+use Rattle.place.proofs.moves_to.Tie as tie
 
 mul-holds : tie.Need-mul-holds
 mul-holds c = search needs

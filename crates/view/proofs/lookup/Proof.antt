@@ -1,10 +1,10 @@
 -- `lookup` computes the row's place, which fits a word where the row is in range.
 use native.Mathlib.Omega.{arith}
 use Rattle.finite.proofs.Loops.{failed, passed}
-use Rattle.player.proofs.Range.{range-bounds, row-none, row-read}
+use Rattle.view.proofs.Range.{range-bounds, row-none, row-read}
 use borrow.Author.Needs.{needs}
-use Rattle.player.proofs.rows.lookup.Statement.{statement}
-use Rattle.player.proofs.rows.lookup.Tie as tie
+use Rattle.view.proofs.lookup.Statement.{statement}
+use Rattle.view.proofs.lookup.Tie as tie
 
 in-range-requires : tie.Need-in-range-requires
 in-range-requires c κs = search needs

@@ -42,21 +42,21 @@ use denote.Triple.Table.{entered, cited}
 use denote.Triple.Walked.{says, Stays, stay-none, walkOf, AllGo, goes-none, Walks, ends-at, walked, walk-meets}
 use denote.Exit.{yes}
 use denote.Triple.Clauses.{ensured, lasts}
-use Rattle.player.specs.Rows.{rowEntry}
-use Rattle.player.specs.declared.rows.Table.{Table}
-use Rattle.player.specs.declared.rows.RowIndex.{RowIndex}
-use Rattle.player.proofs.rows.Table as T
-use Rattle.player.proofs.rows.Table.Laws as T′
-use Rattle.player.proofs.rows.RowIndex as R
-use Rattle.player.proofs.rows.RowIndex.Laws as R′
-use Rattle.player.proofs.rows.lookup as lookup
-use Rattle.player.proofs.rows.lookup.Symbol as lookup-def
-use Rattle.player.proofs.rows.lookup.Symbol.{name as #player·rows·lookup}
-use Rattle.player.proofs.rows.lookup.Met as lookup-thm
-use Rattle.player.proofs.rows.row.Key.{name as #player·rows·row}
-use Rattle.player.proofs.rows.row as row
-use Rattle.player.proofs.rows.row.Statement as stated
-use Rattle.player.proofs.rows.row.Code as code
+use Rattle.view.specs.Rows.{rowEntry}
+use Rattle.view.specs.declared.Table.{Table}
+use Rattle.view.specs.declared.RowIndex.{RowIndex}
+use Rattle.view.proofs.Table as T
+use Rattle.view.proofs.Table.Laws as T′
+use Rattle.view.proofs.RowIndex as R
+use Rattle.view.proofs.RowIndex.Laws as R′
+use Rattle.view.proofs.lookup as lookup
+use Rattle.view.proofs.lookup.Symbol as lookup-def
+use Rattle.view.proofs.lookup.Symbol.{name as #view·lookup}
+use Rattle.view.proofs.lookup.Met as lookup-thm
+use Rattle.view.proofs.row.Key.{name as #view·row}
+use Rattle.view.proofs.row as row
+use Rattle.view.proofs.row.Statement as stated
+use Rattle.view.proofs.row.Code as code
 
 -- the view's type, over the signature's lifetimes
 abbrev B : Lfts 1 → RattleType
@@ -132,7 +132,7 @@ module _ {M : Type 1} (𝓤 : URA M) (H : Heap 𝓤) (A : Atoms 𝓤) (W : Given
       suffices ! _ (ends-at 𝓤 H A row.ended stayed (row.clauses 𝓤 H A mem run) W (((κ, tt), (q, tt), tt, (d, (x, tt)), (mach ∷ [], (machx ∷ [], tt))), tt) u r (tt, (tt, tt)) (tt, (tt, tt))) $ says ! e $
       move ! (1 ∷ []) $ frame ! $ nothing ! $ owned ! R.the-row (Is R.the-row) ((LL.makes R.the-type R′.the-plain) 𝓤 H A) x _ isx $ fjoin ! $ move ! (2 ∷ 0 ∷ []) $ fjoin ! $ frame ! $ done !
 
-  module _ (C : Calls 𝓤 H) (Λ : Loops 𝓤 H) (fm : FmC 𝓤 H (W .laws) C) (known : Triple 𝓤 (C #player·rows·lookup) (Lookup 𝓤 H A mem run)) where
+  module _ (C : Calls 𝓤 H) (Λ : Loops 𝓤 H) (fm : FmC 𝓤 H (W .laws) C) (known : Triple 𝓤 (C #view·lookup) (Lookup 𝓤 H A mem run)) where
     walk : Holds (hasTy (T′.mir (named 0)) mach) × WT mach → ent 𝓤 (onEntry 𝓤 H A row.signature (κ, tt) (q, tt) (d, (x, tt)) (mach ∷ [], (machx ∷ [], tt))) (WpFn 𝓤 H C Λ code.function (mach ∷ machx ∷ []) Post)
     walk wt =
         qed W (raw (onEntry 𝓤 H A row.signature (κ, tt) (q, tt) (d, (x, tt)) (mach ∷ [], (machx ∷ [], tt))) ∷ []) ∵ enter ! C Λ code.function (mach ∷ machx ∷ []) _ $
@@ -151,7 +151,7 @@ module _ {M : Type 1} (𝓤 : URA M) (H : Heap 𝓤) (A : Atoms 𝓤) (W : Given
         move ! (13 ∷ 14 ∷ []) $ free1 ! $ move ! (11 ∷ 12 ∷ []) $ free1 ! $ move ! (9 ∷ 10 ∷ []) $ free1 ! $ move ! (7 ∷ 8 ∷ []) $ free1 ! $ move ! (5 ∷ 6 ∷ []) $ free1 ! $ move ! (3 ∷ 4 ∷ []) $ free1 ! $ free0 ! $ by ! (exits r u e)))))))))))
 
 module _ {M : Type 1} (𝓤 : URA M) (H : Heap 𝓤) (A : Atoms 𝓤) (W : Given 𝓤 H A) (mem : Memory → SProp 𝓤) (run : Routine → Fun 𝓤) where
-  row-walks : (C : Calls 𝓤 H) (Λ : Loops 𝓤 H) → FmC 𝓤 H (W .laws) C → Triple 𝓤 (C #player·rows·lookup) (Lookup 𝓤 H A mem run)
+  row-walks : (C : Calls 𝓤 H) (Λ : Loops 𝓤 H) → FmC 𝓤 H (W .laws) C → Triple 𝓤 (C #view·lookup) (Lookup 𝓤 H A mem run)
       → Walks 𝓤 H A row.ended stayed (WpFn 𝓤 H C Λ code.function) (row.clauses 𝓤 H A mem run)
   row-walks C Λ fm known = walked 𝓤 H A row.ended stayed (row.clauses 𝓤 H A mem run) (WpFn 𝓤 H C Λ code.function) (λ κs. (LL.vals (T.the-type (namedLft 1 0 tt κs)) (T′.the-laws (namedLft 1 0 tt κs)), (LL.vals R.the-type R′.the-laws, tt))) (λ κs. (LL.tells (T.the-type (namedLft 1 0 tt κs)) (T′.the-laws (namedLft 1 0 tt κs)), (LL.tells R.the-type R′.the-laws, tt)))
       (λ κs qs bounds a g are. via 𝓤 _ (fst∗ 𝓤 _ (emp 𝓤)) (walk 𝓤 H A W mem run (κs .0) (qs .0) (a .0) (a .1 .0) (are .1 .0) C Λ fm known (LL.lawful (T.the-type (namedLft 1 0 tt κs)) (T′.the-laws (namedLft 1 0 tt κs)) 𝓤 H A W .typed (a .0) _ (are .0) .0)))
@@ -160,7 +160,7 @@ module _ {M : Type 1} (𝓤 : URA M) (H : Heap 𝓤) (A : Atoms 𝓤) (W : Given
   goes = (goes-none 𝓤 H A W 1 B yes (λ κs x f. refl), (goes-none 𝓤 H A W 1 (λ _. R.the-row) yes (λ κs x f. refl), tt))
 
 row-meets : {M : Type 1} (𝓤 : URA M) (H : Heap 𝓤) (A : Atoms 𝓤) (W : Given 𝓤 H A) (mem : Memory → SProp 𝓤) (run : Routine → Fun 𝓤) (𝓣 : Tables 𝓤 H)
-    → Triple 𝓤 (𝓣 .C #player·rows·lookup) (Lookup 𝓤 H A mem run)
+    → Triple 𝓤 (𝓣 .C #view·lookup) (Lookup 𝓤 H A mem run)
     → Meets 𝓤 H A row.signature (WpFn 𝓤 H (𝓣 .C) (𝓣 .Λ) code.function) (row.spec 𝓤 H A mem run)
 row-meets 𝓤 H A W mem run 𝓣 known = walk-meets 𝓤 H A row.ended stayed W (goes 𝓤 H A W mem run) (row.clauses 𝓤 H A mem run) (WpFn 𝓤 H (𝓣 .C) (𝓣 .Λ) code.function) (WpFn-mono 𝓤 H (W .laws) 𝓣 code.function)
     (row-walks 𝓤 H A W mem run (𝓣 .C) (𝓣 .Λ) (fmOf 𝓤 H (W .laws) 𝓣) known)
@@ -169,6 +169,6 @@ pub row-spec : {M : Type 1} → stated.statement M
 unfolding code.routine tablesOf
 row-spec 𝓤 H 𝓜 𝓖 𝓡 =
     entered 𝓤 H (tripleOf 𝓤 H (𝓖 .A) row.signature (row.spec 𝓤 H (𝓖 .A) (𝓜 .mem) (𝓡 .run)))
-    (tables 𝓤 H 𝓜 𝓡 code.env .C) (tables 𝓤 H 𝓜 𝓡 code.env .Λ) #player·rows·row code.function (code.unfolded 𝓤 H 𝓜 𝓡)
+    (tables 𝓤 H 𝓜 𝓡 code.env .C) (tables 𝓤 H 𝓜 𝓡 code.env .Λ) #view·row code.function (code.unfolded 𝓤 H 𝓜 𝓡)
     (row-meets 𝓤 H (𝓖 .A) (givenOf 𝓤 H 𝓜 𝓖) (𝓜 .mem) (𝓡 .run) (tablesOf 𝓤 H 𝓜 (tables 𝓤 H 𝓜 𝓡 code.env))
-    (cited 𝓤 H (Lookup 𝓤 H (𝓖 .A) (𝓜 .mem) (𝓡 .run)) 𝓜 𝓡 code.env #player·rows·lookup lookup-def.routine code.calls-player·rows·lookup (lookup-thm.met 𝓤 H 𝓜 𝓖 𝓡)))
+    (cited 𝓤 H (Lookup 𝓤 H (𝓖 .A) (𝓜 .mem) (𝓡 .run)) 𝓜 𝓡 code.env #view·lookup lookup-def.routine code.calls-view·lookup (lookup-thm.met 𝓤 H 𝓜 𝓖 𝓡)))

@@ -1,7 +1,7 @@
 -- `in_range` tests the dimensions, then the numbers.
-use Rattle.player.proofs.Range.{many-inputs, many-counters, output-past, counter-past, input-last}
-use Rattle.player.proofs.rows.in_range.Statement.{statement}
-use Rattle.player.proofs.rows.in_range.Tie as tie
+use Rattle.view.proofs.Range.{many-inputs, many-counters, output-past, counter-past, input-last}
+use Rattle.view.proofs.in_range.Statement.{statement}
+use Rattle.view.proofs.in_range.Tie as tie
 
 returns : tie.Need-returns
 returns c = many-inputs _ _ _ _ _ (c .if1 .taken)

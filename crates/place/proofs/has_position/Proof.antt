@@ -1,7 +1,7 @@
 -- `has_position` tests input, output and counter in order.
-use Rattle.player.proofs.Answers.{input-past, output-past, counter-last}
-use Rattle.player.proofs.has_position.Statement.{statement}
-use Rattle.player.proofs.has_position.Tie as tie
+use Rattle.place.proofs.Tests.{input-past, output-past, counter-last}
+use Rattle.place.proofs.has_position.Statement.{statement}
+use Rattle.place.proofs.has_position.Tie as tie
 
 returns : tie.Need-returns
 returns c = input-past _ _ _ (c .if1 .taken)

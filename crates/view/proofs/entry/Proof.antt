@@ -1,10 +1,10 @@
 -- `entry` reads inside the slice, and is none past it.
 use mathlib.Core.Path.{sym}
 use lib.ListN.{List·getD-eq-default}
-use Rattle.player.proofs.Range.{inside}
+use Rattle.view.proofs.Range.{inside}
 use borrow.Author.Needs.{needs}
-use Rattle.player.proofs.rows.entry.Statement.{statement}
-use Rattle.player.proofs.rows.entry.Tie as tie
+use Rattle.view.proofs.entry.Statement.{statement}
+use Rattle.view.proofs.entry.Tie as tie
 
 mul-result : tie.Need-mul-result
 mul-result c = search needs

@@ -3,7 +3,7 @@ use game::InState;
 use game::OutState;
 ghost use mathlib.Core.Path.{_≡_};
 ghost use lib.ListN.{getD};
-ghost use Rattle.player.specs.Rows.{rowEntry, inRange as isRow};
+ghost use Rattle.view.specs.Rows.{rowEntry, inRange as isRow};
 
 const NONE: u16 = 65535;
 

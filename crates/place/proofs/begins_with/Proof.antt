@@ -1,7 +1,7 @@
 -- `begins_with` from what `holds` ensures.
-use Rattle.player.proofs.Moves.{begins-of, inputs-most}
-use Rattle.player.proofs.begins_with.Statement.{statement}
-use Rattle.player.proofs.begins_with.Tie as tie
+use Rattle.place.proofs.Moves.{begins-of, inputs-most}
+use Rattle.place.proofs.begins_with.Statement.{statement}
+use Rattle.place.proofs.begins_with.Tie as tie
 
 holds-requires : tie.Need-holds-requires
 holds-requires c κs = inputs-most _ (c .before .pre)

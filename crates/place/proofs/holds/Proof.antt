@@ -2,8 +2,8 @@
 use Rattle.finite.proofs.Loops.{and-stop, and-next}
 use borrow.Author.Tests.{lt-ltb, le-ltb}
 use borrow.Author.Needs.{needs}
-use Rattle.player.proofs.holds.Statement.{statement}
-use Rattle.player.proofs.holds.Tie as tie
+use Rattle.place.proofs.holds.Statement.{statement}
+use Rattle.place.proofs.holds.Tie as tie
 
 returns : tie.Need-returns
 returns c = and-stop _ (le-ltb _ _ (c .if1 .taken))

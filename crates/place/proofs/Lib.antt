@@ -1,0 +1,3 @@
+-- Laws for the position.
+pub mod Tests
+pub mod Moves

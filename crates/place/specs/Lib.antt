@@ -1,0 +1,2 @@
+-- What the contracts of the position's tests cite.
+pub mod Place

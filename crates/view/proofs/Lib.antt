@@ -1,0 +1,2 @@
+-- Laws for the view.
+pub mod Range

@@ -1,0 +1,2 @@
+-- What the contracts of the view cite.
+pub mod Rows
