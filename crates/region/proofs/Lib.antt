@@ -3,3 +3,4 @@ pub mod Steps
 pub mod Meaning
 pub mod Order
 pub mod Parts
+pub mod Tries

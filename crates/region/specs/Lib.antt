@@ -1,3 +1,4 @@
 -- What the functions of the region cite.
 pub mod Rows
 pub mod Fill
+pub mod Replies

@@ -5,7 +5,10 @@ ghost use Prim.Native.Nat.{ℕ, _+_, _≤_, _<_};
 ghost use lib.ListN.{length, drop, getD};
 ghost use Rattle.sets.specs.Member.{has, pack};
 ghost use Rattle.stored.specs.Stored.{wonAt};
-ghost use Rattle.region.specs.Rows.{inMeets, outMeets, acceptsOne, accepts as acceptsAll, safeOne, safeAt, excused, repliesAt, replyAt, homeAt, Few};
+ghost use Rattle.region.specs.Rows.{inMeets, outMeets, acceptsOne, accepts as acceptsAll, safeOne, safeAt, repliesAt, replyAt, homeAt, Few};
+ghost use Rattle.region.specs.Replies.{Trying, answeredAt};
+ghost use Rattle.finite.specs.Bounded.{count as members};
+ghost use mathlib.Core.Logic.{_≢_};
 
 ghost use Rattle.graphs.specs.Component.{joined};
 ghost use Rattle.play.specs.Play.{graphOf, separatedOf};
@@ -141,40 +144,65 @@ fn home_row(g: Game, s: &[u64], cores: u64, turning: u64, a: u64, x: u64) -> u64
     c
 }
 
-// Whether next input j needs no reply, or the output p is one.
-fn excuses(s: &[u64], n: usize, cores: u64, next: u64, moves: u64, j: usize, p: usize) -> bool
-    requires { ⌜ (n ≤ 64) × (j < n) × (p < 64) × (n + n + p < length (now s)) ⌝ }
-    ensures { λ r. ⌜ r ≡ excused (now (s .entry)) n cores next moves j p ⌝ }
-{
-    if !sets::member(next, j) {
-        return true;
-    }
-    if !sets::member(moves, p) {
-        return false;
-    }
-    stored::won(s, n, cores, j, p)
+// The output moves of a position, as next inputs are tried: those left to try, those seen, and what these reach.
+struct Tried {
+    left: u64,
+    seen: u64,
+    reach: u64,
 }
 
-// Whether the position has a reply to every next input: the moves of its input are next, those of its output moves.
+// Sees the lowest output move that is left.
+fn take(s: &[u64], n: usize, m: usize, moves: u64, t: Tried) -> Tried
+    requires { ⌜ (n ≤ 64) × (m ≤ 64) × (n + n + m ≤ length (now s)) × Trying (now s) n m moves t × (t .left ≢ 0) ⌝ }
+    ensures { λ r. ⌜ Trying (now (s .entry)) n m moves r × (members 64 (has (r .left)) < members 64 (has (t .left))) ⌝ }
+{
+    let p = sets::lowest(t.left);
+    let x = sets::insert(0, p);
+    Tried {
+        left: sets::difference(t.left, x),
+        seen: sets::union(t.seen, x),
+        reach: sets::union(t.reach, s[n + n + p]),
+    }
+}
+
+// Whether one of the moves seen is won with j: in a nontrivial component, where they reach a home of j.
+fn answers(s: &[u64], n: usize, cores: u64, j: usize, t: Tried) -> bool
+    requires { ⌜ (n ≤ 64) × (j < n) × (n + n ≤ length (now s)) ⌝ }
+    ensures { λ r. ⌜ r ≡ answeredAt (now (s .entry)) n cores j t ⌝ }
+{
+    let row = s[n + j];
+    if sets::member(cores, j) {
+        return sets::meets(row, t.reach);
+    }
+    sets::meets(row, t.seen)
+}
+
+// Whether the position has a reply to every next input: the moves of its input are next, those of its output moves. An output move that answered no
+// earlier input may answer a later one, so the moves seen are kept from one input to the next, and each is tried once.
 fn replies(s: &[u64], n: usize, m: usize, cores: u64, next: u64, moves: u64) -> bool
-    requires { ⌜ (n ≤ 64) × (m ≤ 64) × (n + n + m ≤ length (now s)) ⌝ }
+    requires { ⌜ (n ≤ 64) × (m ≤ 64) × (0 < m) × (n + n + m ≤ length (now s)) ⌝ }
     ensures { λ r. ⌜ r ≡ repliesAt (now (s .entry)) n cores next moves m n ⌝ }
 {
-    let mut j: usize = 0;
-    'next: while j < n {
-        let mut p: usize = 0;
+    let mut tried = Tried {
+        left: sets::intersection(moves, sets::below(m)),
+        seen: 0,
+        reach: 0,
+    };
+    let mut rest = sets::intersection(next, sets::below(n));
+    'next: while rest != 0 {
+        let j = sets::lowest(rest);
         loop {
-            if m <= p {
-                break 'next;
-            }
-            if excuses(s, n, cores, next, moves, j, p) {
+            if answers(s, n, cores, j, tried) {
                 break;
             }
-            p += 1;
+            if tried.left == 0 {
+                break 'next;
+            }
+            tried = take(s, n, m, moves, tried);
         }
-        j += 1;
+        rest = sets::difference(rest, sets::insert(0, j));
     }
-    n <= j
+    rest == 0
 }
 
 // The outputs with a reply to every next input of i.
