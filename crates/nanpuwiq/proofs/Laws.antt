@@ -1,19 +1,17 @@
 -- A call that answers as the entry below it does promises what that entry promises.
 use Prim.Native.Nat.{ℕ}
-use mathlib.Core.Path.{_≡_, sym, ap, subst, _∙_}
+use mathlib.Core.Path.{_≡_, ap, subst, _∙_}
 use mathlib.Core.List.{List}
 use Rattle.game.specs.declared.Game.{Game}
 use Rattle.map.specs.declared.Mapped.{Mapped}
 use Rattle.solver.specs.declared.Verdict.{Verdict}
 use Rattle.map.specs.Map.{MapMade}
 use Rattle.solver.specs.Promise.{Solved}
-use Rattle.text.specs.declared.Answer.{Answer}
-use Rattle.text.specs.declared.Reading.{Reading}
 use Rattle.text.specs.declared.WriteAnswer.{WriteAnswer}
 use Rattle.text.specs.Write.{Writes}
-use Rattle.nanpuwiq.specs.declared.SolveResult.{SolveResult}
-use Rattle.nanpuwiq.specs.declared.WriteResult.{WriteResult}
-use Rattle.nanpuwiq.specs.Results.{mapCode, solveResult, readBy, readResult, writeResult}
+use Rattle.results.specs.declared.SolveResult.{SolveResult}
+use Rattle.results.specs.declared.WriteResult.{WriteResult}
+use Rattle.results.specs.Results.{mapCode, solveResult, writeResult}
 use Rattle.nanpuwiq.specs.Calls.{MapCalled, SolveCalled, WriteCalled}
 
 pub map-called : {g : Game} {s s′ m m′ : List ℕ} {a : Mapped} {r : ℕ} → MapMade g s s′ m m′ a → r ≡ mapCode a → MapCalled g s s′ m m′ r
@@ -26,7 +24,3 @@ solve-called {g} {s} {s′} {c} {c′} {e} {e′} f is =
 
 pub write-called : {g : Game} {d d′ : List ℕ} {a : WriteAnswer} {r : WriteResult} → Writes g d a d′ → r ≡ writeResult a → WriteCalled g d d′ r
 write-called f e = record { answer = e ∙ ap writeResult (f .answer); buffer = f .buffer }
-
-pub read-told : (x : Reading) {a : Answer} → x .answer ≡ a → readBy a (x .game) ≡ readResult x
-unfolding readResult
-read-told x e = ap (λ a. readBy a (x .game)) (sym e)

@@ -14,10 +14,10 @@ use Rattle.solver.specs.Promise.{verdictAnswer, Solved}
 use Rattle.text.specs.declared.Reading.{Reading}
 use Rattle.text.specs.Read.{Reads}
 use Rattle.text.specs.Write.{writeAnswer, writeBuffer}
-use Rattle.nanpuwiq.specs.declared.SolveResult.{SolveResult}
-use Rattle.nanpuwiq.specs.declared.ReadResult.{ReadResult}
-use Rattle.nanpuwiq.specs.declared.WriteResult.{WriteResult}
-use Rattle.nanpuwiq.specs.Results.{mapCode, solveResult, readResult, writeResult}
+use Rattle.results.specs.declared.SolveResult.{SolveResult}
+use Rattle.results.specs.declared.ReadResult.{ReadResult}
+use Rattle.results.specs.declared.WriteResult.{WriteResult}
+use Rattle.results.specs.Results.{mapCode, solveResult, readResult, writeResult}
 
 -- `made` says what both buffers hold, and carries demand 2
 pub record MapCalled (g : Game) (s s′ m m′ : List ℕ) (r : ℕ) : Type 0 where

@@ -1,3 +1,2 @@
 -- What the entries for other languages promise.
-pub mod Results
 pub mod Calls

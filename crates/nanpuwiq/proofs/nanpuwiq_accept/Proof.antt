@@ -1,7 +1,7 @@
 -- `nanpuwiq_accept` meets its contract.
 use mathlib.Core.Path.{ap, _∙_}
 use borrow.Author.Needs.{needs}
-use Rattle.nanpuwiq.specs.Results.{acceptCode}
+use Rattle.results.specs.Results.{acceptCode}
 use Rattle.nanpuwiq.proofs.nanpuwiq_accept.Statement.{statement}
 use Rattle.nanpuwiq.proofs.nanpuwiq_accept.Tie as tie
 

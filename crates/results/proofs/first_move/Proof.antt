@@ -2,9 +2,9 @@
 use mathlib.Core.Path.{sym, ap}
 use borrow.Author.Needs.{needs}
 use Rattle.player.specs.Player.{movedOf}
-use Rattle.nanpuwiq.specs.Results.{nowhere}
-use Rattle.nanpuwiq.proofs.first_move.Statement.{statement}
-use Rattle.nanpuwiq.proofs.first_move.Tie as tie
+use Rattle.results.specs.Results.{nowhere}
+use Rattle.results.proofs.first_move.Statement.{statement}
+use Rattle.results.proofs.first_move.Tie as tie
 
 enum-known-a : tie.Need-enum-known-a
 enum-known-a c = search needs

@@ -1,8 +1,8 @@
 -- `map_code` meets its contract.
 use borrow.Author.Needs.{needs}
-use Rattle.nanpuwiq.specs.Results.{mapCode}
-use Rattle.nanpuwiq.proofs.map_code.Statement.{statement}
-use Rattle.nanpuwiq.proofs.map_code.Tie as tie
+use Rattle.results.specs.Results.{mapCode}
+use Rattle.results.proofs.map_code.Statement.{statement}
+use Rattle.results.proofs.map_code.Tie as tie
 
 enum-told : tie.Need-enum-told
 enum-told c = search needs

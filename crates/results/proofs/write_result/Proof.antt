@@ -1,9 +1,9 @@
 -- `write_result` meets its contract.
 use mathlib.Core.Path.{sym, ap}
 use borrow.Author.Needs.{needs}
-use Rattle.nanpuwiq.specs.Results.{writeResult}
-use Rattle.nanpuwiq.proofs.write_result.Statement.{statement}
-use Rattle.nanpuwiq.proofs.write_result.Tie as tie
+use Rattle.results.specs.Results.{writeResult}
+use Rattle.results.proofs.write_result.Statement.{statement}
+use Rattle.results.proofs.write_result.Tie as tie
 
 enum-known-a : tie.Need-enum-known-a
 enum-known-a c = search needs

@@ -21,9 +21,9 @@ use Rattle.text.specs.declared.WriteAnswer.{WriteAnswer}
 use Rattle.text.specs.declared.WriteAnswer.the-variants as write·
 use Rattle.place.specs.declared.Position.{Position}
 use Rattle.game.specs.declared.Game.{Game}
-use Rattle.nanpuwiq.specs.declared.SolveResult.{SolveResult}
-use Rattle.nanpuwiq.specs.declared.ReadResult.{ReadResult}
-use Rattle.nanpuwiq.specs.declared.WriteResult.{WriteResult}
+use Rattle.results.specs.declared.SolveResult.{SolveResult}
+use Rattle.results.specs.declared.ReadResult.{ReadResult}
+use Rattle.results.specs.declared.WriteResult.{WriteResult}
 
 unfoldable pub acceptCode : Acceptance → ℕ
 acceptCode acceptance·.Accepted = 0

@@ -1,9 +1,9 @@
 -- `read_result` meets its contract.
 use borrow.Author.Needs.{needs}
-use Rattle.nanpuwiq.specs.Results.{readBy}
-use Rattle.nanpuwiq.proofs.Laws.{read-told}
-use Rattle.nanpuwiq.proofs.read_result.Statement.{statement}
-use Rattle.nanpuwiq.proofs.read_result.Tie as tie
+use Rattle.results.specs.Results.{readBy}
+use Rattle.results.proofs.Told.{read-told}
+use Rattle.results.proofs.read_result.Statement.{statement}
+use Rattle.results.proofs.read_result.Tie as tie
 
 enum-told : tie.Need-enum-told
 enum-told c = search needs

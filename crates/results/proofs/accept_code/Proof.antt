@@ -1,8 +1,8 @@
 -- `accept_code` meets its contract.
 use borrow.Author.Needs.{needs}
-use Rattle.nanpuwiq.specs.Results.{acceptCode}
-use Rattle.nanpuwiq.proofs.accept_code.Statement.{statement}
-use Rattle.nanpuwiq.proofs.accept_code.Tie as tie
+use Rattle.results.specs.Results.{acceptCode}
+use Rattle.results.proofs.accept_code.Statement.{statement}
+use Rattle.results.proofs.accept_code.Tie as tie
 
 enum-told : tie.Need-enum-told
 enum-told c = search needs

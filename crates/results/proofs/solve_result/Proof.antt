@@ -1,9 +1,9 @@
 -- `solve_result` meets its contract.
 use mathlib.Core.Path.{sym, ap}
 use borrow.Author.Needs.{needs}
-use Rattle.nanpuwiq.specs.Results.{solveResult}
-use Rattle.nanpuwiq.proofs.solve_result.Statement.{statement}
-use Rattle.nanpuwiq.proofs.solve_result.Tie as tie
+use Rattle.results.specs.Results.{solveResult}
+use Rattle.results.proofs.solve_result.Statement.{statement}
+use Rattle.results.proofs.solve_result.Tie as tie
 
 enum-known-v : tie.Need-enum-known-v
 enum-known-v c = search needs

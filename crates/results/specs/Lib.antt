@@ -1,0 +1,2 @@
+-- Answers as records whose first part is a code.
+pub mod Results

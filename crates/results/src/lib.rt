@@ -1,0 +1,128 @@
+// The answers of the public entries as records for callers in other languages. A code is document 01's number of a refusal, 0 for none.
+ghost use mathlib.Core.Path.{_≡_};
+ghost use Rattle.player.specs.Player.{movedOf};
+ghost use Rattle.results.specs.Results.{acceptCode, mapCode, solveResult, readResult, writeResult, nowhere};
+use game::Acceptance;
+use game::Game;
+use game::InState;
+use game::OutState;
+use map::Mapped;
+use place::Played;
+use place::Position;
+use player::Moved;
+use solver::Verdict;
+use text::Answer;
+use text::Reading;
+use text::WriteAnswer;
+
+// The solver's answer: the code; whether the system wins; how many entries are filled. On a refusal the last two are false and 0.
+#[repr(C)]
+pub struct SolveResult {
+    pub code: u8,
+    pub system: bool,
+    pub entries: usize,
+}
+
+// The reader's answer: the code; for code 11 the place; the game, which is the empty one on a refusal.
+#[repr(C)]
+pub struct ReadResult {
+    pub code: u8,
+    pub place: usize,
+    pub game: Game,
+}
+
+// The writer's answer: the code; how many bytes are filled, 0 on a refusal.
+#[repr(C)]
+pub struct WriteResult {
+    pub code: u8,
+    pub bytes: usize,
+}
+
+pub fn accept_code(a: Acceptance) -> u8
+    ensures { λ r. ⌜ r ≡ acceptCode a ⌝ }
+{
+    match a {
+        Acceptance::Accepted => 0,
+        Acceptance::Refused(n) => n,
+    }
+}
+
+pub fn map_code(a: Mapped) -> u8
+    ensures { λ r. ⌜ r ≡ mapCode a ⌝ }
+{
+    match a {
+        Mapped::Done => 0,
+        Mapped::Refused(n) => n,
+    }
+}
+
+pub fn solve_result(v: Verdict) -> SolveResult
+    ensures { λ r. ⌜ r ≡ solveResult v ⌝ }
+{
+    match v {
+        Verdict::System(n) => SolveResult {
+            code: 0,
+            system: true,
+            entries: n,
+        },
+        Verdict::Environment(n) => SolveResult {
+            code: 0,
+            system: false,
+            entries: n,
+        },
+        Verdict::Refused(n) => SolveResult {
+            code: n,
+            system: false,
+            entries: 0,
+        },
+    }
+}
+
+pub fn read_result(x: Reading) -> ReadResult
+    ensures { λ r. ⌜ r ≡ readResult x ⌝ }
+{
+    let game = x.game;
+    let a = x.answer;
+    match a {
+        Answer::Read => ReadResult {
+            code: 0,
+            place: 0,
+            game,
+        },
+        Answer::Misshapen(p) => ReadResult {
+            code: 11,
+            place: p,
+            game,
+        },
+        Answer::Refused(n) => ReadResult {
+            code: n,
+            place: 0,
+            game,
+        },
+    }
+}
+
+pub fn write_result(a: WriteAnswer) -> WriteResult
+    ensures { λ r. ⌜ r ≡ writeResult a ⌝ }
+{
+    match a {
+        WriteAnswer::Written(n) => WriteResult { code: 0, bytes: n },
+        WriteAnswer::Refused(n) => WriteResult { code: n, bytes: 0 },
+    }
+}
+
+pub fn first_move(a: Played) -> Moved
+    ensures { λ r. ⌜ r ≡ movedOf nowhere a ⌝ }
+{
+    match a {
+        Played::At(p) => Moved { at: p, code: 0 },
+        Played::Refused(n) => Moved {
+            at: Position {
+                input: InState(0),
+                output: OutState(0),
+                counter: 0,
+            },
+            code: n,
+        },
+    }
+}
