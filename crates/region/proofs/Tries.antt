@@ -13,36 +13,20 @@ use native.Mathlib.Omega.{arith}
 use native.Mathlib.Decide.{ℕ-discrete}
 use lib.Dec.{eqb, ltb}
 use lib.ListN.{getD}
-use borrow.Author.Tests.{lt-ltb, ltb-true, eq-eqb, ne-eqb, eqb-true}
+use borrow.Author.Tests.{eq-eqb, ne-eqb, eqb-true}
 use Rattle.finite.specs.Bounded.{all, any, least, count}
 use Rattle.finite.proofs.Truth.{decide, clash, false-of, and-intro, and-left, and-right, or-left, or-right, or-cases}
-use Rattle.finite.proofs.Bounded.{all-intro, all-fails, any-intro, any-none, least-below, least-member}
+use Rattle.finite.proofs.Bounded.{all-intro, all-fails, any-intro, any-none}
 use Rattle.sets.specs.Member.{has, meets}
 use Rattle.sets.proofs.Membership.{has-zero}
-use Rattle.sets.proofs.Compare.{nonzero-below, meets-intro, meets-elim}
+use Rattle.sets.proofs.Compare.{meets-intro, meets-elim}
 use Rattle.sets.proofs.Remove.{rest-in, rest-other, rest-falls}
+use Rattle.sets.proofs.Visit.{lowest-below, lowest-in, cut-in, cut-all}
 use Rattle.stored.specs.Stored.{wonAt}
 use Rattle.stored.proofs.Read.{won-in, won-out}
 use Rattle.region.specs.declared.Tried.{Tried}
 use Rattle.region.specs.Rows.{excused, replied, repliesAt}
 use Rattle.region.specs.Replies.{Trying, answeredAt}
-
--- the lowest member of a word that is not 0
-module _ (x h : ℕ) (small : x < 2 ^ 64) (ne : x ≢ 0) (e : h ≡ least 64 (has x)) where
-  pub lowest-below : h < 64
-  lowest-below = let m = nonzero-below 64 x small ne in omega (arith, least-below 64 (has x) (m .0) (m .1) (m .2))
-
-  pub lowest-in : has x h ≡ true
-  lowest-in = let b = lowest-below in rw e (least-member 64 (has x) (rw e at b))
-
--- ---- the members of a set below a bound
-
-module _ (x b y k : ℕ) (f : (s : ℕ) → has b s ≡ ltb s k) (i : (s : ℕ) → has y s ≡ (has x s && has b s)) where
-  cut-in : (s : ℕ) → has y s ≡ true → (s < k) × (has x s ≡ true)
-  cut-in s e = (ltb-true s k (sym (f s) ∙ and-right (has x s) (has b s) (sym (i s) ∙ e)), and-left (has x s) (has b s) (sym (i s) ∙ e))
-
-  cut-all : (s : ℕ) → s < k → has x s ≡ true → has y s ≡ true
-  cut-all s l e = i s ∙ and-intro e (f s ∙ lt-ltb s k l)
 
 -- ---- the moves seen
 

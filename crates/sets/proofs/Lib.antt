@@ -3,3 +3,4 @@ pub mod Membership
 pub mod Compare
 pub mod Collect
 pub mod Remove
+pub mod Visit

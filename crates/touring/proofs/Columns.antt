@@ -13,22 +13,13 @@ use lib.Dec.{eqb}
 use lib.ListN.{length, set, length-set}
 use Rattle.finite.specs.Bounded.{least, count}
 use Rattle.finite.proofs.Truth.{clash}
-use Rattle.finite.proofs.Bounded.{least-below, least-member}
 use Rattle.sets.specs.Member.{has}
 use Rattle.sets.proofs.Membership.{has-zero}
-use Rattle.sets.proofs.Compare.{nonzero-below}
 use Rattle.sets.proofs.Remove.{rest-in, rest-other, rest-falls}
+use Rattle.sets.proofs.Visit.{lowest-below, lowest-in}
 use Rattle.filling.specs.Grows.{Right, Grows}
 use Rattle.filling.proofs.Grows.{grows-none, grows-more, grows-set, right-set}
 use Rattle.touring.specs.Column.{Agrees, Column}
-
--- the lowest member of a word that is not 0
-module _ (x h : ℕ) (small : x < 2 ^ 64) (ne : x ≢ 0) (e : h ≡ least 64 (has x)) where
-  pub lowest-below : h < 64
-  lowest-below = let m = nonzero-below 64 x small ne in omega (arith, least-below 64 (has x) (m .0) (m .1) (m .2))
-
-  pub lowest-in : has x h ≡ true
-  lowest-in = let b = lowest-below in rw e (least-member 64 (has x) (rw e at b))
 
 -- a column but for the counters of `rest`
 pub record Part (E l m : List ℕ) (base step which rest : ℕ) : Type 0 where

@@ -20,7 +20,7 @@ use Rattle.sets.proofs.Compare.{nonzero-member}
 use Rattle.theory.specs.Tour.{around}
 use Rattle.theory.proofs.Around.{around-cases, around-below, distance, distance-below, around-distance}
 use Rattle.touring.specs.Goal.{Goals, firstFrom, passed, aimedAt}
-use Rattle.touring.proofs.Columns.{lowest-in}
+use Rattle.sets.proofs.Visit.{lowest-in}
 
 -- the number r is first where it is a member and those before it, going round, are none
 first-is : (m q g r d : ℕ) → d < m → around m g d ≡ r → has q r ≡ true → ((k : ℕ) → k < d → has q (around m g k) ≡ false) → firstFrom m q g ≡ r

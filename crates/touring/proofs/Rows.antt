@@ -36,7 +36,7 @@ use Rattle.touring.specs.Column.{
   BlockAgrees,
   Block,
 }
-use Rattle.touring.proofs.Columns.{lowest-below, lowest-in}
+use Rattle.sets.proofs.Visit.{lowest-below, lowest-in}
 
 -- ---- runs
 

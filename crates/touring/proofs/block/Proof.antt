@@ -7,7 +7,7 @@ use borrow.Author.Needs.{needs}
 use native.Mathlib.Omega.{arith}
 use Rattle.finite.specs.Bounded.{count}
 use Rattle.sets.specs.Member.{has}
-use Rattle.touring.proofs.Columns.{lowest-below, lowest-in}
+use Rattle.sets.proofs.Visit.{lowest-below, lowest-in}
 use Rattle.touring.proofs.Rows.{
   Narrowed,
   narrow,

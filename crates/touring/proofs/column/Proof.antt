@@ -7,7 +7,8 @@ use mathlib.Core.Bool.{true}
 use lib.ListN.{length}
 use Rattle.finite.specs.Bounded.{count}
 use Rattle.sets.specs.Member.{has}
-use Rattle.touring.proofs.Columns.{Columning, columning-start, columning-turn, columning-end, column-falls, lowest-below, lowest-in}
+use Rattle.touring.proofs.Columns.{Columning, columning-start, columning-turn, columning-end, column-falls}
+use Rattle.sets.proofs.Visit.{lowest-below, lowest-in}
 use Rattle.touring.proofs.column.Statement.{statement}
 use Rattle.touring.proofs.column.Tie as tie
 
