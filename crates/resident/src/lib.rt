@@ -13,18 +13,15 @@ ghost use lib.ListN.{length};
 ghost use Rattle.play.specs.Play.{separatedOf};
 ghost use Rattle.theory.specs.Entries.{controllerEntries};
 ghost use Rattle.sets.specs.Member.{pack};
-ghost use Rattle.controller_rows.specs.Writes.{Table, homeAt, residesAt, Away};
+ghost use Rattle.controller_rows.specs.Writes.{Table, residesAt, Away};
+ghost use Rattle.resident.specs.Housed.{lowestIs, housedAt};
 ghost use Rattle.controller_table.specs.Filled.{Filled, Away as AwayRow, Given, HomeOf};
 
-// Whether the lowest home of input j in reach is d.
-fn home_is(cores: InSet, j: InState, row: OutSet, reach: OutSet, d: OutState) -> bool
-    requires { ⌜ j .0 < 64 ⌝ }
-    ensures { λ r. ⌜ r ≡ homeAt (cores .0) (j .0) (row .0) (reach .0) (d .0) ⌝ }
+// Whether the lowest home of a row in reach is d.
+fn home_is(row: OutSet, reach: OutSet, d: OutState) -> bool
+    ensures { λ r. ⌜ r ≡ lowestIs (row .0) (reach .0) (d .0) ⌝ }
 {
-    if sets::member(cores.0, j.0) {
-        return sets::lowest(row.0 & reach.0) == d.0;
-    }
-    false
+    sets::lowest(row.0 & reach.0) == d.0
 }
 
 // The inputs whose home at output o is d.
@@ -34,14 +31,28 @@ pub fn residents(s: &[u64], n: usize, cores: InSet, o: OutState, d: OutState) ->
 {
     let reach = s[n + n + o.0];
     let mut x: u64 = 0;
-    let mut j = 0;
-    while j < n {
-        x = sets::insert_if(
-            x,
-            j,
-            home_is(cores, InState(j), OutSet(s[n + j]), OutSet(reach), d),
-        );
-        j += 1;
+    let mut rest = sets::intersection(cores.0, sets::below(n));
+    while rest != 0 {
+        let j = sets::lowest(rest);
+        let row = s[n + j];
+        x = sets::insert_if(x, j, home_is(OutSet(row), OutSet(reach), d));
+        rest = sets::difference(rest, sets::insert(0, j));
+    }
+    InSet(x)
+}
+
+// The inputs of cores with the home d. No other resides at d, whatever the output.
+fn housed(s: &[u64], n: usize, cores: InSet, d: OutState) -> InSet
+    requires { ⌜ (n ≤ 64) × (d .0 < 64) × (n + n ≤ length (now s)) ⌝ }
+    ensures { λ r. ⌜ r .0 ≡ pack n (housedAt (now (s .entry)) n (cores .0) (d .0)) ⌝ }
+{
+    let mut x: u64 = 0;
+    let mut rest = sets::intersection(cores.0, sets::below(n));
+    while rest != 0 {
+        let j = sets::lowest(rest);
+        let row = s[n + j];
+        x = sets::insert_if(x, j, sets::member(row, d.0));
+        rest = sets::difference(rest, sets::insert(0, j));
     }
     InSet(x)
 }
@@ -56,14 +67,15 @@ fn away(
     comp: OutSet,
     next: &[u8; 64],
 )
-    requires { ⌜ Table z (length (now room)) × (z .inputs + z .inputs + z .outputs ≤ length (now s)) ⌝ }
+    requires { ⌜ Table z (length (now room)) × (z .inputs + z .inputs + z .outputs ≤ length (now s)) × (d .0 < 64) ⌝ }
     ensures { λ r. ⌜ Away z (now (s .entry)) (cores .0) (d .0) (comp .0) (now (next .entry)) (z .outputs) (now (room .entry)) (now (room .exit)) ⌝ }
 {
     let m = z.outputs;
+    let tenants = housed(s, z.inputs, cores, d);
     let mut o = 0;
     while o < m {
         if !sets::member(comp.0, o) {
-            let inputs = residents(s, z.inputs, cores, OutState(o), d);
+            let inputs = residents(s, z.inputs, tenants, OutState(o), d);
             rows::write_rows(room, z, OutState(o), inputs, rows::wide(next[o]));
         }
         o += 1;

@@ -1,5 +1,6 @@
 -- `approach`: the way home is searched over all outputs.
-use Rattle.controller_table.proofs.Setting.{table-of, scratch-long}
+use native.Mathlib.Omega.{arith}
+use Rattle.controller_table.proofs.Setting.{table-of, scratch-long, sizes-of}
 use Rattle.controller_table.proofs.Phases.{approach-bounds, approached}
 use borrow.Author.Needs.{needs}
 use Rattle.resident.proofs.approach.Statement.{statement}
@@ -18,7 +19,11 @@ toward-requires c κs =
 away-requires : tie.Need-away-requires
 away-requires c κs =
     let b = c .before .before .before .before .before .before .before .before .before .before .before in
-    (table-of (b .args .g) (b .args .z) (b .pre .0 .sized) _ (b .pre .2), scratch-long (b .pre .0))
+    (
+      table-of (b .args .g) (b .args .z) (b .pre .0 .sized) _ (b .pre .2),
+      scratch-long (b .pre .0),
+      omega (arith, b .pre .1 .below, sizes-of (b .args .g) (b .args .z) (b .pre .0 .sized) .outputs, approach-bounds (b .args .g) (b .args .z) (b .pre .0 .sized) (b .args .w) (b .pre .1) .states),
+    )
 
 same-length : tie.Need-same-length
 same-length c = search needs

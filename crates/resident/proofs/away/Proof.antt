@@ -9,14 +9,18 @@ use Rattle.controller_rows.proofs.Each.{each-hit, each-miss, each-end}
 use Rattle.controller_rows.proofs.Writes.{table-long, rows-at, long-away}
 use native.Mathlib.Omega.{arith}
 use borrow.Author.Needs.{needs}
+use Rattle.resident.proofs.Tenants.{away-housed}
 use Rattle.resident.proofs.away.Statement.{statement}
 use Rattle.resident.proofs.away.Tie as tie
 
 abbrev Inv-loop : tie.InvT-loop
-Inv-loop room₀ s z cores d comp next m o₀ room o = (o ≤ m) × Away z s (cores .0) (d .0) (comp .0) next o room₀ room
+Inv-loop room₀ s z d comp next m tenants o₀ room o = (o ≤ m) × Away z s (tenants .0) (d .0) (comp .0) next o room₀ room
 
 abbrev μ-loop : tie.MeasureT-loop
-μ-loop room₀ s z cores d comp next m o₀ room o = m - o
+μ-loop room₀ s z d comp next m tenants o₀ room o = m - o
+
+housed-requires : tie.Need-housed-requires Inv-loop μ-loop
+housed-requires c κs = omega arith
 
 loop-holds : tie.Need-loop-holds Inv-loop μ-loop
 loop-holds c = (omega arith, record { each = none })
@@ -36,7 +40,7 @@ wide-requires c κs = search needs
 write-rows-requires : tie.Need-write-rows-requires Inv-loop μ-loop
 write-rows-requires c κs =
     let b = c .before .before .before .before .before .before .before in
-    (table-long (b .before .before .before .pre .0) (long-away (b .loop .inv .1)), omega arith)
+    (table-long (b .before .before .before .before .pre .0) (long-away (b .loop .inv .1)), omega arith)
 
 add-o : tie.Need-add-o Inv-loop μ-loop
 add-o c = omega arith
@@ -58,7 +62,10 @@ same-length : tie.Need-same-length Inv-loop μ-loop
 same-length c = long-away (c .before .loop .inv .1)
 
 returns : tie.Need-returns Inv-loop μ-loop
-returns c = record { each = each-end (omega arith) (omega arith) (c .before .loop .inv .1 .each) }
+returns c =
+    let h = c .before .before in
+    let b = h .before .before .before in
+    away-housed _ _ _ _ _ _ (h .housed .result .0) _ (b .pre .2) (h .housed .ensures) (record { each = each-end (omega arith) (omega arith) (c .before .loop .inv .1 .each) })
 
 pub away-spec : {M : Type 1} → statement M
 away-spec =
@@ -66,6 +73,7 @@ away-spec =
     (tie.spec
     Inv-loop
     μ-loop
+    housed-requires
     loop-holds
     member-requires
     residents-requires

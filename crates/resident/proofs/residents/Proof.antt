@@ -1,19 +1,22 @@
 -- `residents` collects the inputs whose home is d.
-use Prim.Native.Nat.{_+_, _-_, _≤_}
 use mathlib.Core.Path.{_≡_}
-use lib.ListN.{getD}
-use Rattle.sets.specs.Member.{pack}
-use Rattle.sets.proofs.Collect.{collect-none, collect-next, collect-end}
-use Rattle.controller_rows.specs.Writes.{homeAt, residesAt}
+use Prim.Native.Nat.{_+_, _<_}
+use borrow.Author.Needs.{needs}
 use native.Mathlib.Omega.{arith}
+use lib.ListN.{getD}
+use Rattle.finite.specs.Bounded.{count}
+use Rattle.sets.specs.Member.{has}
+use Rattle.sets.proofs.Visit.{Collected, collected-small, collected-below, collected-falls, collected-next}
+use Rattle.resident.specs.Housed.{lowestIs}
+use Rattle.resident.proofs.Tenants.{visit-start, visit-end, resides-all}
 use Rattle.resident.proofs.residents.Statement.{statement}
 use Rattle.resident.proofs.residents.Tie as tie
 
 abbrev Inv-loop : tie.InvT-loop
-Inv-loop s n cores d reach x₀ j₀ x j = (j ≤ n) × (x ≡ pack j (λ k. homeAt (cores .0) k (getD s (n + k) 0) reach (d .0)))
+Inv-loop s n d reach x₀ rest₀ x rest = Collected rest₀ n (λ j. lowestIs (getD s (n + j) 0) reach (d .0)) rest x
 
 abbrev μ-loop : tie.MeasureT-loop
-μ-loop s n cores d reach x₀ j₀ x j = n - j
+μ-loop s n d reach x₀ rest₀ x rest = count 64 (has rest)
 
 add-reach : tie.Need-add-reach Inv-loop μ-loop
 add-reach c = omega arith
@@ -27,38 +30,67 @@ mul-reach c = omega arith
 shared-slice-read-reach : tie.Need-shared-slice-read-reach Inv-loop μ-loop
 shared-slice-read-reach c = omega arith
 
+below-requires : tie.Need-below-requires Inv-loop μ-loop
+below-requires c κs = omega arith
+
+intersection-requires : tie.Need-intersection-requires Inv-loop μ-loop
+intersection-requires c κs = search needs
+
 loop-holds : tie.Need-loop-holds Inv-loop μ-loop
-loop-holds c = (omega arith, collect-none _)
+loop-holds c = visit-start _ _ _ _ (c .before .below .ensures) (c .intersection .ensures) _ (omega (arith, c .intersection .ok))
 
-add-t16 : tie.Need-add-t16 Inv-loop μ-loop
-add-t16 c = omega arith
+lowest-requires : tie.Need-lowest-requires Inv-loop μ-loop
+lowest-requires c κs = search needs
 
-mul-t17 : tie.Need-mul-t17 Inv-loop μ-loop
-mul-t17 c = omega arith
+small : (c : tie.After-lowest Inv-loop μ-loop) → c .lowest .result < 64
+small c =
+    let b = c .before .before in
+    collected-small _ _ _ (b .loop .rest) _ (b .loop .inv) (c .before .loop-test .taken) _ (c .lowest .ensures)
 
-shared-slice-read-t19 : tie.Need-shared-slice-read-t19 Inv-loop μ-loop
-shared-slice-read-t19 c = omega arith
+below : (c : tie.After-lowest Inv-loop μ-loop) → c .lowest .result < c .before .before .before .before .before .before .before .before .args .n
+below c =
+    let b = c .before .before in
+    collected-below _ _ _ (b .loop .rest) _ (b .loop .inv) (c .before .loop-test .taken) _ (c .lowest .ensures)
+
+add-row : tie.Need-add-row Inv-loop μ-loop
+add-row c = omega (arith, below c)
+
+mul-row : tie.Need-mul-row Inv-loop μ-loop
+mul-row c = omega (arith, below c)
+
+shared-slice-read-row : tie.Need-shared-slice-read-row Inv-loop μ-loop
+shared-slice-read-row c = omega (arith, below (c .before))
 
 home-is-requires : tie.Need-home-is-requires Inv-loop μ-loop
-home-is-requires c κs = omega arith
+home-is-requires c κs = search needs
 
 insert-if-requires : tie.Need-insert-if-requires Inv-loop μ-loop
-insert-if-requires c κs = omega arith
+insert-if-requires c κs = small (c .before .before)
 
-add-j : tie.Need-add-j Inv-loop μ-loop
-add-j c = omega arith
+insert-requires : tie.Need-insert-requires Inv-loop μ-loop
+insert-requires c κs = small (c .before .before .before)
+
+difference-requires : tie.Need-difference-requires Inv-loop μ-loop
+difference-requires c κs = search needs
 
 loop-less : tie.Need-loop-less Inv-loop μ-loop
-loop-less c = omega arith
+loop-less c =
+    let l = c .before .before .before .before .before in
+    let b = l .before .before in
+    collected-falls _ _ _ (b .loop .rest) _ (b .loop .inv) (l .before .loop-test .taken) _ (l .lowest .ensures) _ _ (c .before .insert .ensures) (c .difference .ensures)
 
 loop-again : tie.Need-loop-again Inv-loop μ-loop
 loop-again c =
-    let b = c .before .before .before .before in
-    (omega arith, collect-next _ (b .loop .j) (b .loop .x) (c .insert-if .result) (c .before .home-is .result) (b .loop .inv .1) (c .before .home-is .ensures) (c .insert-if .ensures))
+    let l = c .before .before .before .before .before in
+    let b = l .before .before in
+    collected-next _ _ _ (b .loop .rest) _ (b .loop .inv) (l .before .loop-test .taken) _ (l .lowest .ensures) _ _ (c .before .insert .ensures) (c .difference .ensures)
+    (omega (arith, c .difference .ok)) (c .before .before .before .home-is .ensures) (c .before .before .insert-if .ensures)
 
 returns : tie.Need-returns Inv-loop μ-loop
-unfolding residesAt
-returns c = collect-end _ (c .before .loop .j) _ _ (omega arith) (omega arith) (c .before .loop .inv .1)
+returns c =
+    let b = c .before .before in
+    resides-all _ _ _ _ _ 
+    (visit-end _ _ _ _ (b .before .below .ensures) (b .intersection .ensures) _ (c .before .loop .rest) _ (c .before .loop .inv) (c .loop-test .left))
 
 pub residents-spec : {M : Type 1} → statement M
 residents-spec =
@@ -70,13 +102,17 @@ residents-spec =
     add-reach-2
     mul-reach
     shared-slice-read-reach
+    below-requires
+    intersection-requires
     loop-holds
-    add-t16
-    mul-t17
-    shared-slice-read-t19
+    lowest-requires
+    add-row
+    mul-row
+    shared-slice-read-row
     home-is-requires
     insert-if-requires
-    add-j
+    insert-requires
+    difference-requires
     loop-less
     loop-again
     returns)

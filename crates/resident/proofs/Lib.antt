@@ -1,0 +1,2 @@
+-- Laws of homes told by words.
+pub mod Tenants
