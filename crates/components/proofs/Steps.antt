@@ -12,9 +12,15 @@ use Rattle.sets.proofs.Membership.{has-zero}
 use Rattle.graphs.specs.Rows.{rel}
 use Rattle.components.specs.Component.{together, turns, enters}
 
-pub together-all : (rows : List ℕ) (n s : ℕ) {c : ℕ} → c ≡ pack n (λ t. has (getD rows s 0) t && has (getD rows t 0) s) → c ≡ pack n (together rows s)
+pub both-true : (a b : Bool) {r : Bool} → r ≡ b → a ≡ true → r ≡ (a && b)
+both-true a b e h = rw h e
+
+pub both-false : (a b : Bool) → a ≡ false → false ≡ (a && b)
+both-false a b h = rw h refl
+
+pub together-at : (rows : List ℕ) (s t : ℕ) {r : Bool} → r ≡ (has (getD rows s 0) t && has (getD rows t 0) s) → r ≡ together rows s t
 unfolding together rel
-together-all rows n s e = e
+together-at rows s t e = e
 
 pub turns-at : (moves rows : List ℕ) (n s x : ℕ) {r : Bool} → x ≡ pack n (together rows s) → r ≡ meets 64 (getD moves s 0) x → r ≡ turns moves rows n s
 unfolding turns

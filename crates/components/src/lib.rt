@@ -8,17 +8,28 @@ ghost use Rattle.components.specs.Component.{together, turns, enters};
 
 use game::Graph;
 
-// The states that s reaches and that reach s. Only what s reaches is tried.
+// Whether t belongs to row and s to other.
+fn both_ways(row: u64, other: u64, s: usize, t: usize) -> bool
+    requires { ⌜ (s < 64) × (t < 64) ⌝ }
+    ensures { λ r. ⌜ r ≡ (has row t && has other s) ⌝ }
+{
+    if sets::member(row, t) {
+        return sets::member(other, s);
+    }
+    false
+}
+
+// The states that s reaches and that reach s.
 pub fn component(rows: &[u64], n: usize, s: usize) -> u64
     requires { ⌜ (n ≤ 64) × (s < n) × (n ≤ length (now rows)) ⌝ }
     ensures { λ r. ⌜ r ≡ pack n (together (now (rows .entry)) s) ⌝ }
 {
+    let row = rows[s];
     let mut c: u64 = 0;
-    let mut rest = sets::intersection(rows[s], sets::below(n));
-    while rest != 0 {
-        let t = sets::lowest(rest);
-        c = sets::insert_if(c, t, sets::member(rows[t], s));
-        rest = sets::difference(rest, sets::insert(0, t));
+    let mut t: usize = 0;
+    while t < n {
+        c = sets::insert_if(c, t, both_ways(row, rows[t], s, t));
+        t += 1;
     }
     c
 }
