@@ -17,7 +17,7 @@
  * The lowest number whose condition holds is given; the reader tries 12, 11, then 1 to 7; the player 1 to 7, 16, 14, 15.
  *
  * Every value of every parameter has an answer, and on a refusal every buffer holds what it held before. What each entry promises is proved
- * in crates/nanpuwiq (specs/Calls.antt and specs/Results.antt), on the following, which C cannot check and a caller keeps to:
+ * in crates/nanpuwiq (specs/Calls.antt) and crates/results (specs/Results.antt), on the following, which C cannot check and a caller keeps to:
  *  - a pointer is not null, also where its length is 0, and is aligned for its type;
  *  - a length counts elements, not bytes, and that many elements can be read (written, where the pointer is not const);
  *  - buffers and positions that are written overlap no other buffer of the same call, and no other thread uses them during it.
