@@ -15,6 +15,6 @@ fn number(a: Acceptance) -> u64 {
 pub fn show(name: &[u8], g: Game) {
     io::write_all(STDOUT_FILENO, name);
     io::write_all(STDOUT_FILENO, b": ");
-    io::print_decimal(STDOUT_FILENO, number(game::accept(g)));
+    io::print_decimal(STDOUT_FILENO, number(acceptance::accept(g)));
     io::write_all(STDOUT_FILENO, b"\n");
 }

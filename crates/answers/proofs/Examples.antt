@@ -4,7 +4,8 @@ use mathlib.Core.List.{List, [], _∷_}
 use mathlib.Core.Path.{_≡_, refl}
 use Rattle.grammar.specs.Number.{digits, decimal}
 use Rattle.shape.specs.Text.{words, word, gapText, items, bracket, line}
-use Rattle.answers.specs.Print.{none, unlessNone, winnerWord, winsLine, startLine, environmentStart, rowLine, stepLine, startLines, stepLines, controllerPrint, environmentPrint, inRange, controllerFits, environmentFits, onlyIf, controllerAnswer, environmentAnswer}
+use Rattle.answer_lines.specs.Line.{none, unlessNone, winnerWord, winsLine, startLine, environmentStart, rowLine, stepLine}
+use Rattle.answers.specs.Print.{startLines, stepLines, controllerPrint, environmentPrint, inRange, controllerFits, environmentFits, onlyIf, controllerAnswer, environmentAnswer}
 
 -- "The solve program prints exactly this", the start of input 1 being none:
 --   (wins system)

@@ -13,8 +13,9 @@ use Rattle.finite.proofs.Loops.{and-stop, and-next}
 use Rattle.grammar.proofs.Place.{same-default}
 use Rattle.put.specs.Put.{Puts}
 use Rattle.put.proofs.Buffer.{puts-then, puts-as}
-use Rattle.answers.specs.Print.{none, winsLine, startLines, stepLines, environmentStart, controllerPrint, environmentPrint, inRange, controllerFits, environmentFits, onlyIf, controllerAnswer, environmentAnswer}
-use Rattle.answers.proofs.Lines.{puts-nothing}
+use Rattle.answer_lines.specs.Line.{none, winsLine, environmentStart}
+use Rattle.answers.specs.Print.{startLines, stepLines, controllerPrint, environmentPrint, inRange, controllerFits, environmentFits, onlyIf, controllerAnswer, environmentAnswer}
+use Rattle.answer_lines.proofs.Lines.{puts-nothing}
 
 module _ (i o c : ℕ) where
   pub range-inputs : 64 < i → false ≡ inRange i o c

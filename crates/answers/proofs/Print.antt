@@ -7,8 +7,9 @@ use lib.ListN.{getD, length, length-append}
 use Rattle.grammar.proofs.Place.{same-default}
 use Rattle.put.specs.Put.{Puts}
 use Rattle.put.proofs.Buffer.{puts-then, puts-as}
-use Rattle.answers.specs.Print.{none, startLine, stepLine, startLines, stepLines}
-use Rattle.answers.proofs.Lines.{puts-nothing, start-short}
+use Rattle.answer_lines.specs.Line.{none, startLine, stepLine}
+use Rattle.answers.specs.Print.{startLines, stepLines}
+use Rattle.answer_lines.proofs.Lines.{puts-nothing, start-short}
 
 pub starts-next : (n i : ℕ) (es : List ℕ) → startLines n i es ++ startLine (i + n) (getD es (i + n) none) ≡ startLines (suc n) i es
 unfolding startLines

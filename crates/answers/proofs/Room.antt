@@ -14,8 +14,9 @@ use Rattle.grammar.proofs.Format.{by-cases}
 use Rattle.grammar.proofs.Place.{same-default}
 use Rattle.shape.specs.Text.{words, word}
 use Rattle.shape.specs.Shape.{opening}
-use Rattle.answers.specs.Print.{none, winsLine, startLine, environmentStart, rowLine, stepLine, startLines, stepLines, controllerPrint, environmentPrint, controllerFits, environmentFits, onlyIf, controllerAnswer, environmentAnswer, refusedLine, misshapenLine}
-use Rattle.answers.proofs.Lines.{two-digits, four-digits, six-digits, unless-short, start-text, environment-text, row-pieces, refused-pieces, misshapen-pieces, number-short, opening-short, Short, then-short, ended, wins-short}
+use Rattle.answer_lines.specs.Line.{none, winsLine, startLine, environmentStart, rowLine, stepLine, refusedLine, misshapenLine}
+use Rattle.answers.specs.Print.{startLines, stepLines, controllerPrint, environmentPrint, controllerFits, environmentFits, onlyIf, controllerAnswer, environmentAnswer}
+use Rattle.answer_lines.proofs.Lines.{two-digits, four-digits, six-digits, unless-short, start-text, environment-text, row-pieces, refused-pieces, misshapen-pieces, number-short, opening-short, Short, then-short, ended, wins-short}
 use Rattle.answers.proofs.Fits.{range-bounds, controller-entries, environment-entries, controller-sets, environment-sets}
 
 number : (v b k : ℕ) → length (decimal v) ≤ k → Short (decimal v ++ b ∷ []) (k + 1)

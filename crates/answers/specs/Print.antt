@@ -1,14 +1,5 @@
--- The lines of an answer ("The solve program prints exactly this" of document 01).
+-- The print of an answer, whole: its lines in order.
 --
---   none                          == the entry of a row of none
---   winnerWord b                  == the word system where b holds, else environment
---   winsLine b                    == (wins system), (wins environment)
---   startLine i e                 == the controller's (start input output), for the entry e
---   environmentStart e            == the environment's (start input)
---   rowLine a g b e               == (step a g b next-state next-counter)
---   stepLine c n r e              == the line of row r: rows run by state, counter, other state, the last fastest;
---                                    c counts the sets that the counter runs over, n the other states
---   refusedLine n, misshapenLine p == (refused N), (refused 11 P)
 --   startLines n i es             == the start lines of the n inputs from i on
 --   stepLines k r c n at es       == the lines of the k rows from r on, the entry of row r being number at + r of es
 --   controllerPrint i o c es      == what is printed where the system wins
@@ -17,48 +8,12 @@
 --   controllerFits i o c n        == a controller's table for these dimensions has n entries; environmentFits likewise
 --   controllerAnswer i o c es     == the print of the controller's table es; empty where es does not fit the dimensions
 --   environmentAnswer i o c es    == the print of the environment's table es; empty where es does not fit the dimensions
-use Prim.Native.Nat.{ℕ, zero, suc, _+_, _*_, _/_, _%_, max}
+use Prim.Native.Nat.{ℕ, zero, suc, _+_, _*_, max}
 use mathlib.Core.Bool.{Bool, true, false, _&&_}
-use mathlib.Core.List.{List, [], _∷_, _++_}
+use mathlib.Core.List.{List, [], _++_}
 use lib.Dec.{eqb, leb}
 use lib.ListN.{getD, length}
-use Rattle.grammar.specs.Number.{decimal}
-use Rattle.shape.specs.Text.{word, line}
-
--- "none is 65,535"
-abbrev pub none : ℕ
-none = 65535
-
--- "Rows of none are skipped."
-unfoldable pub unlessNone : ℕ → List ℕ → List ℕ
-unlessNone e t = elim (eqb e none) [ true ↦ [] | false ↦ t ]
-
-unfoldable pub winnerWord : Bool → ℕ
-winnerWord true = 8
-winnerWord false = 9
-
-unfoldable pub winsLine : Bool → List ℕ
-winsLine b = line (word 4 ∷ word (winnerWord b) ∷ [])
-
--- "Entries are 16 bits: next state + 64 × next counter"
-unfoldable pub startLine : ℕ → ℕ → List ℕ
-startLine i e = unlessNone e (line (word 5 ∷ decimal i ∷ decimal (e % 64) ∷ []))
-
-unfoldable pub environmentStart : ℕ → List ℕ
-environmentStart e = unlessNone e (line (word 5 ∷ decimal (e % 64) ∷ []))
-
-unfoldable pub rowLine : ℕ → ℕ → ℕ → ℕ → List ℕ
-rowLine a g b e = line (word 6 ∷ decimal a ∷ decimal g ∷ decimal b ∷ decimal (e % 64) ∷ decimal (e / 64) ∷ [])
-
-unfoldable pub stepLine : ℕ → ℕ → ℕ → ℕ → List ℕ
-stepLine c n r e = unlessNone e (rowLine (r / max 1 n / max 1 c) (r / max 1 n % max 1 c) (r % max 1 n) e)
-
--- "A refusal prints (refused N), for 11 (refused 11 P)."
-unfoldable pub refusedLine : ℕ → List ℕ
-refusedLine n = line (word 7 ∷ decimal n ∷ [])
-
-unfoldable pub misshapenLine : ℕ → List ℕ
-misshapenLine p = line (word 7 ∷ decimal 11 ∷ decimal p ∷ [])
+use Rattle.answer_lines.specs.Line.{none, winsLine, startLine, environmentStart, stepLine}
 
 unfoldable pub startLines : ℕ → ℕ → List ℕ → List ℕ
 startLines zero i es = []

@@ -89,7 +89,7 @@ fn map_accepted(g: Game, scratch: &mut [u64], map: &mut [u64]) -> Mapped
 pub fn won_map(g: Game, scratch: &mut [u64], map: &mut [u64]) -> Mapped
     ensures { λ r. ⌜ MapMade g (now (scratch .entry)) (now (scratch .exit)) (now (map .entry)) (now (map .exit)) r ⌝ }
 {
-    let accepted = game::accept(g);
+    let accepted = acceptance::accept(g);
     match accepted {
         Acceptance::Refused(n) => Mapped::Refused(n),
         Acceptance::Accepted => map_accepted(g, scratch, map),

@@ -18,7 +18,7 @@ use results::WriteResult;
 pub extern "C" fn nanpuwiq_accept(g: Game) -> u8
     ensures { λ r. ⌜ r ≡ acceptCode (acceptance g) ⌝ }
 {
-    results::accept_code(game::accept(g))
+    results::accept_code(acceptance::accept(g))
 }
 
 // Marks the won positions: one set of outputs for each input.

@@ -59,7 +59,7 @@ fn step_accepted(g: Game, table: &[u16], at: Position, next: InState) -> Played
 pub fn begin(g: Game, table: &[u16], first: InState) -> Played
     ensures { λ r. ⌜ r ≡ beginning g (now (table .entry)) first ⌝ }
 {
-    match game::accept(g) {
+    match acceptance::accept(g) {
         Acceptance::Refused(n) => Played::Refused(n),
         Acceptance::Accepted => begin_accepted(g, table, first),
     }
@@ -69,7 +69,7 @@ pub fn begin(g: Game, table: &[u16], first: InState) -> Played
 pub fn step(g: Game, table: &[u16], at: Position, next: InState) -> Played
     ensures { λ r. ⌜ r ≡ stepping g (now (table .entry)) at next ⌝ }
 {
-    match game::accept(g) {
+    match acceptance::accept(g) {
         Acceptance::Refused(n) => Played::Refused(n),
         Acceptance::Accepted => step_accepted(g, table, at, next),
     }

@@ -61,11 +61,11 @@ fn answer(file: &[u8]) {
     let a = r.answer;
     match a {
         Answer::Misshapen(p) => {
-            let n = answers::put_misshapen(&mut line, p);
+            let n = answer_lines::put_misshapen(&mut line, p);
             print(&line, n);
         }
         Answer::Refused(m) => {
-            let n = answers::put_refused(&mut line, m);
+            let n = answer_lines::put_refused(&mut line, m);
             print(&line, n);
         }
         Answer::Read => {

@@ -27,7 +27,8 @@ use Rattle.text.specs.declared.Reading.{Reading}
 use Rattle.text.specs.Read.{Reads}
 use Rattle.put.specs.Put.{Puts}
 use Rattle.put.proofs.Buffer.{puts-as}
-use Rattle.answers.specs.Print.{inRange, controllerFits, environmentFits, onlyIf, controllerPrint, environmentPrint, controllerAnswer, environmentAnswer, refusedLine, misshapenLine}
+use Rattle.answers.specs.Print.{inRange, controllerFits, environmentFits, onlyIf, controllerPrint, environmentPrint, controllerAnswer, environmentAnswer}
+use Rattle.answer_lines.specs.Line.{refusedLine, misshapenLine}
 use Rattle.answers.proofs.Room.{controller-room, environment-room, refused-room, misshapen-room, taken-entries}
 use Rattle.solve.specs.Printed.{tablePrint, gamePrint, answerPrint, readingPrint, Made, Printed}
 

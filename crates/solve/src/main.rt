@@ -75,7 +75,7 @@ fn solve(buffer: &mut [u8], g: Game) -> usize
     match v {
         Verdict::System(n) => put_system(buffer, g, &controller, n),
         Verdict::Environment(n) => put_panel(buffer, g, &panel, n),
-        Verdict::Refused(n) => answers::put_refused(buffer, n),
+        Verdict::Refused(n) => answer_lines::put_refused(buffer, n),
     }
 }
 
@@ -86,8 +86,8 @@ fn answer(buffer: &mut [u8], file: &[u8]) -> usize
     let r = text::read(file);
     let a = r.answer;
     match a {
-        Answer::Misshapen(p) => answers::put_misshapen(buffer, p),
-        Answer::Refused(n) => answers::put_refused(buffer, n),
+        Answer::Misshapen(p) => answer_lines::put_misshapen(buffer, p),
+        Answer::Refused(n) => answer_lines::put_refused(buffer, n),
         Answer::Read => {
             let g = r.game;
             solve(buffer, g)

@@ -72,7 +72,7 @@ pub fn solve_into(
 ) -> Verdict
     ensures { λ r. ⌜ Solved g (now (scratch .entry)) (now (scratch .exit)) (now (controller .entry)) (now (controller .exit)) (now (panel .entry)) (now (panel .exit)) r ⌝ }
 {
-    let accepted = game::accept(g);
+    let accepted = acceptance::accept(g);
     match accepted {
         Acceptance::Refused(n) => Verdict::Refused(n),
         Acceptance::Accepted => solve_accepted(g, scratch, controller, panel),

@@ -44,7 +44,7 @@ fn misshapen(p: usize) -> Reading
 fn judge(g: Game) -> Reading
     ensures { λ r. ⌜ r ≡ judged g ⌝ }
 {
-    let a = game::accept(g);
+    let a = acceptance::accept(g);
     match a {
         Acceptance::Refused(n) => refused(n),
         Acceptance::Accepted => Reading {
@@ -85,7 +85,7 @@ pub enum WriteAnswer {
 pub fn write(g: Game, buffer: &mut [u8]) -> WriteAnswer
     ensures { λ r. ⌜ Writes g (now (buffer .entry)) r (now (buffer .exit)) ⌝ }
 {
-    let a = game::accept(g);
+    let a = acceptance::accept(g);
     match a {
         Acceptance::Refused(n) => WriteAnswer::Refused(n),
         Acceptance::Accepted => {

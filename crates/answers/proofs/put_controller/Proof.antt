@@ -2,7 +2,7 @@
 use native.Mathlib.Omega.{arith}
 use mathlib.Core.Bool.{true}
 use Rattle.finite.proofs.Loops.{failed, passed}
-use Rattle.answers.proofs.Lines.{wins-short}
+use Rattle.answer_lines.proofs.Lines.{wins-short}
 use Rattle.answers.proofs.Print.{starts-short}
 use Rattle.answers.proofs.Fits.{controller-entries, controller-nothing, controller-whole}
 use borrow.Author.Needs.{needs}

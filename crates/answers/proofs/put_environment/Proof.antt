@@ -2,7 +2,7 @@
 use native.Mathlib.Omega.{arith}
 use mathlib.Core.Bool.{false}
 use Rattle.finite.proofs.Loops.{failed, passed}
-use Rattle.answers.proofs.Lines.{wins-short, environment-short}
+use Rattle.answer_lines.proofs.Lines.{wins-short, environment-short}
 use lib.ListN.{getD}
 use Rattle.answers.proofs.Fits.{environment-entries, environment-nothing, environment-whole}
 use borrow.Author.Needs.{needs}

@@ -6,7 +6,7 @@ use native.Mathlib.Omega.{arith}
 use Rattle.put.specs.Put.{Puts}
 use Rattle.put.proofs.Buffer.{puts-length}
 use Rattle.answers.specs.Print.{stepLines}
-use Rattle.answers.proofs.Lines.{step-short}
+use Rattle.answer_lines.proofs.Lines.{step-short}
 use Rattle.answers.proofs.Print.{steps-none, steps-on, steps-end}
 use Rattle.answers.proofs.put_steps.Statement.{statement}
 use Rattle.answers.proofs.put_steps.Tie as tie

@@ -1,0 +1,43 @@
+-- `accept` from what each test ensures.
+use Rattle.game.specs.Acceptance.{fewRequirements, tests, acceptance}
+use borrow.Author.Needs.{needs}
+use Rattle.acceptance.proofs.accept.Statement.{statement}
+use Rattle.acceptance.proofs.accept.Tie as tie
+
+counts-fit-requires : tie.Need-counts-fit-requires
+counts-fit-requires c κs = search needs
+
+states-in-count-requires : tie.Need-states-in-count-requires
+states-in-count-requires c κs = search needs
+
+initials-exist-requires : tie.Need-initials-exist-requires
+initials-exist-requires c κs = search needs
+
+moves-exist-requires : tie.Need-moves-exist-requires
+moves-exist-requires c κs = search needs
+
+lengths-fit-requires : tie.Need-lengths-fit-requires
+lengths-fit-requires c κs = search needs
+
+sets-fit-requires : tie.Need-sets-fit-requires
+sets-fit-requires c κs = search needs
+
+first-failing-requires : tie.Need-first-failing-requires
+first-failing-requires c κs = search needs
+
+returns : tie.Need-returns
+unfolding acceptance tests fewRequirements
+returns c = cc
+
+pub accept-spec : {M : Type 1} → statement M
+accept-spec =
+    tie.close
+    (tie.spec
+    counts-fit-requires
+    states-in-count-requires
+    initials-exist-requires
+    moves-exist-requires
+    lengths-fit-requires
+    sets-fit-requires
+    first-failing-requires
+    returns)

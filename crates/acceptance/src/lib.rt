@@ -1,0 +1,119 @@
+// Whether a game is accepted: a test for each refusal code, and the first that fails.
+use game::Acceptance;
+use game::Game;
+ghost use mathlib.Core.Path.{_≡_};
+ghost use mathlib.Core.List.{[], _∷_};
+ghost use Rattle.game.specs.Acceptance.{countsFit, statesInCount, initialsExist, movesExist, lengthsFit, setsFit, firstFailing, acceptance};
+
+fn counts_fit(g: Game) -> bool
+    ensures { λ r. ⌜ r ≡ countsFit g ⌝ }
+{
+    if !graph_checks::count_fits(g.input) {
+        return false;
+    }
+    graph_checks::count_fits(g.output)
+}
+
+fn states_in_count(g: Game) -> bool
+    ensures { λ r. ⌜ r ≡ statesInCount g ⌝ }
+{
+    if !graph_checks::states_fit(g.input) {
+        return false;
+    }
+    graph_checks::states_fit(g.output)
+}
+
+fn initials_exist(g: Game) -> bool
+    ensures { λ r. ⌜ r ≡ initialsExist g ⌝ }
+{
+    if !graph_checks::has_initial(g.input) {
+        return false;
+    }
+    graph_checks::has_initial(g.output)
+}
+
+fn moves_exist(g: Game) -> bool
+    ensures { λ r. ⌜ r ≡ movesExist g ⌝ }
+{
+    if !graph_checks::all_move(g.input) {
+        return false;
+    }
+    graph_checks::all_move(g.output)
+}
+
+fn lengths_fit(g: Game) -> bool
+    ensures { λ r. ⌜ r ≡ lengthsFit g ⌝ }
+{
+    let mut p = 0;
+    while p < 8 {
+        if !requirement_checks::few_sets(g.requirements[p]) {
+            return false;
+        }
+        p += 1;
+    }
+    true
+}
+
+fn sets_fit(g: Game) -> bool
+    ensures { λ b. ⌜ b ≡ setsFit g ⌝ }
+{
+    let mut r = 0;
+    while r < 8 {
+        if !requirement_checks::requirement_fits(g, r, g.requirements[r]) {
+            return false;
+        }
+        r += 1;
+    }
+    true
+}
+
+// Refused with the number of the first test that fails.
+fn first_failing(
+    counts: bool,
+    states: bool,
+    initials: bool,
+    moves: bool,
+    few: bool,
+    lengths: bool,
+    sets: bool,
+) -> Acceptance
+    ensures { λ r. ⌜ r ≡ firstFailing 1 (counts ∷ states ∷ initials ∷ moves ∷ few ∷ lengths ∷ sets ∷ []) ⌝ }
+{
+    if !counts {
+        return Acceptance::Refused(1);
+    }
+    if !states {
+        return Acceptance::Refused(2);
+    }
+    if !initials {
+        return Acceptance::Refused(3);
+    }
+    if !moves {
+        return Acceptance::Refused(4);
+    }
+    if !few {
+        return Acceptance::Refused(5);
+    }
+    if !lengths {
+        return Acceptance::Refused(6);
+    }
+    if !sets {
+        return Acceptance::Refused(7);
+    }
+    Acceptance::Accepted
+}
+
+// Whether the game is accepted; else the lowest code whose condition holds. Every test is safe on every record.
+pub fn accept(g: Game) -> Acceptance
+    ensures { λ r. ⌜ r ≡ acceptance g ⌝ }
+{
+    first_failing(
+        counts_fit(g),
+        states_in_count(g),
+        initials_exist(g),
+        moves_exist(g),
+        g.k <= 8,
+        lengths_fit(g),
+        sets_fit(g),
+    )
+}
