@@ -19,8 +19,9 @@ use Rattle.demands.proofs.Sizes.{controller-few, environment-few}
 use Rattle.sizes.proofs.Lengths.{controller-length, environment-length, inputs-most, outputs-most}
 use Rattle.solver.specs.declared.Verdict.{Verdict}
 use Rattle.solver.specs.declared.Verdict.the-variants.{System, Environment, Refused as NotSolved}
-use Rattle.solver.specs.Promise.{Solved, front, verdictAnswer}
-use Rattle.solver.proofs.Handed.{system-count, environment-count, hands-system, hands-environment}
+use Rattle.solver.specs.Promise.{Solved, verdictAnswer}
+use Rattle.handover.specs.Handed.{front}
+use Rattle.handover.proofs.Handing.{system-count, environment-count, hands-system, hands-environment}
 use Rattle.text.specs.declared.Answer.{Answer}
 use Rattle.text.specs.declared.Answer.the-variants.{Read, Misshapen, Refused as NotRead}
 use Rattle.text.specs.declared.Reading.{Reading}

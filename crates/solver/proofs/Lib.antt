@@ -1,3 +1,2 @@
--- Verdicts: the promise for every input. Handed: the same for the part handed over.
+-- Verdicts: the promise for every input.
 pub mod Verdicts
-pub mod Handed

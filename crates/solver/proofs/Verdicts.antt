@@ -36,8 +36,8 @@ use Rattle.solver.specs.Promise.{
   verdictScratch,
   Decided,
   Solved,
-  Written,
 }
+use Rattle.winner.specs.Written.{Written}
 
 pub controller-long : (g : Game) → length (controllerEntries (separatedOf g)) ≡ controllerLength g
 unfolding controllerEntries controllerLength separatedOf graphOf

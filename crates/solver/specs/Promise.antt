@@ -1,15 +1,14 @@
--- What the public entries promise, for every input.
+-- What the solver promises, for every input.
 --
 --   byAcceptance a x          == a refusal of the game, or else x
 --   controllerLength g, environmentLength g    == how many entries the two tables have
 --   verdictAnswer g s c e     == the answer of the solver, scratch being of s words and the buffers of c and e entries
 --   Decided g r c e           == demand 3 for the answer r, the buffers then being c and e
---   Handed g v s s′ n b b′ c e p t             == the answer v handed over as the part t of a buffer
 --   Solved g s s′ c c′ e e′ r == the solver answers r and leaves scratch s as s′, the controller's buffer c as c′ and the environment's e as e′
 use Prim.Native.Nat.{ℕ, _+_, _*_, _<_}
 use mathlib.Core.Path.{_≡_}
 use mathlib.Core.Bool.{Bool, true, false, _&&_}
-use mathlib.Core.List.{List, [], _++_}
+use mathlib.Core.List.{List, _++_}
 use mathlib.Core.Logic.{_↔_}
 use lib.Dec.{leb}
 use lib.ListN.{length, getD, take, drop}
@@ -80,51 +79,3 @@ pub record Solved (g : Game) (s s′ c c′ e e′ : List ℕ) (r : Verdict) : T
   pub controller : c′ ≡ controllerAfter g r c
   pub environment : e′ ≡ environmentAfter g r e
   pub demand : Decided g r c′ e′
-
--- what is written for an accepted game whose buffers are long enough
-pub record Written (g : Game) (s s′ c c′ e e′ : List ℕ) (r : Bool) : Type 0 where
-  pub wins : r ≡ verdict (separatedOf g)
-  pub scratch : s′ ≡ cleared s
-  pub controller : c′ ≡ elim r as (λ x. List ℕ) [ true ↦ controllerEntries (separatedOf g) ++ drop (length (controllerEntries (separatedOf g))) c | false ↦ c ]
-  pub environment : e′ ≡ elim r as (λ x. List ℕ) [ true ↦ e | false ↦ environmentEntries (separatedOf g) ++ drop (length (environmentEntries (separatedOf g))) e ]
-
--- ---- the table handed over as a part of its buffer
-
--- the number of a refusal; 0 stands for none
-unfoldable pub number : Verdict → ℕ
-number (System n) = 0
-number (Environment n) = 0
-number (NotSolved n) = n
-
--- whether the system wins; a refusal leaves what was there
-unfoldable pub side : Verdict → Bool → Bool
-side (System n) b = true
-side (Environment n) b = false
-side (NotSolved n) b = b
-
--- the buffer of the side that wins; a refusal hands back an empty part of the controller's
-unfoldable pub chosen : {A : Type 0} → Verdict → A → A → A
-chosen (System n) c e = c
-chosen (Environment n) c e = e
-chosen (NotSolved n) c e = c
-
--- "the answer is the filled front of one of two lent rooms"
-unfoldable pub front : Game → Verdict → List ℕ
-front g (System n) = controllerEntries (separatedOf g)
-front g (Environment n) = environmentEntries (separatedOf g)
-front g (NotSolved n) = []
-
--- Demand 3 for the part handed over.
-unfoldable pub Beaten : Game → Verdict → List ℕ → Type 0
-Beaten g (System n) t = DemandThree (playOf g) (system (controllerOf g t))
-Beaten g (Environment n) t = DemandThree (playOf g) (environment (environmentOf g t))
-Beaten g (NotSolved n) t = Unit {0}
-
--- the answer v, handed over as the part t of the buffer p, with the refusal's number n and the side b
-pub record Handed (g : Game) (v : Verdict) (s s′ : List ℕ) (n : ℕ) (b b′ : Bool) (c e p : ℕ × ℕ) (t : List ℕ) : Type 0 where
-  pub scratch : s′ ≡ verdictScratch v s
-  pub refusal : n ≡ number v
-  pub system : b′ ≡ side v b
-  pub buffer : p ≡ chosen v c e
-  pub part : t ≡ front g v
-  pub demand : Beaten g v t

@@ -1,10 +1,10 @@
 -- `solve`.
 use native.Mathlib.Omega.{arith}
-use Rattle.solver.proofs.Handed.{system-count, environment-count, hands-system, hands-environment, hands-nothing}
+use Rattle.handover.proofs.Handing.{system-count, environment-count, hands-system, hands-environment, hands-nothing}
 use mathlib.Core.Path.{_≡_, refl, sym, _∙_, ap}
 use borrow.Author.Needs.{needs}
-use Rattle.solver.proofs.solve.Statement.{statement}
-use Rattle.solver.proofs.solve.Tie as tie
+use Rattle.handover.proofs.solve.Statement.{statement}
+use Rattle.handover.proofs.solve.Tie as tie
 
 solve-into-requires : tie.Need-solve-into-requires
 solve-into-requires c κs = search needs

@@ -27,14 +27,9 @@ use Rattle.solver.specs.Promise.{
   environmentAfter,
   Decided,
   Solved,
-  number,
-  side,
-  chosen,
-  front,
-  Beaten,
-  Handed,
 }
+use Rattle.handover.specs.Handed.{number, side, chosen, front, Beaten, Handed}
 use Rattle.solver.proofs.Verdicts.{controller-long, environment-long}
 
 -- ---- a verdict's length is its table's
 

@@ -4,8 +4,8 @@ use Rattle.game.proofs.Laws.{accepted-fits}
 use Rattle.map.proofs.Made.{reading-made, cleared-kept}
 use mathlib.Core.Path.{_≡_, refl, sym, _∙_, ap}
 use borrow.Author.Needs.{needs}
-use Rattle.solver.proofs.write_winner.Statement.{statement}
-use Rattle.solver.proofs.write_winner.Tie as tie
+use Rattle.winner.proofs.write_winner.Statement.{statement}
+use Rattle.winner.proofs.write_winner.Tie as tie
 
 prepare-requires : tie.Need-prepare-requires
 prepare-requires c κs = let p = c .before .before .before .before .pre in let F = accepted-fits _ (p .0) in (F, omega (arith, F .input .most, F .output .most, p .1))
