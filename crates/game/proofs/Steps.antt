@@ -1,6 +1,6 @@
 -- What the code's branches and loops make of the tests: one law for each return, start, turn and end of a loop.
 use mathlib.Core.Path.{_≡_, refl, sym, ap, _∙_}
-use mathlib.Core.Bool.{Bool, true, false, not, _&&_}
+use mathlib.Core.Bool.{Bool, true, false, not, _&&_, _||_}
 use mathlib.Core.List.{List, [], _∷_}
 use Prim.Native.Nat.{ℕ, suc, _+_, _≤_, _<_}
 use lib.Dec.{eqb, leb}
@@ -35,9 +35,12 @@ pub count-some : (g : Graph) → 1 ≤ g .states → leb (g .states) 64 ≡ coun
 unfolding countFits
 count-some g l = and-next (le-leb 1 (g .states) l) refl
 
-pub row-fits : (g : Graph) (s l : ℕ) (r : Bool) → l ≡ limit (g .states) s (g .states) → r ≡ within (getD (g .moves) s 0) l → r ≡ rowFits g s
+pub row-within : (row n s l : ℕ) (r : Bool) → l ≡ limit n s n → r ≡ within row l → r ≡ within row (limit n s n)
+row-within row n s l r e q = q ∙ ap (within row) e
+
+pub row-fits : (g : Graph) (s : ℕ) (r : Bool) → r ≡ within (getD (g .moves) s 0) (limit (g .states) s (g .states)) → r ≡ rowFits g s
 unfolding rowFits
-row-fits g s l r e q = q ∙ ap (within (getD (g .moves) s 0)) e
+row-fits g s r q = q
 
 pub states-initial : (g : Graph) → within (g .initial) (g .states) ≡ false → false ≡ statesFit g
 unfolding statesFit
@@ -50,6 +53,16 @@ states-row g s i l e = and-next i (all-stop 64 s (rowFits g) l e)
 pub states-end : (g : Graph) (s : ℕ) → within (g .initial) (g .states) ≡ true → s ≤ 64 → 64 ≤ s → all s (rowFits g) ≡ true → true ≡ statesFit g
 unfolding statesFit
 states-end g s i l m e = and-next i (all-end 64 s (rowFits g) l m e)
+
+pub past : (n s : ℕ) (b : Bool) → n ≤ s → true ≡ (leb n s || b)
+past n s b l = rw (le-leb n s l)
+
+pub not-past : (n s : ℕ) (b : Bool) → s < n → b ≡ (leb n s || b)
+not-past n s b l = rw (lt-leb n s l)
+
+pub has-move : (g : Graph) (s : ℕ) (r : Bool) → r ≡ (leb (g .states) s || not (eqb (getD (g .moves) s 0) 0)) → r ≡ hasMove g s
+unfolding hasMove
+has-move g s r q = q
 
 pub move-past : (g : Graph) (s : ℕ) → g .states ≤ s → true ≡ hasMove g s
 unfolding hasMove

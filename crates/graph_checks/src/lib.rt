@@ -1,8 +1,10 @@
 // The tests of acceptance on one graph.
 use game::Graph;
 ghost use mathlib.Core.Path.{_≡_};
-ghost use Prim.Native.Nat.{_<_};
-ghost use Rattle.game.specs.Acceptance.{limit as limitOf, countFits, rowFits, statesFit, hasInitial, hasMove, allMove};
+ghost use mathlib.Core.Bool.{not, _||_};
+ghost use lib.Dec.{eqb, leb};
+ghost use Rattle.sets.specs.Member.{within};
+ghost use Rattle.game.specs.Acceptance.{limit as limitOf, countFits, statesFit, hasInitial, allMove};
 
 // n where place j is below used, else 0.
 pub fn limit(used: usize, j: usize, n: usize) -> usize
@@ -23,11 +25,12 @@ pub fn count_fits(g: Graph) -> bool
     g.states <= 64
 }
 
-pub fn row_fits(g: Graph, s: usize) -> bool
-    requires { ⌜ s < 64 ⌝ }
-    ensures { λ r. ⌜ r ≡ rowFits g s ⌝ }
+// Whether a row, the moves of state s of n, has no state past the count, and none at all where s is past it. Only the row is passed, for a graph goes
+// by value and would be copied for each of its rows.
+fn row_fits(row: u64, n: usize, s: usize) -> bool
+    ensures { λ r. ⌜ r ≡ within row (limitOf n s n) ⌝ }
 {
-    sets::within(g.moves[s], limit(g.states, s, g.states))
+    sets::within(row, limit(n, s, n))
 }
 
 pub fn states_fit(g: Graph) -> bool
@@ -38,7 +41,7 @@ pub fn states_fit(g: Graph) -> bool
     }
     let mut s = 0;
     while s < 64 {
-        if !row_fits(g, s) {
+        if !row_fits(g.moves[s], g.states, s) {
             return false;
         }
         s += 1;
@@ -52,14 +55,14 @@ pub fn has_initial(g: Graph) -> bool
     g.initial != 0
 }
 
-pub fn has_move(g: Graph, s: usize) -> bool
-    requires { ⌜ s < 64 ⌝ }
-    ensures { λ r. ⌜ r ≡ hasMove g s ⌝ }
+// Whether state s of n, with this row of moves, has a move, or is past the count.
+fn has_move(row: u64, n: usize, s: usize) -> bool
+    ensures { λ r. ⌜ r ≡ (leb n s || not (eqb row 0)) ⌝ }
 {
-    if g.states <= s {
+    if n <= s {
         return true;
     }
-    g.moves[s] != 0
+    row != 0
 }
 
 pub fn all_move(g: Graph) -> bool
@@ -67,7 +70,7 @@ pub fn all_move(g: Graph) -> bool
 {
     let mut s = 0;
     while s < 64 {
-        if !has_move(g, s) {
+        if !has_move(g.moves[s], g.states, s) {
             return false;
         }
         s += 1;

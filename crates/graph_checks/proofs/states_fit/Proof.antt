@@ -6,7 +6,7 @@ use borrow.Author.Needs.{needs}
 use native.Mathlib.Omega.{arith}
 use Rattle.finite.specs.Bounded.{all}
 use Rattle.finite.proofs.Loops.{all-start, all-turn, failed, passed}
-use Rattle.game.proofs.Steps.{states-initial, states-row, states-end}
+use Rattle.game.proofs.Steps.{row-fits, states-initial, states-row, states-end}
 use Rattle.game.specs.Acceptance.{rowFits}
 use Rattle.graph_checks.proofs.states_fit.Statement.{statement}
 use Rattle.graph_checks.proofs.states_fit.Tie as tie
@@ -26,15 +26,21 @@ returns c = states-initial _ (failed (c .before .within .ensures) (c .if1 .taken
 loop-holds : tie.Need-loop-holds Inv-loop μ-loop
 loop-holds c = (omega arith, all-start _)
 
+mul-row-fits : tie.Need-mul-row-fits Inv-loop μ-loop
+mul-row-fits c = omega arith
+
+element-copy-out-row-fits : tie.Need-element-copy-out-row-fits Inv-loop μ-loop
+element-copy-out-row-fits c = omega arith
+
 row-fits-requires : tie.Need-row-fits-requires Inv-loop μ-loop
-row-fits-requires c κs = omega arith
+row-fits-requires c κs = search needs
 
 returns-2 : tie.Need-returns-2 Inv-loop μ-loop
 returns-2 c =
     states-row _ _
-    (passed (c .before .before .before .before .before .within .ensures) (c .before .before .before .before .if1 .left))
-    (c .before .before .loop-test .taken)
-    (failed (c .before .row-fits .ensures) (c .if2 .taken))
+    (passed (c .before .before .before .before .before .before .within .ensures) (c .before .before .before .before .before .if1 .left))
+    (c .before .before .before .loop-test .taken)
+    (failed (row-fits _ _ _ (c .before .row-fits .ensures)) (c .if2 .taken))
 
 add-s : tie.Need-add-s Inv-loop μ-loop
 add-s c = omega arith
@@ -43,7 +49,7 @@ loop-less : tie.Need-loop-less Inv-loop μ-loop
 loop-less c = omega arith
 
 loop-again : tie.Need-loop-again Inv-loop μ-loop
-loop-again c = (omega arith, all-turn _ _ (c .before .before .before .loop .inv .1) (passed (c .before .row-fits .ensures) (c .if2 .left)))
+loop-again c = (omega arith, all-turn _ _ (c .before .before .before .before .loop .inv .1) (passed (row-fits _ _ _ (c .before .row-fits .ensures)) (c .if2 .left)))
 
 returns-3 : tie.Need-returns-3 Inv-loop μ-loop
 returns-3 c =
@@ -62,6 +68,8 @@ states-fit-spec =
     within-requires
     returns
     loop-holds
+    mul-row-fits
+    element-copy-out-row-fits
     row-fits-requires
     returns-2
     add-s
