@@ -1,22 +1,21 @@
 -- The closures laid side by side in scratch, and the first state of the filling.
 use Prim.Native.Nat.{ℕ, _+_, _-_, _≤_, _<_}
 use native.Mathlib.Nat.{add-assoc}
-use mathlib.Core.Path.{_≡_, refl, sym, _∙_, ap}
+use mathlib.Core.Path.{_≡_, refl, sym, _∙_, ap, subst}
 use mathlib.Core.Bool.{Bool}
 use mathlib.Core.List.{List, [], _++_, append-nil}
 use native.Mathlib.Omega.{arith}
 use lib.ListN.{length, getD, take, drop, length-append, length-drop, drop-of-length-le, List·getD-append}
-use lib.Seq.{length-take-le, getD-append-add, getD-take, getD-drop, drop-drop, drop-append-add}
+use lib.Seq.{take-all, length-take-le, getD-append-add, getD-take, getD-drop, drop-drop, drop-append-add}
 use borrow.Rule.Slice.PartMut.{putMid, midOf}
-use Rattle.sets.specs.Member.{has, pack}
+use Rattle.sets.specs.Member.{pack}
 use Rattle.graphs.specs.Rows.{rowsOf}
 use Rattle.graphs.specs.Closure.{reaches}
-use Rattle.graphs.specs.Component.{nontrivial, rank}
 use Rattle.graphs.proofs.Component.{rank-pos}
 use Rattle.game.specs.declared.Graph.{Graph}
 use Rattle.game.specs.declared.Game.{Game}
 use Rattle.game.proofs.Laws.{Fits}
-use Rattle.play.specs.Play.{graphOf, separatedOf}
+use Rattle.play.specs.Play.{graphOf}
 use Rattle.closure.specs.Sweep.{Closed}
 use Rattle.closure.proofs.Laws.{closed-row, closed-rest, closed-length}
 use Rattle.closure.proofs.Front.{rows-length, rows-row, rows-rest}
@@ -24,16 +23,21 @@ use Rattle.components.specs.Component.{turns}
 use Rattle.components.specs.Closes.{Closes}
 use Rattle.components.proofs.Closed.{cores-closed}
 use Rattle.stored.specs.Stored.{Laid}
+use Rattle.dues.specs.Dues.{Serves, Serving}
+use Rattle.dues.proofs.Meaning.{serving-closed}
 use Rattle.region.specs.Fill.{Filling, Kept, Prepared, ClosedAt}
-use Rattle.region.proofs.Steps.{rest-part}
 use Rattle.region.proofs.Order.{kept-more}
+
+-- the part of a slice from k on
+rest-part : (l : List ℕ) (k : ℕ) → take (length l - k) (drop k l) ≡ drop k l
+rest-part l k = take-all (length l - k) (drop k l) (omega (arith, length-drop k l))
 
 -- what is put back in place of the part from `at` on
 pub closed-at : (f : Graph) (at : ℕ) (l m : List ℕ) {k : ℕ} → at ≤ length l → Closed f (midOf at (length l - at) l) m k → ClosedAt f at l (putMid at (length l - at) l m)
 closed-at f at l m b C = record {
   rows =
-    ap (λ (x : List ℕ). take at l ++ x)
-    (ap (λ (x : List ℕ). m ++ x) past ∙ append-nil m ∙ C .rows ∙ ap (λ (x : List ℕ). rowsOf (f .states) (f .states) (reaches (graphOf f)) ++ drop (f .states) x) (rest-part l at))
+      ap (λ (x : List ℕ). take at l ++ x)
+      (ap (λ (x : List ℕ). m ++ x) past ∙ append-nil m ∙ C .rows ∙ ap (λ (x : List ℕ). rowsOf (f .states) (f .states) (reaches (graphOf f)) ++ drop (f .states) x) (rest-part l at));
 }
   where
     past : drop (length l - at) (drop at l) ≡ []
@@ -42,6 +46,9 @@ closed-at f at l m b C = record {
 pub cores-part : (f : Graph) (at : ℕ) (l : List ℕ) {r : ℕ} → r ≡ pack (f .states) (turns (f .moves) (take (length l - at) (drop at l)) (f .states))
     → r ≡ pack (f .states) (turns (f .moves) (drop at l) (f .states))
 cores-part f at l e = e ∙ ap (λ (x : List ℕ). pack (f .states) (turns (f .moves) x (f .states))) (rest-part l at)
+
+pub serves-part : (g : Game) (at : ℕ) (l x : List ℕ) (m : ℕ) → Serves g (take (length l - at) (drop at l)) m x → Serves g (drop at l) m x
+serves-part g at l x m S = subst (λ (y : List ℕ). Serves g y m x) (rest-part l at) S
 
 -- the two closures, one after the other
 module _ (g : Game) (F : Fits g) (l₀ l₁ l₂ : List ℕ) {k : ℕ} (C : Closed (g .input) l₀ l₁ k)
@@ -88,7 +95,7 @@ module _ (g : Game) (F : Fits g) (l₀ l₁ l₂ : List ℕ) {k : ℕ} (C : Clos
   laid-both = record {
     long = omega (arith, long₂);
     inputs = λ i b. at-front i (omega arith) ∙ closed-row C i b;
-    outputs = λ o b. at-back o ∙ rows-row m R back m o b refl
+    outputs = λ o b. at-back o ∙ rows-row m R back m o b refl;
   }
 
   rest₂ : drop (n + n + m) l₂ ≡ drop m back
@@ -119,8 +126,11 @@ module _ (g : Game) (F : Fits g) (l₀ l₁ l₂ : List ℕ) {k : ℕ} (C : Clos
     inner = c ∙ cores-closed (g .input) l₂ (record { row = laid-both .inputs }) (F .input .most);
     outer = t ∙ cores-closed (g .output) (drop (n + n) l₂) out-closes (F .output .most);
     below = λ j b r. absurd (omega (arith, rank-pos (graphOf (g .input)) j b));
-    same = λ j a h r. absurd (omega arith)
+    same = λ j a h r. absurd (omega arith);
   }
+
+  pub serving-first : (x : List ℕ) → Serves g (drop (n + n) l₂) m x → Serving g x
+  serving-first x S = serving-closed g F (drop (n + n) l₂) x out-closes S
 
   pub prepared-both : (l₃ : List ℕ) → Prepared g l₂ l₃ → Prepared g l₀ l₃
   prepared-both l₃ P = record { ready = P .ready; kept = kept-more kept-both (P .kept) }

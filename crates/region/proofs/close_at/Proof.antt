@@ -1,7 +1,6 @@
 -- `close_at`.
 use native.Mathlib.Omega.{arith}
 use Rattle.region.proofs.Parts.{closed-at}
-use mathlib.Core.Path.{_≡_, refl, sym, _∙_, ap}
 use borrow.Author.Needs.{needs}
 use Rattle.region.proofs.close_at.Statement.{statement}
 use Rattle.region.proofs.close_at.Tie as tie

@@ -1,7 +1,5 @@
 -- `cores_at`.
-use native.Mathlib.Omega.{arith}
 use Rattle.region.proofs.Parts.{cores-part}
-use mathlib.Core.Path.{_≡_, refl, sym, _∙_, ap}
 use borrow.Author.Needs.{needs}
 use Rattle.region.proofs.cores_at.Statement.{statement}
 use Rattle.region.proofs.cores_at.Tie as tie

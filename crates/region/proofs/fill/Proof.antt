@@ -2,23 +2,21 @@
 use native.Mathlib.Omega.{arith}
 use Rattle.region.specs.Fill.{Filling, Kept}
 use Rattle.region.proofs.Order.{kept-none, kept-more, filling-done}
-use borrow.Author.Needs.{needs}
-use mathlib.Core.Path.{_≡_, refl, sym, _∙_, ap}
-use Prim.Native.Nat.{ℕ, _+_, _-_, _≤_, _<_}
+use Prim.Native.Nat.{_+_, _-_, _≤_}
 use Rattle.region.proofs.fill.Statement.{statement}
 use Rattle.region.proofs.fill.Tie as tie
 
 abbrev Inv-loop : tie.InvT-loop
-Inv-loop g s₀ cores turning k₀ s k = (k ≤ g .input .states + 1) × Filling g cores turning s k 0 × Kept g s₀ s
+Inv-loop g t s₀ cores turning k₀ s k = (k ≤ g .input .states + 1) × Filling g cores turning s k 0 × Kept g s₀ s
 
 abbrev μ-loop : tie.MeasureT-loop
-μ-loop g s₀ cores turning k₀ s k = g .input .states + 1 - k
+μ-loop g t s₀ cores turning k₀ s k = g .input .states + 1 - k
 
 loop-holds : tie.Need-loop-holds Inv-loop μ-loop
-loop-holds c = (omega arith, c .before .pre, kept-none _ _)
+loop-holds c = (omega arith, c .before .pre .0, kept-none _ _)
 
 fill-rank-requires : tie.Need-fill-rank-requires Inv-loop μ-loop
-fill-rank-requires c κs = c .before .before .before .loop .inv .1
+fill-rank-requires c κs = (c .before .before .before .loop .inv .1, c .before .before .before .before .before .pre .1)
 
 add-k : tie.Need-add-k Inv-loop μ-loop
 add-k c = omega arith

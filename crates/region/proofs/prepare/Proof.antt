@@ -1,8 +1,7 @@
 -- `prepare`.
-use native.Mathlib.Omega.{arith}
-use Rattle.region.proofs.Parts.{filling-first, prepared-both}
-use mathlib.Core.Path.{_≡_, refl, sym, _∙_, ap}
 use borrow.Author.Needs.{needs}
+use Rattle.dues.proofs.Meaning.{fits-few}
+use Rattle.region.proofs.Parts.{laid-both, filling-first, serving-first, prepared-both}
 use Rattle.region.proofs.prepare.Statement.{statement}
 use Rattle.region.proofs.prepare.Tie as tie
 
@@ -21,18 +20,36 @@ cores-requires c κs = search needs
 cores-at-requires : tie.Need-cores-at-requires
 cores-at-requires c κs = search needs
 
+served-at-requires : tie.Need-served-at-requires
+served-at-requires c κs =
+    let d = c .before .before .before .before .before .before .before in
+    let a = d .before .before .before .before in
+    let p = a .before .before .before .before .pre in
+    (fits-few _ (p .0), p .0 .output .most, laid-both _ (p .0) _ _ _ (a .close .ensures) (d .close-at .ensures) (p .1) .long)
+
 fill-requires : tie.Need-fill-requires
 fill-requires c κs =
-    let p = c .before .before .before .before .before .before .before .before .before .before .before .before .before .before .before .pre in
-    filling-first _ (p .0) _ _ _ (c .before .before .before .before .before .before .before .before .before .before .before .close .ensures) (c .before .before .before .before .before .before .before .close-at .ensures) (p .1) _ _ (c .before .before .before .cores .ensures) (c .before .cores-at .ensures)
+    let v = c .before in
+    let u = v .before .before in
+    let e = u .before .before in
+    let d = e .before .before .before .before in
+    let a = d .before .before .before .before in
+    let p = a .before .before .before .before .pre in (
+      filling-first _ (p .0) _ _ _ (a .close .ensures) (d .close-at .ensures) (p .1) _ _ (e .cores .ensures) (u .cores-at .ensures),
+      serving-first _ (p .0) _ _ _ (a .close .ensures) (d .close-at .ensures) (p .1) _ (v .served-at .ensures),
+    )
 
 same-length : tie.Need-same-length
 same-length c = search needs
 
 returns : tie.Need-returns
 returns c =
-    let p = c .before .before .before .before .before .before .before .before .before .before .before .before .before .before .before .before .before .before .pre in
-    prepared-both _ (p .0) _ _ _ (c .before .before .before .before .before .before .before .before .before .before .before .before .before .before .close .ensures) (c .before .before .before .before .before .before .before .before .before .before .close-at .ensures) (p .1) _ (c .before .before .fill .ensures)
+    let f = c .before .before in
+    let e = f .before .before .before .before .before .before in
+    let d = e .before .before .before .before in
+    let a = d .before .before .before .before in
+    let p = a .before .before .before .before .pre in
+    prepared-both _ (p .0) _ _ _ (a .close .ensures) (d .close-at .ensures) (p .1) _ (f .fill .ensures)
 
 pub prepare-spec : {M : Type 1} → statement M
 prepare-spec =
@@ -43,6 +60,7 @@ prepare-spec =
     close-at-requires
     cores-requires
     cores-at-requires
+    served-at-requires
     fill-requires
     same-length
     returns)

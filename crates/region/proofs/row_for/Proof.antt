@@ -1,7 +1,6 @@
 -- `row_for`.
 use native.Mathlib.Omega.{arith}
 use Rattle.region.proofs.Order.{row-taken, row-component}
-use mathlib.Core.Path.{_≡_, refl, sym, _∙_, ap}
 use borrow.Author.Needs.{needs}
 use Rattle.region.proofs.row_for.Statement.{statement}
 use Rattle.region.proofs.row_for.Tie as tie
@@ -32,7 +31,7 @@ returns c =
 stored-row-requires : tie.Need-stored-row-requires
 stored-row-requires c κs =
     let b = c .before .before in
-    (b .before .before .pre .0, row-component (b .before .before .pre .0) (b .component .result) (b .component .ensures))
+    (b .before .before .pre .0, b .before .before .pre .2, row-component (b .before .before .pre .0) (b .component .result) (b .component .ensures))
 
 returns-2 : tie.Need-returns-2
 returns-2 c = search needs

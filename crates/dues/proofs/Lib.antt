@@ -1,0 +1,3 @@
+-- Laws of requirements that are due or served in components.
+pub mod Steps
+pub mod Meaning

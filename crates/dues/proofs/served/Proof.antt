@@ -1,0 +1,55 @@
+-- `served`. Invariant: the outputs below d are in the sets of the requirements that they serve.
+use Prim.Native.Nat.{_-_, _≤_}
+use mathlib.Core.Path.{_≡_, refl, _∙_}
+use native.Mathlib.Omega.{arith}
+use lib.ListN.{length}
+use Rattle.dues.specs.Dues.{Serves}
+use Rattle.dues.proofs.Steps.{serves-start, serves-next, serves-end}
+use Rattle.dues.proofs.served.Statement.{statement}
+use Rattle.dues.proofs.served.Tie as tie
+
+abbrev Inv-loop : tie.InvT-loop
+Inv-loop g rows m outputs₀ d₀ outputs d = (d ≤ m) × (length outputs ≡ 8) × Serves g rows d outputs
+
+abbrev μ-loop : tie.MeasureT-loop
+μ-loop g rows m outputs₀ d₀ outputs d = m - d
+
+loop-holds : tie.Need-loop-holds Inv-loop μ-loop
+loop-holds c = (omega arith, refl, serves-start _ _ 8 (c .before .pre .0 .requirements))
+
+component-requires : tie.Need-component-requires Inv-loop μ-loop
+component-requires c κs = omega arith
+
+mark-requires : tie.Need-mark-requires Inv-loop μ-loop
+mark-requires c κs =
+    let b = c .before .before .before in
+    (b .before .before .pre .0, omega arith, b .loop .inv .1)
+
+add-d : tie.Need-add-d Inv-loop μ-loop
+add-d c = omega arith
+
+loop-less : tie.Need-loop-less Inv-loop μ-loop
+loop-less c = omega arith
+
+loop-again : tie.Need-loop-again Inv-loop μ-loop
+loop-again c =
+    let b = c .before .before .before .before in
+    let M = c .mark .ensures in
+    (omega arith, M .long ∙ b .loop .inv .1, serves-next _ _ (b .loop .d) _ _ _ (b .loop .inv .2) (c .before .before .component .ensures) M)
+
+returns : tie.Need-returns Inv-loop μ-loop
+returns c = serves-end _ _ (c .before .loop .d) _ _ (omega arith) (omega arith) (c .before .loop .inv .2)
+
+pub served-spec : {M : Type 1} → statement M
+served-spec =
+    tie.close
+    (tie.spec
+    Inv-loop
+    μ-loop
+    loop-holds
+    component-requires
+    mark-requires
+    add-d
+    loop-less
+    loop-again
+    returns)

@@ -1,0 +1,70 @@
+-- Requirements that are due or served in a component, told of words.
+--
+--   inMeets q c k          == the first k input sets of q meet the set c
+--   outMeets q c k         == the first k output sets of q meet the set c
+--   dueIn g a r            == all input sets of requirement r meet a
+--   servedIn g b r         == all output sets of requirement r meet b
+--   servedAt g rows m r d  == requirement r is served in the component of d, told by rows of m states
+--   Few g                  == few enough requirements and sets for their places
+--   Marked g c d k x y     == y is x where the first k sets have d too, if c serves their requirements
+--   Serves g rows m l      == l has for each requirement the states below m whose components serve it
+--   serves g r d           == requirement r is served in the component of d
+--   Serving g l            == l has for each requirement the outputs whose components serve it
+--   admits g a l d r       == requirement r is not due in a, or d is in its set of l
+use Prim.Native.Nat.{ℕ, _≤_, _<_}
+use mathlib.Core.Path.{_≡_}
+use mathlib.Core.Bool.{Bool, not, _&&_, _||_}
+use mathlib.Core.List.{List}
+use lib.Dec.{eqb}
+use lib.ListN.{length, getD}
+use Rattle.finite.specs.Bounded.{all}
+use Rattle.sets.specs.Member.{has, pack, meets}
+use Rattle.components.specs.Component.{together}
+use Rattle.game.specs.declared.Requirement.{Requirement}
+use Rattle.game.specs.declared.Game.{Game}
+use Rattle.game.specs.Access.{noInput, noOutput, requirementAt}
+use Rattle.play.specs.Play.{requirementOf, separatedOf}
+use Rattle.theory.specs.Region.{served}
+
+unfoldable pub inMeetsAt : Requirement → ℕ → ℕ → Bool
+inMeetsAt q c j = meets 64 (getD (q .assumptions) j noInput .0) c
+
+unfoldable pub inMeets : Requirement → ℕ → ℕ → Bool
+inMeets q c k = all k (inMeetsAt q c)
+
+unfoldable pub outMeetsAt : Requirement → ℕ → ℕ → Bool
+outMeetsAt q c j = meets 64 (getD (q .guarantees) j noOutput .0) c
+
+unfoldable pub outMeets : Requirement → ℕ → ℕ → Bool
+outMeets q c k = all k (outMeetsAt q c)
+
+unfoldable pub dueIn : Game → ℕ → ℕ → Bool
+dueIn g a r = inMeets (requirementAt g r) a (requirementAt g r .assumed)
+
+unfoldable pub servedIn : Game → ℕ → ℕ → Bool
+servedIn g b r = outMeets (requirementAt g r) b (requirementAt g r .guaranteed)
+
+unfoldable pub servedAt : Game → List ℕ → ℕ → ℕ → ℕ → Bool
+servedAt g rows m r d = servedIn g (pack m (together rows d)) r
+
+pub record Few (g : Game) : Type 0 where
+  pub requirements : g .k ≤ 8
+  pub assumed : (r : ℕ) → r < 8 → requirementAt g r .assumed ≤ 4
+  pub guaranteed : (r : ℕ) → r < 8 → requirementAt g r .guaranteed ≤ 4
+
+pub record Marked (g : Game) (c d k : ℕ) (x y : List ℕ) : Type 0 where
+  pub long : length y ≡ length x
+  pub done : (r : ℕ) → r < k → (t : ℕ) → has (getD y r 0) t ≡ (has (getD x r 0) t || (servedIn g c r && eqb t d))
+  pub rest : (r : ℕ) → k ≤ r → getD y r 0 ≡ getD x r 0
+
+pub record Serves (g : Game) (rows : List ℕ) (m : ℕ) (l : List ℕ) : Type 0 where
+  pub at : (r : ℕ) → r < g .k → getD l r 0 ≡ pack m (servedAt g rows (g .output .states) r)
+
+unfoldable pub serves : Game → ℕ → ℕ → Bool
+serves g r d = served (separatedOf g) d (requirementOf (requirementAt g r))
+
+pub record Serving (g : Game) (l : List ℕ) : Type 0 where
+  pub at : (r : ℕ) → r < g .k → getD l r 0 ≡ pack (g .output .states) (serves g r)
+
+unfoldable pub admits : Game → ℕ → List ℕ → ℕ → ℕ → Bool
+admits g a l d r = not (dueIn g a r) || has (getD l r 0) d

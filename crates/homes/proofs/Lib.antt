@@ -1,0 +1,3 @@
+-- Laws of homes.
+pub mod Passing
+pub mod Meaning

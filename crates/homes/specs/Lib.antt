@@ -1,0 +1,2 @@
+-- Homes, told of words.
+pub mod Homes

@@ -1,0 +1,3 @@
+-- Laws of replies to next inputs.
+pub mod Tries
+pub mod Meaning

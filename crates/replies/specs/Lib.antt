@@ -1,0 +1,2 @@
+-- Replies to next inputs.
+pub mod Replies
