@@ -7,18 +7,14 @@
 --   Filling g cores turning l k i   == the rows of the inputs that reach fewer than k states stand in l, and of those before i that reach k
 --   Kept g l m                      == what lies past the three areas is the same
 --   Prepared g l m                  == m is l with all that the solver reads
---   ClosedAt f at l m               == m is l with the rows of f's closure from place at on
 use Prim.Native.Nat.{ℕ, _+_, _≤_, _<_}
 use mathlib.Core.Path.{_≡_}
 use mathlib.Core.Logic.{_≢_}
-use mathlib.Core.List.{List, _++_}
-use lib.ListN.{length, getD, take, drop}
+use mathlib.Core.List.{List}
+use lib.ListN.{length, getD, drop}
 use Rattle.finite.specs.Bounded.{count}
 use Rattle.sets.specs.Member.{has, pack}
-use Rattle.graphs.specs.Rows.{rowsOf}
-use Rattle.graphs.specs.Closure.{reaches}
 use Rattle.graphs.specs.Component.{nontrivial, rank}
-use Rattle.game.specs.declared.Graph.{Graph}
 use Rattle.game.specs.declared.Game.{Game}
 use Rattle.game.proofs.Laws.{Fits}
 use Rattle.play.specs.Play.{graphOf, separatedOf}
@@ -60,7 +56,3 @@ pub record Kept (g : Game) (l m : List ℕ) : Type 0 where
 pub record Prepared (g : Game) (l m : List ℕ) : Type 0 where
   pub ready : Ready g m
   pub kept : Kept g l m
-
--- the rows of f's closure stand from place `at` on, and nothing else has changed
-pub record ClosedAt (f : Graph) (at : ℕ) (l m : List ℕ) : Type 0 where
-  pub rows : m ≡ take at l ++ (rowsOf (f .states) (f .states) (reaches (graphOf f)) ++ drop (f .states) (drop at l))

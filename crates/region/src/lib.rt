@@ -1,18 +1,16 @@
 // The winning region, worked out in scratch.
 ghost use mathlib.Core.Path.{_≡_};
 ghost use Prim.Native.Nat.{_+_, _≤_, _<_};
-ghost use lib.ListN.{length, drop};
+ghost use lib.ListN.{length};
 ghost use Rattle.sets.specs.Member.{pack};
 ghost use Rattle.graphs.specs.Component.{joined};
 ghost use Rattle.game.proofs.Laws.{Fits};
 ghost use Rattle.play.specs.Play.{graphOf, separatedOf};
-ghost use Rattle.components.specs.Component.{turns};
 ghost use Rattle.stored.specs.Stored.{storedRow};
-ghost use Rattle.dues.specs.Dues.{Few, Serves, Serving};
-ghost use Rattle.region.specs.Fill.{RowReady, EarlierReady, reach, NextAt, Filling, Kept, Prepared, ClosedAt};
+ghost use Rattle.dues.specs.Dues.{Serving};
+ghost use Rattle.region.specs.Fill.{RowReady, EarlierReady, reach, NextAt, Filling, Kept, Prepared};
 use dues::Servers;
 use game::Game;
-use game::Graph;
 
 // The region's row of input i, a being its component, where the rows of the inputs that reach fewer states stand.
 fn stored_row(g: Game, t: Servers, s: &[u64], cores: u64, turning: u64, a: u64, i: usize) -> u64
@@ -92,30 +90,6 @@ fn fill(g: Game, t: Servers, s: &mut [u64], cores: u64, turning: u64)
     }
 }
 
-// The closure of f, from place at of s on.
-fn close_at(f: Graph, s: &mut [u64], at: usize)
-    requires { ⌜ (f .states ≤ 64) × (at + f .states ≤ length (now s)) ⌝ }
-    ensures { λ _. ⌜ ClosedAt f at (now (s .entry)) (now (s .exit)) ⌝ }
-{
-    closure::close(f, &mut s[at..]);
-}
-
-// The states of f in nontrivial components, its closure standing from place at of s on.
-fn cores_at(f: Graph, s: &[u64], at: usize) -> u64
-    requires { ⌜ (f .states ≤ 64) × (at + f .states ≤ length (now s)) ⌝ }
-    ensures { λ r. ⌜ r ≡ pack (f .states) (turns (f .moves) (drop at (now (s .entry))) (f .states)) ⌝ }
-{
-    components::cores(f, &s[at..])
-}
-
-// The outputs whose components serve each requirement, the outputs' closure standing from place at of s on.
-fn served_at(g: Game, s: &[u64], at: usize) -> Servers
-    requires { ⌜ Few g × (g .output .states ≤ 64) × (at + g .output .states ≤ length (now s)) ⌝ }
-    ensures { λ r. ⌜ Serves g (drop at (now (s .entry))) (g .output .states) (r .outputs) ⌝ }
-{
-    dues::served(g, &s[at..])
-}
-
 // Works out both closures and the region in scratch.
 pub fn prepare(g: Game, s: &mut [u64])
     requires { ⌜ Fits g × (g .input .states + g .input .states + g .output .states ≤ length (now s)) ⌝ }
@@ -123,9 +97,9 @@ pub fn prepare(g: Game, s: &mut [u64])
 {
     let at = g.input.states + g.input.states;
     closure::close(g.input, s);
-    close_at(g.output, s, at);
+    areas::close_at(g.output, s, at);
     let cores = components::cores(g.input, s);
-    let turning = cores_at(g.output, s, at);
-    let t = served_at(g, s, at);
+    let turning = areas::cores_at(g.output, s, at);
+    let t = areas::served_at(g, s, at);
     fill(g, t, s, cores, turning);
 }

@@ -1,7 +1,7 @@
 -- `prepare`.
 use borrow.Author.Needs.{needs}
 use Rattle.dues.proofs.Meaning.{fits-few}
-use Rattle.region.proofs.Parts.{laid-both, filling-first, serving-first, prepared-both}
+use Rattle.region.proofs.Parts.{laid-first, filling-first, serving-first, prepared-both}
 use Rattle.region.proofs.prepare.Statement.{statement}
 use Rattle.region.proofs.prepare.Tie as tie
 
@@ -25,7 +25,7 @@ served-at-requires c κs =
     let d = c .before .before .before .before .before .before .before in
     let a = d .before .before .before .before in
     let p = a .before .before .before .before .pre in
-    (fits-few _ (p .0), p .0 .output .most, laid-both _ (p .0) _ _ _ (a .close .ensures) (d .close-at .ensures) (p .1) .long)
+    (fits-few _ (p .0), p .0 .output .most, laid-first _ (p .0) _ _ _ (a .close .ensures) (d .close-at .ensures) (p .1) .long)
 
 fill-requires : tie.Need-fill-requires
 fill-requires c κs =

@@ -1,9 +1,9 @@
 -- `close_at`.
 use native.Mathlib.Omega.{arith}
-use Rattle.region.proofs.Parts.{closed-at}
+use Rattle.areas.proofs.Parts.{closed-at}
 use borrow.Author.Needs.{needs}
-use Rattle.region.proofs.close_at.Statement.{statement}
-use Rattle.region.proofs.close_at.Tie as tie
+use Rattle.areas.proofs.close_at.Statement.{statement}
+use Rattle.areas.proofs.close_at.Tie as tie
 
 mul-close : tie.Need-mul-close
 mul-close c = search needs

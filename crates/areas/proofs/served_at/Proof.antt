@@ -1,8 +1,8 @@
 -- `served_at`.
 use borrow.Author.Needs.{needs}
-use Rattle.region.proofs.Parts.{serves-part}
-use Rattle.region.proofs.served_at.Statement.{statement}
-use Rattle.region.proofs.served_at.Tie as tie
+use Rattle.areas.proofs.Parts.{serves-part}
+use Rattle.areas.proofs.served_at.Statement.{statement}
+use Rattle.areas.proofs.served_at.Tie as tie
 
 mul-served : tie.Need-mul-served
 mul-served c = search needs

@@ -1,8 +1,8 @@
 -- `cores_at`.
-use Rattle.region.proofs.Parts.{cores-part}
+use Rattle.areas.proofs.Parts.{cores-part}
 use borrow.Author.Needs.{needs}
-use Rattle.region.proofs.cores_at.Statement.{statement}
-use Rattle.region.proofs.cores_at.Tie as tie
+use Rattle.areas.proofs.cores_at.Statement.{statement}
+use Rattle.areas.proofs.cores_at.Tie as tie
 
 mul-cores : tie.Need-mul-cores
 mul-cores c = search needs
