@@ -23,7 +23,7 @@ use Rattle.finite.specs.Bounded.{least}
 use Rattle.sets.specs.Member.{has, pack, meets}
 use Rattle.stored.specs.Stored.{wonAt}
 use Rattle.theory.proofs.Around.{around-below}
-use Rattle.touring.specs.Column.{Fits, Column, BlockFits, Block}
+use Rattle.columns.specs.Column.{Fits, Column, BlockFits, Block}
 use Rattle.touring.specs.Goal.{passed}
 use Rattle.controller_rows.specs.declared.Size.{Size}
 use Rattle.controller_rows.specs.Writes.{first, more, Stays, base, Table, Row, Rows, settlesAt, homeAt, Plain, Plains, Away, Rest, Aimed, Aim, startOf, Start, Starts}

@@ -29,7 +29,7 @@ use Rattle.finite.specs.Bounded.{least}
 use Rattle.sets.specs.Member.{has, pack, meets}
 use Rattle.graphs.specs.Way.{prefer}
 use Rattle.stored.specs.Stored.{wonAt}
-use Rattle.touring.specs.Column.{Column, Block}
+use Rattle.columns.specs.Column.{Column, Block}
 use Rattle.touring.specs.Goal.{passed}
 use Rattle.controller_rows.specs.declared.Size.{Size}
 use Rattle.controller_rows.specs.Each.{Each}

@@ -52,7 +52,7 @@ pub fn write_row(room: &mut [u16], z: Size, o: OutState, j: InState, p: usize)
     ensures { λ r. ⌜ Row z (o .0) (j .0) p (now (room .entry)) (now (room .exit)) ⌝ }
 {
     let e = staying(p);
-    touring::column(room, base(z, o.0) + j.0, z.inputs, z.all, e.first, e.more);
+    columns::column(room, base(z, o.0) + j.0, z.inputs, z.all, e.first, e.more);
 }
 
 // The same for each input of a set.
@@ -61,7 +61,7 @@ pub fn write_rows(room: &mut [u16], z: Size, o: OutState, inputs: InSet, p: usiz
     ensures { λ r. ⌜ Rows z (o .0) (inputs .0) p (now (room .entry)) (now (room .exit)) ⌝ }
 {
     let e = staying(p);
-    touring::block(
+    columns::block(
         room,
         base(z, o.0),
         z.inputs,
@@ -89,5 +89,5 @@ pub fn write_aimed(
 {
     let c = touring::next_counter(z.counters, a, sets::member(goal.0, p));
     let e = p + 64 * c;
-    touring::block(room, base(z, o.0), z.inputs, inputs.0, which, e as u16, 0);
+    columns::block(room, base(z, o.0), z.inputs, inputs.0, which, e as u16, 0);
 }

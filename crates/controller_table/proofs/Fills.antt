@@ -23,7 +23,7 @@ use Rattle.filling.specs.Grows.{Right}
 use Rattle.filling.proofs.Grows.{grows-none, grows-more}
 use Rattle.theory.specs.Choice.{controllerRow}
 use Rattle.theory.specs.Entries.{entry, controllerCounters, controllerEntries}
-use Rattle.touring.specs.Column.{Agrees, Columned, BlockAgrees, Blocked, Block}
+use Rattle.columns.specs.Column.{Agrees, Columned, BlockAgrees, Blocked, Block}
 use Rattle.touring.specs.Goal.{passed}
 use Rattle.controller_rows.specs.declared.Size.{Size}
 use Rattle.controller_rows.specs.Each.{Each, none, hit, miss}

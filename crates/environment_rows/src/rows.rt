@@ -23,7 +23,7 @@ pub fn put(
     ensures { λ r. ⌜ Filled g (λ a h b. (a ≡ i .0) × (b ≡ o .0)) (now (room .entry)) (now (room .exit)) ⌝ }
 {
     let outputs = g.output.states;
-    touring::column(
+    columns::column(
         room,
         1 + i.0 * counters * outputs + o.0,
         outputs,
@@ -48,7 +48,7 @@ pub fn spread(
     ensures { λ r. ⌜ Filled g (λ a h b. (a ≡ i .0) × (has which h ≡ true) × (has (over .0) b ≡ true)) (now (room .entry)) (now (room .exit)) ⌝ }
 {
     let outputs = g.output.states;
-    touring::block(
+    columns::block(
         room,
         1 + i.0 * counters * outputs,
         outputs,

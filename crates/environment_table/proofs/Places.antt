@@ -36,7 +36,7 @@ use Rattle.theory.proofs.EnvironmentRow.{pushed}
 use Rattle.demands.proofs.Sizes.{environment-few}
 use Rattle.filling.specs.Grows.{Right}
 use Rattle.filling.proofs.Grows.{grows-none, grows-more}
-use Rattle.touring.specs.Column.{Fits, Agrees, Columned, Column, BlockFits, BlockAgrees, Blocked, Block}
+use Rattle.columns.specs.Column.{Fits, Agrees, Columned, Column, BlockFits, BlockAgrees, Blocked, Block}
 use Rattle.environment_table.specs.Table.{entriesOf, place, Roomy, Filled, Same, Spread}
 
 -- the length of the list, and what stands at the place of a row

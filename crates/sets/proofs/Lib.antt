@@ -4,3 +4,4 @@ pub mod Compare
 pub mod Collect
 pub mod Remove
 pub mod Visit
+pub mod Strip

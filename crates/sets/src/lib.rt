@@ -2,6 +2,7 @@
 ghost use mathlib.Core.Path.{_≡_};
 ghost use mathlib.Core.Bool.{not, _&&_, _||_};
 ghost use Prim.Native.Nat.{ℕ, _≤_, _<_};
+ghost use mathlib.Core.Logic.{_≢_};
 ghost use lib.Dec.{eqb, ltb};
 ghost use Rattle.finite.specs.Bounded.{least, count as members};
 ghost use Rattle.sets.specs.Member.{has, within as allBelow, empty, subset, meets as meet};
@@ -66,6 +67,14 @@ pub fn lowest(x: u64) -> usize
     ensures { λ r. ⌜ r ≡ least 64 (has x) ⌝ }
 {
     u64::trailing_zeros(x) as usize
+}
+
+// x without its lowest member: one less has that bit clear, the bits above it as they are.
+pub fn without_lowest(x: u64) -> u64
+    requires { ⌜ x ≢ 0 ⌝ }
+    ensures { λ r. ⌜ ((s : ℕ) → has r s ≡ (has x s && not (eqb s (least 64 (has x))))) ⌝ }
+{
+    x & (x - 1)
 }
 
 // How many states belong to x.

@@ -1,5 +1,3 @@
--- Laws of columns and of a tour's counters.
-pub mod Columns
+-- Laws of a tour's counters, and of its steps in words.
 pub mod Goal
 pub mod Tours
-pub mod Rows

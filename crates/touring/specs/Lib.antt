@@ -1,3 +1,2 @@
--- What the fillings of both tables share.
-pub mod Column
+-- The counters of a tour, for both sides.
 pub mod Goal

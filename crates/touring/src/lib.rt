@@ -1,79 +1,8 @@
-// What the fillings of both tables share: entries written for sets of counters, and the counters of a tour past sets. Nothing here knows of sides:
-// states, counters and sets are plain numbers and words.
+// The counters of a tour past sets, for both sides. Nothing here knows of sides: counters and sets are plain numbers and words.
 ghost use mathlib.Core.Path.{_≡_};
-ghost use Prim.Native.Nat.{ℕ, _+_, _<_};
-ghost use lib.ListN.{length};
+ghost use Prim.Native.Nat.{_<_};
 ghost use Rattle.sets.specs.Member.{pack};
-ghost use Rattle.touring.specs.Column.{Fits, Column, Run, RowFits, Row, BlockFits, Block};
 ghost use Rattle.touring.specs.Goal.{Goals, firstFrom, passed, aimedAt};
-
-// first + more × h at place base + step × h, for each h of the set `which`.
-pub fn column(room: &mut [u16], base: usize, step: usize, which: u64, first: u16, more: u16)
-    requires { ⌜ Fits (length (now room)) base step which first more ⌝ }
-    ensures { λ r. ⌜ Column (now (room .entry)) (now (room .exit)) base step which first more ⌝ }
-{
-    let mut rest = which;
-    while rest != 0 {
-        let h = sets::lowest(rest);
-        room[base + step * h] = first + more * (h as u16);
-        rest = sets::difference(rest, sets::insert(0, h));
-    }
-}
-
-// The value at the places from base on, width of them.
-fn run(room: &mut [u16], base: usize, width: usize, value: u16)
-    requires { ⌜ ((x : ℕ) → x < width → base + x < length (now room)) ⌝ }
-    ensures { λ r. ⌜ Run (now (room .entry)) (now (room .exit)) base width value width ⌝ }
-{
-    let mut x: usize = 0;
-    while x < width {
-        room[base + x] = value;
-        x += 1;
-    }
-}
-
-// The value at base + x for each x of the set `over`. Where that is all below width the places are one run.
-fn row(room: &mut [u16], base: usize, width: usize, over: u64, value: u16)
-    requires { ⌜ RowFits (length (now room)) base width over ⌝ }
-    ensures { λ r. ⌜ Row (now (room .entry)) (now (room .exit)) base over value ⌝ }
-{
-    if over == sets::below(width) {
-        run(room, base, width, value);
-        return;
-    }
-    column(room, base, 1, over, value, 0);
-}
-
-// Such a column at base + x for each x < width of the set `over`, with steps of width. Row by row, so that places follow one another.
-pub fn block(
-    room: &mut [u16],
-    base: usize,
-    width: usize,
-    over: u64,
-    which: u64,
-    first: u16,
-    more: u16,
-)
-    requires { ⌜ BlockFits (length (now room)) base width over which first more ⌝ }
-    ensures { λ r. ⌜ Block (now (room .entry)) (now (room .exit)) base width over which first more ⌝ }
-{
-    let inside = sets::intersection(over, sets::below(width));
-    if inside == 0 {
-        return;
-    }
-    let mut left = which;
-    while left != 0 {
-        let h = sets::lowest(left);
-        row(
-            room,
-            base + width * h,
-            width,
-            inside,
-            first + more * (h as u16),
-        );
-        left = sets::difference(left, sets::insert(0, h));
-    }
-}
 
 // The first member of q from g on, going round below count.
 pub fn goal_of(q: u64, count: usize, g: usize) -> usize

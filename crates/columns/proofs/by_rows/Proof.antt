@@ -1,4 +1,4 @@
--- `block` writes the row of the lowest counter that is left, until none is.
+-- `by_rows` writes the row of the lowest counter that is left, until none is.
 use Prim.Native.Nat.{_+_, _*_, _<_}
 use mathlib.Core.Path.{_≡_}
 use mathlib.Core.Bool.{true}
@@ -8,7 +8,7 @@ use native.Mathlib.Omega.{arith}
 use Rattle.finite.specs.Bounded.{count}
 use Rattle.sets.specs.Member.{has}
 use Rattle.sets.proofs.Visit.{lowest-below, lowest-in}
-use Rattle.touring.proofs.Rows.{
+use Rattle.columns.proofs.Rows.{
   Narrowed,
   narrow,
   row-fits,
@@ -21,8 +21,8 @@ use Rattle.touring.proofs.Rows.{
   rowing-end,
   block-none,
 }
-use Rattle.touring.proofs.block.Statement.{statement}
-use Rattle.touring.proofs.block.Tie as tie
+use Rattle.columns.proofs.by_rows.Statement.{statement}
+use Rattle.columns.proofs.by_rows.Tie as tie
 
 abbrev Inv-loop : tie.InvT-loop
 Inv-loop room₀ base width over which first more inside left₀ room left = Narrowed over width inside × Rowing room₀ room base width over which first more left
@@ -89,26 +89,22 @@ add-row-2 c = omega (arith, entry (c .before))
 row-requires : tie.Need-row-requires Inv-loop μ-loop
 row-requires c κs = row-fits _ _ _ _ _ _ _ _ (c .before .before .before .before .before .before .before .before .pre) (c .before .before .before .loop .inv .0) _ (member (c .before)) _ (c .before .before .before .loop .inv .1 .long)
 
-insert-requires : tie.Need-insert-requires Inv-loop μ-loop
-insert-requires c κs = below (c .before .before .before .before)
-
-difference-requires : tie.Need-difference-requires Inv-loop μ-loop
-difference-requires c κs = search needs
+without-lowest-requires : tie.Need-without-lowest-requires Inv-loop μ-loop
+without-lowest-requires c κs = c .before .before .before .before .before .loop-test .taken
 
 loop-less : tie.Need-loop-less Inv-loop μ-loop
 loop-less c =
-    let a = c .before .before .before .before .before .before in
+    let a = c .before .before .before .before .before in
     let b = a .before .before in
-    rowing-falls _ _ _ _ _ _ _ _ (b .loop .left) _ _ _ (b .loop .inv .1) (a .before .loop-test .taken) (a .lowest .ensures) (c .before .insert .ensures)
-    (c .difference .ensures)
+    rowing-falls _ _ _ _ _ _ _ _ (b .loop .left) _ _ (b .loop .inv .1) (a .before .loop-test .taken) (a .lowest .ensures) (c .without-lowest .ensures)
 
 loop-again : tie.Need-loop-again Inv-loop μ-loop
 loop-again c =
-    let a = c .before .before .before .before .before .before in
+    let a = c .before .before .before .before .before in
     let b = a .before .before in (
       b .loop .inv .0,
-      rowing-turn _ _ _ _ _ _ _ _ (b .loop .left) _ _ _ (b .loop .inv .1) (a .before .loop-test .taken) (a .lowest .ensures) (c .before .insert .ensures)
-          (c .difference .ensures) _ _ (b .loop .inv .0) (c .before .before .before .before .row .ensures) (omega (arith, c .difference .ok)),
+      rowing-turn _ _ _ _ _ _ _ _ (b .loop .left) _ _ (b .loop .inv .1) (a .before .loop-test .taken) (a .lowest .ensures) (c .without-lowest .ensures)
+          _ _ (b .loop .inv .0) (c .before .before .before .row .ensures) (omega (arith, c .without-lowest .ok)),
     )
 
 same-length : tie.Need-same-length Inv-loop μ-loop
@@ -117,8 +113,8 @@ same-length c = c .before .loop .inv .1 .long
 returns-2 : tie.Need-returns-2 Inv-loop μ-loop
 returns-2 c = rowing-end _ _ _ _ _ _ _ _ _ (c .before .loop .inv .1) (c .loop-test .left)
 
-pub block-spec : {M : Type 1} → statement M
-block-spec =
+pub by-rows-spec : {M : Type 1} → statement M
+by-rows-spec =
     tie.close
     (tie.spec
     Inv-loop
@@ -134,8 +130,7 @@ block-spec =
     mul-row-2
     add-row-2
     row-requires
-    insert-requires
-    difference-requires
+    without-lowest-requires
     loop-less
     loop-again
     same-length

@@ -1,10 +1,10 @@
 -- `run` writes the places below x.
 use Prim.Native.Nat.{_-_, _≤_}
 use native.Mathlib.Omega.{arith}
-use Rattle.touring.specs.Column.{Run}
-use Rattle.touring.proofs.Rows.{run-start, run-next, run-end}
-use Rattle.touring.proofs.run.Statement.{statement}
-use Rattle.touring.proofs.run.Tie as tie
+use Rattle.columns.specs.Column.{Run}
+use Rattle.columns.proofs.Rows.{run-start, run-next, run-end}
+use Rattle.columns.proofs.run.Statement.{statement}
+use Rattle.columns.proofs.run.Tie as tie
 
 abbrev Inv-loop : tie.InvT-loop
 Inv-loop room₀ base width value x₀ room x = (x ≤ width) × Run room₀ room base width value x

@@ -4,7 +4,7 @@
 --   columning-*       : how it begins, goes on and ends
 use Prim.Native.Nat.{ℕ, _+_, _*_, _<_, _≤_, _^_}
 use mathlib.Core.Path.{_≡_, refl, sym, _∙_, ap}
-use mathlib.Core.Bool.{true, false, _&&_, _||_, not}
+use mathlib.Core.Bool.{true, false, _&&_, not}
 use mathlib.Core.List.{List}
 use mathlib.Core.Logic.{_≢_}
 use native.Mathlib.Omega.{arith}
@@ -15,11 +15,11 @@ use Rattle.finite.specs.Bounded.{least, count}
 use Rattle.finite.proofs.Truth.{clash}
 use Rattle.sets.specs.Member.{has}
 use Rattle.sets.proofs.Membership.{has-zero}
-use Rattle.sets.proofs.Remove.{rest-in, rest-other, rest-falls}
+use Rattle.sets.proofs.Remove.{less-in, less-other, less-falls}
 use Rattle.sets.proofs.Visit.{lowest-below, lowest-in}
 use Rattle.filling.specs.Grows.{Right, Grows}
 use Rattle.filling.proofs.Grows.{grows-none, grows-more, grows-set, right-set}
-use Rattle.touring.specs.Column.{Agrees, Column}
+use Rattle.columns.specs.Column.{Agrees, Column}
 
 -- a column but for the counters of `rest`
 pub record Part (E l m : List ℕ) (base step which rest : ℕ) : Type 0 where
@@ -40,16 +40,18 @@ columning-start l base step which first more b = record {
   fills = λ E A n. record { grows = grows-none E l; right = λ h e f. clash e f };
 }
 
-module _ (l m : List ℕ) (base step which first more rest h r y : ℕ) (C : Columning l m base step which first more rest)
-    (ne : rest ≢ 0) (e : h ≡ least 64 (has rest))
-    (f : (s : ℕ) → has y s ≡ (has 0 s || eqb s h)) (d : (s : ℕ) → has r s ≡ (has rest s && not (has y s))) where
+module _ (l m : List ℕ) (base step which first more rest h r : ℕ) (C : Columning l m base step which first more rest)
+    (ne : rest ≢ 0) (e : h ≡ least 64 (has rest)) (d : (s : ℕ) → has r s ≡ (has rest s && not (eqb s (least 64 (has rest))))) where
+  less : (s : ℕ) → has r s ≡ (has rest s && not (eqb s h))
+  less s = d s ∙ ap (λ (k : ℕ). has rest s && not (eqb s k)) (sym e)
+
   pub column-member : has which h ≡ true
   column-member = C .inside h (lowest-in rest h (C .small) ne e)
 
   pub columning-turn : r < 2 ^ 64 → Columning l (set m (base + step * h) (first + more * h)) base step which first more r
   columning-turn small = record {
     long = length-set m (base + step * h) (first + more * h) ∙ C .long;
-    inside = λ s a. C .inside s (rest-in rest h r y f d s a);
+    inside = λ s a. C .inside s (less-in rest h r less s a);
     small = small;
     fills = fills;
   }
@@ -68,10 +70,10 @@ module _ (l m : List ℕ) (base step which first more rest h r y : ℕ) (C : Col
 
           right : (s : ℕ) → has which s ≡ true → has r s ≡ false → Dec (s ≡ h) → Right E (set m (base + step * h) (first + more * h)) (base + step * s)
           right s a b (yes q) = rw q (right-set E m (base + step * h) (first + more * h) below (A .entry h column-member))
-          right s a b (no q) = now .kept (base + step * s) (A .below s a) (p .right s a (sym (rest-other rest h r y f d s q) ∙ b))
+          right s a b (no q) = now .kept (base + step * s) (A .below s a) (p .right s a (sym (less-other rest h r less s q) ∙ b))
 
   pub column-falls : count 64 (has r) < count 64 (has rest)
-  column-falls = rest-falls rest h r y f d 64 (lowest-below rest h (C .small) ne e) (lowest-in rest h (C .small) ne e)
+  column-falls = less-falls rest h r less 64 (lowest-below rest h (C .small) ne e) (lowest-in rest h (C .small) ne e)
 
 pub columning-end : (l m : List ℕ) (base step which first more rest : ℕ) → Columning l m base step which first more rest → rest ≡ 0 → Column l m base step which first more
 columning-end l m base step which first more rest C e = record {

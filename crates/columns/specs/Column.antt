@@ -5,6 +5,7 @@
 --   Agrees E base step which first more            == E holds those entries at those places
 --   Columned E l m base step which                 == from l to m entries of E were written, those of the places among them
 --   Column l m base step which first more          == so it is for every such E
+--   FrontFits, FrontAgrees, Fronted, Front         == the same for each h below `done` of the h below a count
 --   Run l m base width value done                  == so it is of the value at the places base + x for x below `done`, where E holds it for x < width
 --   RowFits, Row                                   == the same of the value at base + x for each x of a set `over`
 --   BlockFits, BlockAgrees, Blocked, Block         == the same of columns at base + x for each x < width of a set `over`, with steps of width
@@ -31,6 +32,24 @@ pub record Columned (E l m : List ℕ) (base step which : ℕ) : Type 0 where
 pub record Column (l m : List ℕ) (base step which first more : ℕ) : Type 0 where
   pub long : length m ≡ length l
   pub fills : (E : List ℕ) → Agrees E base step which first more → length E ≤ length l → Columned E l m base step which
+
+pub record FrontFits (n base step count first more : ℕ) : Type 0 where
+  pub few : count ≤ 64
+  pub below : (h : ℕ) → h < count → base + step * h < n
+  pub small : (h : ℕ) → h < count → first + more * h < 65536
+
+-- E holds the entries of the h below the count
+pub record FrontAgrees (E : List ℕ) (base step count first more : ℕ) : Type 0 where
+  pub below : (h : ℕ) → h < count → base + step * h < length E
+  pub entry : (h : ℕ) → h < count → first + more * h ≡ getD E (base + step * h) 0
+
+pub record Fronted (E l m : List ℕ) (base step done : ℕ) : Type 0 where
+  pub grows : Grows E l m
+  pub right : (h : ℕ) → h < done → Right E m (base + step * h)
+
+pub record Front (l m : List ℕ) (base step count first more done : ℕ) : Type 0 where
+  pub long : length m ≡ length l
+  pub fills : (E : List ℕ) → FrontAgrees E base step count first more → Fronted E l m base step done
 
 -- E holds the value at base + x for x < width
 pub record RunAgrees (E : List ℕ) (base width value : ℕ) : Type 0 where

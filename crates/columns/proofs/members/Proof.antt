@@ -1,4 +1,4 @@
--- `column` writes the lowest counter that is left, until none is.
+-- `members` writes the lowest counter that is left, until none is.
 use Prim.Native.Nat.{_+_, _*_, _<_}
 use borrow.Author.Needs.{needs}
 use native.Mathlib.Omega.{arith}
@@ -7,10 +7,10 @@ use mathlib.Core.Bool.{true}
 use lib.ListN.{length}
 use Rattle.finite.specs.Bounded.{count}
 use Rattle.sets.specs.Member.{has}
-use Rattle.touring.proofs.Columns.{Columning, columning-start, columning-turn, columning-end, column-falls}
+use Rattle.columns.proofs.Columns.{Columning, columning-start, columning-turn, columning-end, column-falls}
 use Rattle.sets.proofs.Visit.{lowest-below, lowest-in}
-use Rattle.touring.proofs.column.Statement.{statement}
-use Rattle.touring.proofs.column.Tie as tie
+use Rattle.columns.proofs.members.Statement.{statement}
+use Rattle.columns.proofs.members.Tie as tie
 
 abbrev Inv-loop : tie.InvT-loop
 Inv-loop room₀ base step which first more rest₀ room rest = Columning room₀ room base step which first more rest
@@ -61,23 +61,20 @@ mul-room-3 c = omega (arith, place-below c)
 slice-write-room : tie.Need-slice-write-room Inv-loop μ-loop
 slice-write-room c = omega (arith, place-below c)
 
-insert-requires : tie.Need-insert-requires Inv-loop μ-loop
-insert-requires c κs = below c
-
-difference-requires : tie.Need-difference-requires Inv-loop μ-loop
-difference-requires c κs = search needs
+without-lowest-requires : tie.Need-without-lowest-requires Inv-loop μ-loop
+without-lowest-requires c κs = c .before .loop-test .taken
 
 loop-less : tie.Need-loop-less Inv-loop μ-loop
 loop-less c =
-    let b = c .before .before .before .before in
-    column-falls _ _ _ _ _ _ _ (b .loop .rest) _ _ _ (b .loop .inv) (c .before .before .before .loop-test .taken) (c .before .before .lowest .ensures)
-    (c .before .insert .ensures) (c .difference .ensures)
+    let b = c .before .before .before in
+    column-falls _ _ _ _ _ _ _ (b .loop .rest) _ _ (b .loop .inv) (c .before .before .loop-test .taken) (c .before .lowest .ensures)
+    (c .without-lowest .ensures)
 
 loop-again : tie.Need-loop-again Inv-loop μ-loop
 loop-again c =
-    let b = c .before .before .before .before in
-    columning-turn _ _ _ _ _ _ _ (b .loop .rest) _ _ _ (b .loop .inv) (c .before .before .before .loop-test .taken) (c .before .before .lowest .ensures)
-    (c .before .insert .ensures) (c .difference .ensures) (omega (arith, c .difference .ok))
+    let b = c .before .before .before in
+    columning-turn _ _ _ _ _ _ _ (b .loop .rest) _ _ (b .loop .inv) (c .before .before .loop-test .taken) (c .before .lowest .ensures)
+    (c .without-lowest .ensures) (omega (arith, c .without-lowest .ok))
 
 same-length : tie.Need-same-length Inv-loop μ-loop
 same-length c = c .before .loop .inv .long
@@ -85,8 +82,8 @@ same-length c = c .before .loop .inv .long
 returns : tie.Need-returns Inv-loop μ-loop
 returns c = columning-end _ _ _ _ _ _ _ _ (c .before .loop .inv) (c .loop-test .left)
 
-pub column-spec : {M : Type 1} → statement M
-column-spec =
+pub members-spec : {M : Type 1} → statement M
+members-spec =
     tie.close
     (tie.spec
     Inv-loop
@@ -100,8 +97,7 @@ column-spec =
     add-room-2
     mul-room-3
     slice-write-room
-    insert-requires
-    difference-requires
+    without-lowest-requires
     loop-less
     loop-again
     same-length

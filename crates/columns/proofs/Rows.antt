@@ -6,7 +6,7 @@
 --   rowing-*          : how it begins, goes on and ends
 use Prim.Native.Nat.{ℕ, _+_, _*_, _<_, _≤_, _^_}
 use mathlib.Core.Path.{_≡_, refl, sym, _∙_, ap}
-use mathlib.Core.Bool.{Bool, true, false, _&&_, _||_, not}
+use mathlib.Core.Bool.{Bool, true, false, _&&_, not}
 use mathlib.Core.List.{List}
 use mathlib.Core.Logic.{_≢_}
 use native.Mathlib.Omega.{arith}
@@ -19,10 +19,10 @@ use Rattle.finite.proofs.Truth.{clash, and-intro, and-left, and-right}
 use Rattle.sets.specs.Member.{has}
 use Rattle.sets.proofs.Membership.{has-zero}
 use Rattle.sets.proofs.Compare.{nonzero-below}
-use Rattle.sets.proofs.Remove.{rest-in, rest-other, rest-falls}
+use Rattle.sets.proofs.Remove.{less-in, less-other, less-falls}
 use Rattle.filling.specs.Grows.{Right, Grows}
 use Rattle.filling.proofs.Grows.{grows-none, grows-more, grows-set, right-set}
-use Rattle.touring.specs.Column.{
+use Rattle.columns.specs.Column.{
   Fits,
   Agrees,
   Column,
@@ -173,9 +173,11 @@ rowing-start l base width over which first more b = record {
   fills = λ E A n. record { grows = grows-none E l; right = λ x h lt o e f. clash e f };
 }
 
-module _ (l m : List ℕ) (base width over which first more left h r y : ℕ) (C : Rowing l m base width over which first more left)
-    (ne : left ≢ 0) (e : h ≡ least 64 (has left))
-    (f : (s : ℕ) → has y s ≡ (has 0 s || eqb s h)) (d : (s : ℕ) → has r s ≡ (has left s && not (has y s))) where
+module _ (l m : List ℕ) (base width over which first more left h r : ℕ) (C : Rowing l m base width over which first more left)
+    (ne : left ≢ 0) (e : h ≡ least 64 (has left)) (d : (s : ℕ) → has r s ≡ (has left s && not (eqb s (least 64 (has left))))) where
+  less : (s : ℕ) → has r s ≡ (has left s && not (eqb s h))
+  less s = d s ∙ ap (λ (k : ℕ). has left s && not (eqb s k)) (sym e)
+
   row-member : has which h ≡ true
   row-member = C .inside h (lowest-in left h (C .small) ne e)
 
@@ -183,7 +185,7 @@ module _ (l m : List ℕ) (base width over which first more left h r y : ℕ) (C
       → Rowing l k base width over which first more r
   rowing-turn k inside I R small = record {
     long = R .long ∙ C .long;
-    inside = λ s a. C .inside s (rest-in left h r y f d s a);
+    inside = λ s a. C .inside s (less-in left h r less s a);
     small = small;
     fills = fills;
   }
@@ -209,10 +211,10 @@ module _ (l m : List ℕ) (base width over which first more left h r y : ℕ) (C
           right : (x s : ℕ) → x < width → has over x ≡ true → has which s ≡ true → has r s ≡ false → Dec (s ≡ h) → Right E k (base + x + width * s)
           right x s lt o a q (yes t) = rw (t, sym (swap x h)) (now .right x (inside-in over width inside (I .is) x lt o))
           right x s lt o a q (no t) =
-              now .grows .kept (base + x + width * s) (A .columns x lt o .below s a) (p .right x s lt o a (sym (rest-other left h r y f d s t) ∙ q))
+              now .grows .kept (base + x + width * s) (A .columns x lt o .below s a) (p .right x s lt o a (sym (less-other left h r less s t) ∙ q))
 
   pub rowing-falls : count 64 (has r) < count 64 (has left)
-  rowing-falls = rest-falls left h r y f d 64 (lowest-below left h (C .small) ne e) (lowest-in left h (C .small) ne e)
+  rowing-falls = less-falls left h r less 64 (lowest-below left h (C .small) ne e) (lowest-in left h (C .small) ne e)
 
 pub rowing-end : (l m : List ℕ) (base width over which first more left : ℕ) → Rowing l m base width over which first more left → left ≡ 0
     → Block l m base width over which first more

@@ -1,0 +1,2 @@
+-- Entries written in columns and blocks.
+pub mod Column
