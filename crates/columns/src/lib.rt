@@ -68,7 +68,15 @@ fn row(room: &mut [u16], base: usize, width: usize, over: u64, value: u16)
 }
 
 // A column at base + x for each x < width of the set `over`, with steps of width: row by row, so that places follow one another.
-fn by_rows(room: &mut [u16], base: usize, width: usize, over: u64, which: u64, first: u16, more: u16)
+fn by_rows(
+    room: &mut [u16],
+    base: usize,
+    width: usize,
+    over: u64,
+    which: u64,
+    first: u16,
+    more: u16,
+)
     requires { ⌜ BlockFits (length (now room)) base width over which first more ⌝ }
     ensures { λ r. ⌜ Block (now (room .entry)) (now (room .exit)) base width over which first more ⌝ }
 {
@@ -91,7 +99,15 @@ fn by_rows(room: &mut [u16], base: usize, width: usize, over: u64, which: u64, f
 }
 
 // The same, column by column.
-fn by_columns(room: &mut [u16], base: usize, width: usize, over: u64, which: u64, first: u16, more: u16)
+fn by_columns(
+    room: &mut [u16],
+    base: usize,
+    width: usize,
+    over: u64,
+    which: u64,
+    first: u16,
+    more: u16,
+)
     requires { ⌜ BlockFits (length (now room)) base width over which first more ⌝ }
     ensures { λ r. ⌜ Block (now (room .entry)) (now (room .exit)) base width over which first more ⌝ }
 {
@@ -104,7 +120,15 @@ fn by_columns(room: &mut [u16], base: usize, width: usize, over: u64, which: u64
 }
 
 // The same, by columns where `over` has gaps and many counters follow one another from 0 on, as then a column is counted; else by rows.
-pub fn block(room: &mut [u16], base: usize, width: usize, over: u64, which: u64, first: u16, more: u16)
+pub fn block(
+    room: &mut [u16],
+    base: usize,
+    width: usize,
+    over: u64,
+    which: u64,
+    first: u16,
+    more: u16,
+)
     requires { ⌜ BlockFits (length (now room)) base width over which first more ⌝ }
     ensures { λ r. ⌜ Block (now (room .entry)) (now (room .exit)) base width over which first more ⌝ }
 {

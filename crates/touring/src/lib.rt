@@ -2,19 +2,7 @@
 ghost use mathlib.Core.Path.{_≡_};
 ghost use Prim.Native.Nat.{_<_};
 ghost use Rattle.sets.specs.Member.{pack};
-ghost use Rattle.touring.specs.Goal.{Goals, firstFrom, passed, aimedAt};
-
-// The first member of q from g on, going round below count.
-pub fn goal_of(q: u64, count: usize, g: usize) -> usize
-    requires { ⌜ Goals q count g ⌝ }
-    ensures { λ r. ⌜ r ≡ firstFrom count q g ⌝ }
-{
-    let later = sets::difference(q, sets::below(g));
-    if later != 0 {
-        return sets::lowest(later);
-    }
-    sets::lowest(q)
-}
+ghost use Rattle.touring.specs.Goal.{Goals, passed, Past, aimedAt};
 
 // The counter after a move towards goal a: past it where the move landed there.
 pub fn next_counter(count: usize, a: usize, landed: bool) -> usize
@@ -30,16 +18,29 @@ pub fn next_counter(count: usize, a: usize, landed: bool) -> usize
     0
 }
 
-// The counters below count whose goal is a.
+// The number just past the highest member of x; 0 for the empty set.
+fn past(x: u64) -> usize
+    ensures { λ r. ⌜ Past x r ⌝ }
+{
+    64 - u64::leading_zeros(x) as usize
+}
+
+// The counters below count whose goal is a: those up to a from just past the goal before it. Before the first goal, going round, is the last.
 pub fn counters_toward(q: u64, count: usize, a: usize) -> u64
     requires { ⌜ Goals q count 0 ⌝ }
     ensures { λ r. ⌜ r ≡ pack count (aimedAt count q a) ⌝ }
 {
-    let mut x: u64 = 0;
-    let mut h: usize = 0;
-    while h < count {
-        x = sets::insert_if(x, h, goal_of(q, count, h) == a);
-        h += 1;
+    if a >= count {
+        return 0;
     }
-    x
+    if !sets::member(q, a) {
+        return 0;
+    }
+    let upto = sets::below(a + 1);
+    let earlier = sets::intersection(q, sets::below(a));
+    if earlier != 0 {
+        return sets::difference(upto, sets::below(past(earlier)));
+    }
+    let round = sets::difference(sets::below(count), sets::below(past(q)));
+    sets::union(upto, round)
 }

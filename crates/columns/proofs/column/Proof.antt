@@ -1,7 +1,6 @@
 -- `column` is a front where the set is all below the count, else written member by member.
 use Prim.Native.Nat.{_≤_}
 use borrow.Author.Needs.{needs}
-use native.Mathlib.Omega.{arith}
 use Rattle.finite.proofs.Bounded.{least-le}
 use Rattle.columns.proofs.Fronts.{front-fits, front-column}
 use Rattle.columns.proofs.column.Statement.{statement}

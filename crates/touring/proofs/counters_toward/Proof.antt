@@ -1,57 +1,92 @@
--- `counters_toward` collects the counters below h.
-use Prim.Native.Nat.{_≤_, _-_}
-use mathlib.Core.Path.{_≡_}
+-- `counters_toward`: where a is a goal, its counters in words.
+use borrow.Author.Needs.{needs}
 use native.Mathlib.Omega.{arith}
-use Rattle.sets.specs.Member.{pack}
-use Rattle.sets.proofs.Collect.{collect-none, collect-next, collect-end}
-use Rattle.touring.specs.Goal.{aimedAt}
-use Rattle.touring.proofs.Goal.{goals-at, aimed-at}
+use mathlib.Core.Path.{sym, _∙_}
+use Rattle.finite.proofs.Truth.{not-true, not-false}
+use Rattle.touring.proofs.Aims.{aimed-none, aimed-past, aimed-after, aimed-round}
 use Rattle.touring.proofs.counters_toward.Statement.{statement}
 use Rattle.touring.proofs.counters_toward.Tie as tie
 
-abbrev Inv-loop : tie.InvT-loop
-Inv-loop q count a x₀ h₀ x h = (h ≤ count) × (x ≡ pack h (aimedAt count q a))
+returns : tie.Need-returns
+returns c = aimed-past _ _ _ (c .before .pre) (c .if1 .taken)
 
-abbrev μ-loop : tie.MeasureT-loop
-μ-loop q count a x₀ h₀ x h = count - h
+member-requires : tie.Need-member-requires
+member-requires c κs = omega (arith, c .before .pre .few)
 
-loop-holds : tie.Need-loop-holds Inv-loop μ-loop
-loop-holds c = (omega arith, collect-none _)
+returns-2 : tie.Need-returns-2
+returns-2 c = aimed-none _ _ _ (c .before .before .before .pre) (sym (c .before .member .ensures) ∙ not-true _ (c .if2 .taken))
 
-goal-of-requires : tie.Need-goal-of-requires Inv-loop μ-loop
-goal-of-requires c κs = goals-at _ _ _ _ (c .before .before .pre) (c .loop-test .taken)
+add-below : tie.Need-add-below
+add-below c = omega (arith, c .before .before .before .pre .few, c .before .before .if1 .left)
 
-insert-if-requires : tie.Need-insert-if-requires Inv-loop μ-loop
-insert-if-requires c κs = omega arith
+below-requires : tie.Need-below-requires
+below-requires c κs = omega (arith, c .before .before .before .pre .few, c .before .before .if1 .left)
 
-add-h : tie.Need-add-h Inv-loop μ-loop
-add-h c = omega arith
+below-requires-2 : tie.Need-below-requires-2
+below-requires-2 c κs = omega (arith, c .before .before .before .before .pre .few, c .before .before .before .if1 .left)
 
-loop-less : tie.Need-loop-less Inv-loop μ-loop
-loop-less c = omega arith
+intersection-requires : tie.Need-intersection-requires
+intersection-requires c κs = search needs
 
-loop-again : tie.Need-loop-again Inv-loop μ-loop
-loop-again c =
-    let b = c .before .before .before in
-    let a = b .before .args in (
-      omega arith,
-      collect-next _ (b .loop .h) (b .loop .x) (c .insert-if .result) _ (b .loop .inv .1)
-          (aimed-at (a .count) (a .q) (a .a) (b .loop .h) (c .before .goal-of .result) (c .before .goal-of .ensures)) (c .insert-if .ensures),
-    )
+past-requires : tie.Need-past-requires
+past-requires c κs = search needs
 
-returns : tie.Need-returns Inv-loop μ-loop
-returns c = collect-end _ (c .before .loop .h) _ _ (omega arith) (omega arith) (c .before .loop .inv .1)
+below-requires-3 : tie.Need-below-requires-3
+below-requires-3 c κs = c .past .ensures .few
+
+difference-requires : tie.Need-difference-requires
+difference-requires c κs = search needs
+
+returns-3 : tie.Need-returns-3
+returns-3 c =
+    let e = c .before .before .before .before in
+    let w = e .before .before in
+    let i = sym (w .before .before .member .ensures) ∙ not-false _ (w .before .if2 .left) in
+    aimed-after _ _ _ (w .before .before .before .before .pre) _ _ _ _ i (w .below .ensures) (e .before .below2 .ensures) (e .intersection .ensures) _ _
+    (c .before .before .before .if3 .taken) (c .before .before .past .ensures) (c .before .below3 .ensures) (c .difference .ensures)
+
+below-requires-4 : tie.Need-below-requires-4
+below-requires-4 c κs = c .before .before .before .before .before .before .before .pre .few
+
+past-requires-2 : tie.Need-past-requires-2
+past-requires-2 c κs = search needs
+
+below-requires-5 : tie.Need-below-requires-5
+below-requires-5 c κs = c .past2 .ensures .few
+
+difference-requires-2 : tie.Need-difference-requires-2
+difference-requires-2 c κs = search needs
+
+union-requires : tie.Need-union-requires
+union-requires c κs = search needs
+
+returns-4 : tie.Need-returns-4
+returns-4 c =
+    let e = c .before .before .before .before .before .before in
+    let w = e .before .before in
+    let i = sym (w .before .before .member .ensures) ∙ not-false _ (w .before .if2 .left) in
+    aimed-round _ _ _ (w .before .before .before .before .pre) _ _ _ _ i (w .below .ensures) (e .before .below2 .ensures) (e .intersection .ensures) _ _ _ _
+    (c .before .before .before .before .before .if3 .left) (c .before .before .before .past2 .ensures) (c .before .before .below5 .ensures)
+    (c .before .before .before .before .below4 .ensures) (c .before .difference2 .ensures) (c .union .ensures)
 
 pub counters-toward-spec : {M : Type 1} → statement M
 counters-toward-spec =
     tie.close
     (tie.spec
-    Inv-loop
-    μ-loop
-    loop-holds
-    goal-of-requires
-    insert-if-requires
-    add-h
-    loop-less
-    loop-again
-    returns)
+    returns
+    member-requires
+    returns-2
+    add-below
+    below-requires
+    below-requires-2
+    intersection-requires
+    past-requires
+    below-requires-3
+    difference-requires
+    returns-3
+    below-requires-4
+    past-requires-2
+    below-requires-5
+    difference-requires-2
+    union-requires
+    returns-4)

@@ -1,0 +1,208 @@
+-- The counters whose goal is a, in words.
+--
+--   past-word               : the length of a word in digits is the number just past its highest member
+--   aimed-none              : no counter, where a is no goal
+--   aimed-after             : from just past the goal before a up to a, where there is one
+--   aimed-round             : else up to a, and from just past the last goal on
+use Prim.Native.Nat.{ℕ, suc, _+_, _*_, _-_, _≤_, _<_, _^_}
+use mathlib.Core.Path.{_≡_, refl, sym, _∙_, ap, ap₂}
+use mathlib.Core.Bool.{true, false, _&&_, _||_, not}
+use mathlib.Core.Logic.{_⊎_, inl, inr, _≢_}
+use native.Mathlib.Omega.{arith}
+use native.Mathlib.Decide.{ℕ-discrete, decLt}
+use lib.Dec.{ltb}
+use native.Mathlib.Nat.{pow-suc}
+use lib.Count.{leadingZeros, leading-of-zero, leading-top}
+use borrow.Author.Tests.{lt-ltb, le-ltb, ltb-true, ltb-false, eq-eqb, eqb-true}
+use Rattle.finite.specs.Bounded.{least}
+use Rattle.finite.proofs.Truth.{clash, false-of, same-test, and-intro, and-left, and-right, or-left, or-right, or-cases, not-true}
+use Rattle.finite.proofs.Bounded.{least-below, least-before}
+use Rattle.sets.specs.Member.{has, pack}
+use Rattle.sets.proofs.Membership.{ext, has-zero, has-lt, has-pack, has-block-high, within-has}
+use Rattle.sets.proofs.Compare.{nonzero-member}
+use Rattle.theory.specs.Tour.{around}
+use Rattle.theory.proofs.Around.{around-cases, distance, distance-below, around-distance}
+use Rattle.touring.specs.Goal.{Goals, firstFrom, Past, aimedAt}
+use Rattle.touring.proofs.Goal.{first-is, first-member, goals-at}
+
+-- ---- just past the highest member
+
+one-in : has 1 0 ≡ true
+unfolding has
+one-in = refl
+
+pub past-word : (x : ℕ) → x < 2 ^ 64 → Past x (64 - leadingZeros 64 x)
+past-word x b = go (ℕ-discrete x 0)
+  where
+    go : Dec (x ≡ 0) → Past x (64 - leadingZeros 64 x)
+    go (yes e) =
+        let z : leadingZeros 64 x ≡ 64 = ap (leadingZeros 64) e ∙ leading-of-zero 64 in record {
+          few = omega arith;
+          members = λ s m. clash m (ap (λ (k : ℕ). has k s) e ∙ has-zero s);
+          last = λ s q. absurd (omega arith);
+        }
+    go (no n) =
+        let t = leading-top 64 x (omega arith) b in record {
+          few = omega arith;
+          members = λ s m. let l = has-lt (suc (t .0)) x s (t .3) m in omega (arith, t .1);
+          last = λ s q. let e : s ≡ t .0 = omega (arith, t .1) in rw e (top (t .0) (t .2) (t .3));
+        }
+      where
+        top : (j : ℕ) → 2 ^ j ≤ x → x < 2 ^ suc j → has x j ≡ true
+        top j l h =
+            let z : j ≡ j + 0 = omega arith in
+            let d : 2 ^ suc j ≡ 2 ^ j * 2 = pow-suc 2 j in
+            let e : x ≡ 1 * 2 ^ j + (x - 2 ^ j) = omega arith in
+            ap₂ has e z ∙ has-block-high j 1 (x - 2 ^ j) 0 (omega arith) ∙ one-in
+
+-- ---- the first member from h on is a: nothing lies between
+
+module _ (m q h a t : ℕ) (G : Goals q m h) (e : firstFrom m q h ≡ a) (n : has q t ≡ true) where
+  steps : ℕ
+  steps = least m (λ k. has q (around m h k))
+
+  steps-below : steps < m
+  unfolding steps
+  steps-below =
+      let b = within-has q m t (G .members) n in
+      least-below m (λ k. has q (around m h k)) (distance m h t) (distance-below m h t (G .below) b)
+      (ap (has q) (around-distance m h t (G .below) b) ∙ n)
+
+  steps-at : around m h steps ≡ a
+  unfolding firstFrom steps
+  steps-at = e
+
+  steps-none : (k : ℕ) → k < steps → around m h k ≡ t → ⊥
+  unfolding steps
+  steps-none k b z = clash (ap (has q) z ∙ n) (least-before m (λ j. has q (around m h j)) k b)
+
+  t-below : t < m
+  t-below = within-has q m t (G .members) n
+
+  -- ahead of h without going round, and a further ahead
+  pub not-between : h ≤ t → t < a → ⊥
+  not-between l b =
+      steps-none (t - h)
+      (elim (around-cases m h steps) [ inl c ↦ omega (arith, steps-at) | inr c ↦ omega (arith, steps-at, t-below) ])
+      (elim (around-cases m h (t - h)) [ inl c ↦ omega arith | inr c ↦ omega (arith, t-below) ])
+
+  -- ahead of h, and a behind it
+  pub not-ahead : a < h → h ≤ t → ⊥
+  not-ahead l b =
+      steps-none (t - h)
+      (elim (around-cases m h steps) [ inl c ↦ omega (arith, steps-at) | inr c ↦ omega (arith, steps-at, t-below) ])
+      (elim (around-cases m h (t - h)) [ inl c ↦ omega arith | inr c ↦ omega (arith, t-below) ])
+
+  -- behind h, and a between
+  pub not-behind : a < h → t < a → ⊥
+  not-behind l b =
+      steps-none (t + m - h)
+      (elim (around-cases m h steps) [ inl c ↦ omega (arith, steps-at) | inr c ↦ omega (arith, steps-at, G .below) ])
+      (elim (around-cases m h (t + m - h)) [ inl c ↦ omega (arith, G .below) | inr c ↦ omega (arith, G .below) ])
+
+-- the goal of h is a, where that is a member and none lies between
+pub first-upto : (m q h a : ℕ) → h ≤ a → a < m → has q a ≡ true → ((t : ℕ) → h ≤ t → t < a → has q t ≡ false) → firstFrom m q h ≡ a
+first-upto m q h a l b n f =
+    first-is m q h a (a - h) (omega arith) (elim (around-cases m h (a - h)) [ inl c ↦ omega arith | inr c ↦ omega arith ]) n
+    (λ k d. elim (around-cases m h k) [ inl c ↦ f (around m h k) (omega arith) (omega arith) | inr c ↦ absurd (omega arith) ])
+
+pub first-round : (m q h a : ℕ) → a < h → h < m → has q a ≡ true → ((t : ℕ) → h ≤ t → has q t ≡ false) → ((t : ℕ) → t < a → has q t ≡ false) → firstFrom m q h ≡ a
+first-round m q h a l b n f g =
+    first-is m q h a (a + m - h) (omega arith) (elim (around-cases m h (a + m - h)) [ inl c ↦ omega arith | inr c ↦ omega arith ]) n
+    (λ k d. elim (around-cases m h k) [ inl c ↦ f (around m h k) (omega arith) | inr c ↦ g (around m h k) (omega arith) ])
+
+-- ---- the word of the counters
+
+module _ (m q a : ℕ) (G : Goals q m 0) where
+  aimed-same : (r : ℕ) → ((s : ℕ) → has r s ≡ true → (s < m) × (firstFrom m q s ≡ a)) → ((s : ℕ) → s < m → firstFrom m q s ≡ a → has r s ≡ true)
+      → r ≡ pack m (aimedAt m q a)
+  unfolding aimedAt
+  aimed-same r to of = ext r (pack m (aimedAt m q a)) (λ s. same-test (has r s) (has (pack m (aimedAt m q a)) s) (there s) (back s))
+    where
+      there : (s : ℕ) → has r s ≡ true → has (pack m (aimedAt m q a)) s ≡ true
+      there s e = let w = to s e in has-pack m (aimedAt m q a) s ∙ and-intro (lt-ltb s m (w .0)) (eq-eqb (firstFrom m q s) a (w .1))
+
+      back : (s : ℕ) → has (pack m (aimedAt m q a)) s ≡ true → has r s ≡ true
+      back s e =
+          let w : (ltb s m && aimedAt m q a s) ≡ true = sym (has-pack m (aimedAt m q a) s) ∙ e in
+          of s (ltb-true s m (and-left (ltb s m) (aimedAt m q a s) w)) (eqb-true (firstFrom m q s) a (and-right (ltb s m) (aimedAt m q a s) w))
+
+  goal-in : (s : ℕ) → s < m → firstFrom m q s ≡ a → has q a ≡ true
+  goal-in s b e = ap (has q) (sym e) ∙ first-member q m s (goals-at q m 0 s G b)
+
+  pub aimed-none : has q a ≡ false → 0 ≡ pack m (aimedAt m q a)
+  aimed-none n = aimed-same 0 (λ s e. clash e (has-zero s)) (λ s b e. clash (goal-in s b e) n)
+
+  pub aimed-past : m ≤ a → 0 ≡ pack m (aimedAt m q a)
+  aimed-past b = aimed-none (false-of (has q a) (λ e. let l = within-has q m a (G .members) e in omega arith))
+
+  -- upto has the numbers up to a, low those below a, earlier what q has of them
+  module _ (upto low earlier b : ℕ) (i : has q a ≡ true) (u : (s : ℕ) → has upto s ≡ ltb s (a + 1)) (lo : (s : ℕ) → has low s ≡ ltb s a)
+      (ea : (s : ℕ) → has earlier s ≡ (has q s && has low s)) where
+    a-below : a < m
+    a-below = within-has q m a (G .members) i
+
+    earlier-in : (s : ℕ) → has earlier s ≡ true → (has q s ≡ true) × (s < a)
+    earlier-in s e = (and-left (has q s) (has low s) (sym (ea s) ∙ e), ltb-true s a (sym (lo s) ∙ and-right (has q s) (has low s) (sym (ea s) ∙ e)))
+
+    into-earlier : (s : ℕ) → has q s ≡ true → s < a → has earlier s ≡ true
+    into-earlier s e l = ea s ∙ and-intro e (lo s ∙ lt-ltb s a l)
+
+    pub aimed-after : (p r : ℕ) → earlier ≢ 0 → Past earlier p → ((s : ℕ) → has b s ≡ ltb s p) → ((s : ℕ) → has r s ≡ (has upto s && not (has b s)))
+        → r ≡ pack m (aimedAt m q a)
+    aimed-after p r ne P bp d = aimed-same r to of
+      where
+        last : (has q (p - 1) ≡ true) × (p - 1 < a) × (0 < p)
+        last =
+            let v = nonzero-member earlier ne in
+            let l = P .members (v .0) (v .1) in
+            let w = earlier-in (p - 1) (P .last (p - 1) (omega arith)) in (w .0, w .1, omega arith)
+
+        to : (s : ℕ) → has r s ≡ true → (s < m) × (firstFrom m q s ≡ a)
+        to s e =
+            let x : (has upto s && not (has b s)) ≡ true = sym (d s) ∙ e in
+            let l = ltb-true s (a + 1) (sym (u s) ∙ and-left (has upto s) (not (has b s)) x) in
+            let g = ltb-false s p (sym (bp s) ∙ not-true (has b s) (and-right (has upto s) (not (has b s)) x)) in (
+              omega (arith, a-below),
+              first-upto m q s a (omega arith) a-below i
+                  (λ t c k. false-of (has q t) (λ h. let y = P .members t (into-earlier t h k) in omega arith)),
+            )
+
+        of : (s : ℕ) → s < m → firstFrom m q s ≡ a → has r s ≡ true
+        of s l e =
+            d s
+            ∙ and-intro
+            (u s ∙ lt-ltb s (a + 1) (elim (decLt a s) [ yes c ↦ absurd (not-behind m q s a (p - 1) (goals-at q m 0 s G l) e (last .0) c (last .1)) | no c ↦ omega arith ]))
+            (ap not (bp s ∙ le-ltb s p (elim (decLt s p) [ yes c ↦ absurd (not-between m q s a (p - 1) (goals-at q m 0 s G l) e (last .0) (omega arith) (last .1)) | no c ↦ omega arith ])))
+
+    pub aimed-round : (p all round r : ℕ) → earlier ≡ 0 → Past q p → ((s : ℕ) → has b s ≡ ltb s p) → ((s : ℕ) → has all s ≡ ltb s m)
+        → ((s : ℕ) → has round s ≡ (has all s && not (has b s))) → ((s : ℕ) → has r s ≡ (has upto s || has round s)) → r ≡ pack m (aimedAt m q a)
+    aimed-round p all round r z P bp al d un = aimed-same r to of
+      where
+        none : (t : ℕ) → t < a → has q t ≡ false
+        none t l = false-of (has q t) (λ h. clash (into-earlier t h l) (ap (λ (k : ℕ). has k t) z ∙ has-zero t))
+
+        a-past : a < p
+        a-past = P .members a i
+
+        to : (s : ℕ) → has r s ≡ true → (s < m) × (firstFrom m q s ≡ a)
+        to s e = go (or-cases (has upto s) (has round s) (sym (un s) ∙ e))
+          where
+            go : (has upto s ≡ true) ⊎ (has round s ≡ true) → (s < m) × (firstFrom m q s ≡ a)
+            go (inl x) =
+                let l = ltb-true s (a + 1) (sym (u s) ∙ x) in
+                (omega (arith, a-below), first-upto m q s a (omega arith) a-below i (λ t c k. none t k))
+            go (inr x) =
+                let y : (has all s && not (has b s)) ≡ true = sym (d s) ∙ x in
+                let l = ltb-true s m (sym (al s) ∙ and-left (has all s) (not (has b s)) y) in
+                let g = ltb-false s p (sym (bp s) ∙ not-true (has b s) (and-right (has all s) (not (has b s)) y)) in
+                (l, first-round m q s a (omega (arith, a-past)) l i (λ t c. false-of (has q t) (λ h. let k = P .members t h in omega arith)) none)
+
+        of : (s : ℕ) → s < m → firstFrom m q s ≡ a → has r s ≡ true
+        of s l e = go (decLt a s) (decLt s p)
+          where
+            go : Dec (a < s) → Dec (s < p) → has r s ≡ true
+            go (no c) k = un s ∙ or-left (has round s) (u s ∙ lt-ltb s (a + 1) (omega arith))
+            go (yes c) (yes k) =
+                absurd (not-ahead m q s a (p - 1) (goals-at q m 0 s G l) e (P .last (p - 1) (omega arith)) c (omega arith))
+            go (yes c) (no k) = un s ∙ or-right (has upto s) (d s ∙ and-intro (al s ∙ lt-ltb s m l) (ap not (bp s ∙ le-ltb s p (omega arith))))
