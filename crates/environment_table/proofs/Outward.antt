@@ -1,14 +1,16 @@
 -- Ways out of a component in words.
 --
---   lost-at, exits-at, way-open, way-next : the loops and tests
---   Words              == what is worked out for the component c, whose number is k, and output o
+--   lost-at, lost-all, exits-all, way-open, way-next : the loops and tests
+--   no-ways, known-ways : ways to no gates, and to gates that are the same
+--   leaves-within      : what the moves out of the component enter are inputs
+--   Words              == what is worked out for the component c, whose number is k and whose moves out enter x, and output o
 --   no-gates           : without gates the component tours
 --   gates-within       : gates are states
 --   rows-outward       : with gates, the rows
 --   same-outward       : what they ask of the entries
 --   whole-*            : the states of the component
 --   escape-won, escape-tours, escape-leaves : what one output's part ensures
-use Prim.Native.Nat.{ℕ, _+_, _*_, _<_}
+use Prim.Native.Nat.{ℕ, zero, suc, _+_, _*_, _<_}
 use mathlib.Core.Path.{_≡_, refl, sym, _∙_, ap, subst, fun-ext}
 use mathlib.Core.Bool.{Bool, true, false, _&&_, not}
 use mathlib.Core.List.{List}
@@ -19,14 +21,15 @@ use lib.Bits.{bitAnd}
 use Rattle.finite.specs.Bounded.{any, least}
 use Rattle.finite.proofs.Truth.{decide, clash, and-intro, and-left, and-right, and-false-left, and-false-right, not-true, same-test, false-of}
 use Rattle.finite.proofs.Bounded.{any-intro, any-elim, any-none, least-member, least-before, least-found, least-unique}
-use Rattle.sets.specs.Member.{has, pack, meets}
+use Rattle.sets.specs.Member.{has, pack, within, meets}
 use Rattle.sets.proofs.Membership.{has-zero, has-and, has-pack-below, has-within}
 use Rattle.sets.proofs.Compare.{meets-intro, meets-elim, nonzero-member}
 use Rattle.graphs.specs.Component.{joined, number, nontrivial}
-use Rattle.graphs.specs.Way.{toward}
+use Rattle.graphs.specs.Way.{near, toward}
 use Rattle.graphs.proofs.Graph.{edge-to}
 use Rattle.graphs.proofs.Component.{joined-to, joined-self, joined-same, number-same, nontrivial-same}
-use Rattle.graphs.proofs.Way.{Leads}
+use Rattle.graphs.proofs.Way.{Leads, near-zero, near-cases}
+use Rattle.ways.specs.Kept.{kept}
 use Rattle.ways.specs.Search.{Toward, Bounds}
 use Rattle.ways.proofs.Kept.{pack-below, pack-holds, toward-along}
 use Rattle.game.specs.declared.Game.{Game}
@@ -39,10 +42,11 @@ use Rattle.theory.specs.Entries.{entry}
 use Rattle.theory.proofs.Delay.{region-same}
 use Rattle.theory.proofs.EnvironmentRow.{lost-edge, lost-apart, lost-region, gate-joined, gate-out, gate-intro, escapes-same, row-lost, pushing-nontrivial, pressing-escapes, outward-here, outward-on, gate-leads}
 use Rattle.touring.proofs.Tours.{inside-kept, comp-has}
+use Rattle.components.specs.Component.{enters}
 use Rattle.stored.specs.Stored.{wonAt}
 use Rattle.environment_table.specs.Table.{Known, Same, Filled}
 use Rattle.environment_table.specs.Reading.{lostAt}
-use Rattle.environment_table.specs.Pressing.{Whole, Outward, Escape, exitsAt, wayFrom, leavingAt, touringAt}
+use Rattle.environment_table.specs.Pressing.{Whole, Leaves, Outward, Escape, lostIn, exitsAt, wayFrom, leavingAt, touringAt}
 use Rattle.environment_table.proofs.Places.{filled-none, filled-same}
 use Rattle.environment_table.proofs.Known.{known-won, input-edge}
 
@@ -52,9 +56,27 @@ pub lost-at : (l : List ℕ) (n cores o j : ℕ) {b : Bool} → b ≡ wonAt l n 
 unfolding lostAt
 lost-at l n cores o j e = ap not e
 
-pub exits-at : (moves : List ℕ) (out k : ℕ) {b : Bool} → b ≡ meets 64 (getD moves k 0) out → b ≡ exitsAt moves out k
+pub lost-all : (l : List ℕ) (n cores x o : ℕ) {y : ℕ} → y ≡ pack n (λ j. has x j && lostAt l n cores o j) → y ≡ pack n (lostIn l n cores x o)
+unfolding lostIn
+lost-all l n cores x o e = e
+
+pub exits-all : (moves : List ℕ) (c out : ℕ) {y : ℕ} → y ≡ pack 64 (λ k. has c k && meets 64 (getD moves k 0) out) → y ≡ pack 64 (exitsAt moves c out)
 unfolding exitsAt
-exits-at moves out k e = e
+exits-all moves c out e = e
+
+no-near : (n : ℕ) (r : ℕ → ℕ → Bool) (k s : ℕ) → near n r (has 0) k s ≡ true → ⊥
+no-near n r zero s e = clash (near-zero n r (has 0) s e) (has-zero s)
+no-near n r (suc k) s e =
+    elim (near-cases n r (has 0) k s e) [
+      | inl a ↦ no-near n r k s a
+      | inr a ↦ no-near n r k (a .0) (a .3)
+    ]
+
+pub no-ways : (rows : List ℕ) (n c : ℕ) (next : List ℕ) → Toward rows n c 0 next
+no-ways rows n c next = record { moves = λ s b w. absurd (no-near n (kept rows c) (w .moves) (w .next) (w .way)) }
+
+pub known-ways : (rows : List ℕ) (n c : ℕ) (next : List ℕ) {x y : ℕ} → x ≡ y → Toward rows n c x next → Toward rows n c y next
+known-ways rows n c next e = subst (λ (z : ℕ). Toward rows n c z next) e
 
 pub way-open : (row out next j : ℕ) → meets 64 row out ≡ true → j ≡ least 64 (has (bitAnd row out)) → j ≡ wayFrom row out next
 unfolding wayFrom
@@ -94,38 +116,62 @@ module _ (g : Game) (c k : ℕ) (W : Whole g c k) where
   pub whole-of : (a : ℕ) → joined (graphOf (g .input)) k a ≡ true → has c a ≡ true
   whole-of a e = ap (λ (p : ℕ → Bool). p a) whole-has ∙ e
 
--- what is worked out for an output: all that is lost with it, what of that lies outside, the states with an exit there, the gates
-pub record Words (g : Game) (s : List ℕ) (cores c o all out ways gates : ℕ) : Type 0 where
-  pub lost : all ≡ pack (g .input .states) (lostAt s (g .input .states) cores o)
-  pub outside : (t : ℕ) → has out t ≡ (has all t && not (has c t))
-  pub exits : ways ≡ pack (g .input .states) (exitsAt (g .input .moves) out)
-  pub gate : (t : ℕ) → has gates t ≡ (has ways t && has c t)
+-- the inputs that moves out of the component enter are inputs
+pub leaves-within : (g : Game) (s : List ℕ) (cores : ℕ) → Known g s cores → (c x : ℕ) → Leaves g c x → within x (g .input .states) ≡ true
+unfolding enters separatedOf graphOf
+leaves-within g s cores K c x L = has-within x (g .input .states) below
+  where
+    below : (t : ℕ) → has x t ≡ true → t < g .input .states
+    below t e =
+        let v =
+        any-elim (g .input .states) (λ k. has c k && has (getD (g .input .moves) k 0) t)
+        (and-left (enters (g .input .moves) c (g .input .states) t) (not (has c t)) (sym (L .entered t) ∙ e))
+        in
+        edge-to (graphOf (g .input)) (v .0) t
+        (sym (input-edge g s cores K (v .0) t (v .1)) ∙ and-right (has c (v .0)) (has (getD (g .input .moves) (v .0) 0) t) (v .2))
 
-module _ (g : Game) (s : List ℕ) (cores : ℕ) (K : Known g s cores) (c k : ℕ) (W : Whole g c k) (o : ℕ) (lo : o < g .output .states)
-    (all out ways gates : ℕ) (D : Words g s cores c o all out ways gates) where
+-- what is worked out for an output: of what the moves out of the component enter, all that is lost with it; the gates to that
+pub record Words (g : Game) (s : List ℕ) (cores c x o out gates : ℕ) : Type 0 where
+  pub lost : out ≡ pack (g .input .states) (lostIn s (g .input .states) cores x o)
+  pub gate : gates ≡ pack 64 (exitsAt (g .input .moves) c out)
+
+module _ (g : Game) (s : List ℕ) (cores : ℕ) (K : Known g s cores) (c k : ℕ) (W : Whole g c k) (x : ℕ) (L : Leaves g c x) (o : ℕ) (lo : o < g .output .states)
+    (out gates : ℕ) (D : Words g s cores c x o out gates) where
   out-below : (t : ℕ) → has out t ≡ true → t < g .input .states
   out-below t e =
-      pack-below (g .input .states) (lostAt s (g .input .states) cores o) t
-      (ap (λ (x : ℕ). has x t) (sym (D .lost)) ∙ and-left (has all t) (not (has c t)) (sym (D .outside t) ∙ e))
+      pack-below (g .input .states) (lostIn s (g .input .states) cores x o) t (ap (λ (y : ℕ). has y t) (sym (D .lost)) ∙ e)
 
-  all-at : (t : ℕ) → t < g .input .states → has all t ≡ not (region (separatedOf g) t o)
-  unfolding lostAt
-  all-at t b =
-      ap (λ (x : ℕ). has x t) (D .lost)
-      ∙ has-pack-below (g .input .states) (lostAt s (g .input .states) cores o) t b ∙ ap not (known-won g s cores K t o b lo)
+  out-at : (t : ℕ) → t < g .input .states → has out t ≡ (has x t && not (region (separatedOf g) t o))
+  unfolding lostIn lostAt
+  out-at t b =
+      ap (λ (y : ℕ). has y t) (D .lost)
+      ∙ has-pack-below (g .input .states) (lostIn s (g .input .states) cores x o) t b
+      ∙ ap (λ (y : Bool). has x t && not y) (known-won g s cores K t o b lo)
+
+  out-both : (t : ℕ) → has out t ≡ true → (has x t && not (region (separatedOf g) t o)) ≡ true
+  out-both t e = sym (out-at t (out-below t e)) ∙ e
 
   out-lost : (t : ℕ) → has out t ≡ true → region (separatedOf g) t o ≡ false
   out-lost t e =
-      not-true (region (separatedOf g) t o)
-      (sym (all-at t (out-below t e)) ∙ and-left (has all t) (not (has c t)) (sym (D .outside t) ∙ e))
+      not-true (region (separatedOf g) t o) (and-right (has x t) (not (region (separatedOf g) t o)) (out-both t e))
 
   out-apart : (t : ℕ) → has out t ≡ true → joined (graphOf (g .input)) k t ≡ false
   out-apart t e =
-      ap (λ (p : ℕ → Bool). p t) (sym (whole-has g c k W)) ∙ not-true (has c t) (and-right (has all t) (not (has c t)) (sym (D .outside t) ∙ e))
+      ap (λ (p : ℕ → Bool). p t) (sym (whole-has g c k W))
+      ∙ not-true (has c t)
+      (and-right (enters (g .input .moves) c (g .input .states) t) (not (has c t))
+      (sym (L .entered t) ∙ and-left (has x t) (not (region (separatedOf g) t o)) (out-both t e)))
 
-  out-intro : (t : ℕ) → t < g .input .states → region (separatedOf g) t o ≡ false → joined (graphOf (g .input)) k t ≡ false → has out t ≡ true
-  out-intro t b e j =
-      D .outside t ∙ and-intro (all-at t b ∙ ap not e) (ap not (ap (λ (p : ℕ → Bool). p t) (whole-has g c k W) ∙ j))
+  out-intro : (a t : ℕ) → joined (graphOf (g .input)) k a ≡ true → a < g .input .states → has (getD (g .input .moves) a 0) t ≡ true → t < g .input .states
+      → region (separatedOf g) t o ≡ false → joined (graphOf (g .input)) k t ≡ false → has out t ≡ true
+  unfolding enters
+  out-intro a t i la m b e j =
+      out-at t b
+      ∙ and-intro
+      (L .entered t
+      ∙ and-intro (any-intro (g .input .states) (λ y. has c y && has (getD (g .input .moves) y 0) t) a la (and-intro (whole-of g c k W a i) m))
+      (ap not (ap (λ (p : ℕ → Bool). p t) (whole-has g c k W) ∙ j)))
+      (ap not e)
 
   -- a lost move of a state of the component is a move into `out`
 
@@ -138,7 +184,8 @@ module _ (g : Game) (s : List ℕ) (cores : ℕ) (K : Known g s cores) (c k : �
     lost-out : (t : ℕ) → lost (separatedOf g) o a t ≡ true → has out t ≡ true
     unfolding separatedOf graphOf
     lost-out t e =
-        out-intro t (edge-to (graphOf (g .input)) a t (lost-edge (separatedOf g) o a t e)) (lost-region (separatedOf g) o a t e)
+        out-intro a t j (joined-to (graphOf (g .input)) k a j) (lost-move t e) (edge-to (graphOf (g .input)) a t (lost-edge (separatedOf g) o a t e))
+        (lost-region (separatedOf g) o a t e)
         (joined-same (graphOf (g .input)) k a t j ∙ lost-apart (separatedOf g) o a t e)
 
     into-lost : (t : ℕ) → has (getD (g .input .moves) a 0) t ≡ true → has out t ≡ true → lost (separatedOf g) o a t ≡ true
@@ -190,20 +237,17 @@ module _ (g : Game) (s : List ℕ) (cores : ℕ) (K : Known g s cores) (c k : �
   gates-to : (t : ℕ) → has gates t ≡ true → gate (separatedOf g) o k t ≡ true
   unfolding exitsAt separatedOf graphOf
   gates-to t e =
-      let j = whole-in g c k W t (and-right (has ways t) (has c t) (sym (D .gate t) ∙ e)) in
-      let x = ap (λ (y : ℕ). has y t) (sym (D .exits)) ∙ and-left (has ways t) (has c t) (sym (D .gate t) ∙ e) in
-      gate-intro (separatedOf g) o k t j (way-meets t j ∙ pack-holds (g .input .states) (exitsAt (g .input .moves) out) t x)
+      let both : (has c t && meets 64 (getD (g .input .moves) t 0) out) ≡ true = pack-holds 64 (exitsAt (g .input .moves) c out) t (ap (λ (y : ℕ). has y t) (sym (D .gate)) ∙ e) in
+      let j = whole-in g c k W t (and-left (has c t) (meets 64 (getD (g .input .moves) t 0) out) both) in
+      gate-intro (separatedOf g) o k t j (way-meets t j ∙ and-right (has c t) (meets 64 (getD (g .input .moves) t 0) out) both)
 
   gates-of : (t : ℕ) → gate (separatedOf g) o k t ≡ true → has gates t ≡ true
   unfolding exitsAt separatedOf graphOf
   gates-of t e =
       let j = gate-joined (separatedOf g) o k t e in
-      D .gate t
-      ∙ and-intro
-      (ap (λ (y : ℕ). has y t) (D .exits)
-      ∙ has-pack-below (g .input .states) (exitsAt (g .input .moves) out) t (joined-to (graphOf (g .input)) k t j)
-      ∙ sym (way-meets t j) ∙ gate-out (separatedOf g) o k t e)
-      (whole-of g c k W t j)
+      ap (λ (y : ℕ). has y t) (D .gate)
+      ∙ has-pack-below 64 (exitsAt (g .input .moves) c out) t (omega (arith, joined-to (graphOf (g .input)) k t j, K .inputs))
+      ∙ and-intro (whole-of g c k W t j) (sym (way-meets t j) ∙ gate-out (separatedOf g) o k t e)
 
   gates-has : has gates ≡ gate (separatedOf g) o k
   gates-has = fun-ext (λ t. same-test (has gates t) (gate (separatedOf g) o k t) (gates-to t) (gates-of t))
@@ -272,9 +316,11 @@ module _ (g : Game) (s : List ℕ) (cores : ℕ) (K : Known g s cores) (c k : �
 
   pub rows-outward : (M : ℕ) (next : List ℕ) → wonAt s (g .input .states) cores k o ≡ false → gates ≢ 0
       → Toward (g .input .moves) (g .input .states) c gates next → Outward g M c o out next
+  unfolding graphOf
   rows-outward M next r ne T = record {
     output = lo;
-    row = λ a h b e x. row-outward next (sym (known-won g s cores K k o (W .below) lo) ∙ r) ne T a h e;
+    below = λ a e. joined-to (graphOf (g .input)) k a (whole-in g c k W a e);
+    row = λ a h b e y. row-outward next (sym (known-won g s cores K k o (W .below) lo) ∙ r) ne T a h e;
   }
 
   -- what the part of output o ensures
@@ -286,10 +332,10 @@ module _ (g : Game) (s : List ℕ) (cores : ℕ) (K : Known g s cores) (c k : �
     tours = sym (and-intro (ap not (sym (known-won g s cores K k o (W .below) lo) ∙ r)) (ap not (no-gates e)));
   }
 
-  pub escape-leaves : {l m : List ℕ} → gates ≢ 0 → Filled g (λ a h b. (b ≡ o) × (has c a ≡ true)) l m → Escape g k o l m false
+  pub escape-leaves : {l m : List ℕ} → gates ≢ 0 → Filled g (λ a h b. (has c a ≡ true) × (b ≡ o)) l m → Escape g k o l m false
   unfolding touringAt
   escape-leaves ne f = record {
-    filled = filled-same g f (λ a h b x y z p. (p .0, whole-of g c k W a (p .1)));
+    filled = filled-same g f (λ a h b x y z p. (whole-of g c k W a (p .1), p .0));
     tours = sym (and-false-right (not (region (separatedOf g) k o)) (ap not (some-gates ne)));
   }
 

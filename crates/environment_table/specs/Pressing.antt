@@ -1,7 +1,9 @@
 -- The rows of a nontrivial component.
 --
 --   Whole g c first                 == the word c is the nontrivial component with the number first
---   exitsAt moves out k             == a move of k enters the set out
+--   Leaves g c x                    == the word x has the inputs that moves out of the set c enter
+--   lostIn l n cores x o j          == j is in the set x, and (j, o) is not won
+--   exitsAt moves c out k           == k is in the set c, and a move of k enters the set out
 --   wayFrom row out next            == the lowest move into the set out; next where there is none
 --   Outward g M c o out next        == so go the rows of the states of c and output o, for all M counters
 --   leavingAt g first o             == (first, o) is not won, and the component has a way out
@@ -22,7 +24,9 @@ use Rattle.play.specs.Play.{graphOf, separatedOf}
 use Rattle.arena.specs.Table.{gives}
 use Rattle.theory.specs.Region.{region}
 use Rattle.theory.specs.Choice.{escapes, environmentRow}
+use Rattle.components.specs.Component.{enters}
 use Rattle.environment_table.specs.Table.{Filled}
+use Rattle.environment_table.specs.Reading.{lostAt}
 
 pub record Whole (g : Game) (c k : ℕ) : Type 0 where
   pub below : k < g .input .states
@@ -30,8 +34,15 @@ pub record Whole (g : Game) (c k : ℕ) : Type 0 where
   pub core : nontrivial (graphOf (g .input)) k ≡ true
   pub word : c ≡ pack (g .input .states) (joined (graphOf (g .input)) k)
 
-unfoldable pub exitsAt : List ℕ → ℕ → ℕ → Bool
-exitsAt moves out k = meets 64 (getD moves k 0) out
+pub record Leaves (g : Game) (c x : ℕ) : Type 0 where
+  pub entered : (t : ℕ) → has x t ≡ (enters (g .input .moves) c (g .input .states) t && not (has c t))
+
+-- "Some move leaves the component to a j with (j, o) not won": such a j is entered
+unfoldable pub lostIn : List ℕ → ℕ → ℕ → ℕ → ℕ → ℕ → Bool
+lostIn l n cores x o j = has x j && lostAt l n cores o j
+
+unfoldable pub exitsAt : List ℕ → ℕ → ℕ → ℕ → Bool
+exitsAt moves c out k = has c k && meets 64 (getD moves k 0) out
 
 unfoldable pub wayFrom : ℕ → ℕ → ℕ → ℕ
 wayFrom row out next = elim (meets 64 row out) [ true ↦ least 64 (has (bitAnd row out)) | false ↦ next ]
@@ -39,6 +50,7 @@ wayFrom row out next = elim (meets 64 row out) [ true ↦ least 64 (has (bitAnd 
 -- "go the shortest way inside the component to a state with such a move, lowest on ties; there take the lowest such j; h stays."
 pub record Outward (g : Game) (M c o out : ℕ) (next : List ℕ) : Type 0 where
   pub output : o < g .output .states
+  pub below : (k : ℕ) → has c k ≡ true → k < g .input .states
   pub row : (k h : ℕ) → k < g .input .states → has c k ≡ true → h < M
       → environmentRow (separatedOf g) k h o ≡ gives h (wayFrom (getD (g .input .moves) k 0) out (getD next k 0))
 

@@ -11,39 +11,65 @@ ghost use mathlib.Core.Path.{_≡_};
 ghost use mathlib.Core.Bool.{true};
 ghost use Prim.Native.Nat.{_+_, _<_, _≤_};
 ghost use lib.ListN.{length};
-ghost use Rattle.sets.specs.Member.{has, pack};
+ghost use Rattle.sets.specs.Member.{has, pack, within};
+ghost use Rattle.ways.specs.Search.{Bounds, Toward};
 ghost use Rattle.environment_table.specs.Table.{Known, Roomy, Filled};
-ghost use Rattle.environment_table.specs.Reading.{lostAt};
-ghost use Rattle.environment_table.specs.Pressing.{Whole, Outward, Escape, Escaped, exitsAt, wayFrom};
+ghost use Rattle.environment_table.specs.Pressing.{Whole, Leaves, Outward, Escape, Escaped, lostIn, exitsAt, wayFrom};
 
-// The inputs below n that make no won position with o.
-fn lost(s: &[u64], n: usize, cores: InSet, o: OutState) -> InSet
-    requires { ⌜ (n ≤ 64) × (o .0 < 64) × (n + n + o .0 < length (now s)) ⌝ }
-    ensures { λ r. ⌜ r .0 ≡ pack n (lostAt (now (s .entry)) n (cores .0) (o .0)) ⌝ }
-{
-    let mut x: u64 = 0;
-    let mut j: usize = 0;
-    while j < n {
-        x = sets::insert_if(x, j, !stored::won(s, n, cores.0, j, o.0));
-        j += 1;
-    }
-    InSet(x)
+// The ways inside a component to its gates, as they were searched last.
+struct Found {
+    gates: u64,
+    ways: Ways,
 }
 
-// The states with a move into the set `out`, all of one graph.
-fn exits(h: Graph, out: u64) -> u64
-    requires { ⌜ h .states ≤ 64 ⌝ }
-    ensures { λ r. ⌜ r ≡ pack (h .states) (exitsAt (h .moves) out) ⌝ }
+// What one output comes to: whether its rows are left to a tour, and the ways known now.
+struct Turn {
+    tours: bool,
+    found: Found,
+}
+
+// The members of x that make no won position with o. All of x are below n.
+fn lost(s: &[u64], n: usize, cores: InSet, x: InSet, o: OutState) -> InSet
+    requires { ⌜ (n ≤ 64) × (o .0 < 64) × (n + n + o .0 < length (now s)) × (within (x .0) n ≡ true) ⌝ }
+    ensures { λ r. ⌜ r .0 ≡ pack n (lostIn (now (s .entry)) n (cores .0) (x .0) (o .0)) ⌝ }
 {
-    let n = h.states;
+    let mut y: u64 = 0;
+    let mut rest = x.0;
+    while rest != 0 {
+        let j = sets::lowest(rest);
+        y = sets::insert_if(y, j, !stored::won(s, n, cores.0, j, o.0));
+        rest = sets::difference(rest, sets::insert(0, j));
+    }
+    InSet(y)
+}
+
+// The members of c with a move into the set `out`, all of one graph.
+fn exits(moves: &[u64; 64], c: u64, out: u64) -> u64
+    ensures { λ r. ⌜ r ≡ pack 64 (exitsAt (now (moves .entry)) c out) ⌝ }
+{
     let mut x: u64 = 0;
-    let mut k: usize = 0;
-    while k < n {
-        let row = h.moves[k];
+    let mut rest = c;
+    while rest != 0 {
+        let k = sets::lowest(rest);
+        let row = moves[k];
         x = sets::insert_if(x, k, sets::meets(row, out));
-        k += 1;
+        rest = sets::difference(rest, sets::insert(0, k));
     }
     x
+}
+
+// The ways to the gates inside c: those of `old` where it has the same gates, else searched anew.
+fn renew(moves: &[u64; 64], n: usize, c: u64, gates: u64, old: Found) -> Found
+    requires { ⌜ Bounds n gates × Toward (now moves) n c (old .gates) (old .ways .next) ⌝ }
+    ensures { λ r. ⌜ (r .gates ≡ gates) × Toward (now (moves .entry)) n c gates (r .ways .next) ⌝ }
+{
+    if old.gates == gates {
+        return old;
+    }
+    Found {
+        gates,
+        ways: ways::toward(moves, n, c, gates),
+    }
 }
 
 // The lowest member of the row in `out`; next where there is none. All are states of one graph.
@@ -67,48 +93,54 @@ fn escape_rows(
     room: &mut [u16],
 )
     requires { ⌜ Roomy g counters (length (now room)) × Outward g counters (c .0) (o .0) (out .0) (w .next) ⌝ }
-    ensures { λ r. ⌜ Filled g (λ a h b. (b ≡ o .0) × (has (c .0) a ≡ true)) (now (room .entry)) (now (room .exit)) ⌝ }
+    ensures { λ r. ⌜ Filled g (λ a h b. (has (c .0) a ≡ true) × (b ≡ o .0)) (now (room .entry)) (now (room .exit)) ⌝ }
 {
     let h = g.input;
-    let n = h.states;
-    let mut k: usize = 0;
-    while k < n {
-        if sets::member(c.0, k) {
-            let j = way_from(h.moves[k], out.0, w.next[k]);
-            rows::put(g, counters, InState(k), o, j as u16, 64, room);
-        }
-        k += 1;
+    let mut rest = c.0;
+    while rest != 0 {
+        let k = sets::lowest(rest);
+        let j = way_from(h.moves[k], out.0, w.next[k]);
+        rows::put(g, counters, InState(k), o, j as u16, 64, room);
+        rest = sets::difference(rest, sets::insert(0, k));
     }
 }
 
-// The rows of the component c, whose number is first, with output o. Whether they are left to a tour: not won, and no way out.
+// The rows of the component c, whose number is first, with output o; its moves out enter x. They are left to a tour where they are not won and
+// there is no way out.
 fn escape(
     g: Game,
     s: &[u64],
     cores: InSet,
     counters: usize,
     c: InSet,
+    x: InSet,
     first: InState,
     o: OutState,
+    found: Found,
     room: &mut [u16],
-) -> bool
-    requires { ⌜ Known g (now s) (cores .0) × Roomy g counters (length (now room)) × Whole g (c .0) (first .0) × (o .0 < g .output .states) ⌝ }
-    ensures { λ r. ⌜ Escape g (first .0) (o .0) (now (room .entry)) (now (room .exit)) r ⌝ }
+) -> Turn
+    requires { ⌜ Known g (now s) (cores .0) × Roomy g counters (length (now room)) × Whole g (c .0) (first .0) × (o .0 < g .output .states) × Leaves g (c .0) (x .0) × Toward (g .input .moves) (g .input .states) (c .0) (found .gates) (found .ways .next) ⌝ }
+    ensures { λ r. ⌜ Escape g (first .0) (o .0) (now (room .entry)) (now (room .exit)) (r .tours) × Toward (g .input .moves) (g .input .states) (c .0) (r .found .gates) (r .found .ways .next) ⌝ }
 {
     let n = g.input.states;
     if stored::won(s, n, cores.0, first.0, o.0) {
-        return false;
+        return Turn {
+            tours: false,
+            found,
+        };
     }
-    let all = lost(s, n, cores, o);
-    let out = sets::difference(all.0, c.0);
+    let out = lost(s, n, cores, x, o);
     let h = g.input;
-    let gates = sets::intersection(exits(h, out), c.0);
+    let gates = exits(&h.moves, c.0, out.0);
     if gates == 0 {
-        return true;
+        return Turn { tours: true, found };
     }
-    let w = ways::toward(&h.moves, n, c.0, gates);
-    escape_rows(g, counters, c, o, InSet(out), w, room);
-    false
+    let known = renew(&h.moves, n, c.0, gates, found);
+    escape_rows(g, counters, c, o, out, known.ways, room);
+    Turn {
+        tours: false,
+        found: known,
+    }
 }
 
 // The same for every output. The answer is the set of those that are left to a tour.
@@ -125,11 +157,18 @@ pub fn escapes(
     ensures { λ r. ⌜ Escaped g (first .0) (now (room .entry)) (now (room .exit)) (r .0) ⌝ }
 {
     let m = g.output.states;
+    let x = InSet(components::leaving(g.input, c.0));
+    let next = [0u8; 64];
+    let mut found = Found {
+        gates: 0,
+        ways: Ways { next },
+    };
     let mut touring: u64 = 0;
     let mut o: usize = 0;
     while o < m {
-        let tours = escape(g, s, cores, counters, c, first, OutState(o), room);
-        touring = sets::insert_if(touring, o, tours);
+        let t = escape(g, s, cores, counters, c, x, first, OutState(o), found, room);
+        found = t.found;
+        touring = sets::insert_if(touring, o, t.tours);
         o += 1;
     }
     OutSet(touring)

@@ -1,69 +1,85 @@
--- `escape_rows` goes through the states of the component.
+-- `escape_rows` visits the states of the component.
 use native.Mathlib.Omega.{arith}
 use borrow.Author.Needs.{needs}
-use Prim.Native.Nat.{_<_, _≤_, _-_}
-use mathlib.Core.Path.{_≡_, sym, _∙_}
-use mathlib.Core.Bool.{true}
-use mathlib.Core.Logic.{⊎-elim}
-use Rattle.finite.proofs.Truth.{clash}
+use Prim.Native.Nat.{_<_}
+use mathlib.Core.Path.{_≡_}
+use Rattle.finite.specs.Bounded.{count}
 use Rattle.sets.specs.Member.{has}
-use Rattle.environment_table.specs.Table.{Filled}
-use Rattle.environment_table.proofs.Places.{filled-none, filled-same, roomy-more, filled-skip, filled-next, same-small}
+use Rattle.environment_table.specs.Table.{Same}
+use Rattle.environment_table.proofs.Places.{roomy-more, same-small}
+use Rattle.environment_table.proofs.Members.{Visiting, visit-start, visit-small, visit-in, visit-falls, visit-next, visit-end}
 use Rattle.environment_table.proofs.Outward.{same-outward}
 use Rattle.escape.proofs.escape_rows.Statement.{statement}
 use Rattle.escape.proofs.escape_rows.Tie as tie
 
 abbrev Inv-loop : tie.InvT-loop
-Inv-loop g counters c o out room₀ w h n k₀ room k =
-    (k ≤ n) × Filled g (λ a h b. (a < k) × ((b ≡ o .0) × (has (c .0) a ≡ true))) room₀ room
+Inv-loop g counters o out room₀ w h rest₀ room rest = Visiting g (λ a h b. b ≡ o .0) rest₀ rest room₀ room
 
 abbrev μ-loop : tie.MeasureT-loop
-μ-loop g counters c o out room₀ w h n k₀ room k = n - k
+μ-loop g counters o out room₀ w h rest₀ room rest = count 64 (has rest)
+
+small : (c : tie.After-lowest Inv-loop μ-loop) → c .lowest .result < 64
+small c = visit-small _ _ _ (c .before .before .loop .rest) _ (c .before .before .loop .inv) (c .before .loop-test .taken) (c .lowest .ensures)
+
+-- what belongs in the rows of the state that is visited
+same : (c : tie.After-way-from Inv-loop μ-loop)
+    → Same (c .before .before .before .before .before .before .before .before .args .g) (c .before .before .before .before .before .before .before .before .args .counters)
+    (c .before .before .before .lowest .result) (c .before .before .before .before .before .before .before .before .args .o .0) (c .way-from .result) 64
+same c =
+    let l = c .before .before .before in
+    let b = l .before .before in
+    let p = b .before .before .before .pre in
+    let k = visit-in _ _ _ (b .loop .rest) _ (b .loop .inv) (l .before .loop-test .taken) (l .lowest .ensures) in
+    same-outward _ _ _ _ _ _ (p .1) _ (p .1 .below _ k) k _ (c .way-from .ensures)
 
 loop-holds : tie.Need-loop-holds Inv-loop μ-loop
-loop-holds c = (omega arith, filled-none _ _ (λ a h b p. omega (arith, p .0)))
+loop-holds c = visit-start _ _ _ _ (c .before .before .pre .0 .inputs) (c .before .before .pre .1 .below)
 
-member-requires : tie.Need-member-requires Inv-loop μ-loop
-member-requires c κs = omega arith
+lowest-requires : tie.Need-lowest-requires Inv-loop μ-loop
+lowest-requires c κs = search needs
 
 mul-way-from : tie.Need-mul-way-from Inv-loop μ-loop
-mul-way-from c = omega arith
+mul-way-from c = omega (arith, small c)
 
 element-copy-out-way-from : tie.Need-element-copy-out-way-from Inv-loop μ-loop
-element-copy-out-way-from c = omega arith
+element-copy-out-way-from c = omega (arith, small c)
 
 element-copy-out-way-from-2 : tie.Need-element-copy-out-way-from-2 Inv-loop μ-loop
-element-copy-out-way-from-2 c = omega arith
+element-copy-out-way-from-2 c = omega (arith, small (c .before))
 
 way-from-requires : tie.Need-way-from-requires Inv-loop μ-loop
 way-from-requires c κs = search needs
 
 cast-put : tie.Need-cast-put Inv-loop μ-loop
-cast-put c = omega (arith, same-small _ _ _ _ _ _ _ (c .before .before .before .before .before .before .before .before .before .pre .0) (same-outward _ _ _ _ _ _ (c .before .before .before .before .before .before .before .before .before .pre .1) (c .before .before .before .before .before .before .loop .k) (c .before .before .before .before .before .loop-test .taken) (sym (c .before .before .before .before .member .ensures) ∙ c .before .before .before .if1 .taken) _ (c .way-from .ensures)))
+cast-put c = omega (arith, same-small _ _ _ _ _ _ _ (c .before .before .before .before .before .before .before .before .pre .0) (same c))
 
 put-requires : tie.Need-put-requires Inv-loop μ-loop
-put-requires c κs = (roomy-more _ (c .before .before .before .before .before .before .before .before .before .before .pre .0) (c .before .before .before .before .before .before .before .loop .inv .1), same-outward _ _ _ _ _ _ (c .before .before .before .before .before .before .before .before .before .before .pre .1) (c .before .before .before .before .before .before .before .loop .k) (c .before .before .before .before .before .before .loop-test .taken) (sym (c .before .before .before .before .before .member .ensures) ∙ c .before .before .before .before .if1 .taken) _ (c .before .way-from .ensures))
+put-requires c κs = (roomy-more _ (c .before .before .before .before .before .before .before .before .before .pre .0) (c .before .before .before .before .before .before .loop .inv .filled), same (c .before))
 
-add-k : tie.Need-add-k Inv-loop μ-loop
-add-k c = omega arith
+insert-requires : tie.Need-insert-requires Inv-loop μ-loop
+insert-requires c κs = small (c .before .before .before .before .before .before .before)
+
+difference-requires : tie.Need-difference-requires Inv-loop μ-loop
+difference-requires c κs = search needs
 
 loop-less : tie.Need-loop-less Inv-loop μ-loop
-loop-less c = omega arith
+loop-less c =
+    let l = c .before .before .before .before .before .before .before .before .before in
+    let b = l .before .before in
+    visit-falls _ _ _ (b .loop .rest) _ (b .loop .inv) (l .before .loop-test .taken) (l .lowest .ensures) _ _ (c .before .insert .ensures) (c .difference .ensures)
 
 loop-again : tie.Need-loop-again Inv-loop μ-loop
-loop-again c = (
-  omega arith,
-  ⊎-elim
-      (λ w. filled-next _ _ _ _ (c .before .before .before .loop .inv .1) (w .5 .ensures) (λ a h b y e p. (e, p .0)) (w .8))
-      (λ w. filled-skip _ _ _ _ (c .before .before .before .loop .inv .1) (λ h b p. clash (p .1) (sym (c .before .member .ensures) ∙ w .0 .left)) (w .1))
-      (c .if1 .came),
-)
+loop-again c =
+    let l = c .before .before .before .before .before .before .before .before .before in
+    let b = l .before .before in
+    visit-next _ _ _ (b .loop .rest) _ (b .loop .inv) (l .before .loop-test .taken) (l .lowest .ensures) _ _ (c .before .insert .ensures) (c .difference .ensures)
+    (omega (arith, c .difference .ok)) (c .before .before .before .before .put .ensures) (λ a h b e p. (e, p))
 
 same-length : tie.Need-same-length Inv-loop μ-loop
-same-length c = c .before .loop .inv .1 .grows .long
+same-length c = c .before .loop .inv .filled .grows .long
 
 returns : tie.Need-returns Inv-loop μ-loop
-returns c = filled-same _ (c .before .loop .inv .1) (λ a h b x y z p. (omega (arith, x, c .loop-test .left), p))
+returns c = visit-end _ _ _ (c .before .loop .rest) (c .before .loop .inv) (c .loop-test .left)
 
 pub escape-rows-spec : {M : Type 1} → statement M
 escape-rows-spec =
@@ -72,14 +88,15 @@ escape-rows-spec =
     Inv-loop
     μ-loop
     loop-holds
-    member-requires
+    lowest-requires
     mul-way-from
     element-copy-out-way-from
     element-copy-out-way-from-2
     way-from-requires
     cast-put
     put-requires
-    add-k
+    insert-requires
+    difference-requires
     loop-less
     loop-again
     same-length

@@ -1,41 +1,62 @@
--- `lost` collects the inputs below j.
-use native.Mathlib.Omega.{arith}
-use Prim.Native.Nat.{_≤_, _-_}
+-- `lost` visits the members of x.
 use mathlib.Core.Path.{_≡_}
-use Rattle.sets.specs.Member.{pack}
-use Rattle.sets.proofs.Collect.{collect-none, collect-next, collect-end}
+use Prim.Native.Nat.{_<_}
+use borrow.Author.Needs.{needs}
+use native.Mathlib.Omega.{arith}
+use Rattle.finite.specs.Bounded.{count}
+use Rattle.sets.specs.Member.{has}
+use Rattle.sets.proofs.Visit.{Collected, collected-small, collected-below, collected-falls, collected-next, collected-end}
 use Rattle.environment_table.specs.Reading.{lostAt}
-use Rattle.environment_table.proofs.Outward.{lost-at}
+use Rattle.environment_table.proofs.Members.{within-start}
+use Rattle.environment_table.proofs.Outward.{lost-at, lost-all}
 use Rattle.escape.proofs.lost.Statement.{statement}
 use Rattle.escape.proofs.lost.Tie as tie
 
 abbrev Inv-loop : tie.InvT-loop
-Inv-loop s n cores o x₀ j₀ x j = (j ≤ n) × (x ≡ pack j (lostAt s n (cores .0) (o .0)))
+Inv-loop s n cores o y₀ rest₀ y rest = Collected rest₀ n (lostAt s n (cores .0) (o .0)) rest y
 
 abbrev μ-loop : tie.MeasureT-loop
-μ-loop s n cores o x₀ j₀ x j = n - j
+μ-loop s n cores o y₀ rest₀ y rest = count 64 (has rest)
+
+small : (c : tie.After-lowest Inv-loop μ-loop) → c .lowest .result < 64
+small c = collected-small _ _ _ (c .before .before .loop .rest) _ (c .before .before .loop .inv) (c .before .loop-test .taken) _ (c .lowest .ensures)
+
+below : (c : tie.After-lowest Inv-loop μ-loop) → c .lowest .result < c .before .before .before .before .args .n
+below c = collected-below _ _ _ (c .before .before .loop .rest) _ (c .before .before .loop .inv) (c .before .loop-test .taken) _ (c .lowest .ensures)
 
 loop-holds : tie.Need-loop-holds Inv-loop μ-loop
-loop-holds c = (omega arith, collect-none _)
+loop-holds c = within-start _ _ _ (c .before .pre .0) (c .before .pre .3)
+
+lowest-requires : tie.Need-lowest-requires Inv-loop μ-loop
+lowest-requires c κs = search needs
 
 won-requires : tie.Need-won-requires Inv-loop μ-loop
-won-requires c κs = omega arith
+won-requires c κs = omega (arith, below c)
 
 insert-if-requires : tie.Need-insert-if-requires Inv-loop μ-loop
-insert-if-requires c κs = omega arith
+insert-if-requires c κs = small (c .before)
 
-add-j : tie.Need-add-j Inv-loop μ-loop
-add-j c = omega arith
+insert-requires : tie.Need-insert-requires Inv-loop μ-loop
+insert-requires c κs = small (c .before .before)
+
+difference-requires : tie.Need-difference-requires Inv-loop μ-loop
+difference-requires c κs = search needs
 
 loop-less : tie.Need-loop-less Inv-loop μ-loop
-loop-less c = omega arith
+loop-less c =
+    let l = c .before .before .before .before in
+    let b = l .before .before in
+    collected-falls _ _ _ (b .loop .rest) _ (b .loop .inv) (l .before .loop-test .taken) _ (l .lowest .ensures) _ _ (c .before .insert .ensures) (c .difference .ensures)
 
 loop-again : tie.Need-loop-again Inv-loop μ-loop
 loop-again c =
-    (omega arith, collect-next _ (c .before .before .before .loop .j) (c .before .before .before .loop .x) (c .insert-if .result) _ (c .before .before .before .loop .inv .1) (lost-at _ _ _ _ (c .before .before .before .loop .j) (c .before .won .ensures)) (c .insert-if .ensures))
+    let l = c .before .before .before .before in
+    let b = l .before .before in
+    collected-next _ _ _ (b .loop .rest) _ (b .loop .inv) (l .before .loop-test .taken) _ (l .lowest .ensures) _ _ (c .before .insert .ensures) (c .difference .ensures)
+    (omega (arith, c .difference .ok)) (lost-at _ _ _ _ _ (c .before .before .before .won .ensures)) (c .before .before .insert-if .ensures)
 
 returns : tie.Need-returns Inv-loop μ-loop
-returns c = collect-end _ (c .before .loop .j) _ _ (omega arith) (omega arith) (c .before .loop .inv .1)
+returns c = lost-all _ _ _ _ _ (collected-end _ _ _ (c .before .loop .rest) _ (c .before .loop .inv) (c .loop-test .left))
 
 pub lost-spec : {M : Type 1} → statement M
 lost-spec =
@@ -44,9 +65,11 @@ lost-spec =
     Inv-loop
     μ-loop
     loop-holds
+    lowest-requires
     won-requires
     insert-if-requires
-    add-j
+    insert-requires
+    difference-requires
     loop-less
     loop-again
     returns)
