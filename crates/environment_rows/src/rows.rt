@@ -7,11 +7,11 @@ ghost use mathlib.Core.Path.{_≡_};
 ghost use mathlib.Core.Bool.{true};
 ghost use lib.ListN.{length};
 ghost use Rattle.sets.specs.Member.{has};
-ghost use Rattle.environment_table.specs.Table.{Roomy, Same, Spread, Filled};
+ghost use Rattle.environment_table.specs.Table.{Roomy, Spread, Filled, Putting, Put};
 
-// first + more × h in the row of every counter h.
+// first + more × h in the row of every counter h. Of the game only the count of outputs is passed: the rows are those of any game that this fits.
 pub fn put(
-    g: Game,
+    outputs: usize,
     counters: usize,
     i: InState,
     o: OutState,
@@ -19,10 +19,9 @@ pub fn put(
     more: u16,
     room: &mut [u16],
 )
-    requires { ⌜ Roomy g counters (length (now room)) × Same g counters (i .0) (o .0) first more ⌝ }
-    ensures { λ r. ⌜ Filled g (λ a h b. (a ≡ i .0) × (b ≡ o .0)) (now (room .entry)) (now (room .exit)) ⌝ }
+    requires { ⌜ Putting outputs counters (i .0) (o .0) first more (length (now room)) ⌝ }
+    ensures { λ r. ⌜ Put outputs counters (i .0) (o .0) first more (now (room .entry)) (now (room .exit)) ⌝ }
 {
-    let outputs = g.output.states;
     columns::column(
         room,
         1 + i.0 * counters * outputs + o.0,

@@ -3,20 +3,21 @@
 --   known-won, known-core : the region, and the nontrivial components
 --   start-found, start-none : the start
 --   same-none, same-push   : rows that need no walk
---   plain-none             : the other rows
+--   spread-won, pushes-of, plain-both, plain-won : those of one input
 use Prim.Native.Nat.{ℕ, _+_, _*_, _<_, _≤_}
 use native.Mathlib.Nat.{zero-mul}
 use mathlib.Core.Path.{_≡_, refl, sym, _∙_, ap, ap₂}
 use mathlib.Core.Bool.{true, false, _&&_, not}
 use mathlib.Core.List.{List}
-use mathlib.Core.Logic.{inl, inr}
+use mathlib.Core.Logic.{_⊎_, inl, inr}
 use native.Mathlib.Omega.{arith}
 use lib.ListN.{length, getD}
-use borrow.Author.Tests.{lt-ltb}
+use lib.Dec.{ltb}
+use borrow.Author.Tests.{lt-ltb, ltb-true}
 use Rattle.finite.specs.Bounded.{any, least}
-use Rattle.finite.proofs.Truth.{clash, or-cases, not-true, false-of}
+use Rattle.finite.proofs.Truth.{decide, clash, and-intro, and-left, and-right, or-cases, not-true, false-of}
 use Rattle.finite.proofs.Bounded.{any-same, least-same, least-any, least-found}
-use Rattle.sets.specs.Member.{has}
+use Rattle.sets.specs.Member.{has, pack, both}
 use Rattle.sets.proofs.Membership.{has-pack-below}
 use Rattle.graphs.specs.Graph.{edge, begins}
 use Rattle.graphs.specs.Component.{nontrivial}
@@ -28,17 +29,22 @@ use Rattle.components.proofs.Closed.{moved-edge}
 use Rattle.play.specs.Play.{graphOf, separatedOf}
 use Rattle.theory.specs.Region.{region, answers, opens}
 use Rattle.theory.specs.Choice.{environmentRow, environmentStart, pushing, refused}
-use Rattle.theory.specs.Entries.{entry}
+use Rattle.theory.specs.Entries.{entry, environmentCounters}
 use Rattle.theory.proofs.EnvironmentRow.{row-lost}
 use Rattle.stored.specs.Stored.{wonAt}
 use Rattle.stored.proofs.Read.{won-region}
-use Rattle.environment_table.specs.Table.{Known, Same}
-use Rattle.environment_table.specs.Reading.{Shaped, anyWon, openAt, unansweredAt, plain}
+use Rattle.environment_table.specs.Table.{Known, Roomy, Filled, Same, Spread, Pushes}
+use Rattle.environment_table.specs.Reading.{Shaped, anyWon, refusedAt, Refused, openAt, unansweredAt, plain}
+use Rattle.environment_table.proofs.Places.{filled-join, filled-same, every-counter}
+use Rattle.environment_table.proofs.Reading.{refused-within, unanswered-both}
 
 -- what is read of the game's sets
 pub unanswered-of : (l : List ℕ) (n m cores : ℕ) {j : ℕ} {x x′ : InSet} {y y′ : OutSet} → x ≡ x′ → y ≡ y′ → j ≡ unansweredAt l n m cores (x .0) (y .0)
     → j ≡ unansweredAt l n m cores (x′ .0) (y′ .0)
 unanswered-of l n m cores p q e = e ∙ ap₂ (λ (a : InSet) (b : OutSet). unansweredAt l n m cores (a .0) (b .0)) p q
+
+pub both-of : (n y : ℕ) {j : ℕ} {x x′ : InSet} → x ≡ x′ → j ≡ least n (both (x .0) y) → j ≡ least n (both (x′ .0) y)
+both-of n y p e = e ∙ ap (λ (a : InSet). least n (both (a .0) y)) p
 
 -- the edges and the initial states in words
 begins-has : (g : Game) (o : ℕ) → o < g .output .states → has (g .output .initial) o ≡ begins (separatedOf g .output) o
@@ -137,14 +143,58 @@ module _ (g : Game) (s : List ℕ) (cores : ℕ) (K : Known g s cores) where
             ap entry (row-lost (separatedOf g) i h o (sym (known-won i o a b) ∙ e))
             ∙ rw (sym (known-core i a) ∙ t, pushing) refl
 
-    plain-not : wonAt s (g .input .states) cores i o ≡ false → has cores i ≡ true → plain g i o ≡ true → ⊥
-    unfolding plain
-    plain-not e t p =
-        elim (or-cases (region (separatedOf g) i o) (not (nontrivial (separatedOf g .input) i)) p) [
-          | inl x ↦ clash x (sym (known-won i o a b) ∙ e)
-          | inr x ↦ clash (sym (known-core i a) ∙ t) (not-true (nontrivial (separatedOf g .input) i) x)
-        ]
+  -- the rows of an input that need no walk
 
-    -- the other rows of i and o need a walk
-    pub plain-none : wonAt s (g .input .states) cores i o ≡ false → has cores i ≡ true → (c d : ℕ) → c ≡ i → d ≡ o → plain g c d ≡ true → ⊥
-    plain-none e t c d x y p = plain-not e t (ap₂ (plain g) (sym x) (sym y) ∙ p)
+  module _ (i : ℕ) (a : i < g .input .states) (won : ℕ) (w : won ≡ pack (g .output .states) (wonAt s (g .input .states) cores i)) where
+    won-has : (o : ℕ) → o < g .output .states → has won o ≡ wonAt s (g .input .states) cores i o
+    won-has o b = ap (λ (x : ℕ). has x o) w ∙ has-pack-below (g .output .states) (wonAt s (g .input .states) cores i) o b
+
+    -- those of the won outputs are none
+    pub spread-won : (M n every : ℕ) → Roomy g M n → ((h : ℕ) → has every h ≡ ltb h M) → Spread g i won every 65535 0
+    spread-won M n every R e = record {
+      input = a;
+      counter = λ h x. omega (arith, R .counters, ltb-true h M (sym (e h) ∙ x));
+      entry = λ h o x b y. same-none i o a b M (sym (won-has o b) ∙ y) .entry h (ltb-true h M (sym (e h) ∙ x));
+    }
+
+    module _ (b lost : ℕ) (f : (o : ℕ) → has b o ≡ ltb o (g .output .states)) (d : (o : ℕ) → has lost o ≡ (has b o && not (has won o))) where
+      lost-below : (o : ℕ) → has lost o ≡ true → o < g .output .states
+      lost-below o e = ltb-true o (g .output .states) (sym (f o) ∙ and-left (has b o) (not (has won o)) (sym (d o) ∙ e))
+
+      lost-won : (o : ℕ) → has lost o ≡ true → wonAt s (g .input .states) cores i o ≡ false
+      lost-won o e = sym (won-has o (lost-below o e)) ∙ not-true (has won o) (and-right (has b o) (not (has won o)) (sym (d o) ∙ e))
+
+      -- in a trivial component those of the others are pushes
+      pub pushes-of : (M : ℕ) {after : List ℕ} → has cores i ≡ false → Refused s (g .input .states) (g .output .states) cores (g .output .moves) after
+          → Pushes g M i lost after
+      pushes-of M {after} t R = record {
+        input = a;
+        below = lost-below;
+        sets = λ o e. refused-within (g .input .states) (refusedAt s (g .input .states) (g .output .states) cores (getD (g .output .moves) o 0)) (R .row i o a t (lost-below o e));
+        same = λ o j e q. same-push i o a (lost-below o e) M j (lost-won o e) t
+            (q ∙ unanswered-both s (g .input .states) (g .output .states) cores (getD (g .input .moves) i 0) (getD (g .output .moves) o 0) (R .row i o a t (lost-below o e)));
+      }
+
+      -- both make the rows of i that need no walk
+      pub plain-both : {l m k : List ℕ} (M n every : ℕ) → Roomy g M n → ((h : ℕ) → has every h ≡ ltb h M)
+          → Filled g (λ x h o. (x ≡ i) × (has every h ≡ true) × (has won o ≡ true)) l m → Filled g (λ x h o. (has lost o ≡ true) × (x ≡ i)) m k
+          → Filled g (λ x h o. (x ≡ i) × (plain g x o ≡ true)) l k
+      plain-both M n every R e F G = filled-join g F G (λ x h o lx lh lo p. go x h o lh lo (p .0) (decide (has won o)))
+        where
+          go : (x h o : ℕ) → h < environmentCounters (separatedOf g) → o < g .output .states → x ≡ i → (has won o ≡ true) ⊎ (has won o ≡ false)
+              → ((x ≡ i) × (has every h ≡ true) × (has won o ≡ true)) ⊎ ((has lost o ≡ true) × (x ≡ i))
+          go x h o lh lo p (inl q) = inl (p, every-counter g M n every h R e lh, q)
+          go x h o lh lo p (inr q) = inr (d o ∙ and-intro (f o ∙ lt-ltb o (g .output .states) lo) (ap not q), p)
+
+    -- in a nontrivial component the won ones are all
+    pub plain-won : {l m : List ℕ} (M n every : ℕ) → Roomy g M n → ((h : ℕ) → has every h ≡ ltb h M) → has cores i ≡ true
+        → Filled g (λ x h o. (x ≡ i) × (has every h ≡ true) × (has won o ≡ true)) l m → Filled g (λ x h o. (x ≡ i) × (plain g x o ≡ true)) l m
+    unfolding plain
+    plain-won M n every R e t F = filled-same g F (λ x h o lx lh lo p. (p .0, every-counter g M n every h R e lh, at o lo (ap (λ (y : ℕ). plain g y o) (sym (p .0)) ∙ p .1)))
+      where
+        at : (o : ℕ) → o < g .output .states → plain g i o ≡ true → has won o ≡ true
+        at o lo p =
+            elim (or-cases (region (separatedOf g) i o) (not (nontrivial (separatedOf g .input) i)) p) [
+              | inl x ↦ won-has o lo ∙ known-won i o a lo ∙ x
+              | inr x ↦ clash (sym (known-core i a) ∙ t) (not-true (nontrivial (separatedOf g .input) i) x)
+            ]

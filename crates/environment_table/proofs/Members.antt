@@ -1,7 +1,8 @@
 -- The members of a word, visited lowest first.
 --
 --   word-start, within-start   : how the members of a word, or of a set of states below n, begin to be collected
---   Visiting g P c rest l m    == from l to m the rows with P were written of the members of c, but for those of `rest`
+--   Visiting g key P c rest l m  == from l to m the rows with P and with a key in c were written, but for those with a key in `rest`;
+--                                 the key of a row is its input or its output
 --   visit-*                    : how that begins, goes on and ends
 use Prim.Native.Nat.{ℕ, _^_, _<_, _≤_}
 use mathlib.Core.Path.{_≡_, sym, _∙_, ap}
@@ -42,20 +43,20 @@ word-start x p small = start x 64 p small (lt-within x 64 small)
 pub within-start : (x n : ℕ) (p : ℕ → Bool) → n ≤ 64 → within x n ≡ true → Collected x n p x 0
 within-start x n p b w = start x n p (small-word x (λ s e. omega (arith, within-has x n s w e))) w
 
-pub record Visiting (g : Game) (P : ℕ → ℕ → ℕ → Type 0) (c rest : ℕ) (l m : List ℕ) : Type 0 where
+pub record Visiting (g : Game) (key : ℕ → ℕ → ℕ) (P : ℕ → ℕ → ℕ → Type 0) (c rest : ℕ) (l m : List ℕ) : Type 0 where
   pub small : rest < 2 ^ 64
   pub inside : (t : ℕ) → has rest t ≡ true → has c t ≡ true
-  pub filled : Filled g (λ a h b. (has rest a ≡ false) × (has c a ≡ true) × P a h b) l m
+  pub filled : Filled g (λ a h b. (has rest (key a b) ≡ false) × (has c (key a b) ≡ true) × P a h b) l m
 
-module _ (g : Game) (P : ℕ → ℕ → ℕ → Type 0) (c : ℕ) where
-  pub visit-start : (l : List ℕ) → g .input .states ≤ 64 → ((t : ℕ) → has c t ≡ true → t < g .input .states) → Visiting g P c c l l
-  visit-start l few below = record {
+module _ (g : Game) (key : ℕ → ℕ → ℕ) (P : ℕ → ℕ → ℕ → Type 0) (c : ℕ) where
+  pub visit-start : (l : List ℕ) (n : ℕ) → n ≤ 64 → ((t : ℕ) → has c t ≡ true → t < n) → Visiting g key P c c l l
+  visit-start l n few below = record {
     small = small-word c (λ s e. omega (arith, below s e));
     inside = λ t e. e;
     filled = filled-none g l (λ a h b p. clash (p .1) (p .0));
   }
 
-  module _ (rest k : ℕ) {l m : List ℕ} (I : Visiting g P c rest l m) (ne : rest ≢ 0) (e : k ≡ least 64 (has rest)) where
+  module _ (rest k : ℕ) {l m : List ℕ} (I : Visiting g key P c rest l m) (ne : rest ≢ 0) (e : k ≡ least 64 (has rest)) where
     pub visit-small : k < 64
     visit-small = lowest-below rest k (I .small) ne e
 
@@ -66,17 +67,18 @@ module _ (g : Game) (P : ℕ → ℕ → ℕ → Type 0) (c : ℕ) where
       pub visit-falls : count 64 (has r) < count 64 (has rest)
       visit-falls = rest-falls rest k r y f d 64 visit-small (lowest-in rest k (I .small) ne e)
 
-      pub visit-next : {Q : ℕ → ℕ → ℕ → Type 0} {n : List ℕ} → r < 2 ^ 64 → Filled g Q m n → ((a h b : ℕ) → a ≡ k → P a h b → Q a h b)
-          → Visiting g P c r l n
+      pub visit-next : {Q : ℕ → ℕ → ℕ → Type 0} {n : List ℕ} → r < 2 ^ 64 → Filled g Q m n → ((a h b : ℕ) → key a b ≡ k → P a h b → Q a h b)
+          → Visiting g key P c r l n
       visit-next {Q} {n} small F into = record {
         small = small;
         inside = λ t a. I .inside t (rest-in rest k r y f d t a);
-        filled = filled-join g (I .filled) F (λ a h b x z w p. go a h b p (ℕ-discrete a k));
+        filled = filled-join g (I .filled) F (λ a h b x z w p. go a h b p (ℕ-discrete (key a b) k));
       }
         where
-          go : (a h b : ℕ) → (has r a ≡ false) × (has c a ≡ true) × P a h b → Dec (a ≡ k) → ((has rest a ≡ false) × (has c a ≡ true) × P a h b) ⊎ Q a h b
+          go : (a h b : ℕ) → (has r (key a b) ≡ false) × (has c (key a b) ≡ true) × P a h b → Dec (key a b ≡ k)
+              → ((has rest (key a b) ≡ false) × (has c (key a b) ≡ true) × P a h b) ⊎ Q a h b
           go a h b p (yes q) = inr (into a h b q (p .2))
-          go a h b p (no q) = inl (sym (rest-other rest k r y f d a q) ∙ p .0, p .1, p .2)
+          go a h b p (no q) = inl (sym (rest-other rest k r y f d (key a b) q) ∙ p .0, p .1, p .2)
 
-  pub visit-end : (rest : ℕ) {l m : List ℕ} → Visiting g P c rest l m → rest ≡ 0 → Filled g (λ a h b. (has c a ≡ true) × P a h b) l m
-  visit-end rest I z = filled-same g (I .filled) (λ a h b x y w p. (ap (λ (k : ℕ). has k a) z ∙ has-zero a, p .0, p .1))
+  pub visit-end : (rest : ℕ) {l m : List ℕ} → Visiting g key P c rest l m → rest ≡ 0 → Filled g (λ a h b. (has c (key a b) ≡ true) × P a h b) l m
+  visit-end rest I z = filled-same g (I .filled) (λ a h b x y w p. (ap (λ (k : ℕ). has k (key a b)) z ∙ has-zero (key a b), p .0, p .1))

@@ -4,11 +4,11 @@
 --   entry-small               : every entry fits 16 bits
 --   filled-none, filled-join  : nothing written, and one writing after the other
 --   filled-same               : fewer rows than were written
---   put-*, spread-*           : what the columns and blocks of rows ask and give
+--   putting-*, put-done, spread-* : what the columns and blocks of rows ask and give
 --   filled-skip, filled-next  : the states of a set, one after the other
 use Prim.Native.Nat.{ℕ, suc, _+_, _-_, _*_, _<_, _≤_}
 use native.Mathlib.Nat.{mul-comm, mul-zero, add-mul, mul-le-mul, le-max-left}
-use mathlib.Core.Path.{_≡_, sym, _∙_, ap, subst}
+use mathlib.Core.Path.{_≡_, refl, sym, _∙_, ap, subst}
 use mathlib.Core.Bool.{true, false}
 use mathlib.Core.List.{List, _∷_}
 use mathlib.Core.Logic.{_⊎_, inl, inr}
@@ -37,7 +37,7 @@ use Rattle.demands.proofs.Sizes.{environment-few}
 use Rattle.filling.specs.Grows.{Right}
 use Rattle.filling.proofs.Grows.{grows-none, grows-more}
 use Rattle.columns.specs.Column.{Fits, Agrees, Columned, Column, BlockFits, BlockAgrees, Blocked, Block}
-use Rattle.environment_table.specs.Table.{entriesOf, place, Roomy, Filled, Same, Spread}
+use Rattle.environment_table.specs.Table.{entriesOf, place, Roomy, Filled, Same, Spread, Putting, Put}
 
 -- the length of the list, and what stands at the place of a row
 
@@ -147,7 +147,7 @@ module _ (g : Game) (M n i o first more which : ℕ) (R : Roomy g M n) (S : Same
   counter : (h : ℕ) → has which h ≡ true → h < M
   counter h e = ltb-true h M (sym (w h) ∙ e)
 
-  pub put-fits : Fits n (1 + i * M * g .output .states + o) (g .output .states) which first more
+  put-fits : Fits n (1 + i * M * g .output .states + o) (g .output .states) which first more
   put-fits = record {
     below = λ h e. omega (arith, at-below g M n i R (S .input) h o (counter h e) (S .output), R .room);
     small = λ h e. rw (S .entry h (counter h e)) (entry-small g i h o (S .input) (counter-in g M n i R (S .input) h (counter h e)) (S .output) (R .accepted));
@@ -159,9 +159,9 @@ module _ (g : Game) (M n i o first more which : ℕ) (R : Roomy g M n) (S : Same
     entry = λ h e. S .entry h (counter h e) ∙ at-entry g M n i R (S .input) h o (counter h e) (S .output);
   }
 
-  pub put-filled : {l m : List ℕ} → length l ≡ n → Column l m (1 + i * M * g .output .states + o) (g .output .states) which first more
-      → Filled g (λ a h b. (a ≡ i) × (b ≡ o)) l m
-  put-filled {l} {m} e C = record { grows = done .grows; rows = λ a h b x y z q. rows a h b y (q .0) (q .1) }
+  put-filled : {l m : List ℕ} → length l ≡ n → Column l m (1 + i * M * g .output .states + o) (g .output .states) which first more
+      → Filled g (λ a h b. (b ≡ o) × (a ≡ i)) l m
+  put-filled {l} {m} e C = record { grows = done .grows; rows = λ a h b x y z q. rows a h b y (q .1) (q .0) }
     where
       done : Columned (entriesOf g) l m (1 + i * M * g .output .states + o) (g .output .states) which
       done = C .fills (entriesOf g) put-agrees (omega (arith, R .room))
@@ -171,6 +171,26 @@ module _ (g : Game) (M n i o first more which : ℕ) (R : Roomy g M n) (S : Same
       rows a h b y p q =
           rw (p, q, ← at g M n i R (S .input) h o)
           (done .right h (w h ∙ lt-ltb h M (omega (arith, R .counters))))
+
+-- the same of any game with so many outputs
+
+module _ (O M i o first more n : ℕ) (p : Putting O M i o first more n) where
+  pub putting-rows : i * M ≤ 2048
+  putting-rows = rows-small (p .game) M n i (p .roomy) (p .same .input)
+
+  pub putting-entries : i * M * O + o < 131136
+  putting-entries =
+      rw (p .outputs) (omega (arith, entries-small (p .game) M n i (p .roomy) (p .same .input), p .same .output, p .roomy .outputs))
+
+  pub putting-fits : (which : ℕ) → ((h : ℕ) → has which h ≡ ltb h M) → Fits n (1 + i * M * O + o) O which first more
+  putting-fits which w = rw (p .outputs) (put-fits (p .game) M n i o first more which (p .roomy) (p .same) w)
+
+pub put-done : (O M i o first more which : ℕ) {l m : List ℕ} → ((h : ℕ) → has which h ≡ ltb h M)
+    → Column l m (1 + i * M * O + o) O which first more → Put O M i o first more l m
+put-done O M i o first more which {l} {m} w C = record {
+  fills = λ p. put-filled (p .game) M (length l) i o first more which (p .roomy) (p .same) w refl
+      (subst (λ (k : ℕ). Column l m (1 + i * M * k + o) k which first more) (p .outputs) C);
+}
 
 module _ (g : Game) (M n i over which first more : ℕ) (R : Roomy g M n) (S : Spread g i over which first more) where
   counter-of : (h : ℕ) → has which h ≡ true → h < M

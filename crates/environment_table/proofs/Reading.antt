@@ -2,28 +2,32 @@
 --
 --   reached-*  : what the outputs of a set reach, output by output
 --   some-*     : whether a set has a won output, from what they reach or from the set
---   Answered   == every input before j is answered or not asked about
---   open-*     : the lowest input that no output answers
-use Prim.Native.Nat.{ℕ, _+_, _<_, _≤_}
+--   refused-at, both-none, both-lowest, unanswered-both : the inputs that no output answers, and the lowest of them
+--   Refusing   == the refusals of the outputs below k are known
+--   refusing-*, refused-none : how that begins, goes on and ends
+use Prim.Native.Nat.{ℕ, _+_, _^_, _<_, _≤_}
 use native.Mathlib.Numerals.{add-one}
 use mathlib.Core.Path.{_≡_, refl, sym, _∙_, ap}
 use mathlib.Core.Bool.{Bool, true, false, _&&_, _||_, not}
 use mathlib.Core.List.{List}
-use mathlib.Core.Logic.{_⊎_, inl, inr}
+use mathlib.Core.Logic.{_≢_}
 use native.Mathlib.Omega.{arith}
-use native.Mathlib.Decide.{ℕ-discrete}
+use native.Mathlib.Decide.{ℕ-discrete, decLt}
 use lib.Dec.{ltb}
-use lib.ListN.{getD}
+use lib.ListN.{length, getD, set, length-set}
+use lib.Seq.{getD-set-same, getD-set-other}
 use borrow.Author.Tests.{lt-ltb, ltb-true}
 use Rattle.finite.specs.Bounded.{any, least}
-use Rattle.finite.proofs.Truth.{clash, and-intro, and-left, and-right, and-false-left, and-false-right, same-test}
-use Rattle.finite.proofs.Bounded.{any-intro, any-elim, least-le, least-member, least-unique}
-use Rattle.sets.specs.Member.{has, meets}
-use Rattle.sets.proofs.Membership.{has-zero}
+use Rattle.finite.proofs.Truth.{clash, and-intro, and-left, and-right, same-test}
+use Rattle.finite.proofs.Bounded.{any-intro, any-elim, least-le, least-same, least-unique, least-before, least-member}
+use Rattle.sets.specs.Member.{has, pack, within, both, meets}
+use Rattle.sets.proofs.Membership.{has-zero, has-pack-below, has-within, within-has}
 use Rattle.sets.proofs.Compare.{meets-intro, meets-elim}
+use Rattle.sets.proofs.Visit.{lowest-in}
+use Rattle.ways.proofs.Kept.{pack-below}
 use Rattle.stored.specs.Stored.{wonAt}
 use Rattle.stored.proofs.Read.{won-in, won-out}
-use Rattle.environment_table.specs.Reading.{reachedAt, anyWon, openAt, unansweredAt}
+use Rattle.environment_table.specs.Reading.{reachedAt, anyWon, refusedAt, Refused, openAt, unansweredAt}
 
 -- what the outputs of a set reach
 
@@ -99,47 +103,77 @@ module _ (l : List ℕ) (n m cores j set : ℕ) where
           meets-intro 64 (getD l (n + j) 0) x (v .0) (omega (arith, v .1)) (won-out l n cores j (v .0) c refl ∙ won)
           (i (v .0) ∙ and-intro (and-left (has set (v .0)) (wonAt l n cores j (v .0)) (v .2)) (f (v .0) ∙ lt-ltb (v .0) m (v .1)))
 
--- the lowest input that no output answers
+-- the inputs that no output answers, and the lowest of them
+
+pub refused-at : (l : List ℕ) (n m cores set j : ℕ) {b : Bool} → b ≡ anyWon l n m cores j set → not b ≡ refusedAt l n m cores set j
+unfolding refusedAt
+refused-at l n m cores set j e = ap not e
+
+module _ (n from refused : ℕ) (few : n ≤ 64) (w : within refused n ≡ true) (x : ℕ) (i : (s : ℕ) → has x s ≡ (has from s && has refused s)) where
+  in-both : (s : ℕ) → has x s ≡ both from refused s
+  unfolding both
+  in-both s = i s
+
+  pub both-none : x ≡ 0 → n ≡ least n (both from refused)
+  both-none z = go (decLt (least n (both from refused)) n)
+    where
+      go : Dec (least n (both from refused) < n) → n ≡ least n (both from refused)
+      go (yes b) =
+          let m = least n (both from refused) in
+          clash (least-member n (both from refused) b) (sym (in-both m) ∙ ap (λ (k : ℕ). has k m) z ∙ has-zero m)
+      go (no b) = omega (arith, least-le n (both from refused))
+
+  pub both-lowest : {j : ℕ} → x < 2 ^ 64 → x ≢ 0 → j ≡ least 64 (has x) → j ≡ least n (both from refused)
+  both-lowest {j} small ne e = sym (least-unique n (both from refused) j below here before)
+    where
+      at : has x j ≡ true
+      at = lowest-in x j small ne e
+
+      here : both from refused j ≡ true
+      here = sym (in-both j) ∙ at
+
+      below : j < n
+      below = within-has refused n j w (and-right (has from j) (has refused j) (sym (i j) ∙ at))
+
+      before : (k : ℕ) → k < j → both from refused k ≡ false
+      before k b = sym (in-both k) ∙ least-before 64 (has x) k (rw e at b)
 
 module _ (l : List ℕ) (n m cores from set : ℕ) where
-  pub record Answered (j : ℕ) : Type 0 where
-    pub before : (k : ℕ) → k < j → openAt l n m cores from set k ≡ false
-
-  pub open-start : Answered 0
-  open-start = record { before = λ k b. absurd (omega arith) }
-
-  open-next : (j : ℕ) → Answered j → openAt l n m cores from set j ≡ false → Answered (j + 1)
-  open-next j a e = record { before = λ k b. go k b (ℕ-discrete k j) }
-    where
-      go : (k : ℕ) → k < j + 1 → Dec (k ≡ j) → openAt l n m cores from set k ≡ false
-      go k b (yes q) = ap (openAt l n m cores from set) q ∙ e
-      go k b (no q) = a .before k (omega arith)
-
-  pub open-past : (j : ℕ) → Answered j → has from j ≡ false → Answered (j + 1)
-  unfolding openAt
-  open-past j a e = open-next j a (and-false-left (not (anyWon l n m cores j set)) e)
-
-  pub open-answered : (j : ℕ) → Answered j → anyWon l n m cores j set ≡ true → Answered (j + 1)
-  unfolding openAt
-  open-answered j a e = open-next j a (and-false-right (has from j) (ap not e))
-
-  pub open-found : (j : ℕ) {x y : Bool} → Answered j → j < n → x ≡ has from j → x ≡ true → y ≡ anyWon l n m cores j set → y ≡ false
-      → j ≡ unansweredAt l n m cores from set
-  unfolding unansweredAt openAt
-  open-found j a b d e f h =
-      sym (least-unique n (openAt l n m cores from set) j b (and-intro (sym d ∙ e) (ap not (sym f ∙ h))) (a .before))
-
-  pub open-end : (j : ℕ) → Answered j → n ≤ j → n ≡ unansweredAt l n m cores from set
-  unfolding unansweredAt
-  open-end j a b = go (decLt′ (least n (openAt l n m cores from set)) (least-le n (openAt l n m cores from set)))
-    where
-      decLt′ : (k : ℕ) → k ≤ n → (k ≡ n) ⊎ (k < n)
-      decLt′ k h = elim (ℕ-discrete k n) [ yes q ↦ inl q | no q ↦ inr (omega arith) ]
-
-      go : (least n (openAt l n m cores from set) ≡ n) ⊎ (least n (openAt l n m cores from set) < n) → n ≡ least n (openAt l n m cores from set)
-      go (inl q) = sym q
-      go (inr q) = clash (least-member n (openAt l n m cores from set) q) (a .before (least n (openAt l n m cores from set)) (omega arith))
+  pub unanswered-both : {x : ℕ} → x ≡ pack n (refusedAt l n m cores set) → least n (both from x) ≡ unansweredAt l n m cores from set
+  unfolding unansweredAt openAt refusedAt both
+  unanswered-both {x} e =
+      least-same n (both from x) (openAt l n m cores from set)
+      (λ j b. ap (λ (k : Bool). has from j && k) (ap (λ (y : ℕ). has y j) e ∙ has-pack-below n (refusedAt l n m cores set) j b))
 
   pub unanswered-most : unansweredAt l n m cores from set ≤ n
   unfolding unansweredAt
   unanswered-most = least-le n (openAt l n m cores from set)
+
+-- the refusals of all outputs
+
+pub refused-within : (n : ℕ) (p : ℕ → Bool) {x : ℕ} → x ≡ pack n p → within x n ≡ true
+refused-within n p {x} e = has-within x n (λ s h. pack-below n p s (ap (λ (y : ℕ). has y s) (sym e) ∙ h))
+
+module _ (l : List ℕ) (n m cores : ℕ) (moves : List ℕ) where
+  -- those of the outputs below k
+  pub record Refusing (k : ℕ) (after : List ℕ) : Type 0 where
+    pub room : length after ≡ 64
+    pub row : (o : ℕ) → o < k → getD after o 0 ≡ pack n (refusedAt l n m cores (getD moves o 0))
+
+  pub refusing-start : {after : List ℕ} → length after ≡ 64 → Refusing 0 after
+  refusing-start e = record { room = e; row = λ o b. absurd (omega arith) }
+
+  pub refusing-next : {k x : ℕ} {after : List ℕ} → k < 64 → Refusing k after → x ≡ pack n (refusedAt l n m cores (getD moves k 0)) → Refusing (k + 1) (set after k x)
+  refusing-next {k} {x} {after} small R e = record { room = rw length-set (R .room); row = λ o b. go o b (ℕ-discrete o k) }
+    where
+      go : (o : ℕ) → o < k + 1 → Dec (o ≡ k) → getD (set after k x) o 0 ≡ pack n (refusedAt l n m cores (getD moves o 0))
+      go o b (yes q) = rw q (getD-set-same after k x 0 (omega (arith, R .room)) ∙ e)
+      go o b (no q) = getD-set-other after k o x 0 q ∙ R .row o (omega arith)
+
+  pub refusing-end : {k : ℕ} {after : List ℕ} → m ≤ k → Refusing k after → Refused l n m cores moves after
+  refusing-end a R = record { row = λ i o b c d. R .row o (omega (arith, d)) }
+
+  -- no component is trivial
+  pub refused-none : (b x : ℕ) {after : List ℕ} → ((s : ℕ) → has b s ≡ ltb s n) → ((s : ℕ) → has x s ≡ (has b s && not (has cores s))) → x ≡ 0
+      → Refused l n m cores moves after
+  refused-none b x f d z = record { row = λ i o li c lo. clash (d i ∙ and-intro (f i ∙ lt-ltb i n li) (ap not c)) (ap (λ (k : ℕ). has k i) z ∙ has-zero i) }

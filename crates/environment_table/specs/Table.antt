@@ -8,12 +8,16 @@
 --   Filled g P l m              == from l to m rows were written, those with P among them
 --   Same g counters i o first more   == the rows of i and o hold first + more × h
 --   Spread g i over which first more == so do those of i and the outputs of `over`, for the counters of `which`
+--   Putting O M i o first more n     == so do those of a game with O outputs, whose table fits n entries
+--   Put O M i o first more l m       == from l to m they were written, of any such game
+--   Pushes g M i over after          == so do those of i and an output o of `over`: first is the lowest move into the set after o, more is 64
 use Prim.Native.Nat.{ℕ, _+_, _*_, _<_, _≤_}
 use mathlib.Core.Path.{_≡_}
 use mathlib.Core.Bool.{true}
 use mathlib.Core.List.{List}
-use lib.ListN.{length}
-use Rattle.sets.specs.Member.{has, pack}
+use lib.ListN.{length, getD}
+use Rattle.finite.specs.Bounded.{least}
+use Rattle.sets.specs.Member.{has, pack, within, both}
 use Rattle.graphs.specs.Component.{nontrivial}
 use Rattle.game.specs.declared.Game.{Game}
 use Rattle.game.specs.declared.Acceptance.the-variants.{Accepted}
@@ -65,3 +69,19 @@ pub record Spread (g : Game) (i over which first more : ℕ) : Type 0 where
   pub input : i < g .input .states
   pub counter : (h : ℕ) → has which h ≡ true → h < environmentCounters (separatedOf g)
   pub entry : (h o : ℕ) → has which h ≡ true → o < g .output .states → has over o ≡ true → first + more * h ≡ entry (environmentRow (separatedOf g) i h o)
+
+pub record Putting (O M i o first more n : ℕ) : Type 0 where
+  pub game : Game
+  pub outputs : O ≡ game .output .states
+  pub roomy : Roomy game M n
+  pub same : Same game M i o first more
+
+pub record Put (O M i o first more : ℕ) (l m : List ℕ) : Type 0 where
+  pub fills : (p : Putting O M i o first more (length l)) → Filled (p .game) (λ a h b. (b ≡ o) × (a ≡ i)) l m
+
+-- "i's component not stayable: the lowest move to a j for which no output move from o makes a won position; h stays."
+pub record Pushes (g : Game) (M i over : ℕ) (after : List ℕ) : Type 0 where
+  pub input : i < g .input .states
+  pub below : (o : ℕ) → has over o ≡ true → o < g .output .states
+  pub sets : (o : ℕ) → has over o ≡ true → within (getD after o 0) (g .input .states) ≡ true
+  pub same : (o j : ℕ) → has over o ≡ true → j ≡ least (g .input .states) (both (getD (g .input .moves) i 0) (getD after o 0)) → Same g M i o j 64

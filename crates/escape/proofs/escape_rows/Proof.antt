@@ -2,10 +2,11 @@
 use native.Mathlib.Omega.{arith}
 use borrow.Author.Needs.{needs}
 use Prim.Native.Nat.{_<_}
-use mathlib.Core.Path.{_≡_}
+use mathlib.Core.Path.{_≡_, refl}
+use lib.ListN.{length}
 use Rattle.finite.specs.Bounded.{count}
 use Rattle.sets.specs.Member.{has}
-use Rattle.environment_table.specs.Table.{Same}
+use Rattle.environment_table.specs.Table.{Same, Putting}
 use Rattle.environment_table.proofs.Places.{roomy-more, same-small}
 use Rattle.environment_table.proofs.Members.{Visiting, visit-start, visit-small, visit-in, visit-falls, visit-next, visit-end}
 use Rattle.environment_table.proofs.Outward.{same-outward}
@@ -13,13 +14,13 @@ use Rattle.escape.proofs.escape_rows.Statement.{statement}
 use Rattle.escape.proofs.escape_rows.Tie as tie
 
 abbrev Inv-loop : tie.InvT-loop
-Inv-loop g counters o out room₀ w h rest₀ room rest = Visiting g (λ a h b. b ≡ o .0) rest₀ rest room₀ room
+Inv-loop g counters o out room₀ w h rest₀ room rest = Visiting g (λ a b. a) (λ a h b. b ≡ o .0) rest₀ rest room₀ room
 
 abbrev μ-loop : tie.MeasureT-loop
 μ-loop g counters o out room₀ w h rest₀ room rest = count 64 (has rest)
 
 small : (c : tie.After-lowest Inv-loop μ-loop) → c .lowest .result < 64
-small c = visit-small _ _ _ (c .before .before .loop .rest) _ (c .before .before .loop .inv) (c .before .loop-test .taken) (c .lowest .ensures)
+small c = visit-small _ _ _ _ (c .before .before .loop .rest) _ (c .before .before .loop .inv) (c .before .loop-test .taken) (c .lowest .ensures)
 
 -- what belongs in the rows of the state that is visited
 same : (c : tie.After-way-from Inv-loop μ-loop)
@@ -29,11 +30,15 @@ same c =
     let l = c .before .before .before in
     let b = l .before .before in
     let p = b .before .before .before .pre in
-    let k = visit-in _ _ _ (b .loop .rest) _ (b .loop .inv) (l .before .loop-test .taken) (l .lowest .ensures) in
+    let k = visit-in _ _ _ _ (b .loop .rest) _ (b .loop .inv) (l .before .loop-test .taken) (l .lowest .ensures) in
     same-outward _ _ _ _ _ _ (p .1) _ (p .1 .below _ k) k _ (c .way-from .ensures)
 
+putting : (c : tie.After-put-arg Inv-loop μ-loop)
+    → Putting (c .before .before .before .before .before .before .before .before .before .args .g .output .states) (c .before .before .before .before .before .before .before .before .before .args .counters) (c .before .before .before .before .lowest .result) (c .before .before .before .before .before .before .before .before .before .args .o .0) (c .before .way-from .result) 64 (length (c .before .before .before .before .before .before .loop .room))
+putting c = record { game = c .before .before .before .before .before .before .before .before .before .args .g; outputs = refl; roomy = roomy-more _ (c .before .before .before .before .before .before .before .before .before .pre .0) (c .before .before .before .before .before .before .loop .inv .filled); same = same (c .before) }
+
 loop-holds : tie.Need-loop-holds Inv-loop μ-loop
-loop-holds c = visit-start _ _ _ _ (c .before .before .pre .0 .inputs) (c .before .before .pre .1 .below)
+loop-holds c = visit-start _ _ _ _ _ _ (c .before .before .pre .0 .inputs) (c .before .before .pre .1 .below)
 
 lowest-requires : tie.Need-lowest-requires Inv-loop μ-loop
 lowest-requires c κs = search needs
@@ -54,7 +59,7 @@ cast-put : tie.Need-cast-put Inv-loop μ-loop
 cast-put c = omega (arith, same-small _ _ _ _ _ _ _ (c .before .before .before .before .before .before .before .before .pre .0) (same c))
 
 put-requires : tie.Need-put-requires Inv-loop μ-loop
-put-requires c κs = (roomy-more _ (c .before .before .before .before .before .before .before .before .before .pre .0) (c .before .before .before .before .before .before .loop .inv .filled), same (c .before))
+put-requires c κs = putting c
 
 insert-requires : tie.Need-insert-requires Inv-loop μ-loop
 insert-requires c κs = small (c .before .before .before .before .before .before .before)
@@ -66,20 +71,21 @@ loop-less : tie.Need-loop-less Inv-loop μ-loop
 loop-less c =
     let l = c .before .before .before .before .before .before .before .before .before in
     let b = l .before .before in
-    visit-falls _ _ _ (b .loop .rest) _ (b .loop .inv) (l .before .loop-test .taken) (l .lowest .ensures) _ _ (c .before .insert .ensures) (c .difference .ensures)
+    visit-falls _ _ _ _ (b .loop .rest) _ (b .loop .inv) (l .before .loop-test .taken) (l .lowest .ensures) _ _ (c .before .insert .ensures) (c .difference .ensures)
 
 loop-again : tie.Need-loop-again Inv-loop μ-loop
+unfolding putting
 loop-again c =
     let l = c .before .before .before .before .before .before .before .before .before in
     let b = l .before .before in
-    visit-next _ _ _ (b .loop .rest) _ (b .loop .inv) (l .before .loop-test .taken) (l .lowest .ensures) _ _ (c .before .insert .ensures) (c .difference .ensures)
-    (omega (arith, c .difference .ok)) (c .before .before .before .before .put .ensures) (λ a h b e p. (e, p))
+    visit-next _ _ _ _ (b .loop .rest) _ (b .loop .inv) (l .before .loop-test .taken) (l .lowest .ensures) _ _ (c .before .insert .ensures) (c .difference .ensures)
+    (omega (arith, c .difference .ok)) (c .before .before .before .before .put .ensures .fills (putting (c .before .before .before .before .before))) (λ a h b e p. (p, e))
 
 same-length : tie.Need-same-length Inv-loop μ-loop
 same-length c = c .before .loop .inv .filled .grows .long
 
 returns : tie.Need-returns Inv-loop μ-loop
-returns c = visit-end _ _ _ (c .before .loop .rest) (c .before .loop .inv) (c .loop-test .left)
+returns c = visit-end _ _ _ _ (c .before .loop .rest) (c .before .loop .inv) (c .loop-test .left)
 
 pub escape-rows-spec : {M : Type 1} → statement M
 escape-rows-spec =

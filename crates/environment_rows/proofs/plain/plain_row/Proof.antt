@@ -1,51 +1,57 @@
--- `plain_row` goes through the outputs.
+-- `plain_row`: the won outputs, and the others where the component is trivial.
 use native.Mathlib.Omega.{arith}
-use Prim.Native.Nat.{_<_, _≤_, _-_}
-use mathlib.Core.Path.{_≡_}
-use mathlib.Core.Bool.{true}
-use Rattle.environment_table.specs.Table.{Filled}
-use Rattle.environment_table.specs.Reading.{plain}
-use Rattle.environment_table.proofs.Places.{filled-none, filled-join, filled-same, roomy-more, below-next}
+use borrow.Author.Needs.{needs}
+use mathlib.Core.Path.{sym, _∙_}
+use Rattle.environment_table.proofs.Places.{roomy-more}
+use Rattle.environment_table.proofs.Known.{shaped, spread-won, pushes-of, plain-both, plain-won}
 use Rattle.environment_rows.proofs.plain.plain_row.Statement.{statement}
 use Rattle.environment_rows.proofs.plain.plain_row.Tie as tie
 
-abbrev Inv-loop : tie.InvT-loop
-Inv-loop g s cores counters i room₀ m o₀ room o = (o ≤ m) × Filled g (λ a h b. (b < o) × (a ≡ i .0) × (plain g a b ≡ true)) room₀ room
+won-outputs-requires : tie.Need-won-outputs-requires
+won-outputs-requires c κs = (shaped _ _ _ (c .before .before .pre .0), c .before .before .pre .2)
 
-abbrev μ-loop : tie.MeasureT-loop
-μ-loop g s cores counters i room₀ m o₀ room o = m - o
+below-requires : tie.Need-below-requires
+below-requires c κs = omega (arith, c .before .before .before .pre .1 .few)
 
-loop-holds : tie.Need-loop-holds Inv-loop μ-loop
-loop-holds c = (omega arith, filled-none _ _ (λ a h b p. omega (arith, p .0)))
+spread-requires : tie.Need-spread-requires
+spread-requires c κs = (c .before .before .before .before .before .pre .1, spread-won _ _ _ (c .before .before .before .before .before .pre .0) _ (c .before .before .before .before .before .pre .2) _ (c .before .before .won-outputs .ensures) _ _ _ (c .before .before .before .before .before .pre .1) (c .before .below .ensures))
 
-plain-at-requires : tie.Need-plain-at-requires Inv-loop μ-loop
-plain-at-requires c κs = (c .before .before .before .before .before .pre .0, roomy-more _ (c .before .before .before .before .before .pre .1) (c .before .before .loop .inv .1), c .before .before .before .before .before .pre .2, c .before .loop-test .taken)
+member-requires : tie.Need-member-requires
+member-requires c κs = omega arith
 
-add-o : tie.Need-add-o Inv-loop μ-loop
-add-o c = omega arith
+same-length : tie.Need-same-length
+same-length c = search needs
 
-loop-less : tie.Need-loop-less Inv-loop μ-loop
-loop-less c = omega arith
+returns : tie.Need-returns
+returns c = plain-won _ _ _ (c .before .before .before .before .before .before .before .before .before .before .pre .0) _ (c .before .before .before .before .before .before .before .before .before .before .pre .2) _ (c .before .before .before .before .before .before .before .won-outputs .ensures) _ _ _ (c .before .before .before .before .before .before .before .before .before .before .pre .1) (c .before .before .before .before .before .before .below .ensures) (sym (c .before .member .ensures) ∙ c .if1 .taken) (c .before .before .before .before .spread .ensures)
 
-loop-again : tie.Need-loop-again Inv-loop μ-loop
-loop-again c = (omega arith, filled-join _ (c .before .before .before .before .before .loop .inv .1) (c .before .before .plain-at .ensures) (λ a h b x y z p. below-next b (c .before .before .before .before .before .loop .o) (p .0) (λ q. (q, p .1, p .2)) (λ q. (p .1, q, p .2))))
+below-requires-2 : tie.Need-below-requires-2
+below-requires-2 c κs = c .before .before .before .before .before .before .before .before .before .before .pre .0 .outputs
 
-same-length : tie.Need-same-length Inv-loop μ-loop
-same-length c = c .before .loop .inv .1 .grows .long
+difference-requires : tie.Need-difference-requires
+difference-requires c κs = search needs
 
-returns : tie.Need-returns Inv-loop μ-loop
-returns c = filled-same _ (c .before .loop .inv .1) (λ a h b x y z p. (omega (arith, z, c .loop-test .left), p .0, p .1))
+push-rows-requires : tie.Need-push-rows-requires
+push-rows-requires c κs = (roomy-more _ (c .before .before .before .before .before .before .before .before .before .before .before .before .before .pre .1) (c .before .before .before .before .before .before .before .spread .ensures), pushes-of _ _ _ (c .before .before .before .before .before .before .before .before .before .before .before .before .before .pre .0) _ (c .before .before .before .before .before .before .before .before .before .before .before .before .before .pre .2) _ (c .before .before .before .before .before .before .before .before .before .before .won-outputs .ensures) _ _ (c .before .before .below2 .ensures) (c .before .difference .ensures) _ (sym (c .before .before .before .before .member .ensures) ∙ c .before .before .before .if1 .left) (c .before .before .before .before .before .before .before .before .before .before .before .before .before .pre .3))
+
+same-length-2 : tie.Need-same-length-2
+same-length-2 c = search needs
+
+returns-2 : tie.Need-returns-2
+returns-2 c = plain-both _ _ _ (c .before .before .before .before .before .before .before .before .before .before .before .before .before .before .before .before .pre .0) _ (c .before .before .before .before .before .before .before .before .before .before .before .before .before .before .before .before .pre .2) _ (c .before .before .before .before .before .before .before .before .before .before .before .before .before .won-outputs .ensures) _ _ (c .before .before .before .before .before .below2 .ensures) (c .before .before .before .before .difference .ensures) _ _ _ (c .before .before .before .before .before .before .before .before .before .before .before .before .before .before .before .before .pre .1) (c .before .before .before .before .before .before .before .before .before .before .before .before .below .ensures) (c .before .before .before .before .before .before .before .before .before .before .spread .ensures) (c .before .before .push-rows .ensures)
 
 pub plain-row-spec : {M : Type 1} → statement M
 plain-row-spec =
     tie.close
     (tie.spec
-    Inv-loop
-    μ-loop
-    loop-holds
-    plain-at-requires
-    add-o
-    loop-less
-    loop-again
+    won-outputs-requires
+    below-requires
+    spread-requires
+    member-requires
     same-length
-    returns)
+    returns
+    below-requires-2
+    difference-requires
+    push-rows-requires
+    same-length-2
+    returns-2)

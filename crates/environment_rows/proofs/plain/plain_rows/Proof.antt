@@ -6,20 +6,24 @@ use mathlib.Core.Bool.{true}
 use Rattle.environment_table.specs.Table.{Filled}
 use Rattle.environment_table.specs.Reading.{plain}
 use Rattle.environment_table.proofs.Places.{filled-none, filled-join, filled-same, roomy-more, below-next}
+use Rattle.environment_table.proofs.Known.{shaped}
 use Rattle.environment_rows.proofs.plain.plain_rows.Statement.{statement}
 use Rattle.environment_rows.proofs.plain.plain_rows.Tie as tie
 
 abbrev Inv-loop : tie.InvT-loop
-Inv-loop g s cores counters room₀ n i₀ room i = (i ≤ n) × Filled g (λ a h b. (a < i) × (plain g a b ≡ true)) room₀ room
+Inv-loop g s cores counters room₀ n t i₀ room i = (i ≤ n) × Filled g (λ a h b. (a < i) × (plain g a b ≡ true)) room₀ room
 
 abbrev μ-loop : tie.MeasureT-loop
-μ-loop g s cores counters room₀ n i₀ room i = n - i
+μ-loop g s cores counters room₀ n t i₀ room i = n - i
+
+all-refused-requires : tie.Need-all-refused-requires Inv-loop μ-loop
+all-refused-requires c κs = shaped _ _ _ (c .before .before .before .before .before .pre .0)
 
 loop-holds : tie.Need-loop-holds Inv-loop μ-loop
 loop-holds c = (omega arith, filled-none _ _ (λ a h b p. omega (arith, p .0)))
 
 plain-row-requires : tie.Need-plain-row-requires Inv-loop μ-loop
-plain-row-requires c κs = (c .before .before .before .before .before .pre .0, roomy-more _ (c .before .before .before .before .before .pre .1) (c .before .before .loop .inv .1), c .before .loop-test .taken)
+plain-row-requires c κs = (c .before .before .before .before .before .before .before .before .before .pre .0, roomy-more _ (c .before .before .before .before .before .before .before .before .before .pre .1) (c .before .before .loop .inv .1), c .before .loop-test .taken, c .before .before .before .all-refused .ensures)
 
 add-i : tie.Need-add-i Inv-loop μ-loop
 add-i c = omega arith
@@ -42,6 +46,7 @@ plain-rows-spec =
     (tie.spec
     Inv-loop
     μ-loop
+    all-refused-requires
     loop-holds
     plain-row-requires
     add-i
