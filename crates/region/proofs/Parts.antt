@@ -18,8 +18,9 @@ use Rattle.dues.specs.Dues.{Serves, Serving}
 use Rattle.dues.proofs.Meaning.{serving-closed}
 use Rattle.areas.specs.Areas.{ClosedAt}
 use Rattle.areas.proofs.Parts.{laid-both, areas-long, areas-rest, out-closes}
-use Rattle.region.specs.Fill.{Filling, Prepared}
-use Rattle.region.proofs.Order.{kept-more}
+use Rattle.ranks.specs.Fill.{Filling}
+use Rattle.region.specs.Fill.{Prepared}
+use Rattle.ranks.proofs.Order.{kept-more}
 
 -- the two closures, one after the other
 module _ (g : Game) (F : Fits g) (l₀ l₁ l₂ : List ℕ) {k : ℕ} (C : Closed (g .input) l₀ l₁ k)

@@ -1,7 +1,7 @@
 -- `fill`.
 use native.Mathlib.Omega.{arith}
-use Rattle.region.specs.Fill.{Filling, Kept}
-use Rattle.region.proofs.Order.{kept-none, kept-more, filling-done}
+use Rattle.ranks.specs.Fill.{Filling, Kept}
+use Rattle.ranks.proofs.Order.{kept-none, kept-more, filling-done}
 use Prim.Native.Nat.{_+_, _-_, _≤_}
 use Rattle.region.proofs.fill.Statement.{statement}
 use Rattle.region.proofs.fill.Tie as tie

@@ -2,10 +2,10 @@
 use Prim.Native.Nat.{_-_, _≤_, _<_}
 use mathlib.Core.Path.{_≡_}
 use native.Mathlib.Omega.{arith}
-use Rattle.region.specs.Fill.{reach, Filling, Kept}
-use Rattle.region.proofs.Order.{kept-none, kept-more, filling-long, filling-skips, filling-at, filling-of, filling-next}
-use Rattle.region.proofs.fill_rank.Statement.{statement}
-use Rattle.region.proofs.fill_rank.Tie as tie
+use Rattle.ranks.specs.Fill.{reach, Filling, Kept}
+use Rattle.ranks.proofs.Order.{kept-none, kept-more, filling-long, filling-skips, filling-at, filling-of, filling-next}
+use Rattle.ranks.proofs.fill_rank.Statement.{statement}
+use Rattle.ranks.proofs.fill_rank.Tie as tie
 
 abbrev Inv-loop : tie.InvT-loop
 Inv-loop g t s₀ cores turning k n i₀ s i = (i ≤ n) × Filling g cores turning s k i × Kept g s₀ s × (i < n → reach s i ≡ k)

@@ -2,9 +2,9 @@
 use mathlib.Core.Path.{sym, _∙_}
 use borrow.Author.Needs.{needs}
 use Rattle.dues.proofs.Meaning.{fits-few}
-use Rattle.region.proofs.Order.{row-homes, row-replies}
-use Rattle.region.proofs.stored_row.Statement.{statement}
-use Rattle.region.proofs.stored_row.Tie as tie
+use Rattle.ranks.proofs.Order.{row-homes, row-replies}
+use Rattle.ranks.proofs.stored_row.Statement.{statement}
+use Rattle.ranks.proofs.stored_row.Tie as tie
 
 member-requires : tie.Need-member-requires
 member-requires c κs = search needs

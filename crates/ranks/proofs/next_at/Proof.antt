@@ -2,9 +2,9 @@
 use Prim.Native.Nat.{_-_}
 use native.Mathlib.Omega.{arith}
 use borrow.Author.Needs.{needs}
-use Rattle.region.proofs.Order.{Seeking, seeking-start, seeking-next, seeking-hit, seeking-end}
-use Rattle.region.proofs.next_at.Statement.{statement}
-use Rattle.region.proofs.next_at.Tie as tie
+use Rattle.ranks.proofs.Order.{Seeking, seeking-start, seeking-next, seeking-hit, seeking-end}
+use Rattle.ranks.proofs.next_at.Statement.{statement}
+use Rattle.ranks.proofs.next_at.Tie as tie
 
 abbrev Inv-loop : tie.InvT-loop
 Inv-loop s n k i j₀ j = Seeking s n k i j

@@ -1,8 +1,8 @@
 -- `place`.
 use borrow.Author.Needs.{needs}
-use Rattle.region.proofs.Order.{filling-ready, filling-writes, kept-writes}
-use Rattle.region.proofs.place.Statement.{statement}
-use Rattle.region.proofs.place.Tie as tie
+use Rattle.ranks.proofs.Order.{filling-ready, filling-writes, kept-writes}
+use Rattle.ranks.proofs.place.Statement.{statement}
+use Rattle.ranks.proofs.place.Tie as tie
 
 row-for-requires : tie.Need-row-for-requires
 row-for-requires c κs =

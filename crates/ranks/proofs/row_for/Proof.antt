@@ -1,9 +1,9 @@
 -- `row_for`.
 use native.Mathlib.Omega.{arith}
-use Rattle.region.proofs.Order.{row-taken, row-component}
+use Rattle.ranks.proofs.Order.{row-taken, row-component}
 use borrow.Author.Needs.{needs}
-use Rattle.region.proofs.row_for.Statement.{statement}
-use Rattle.region.proofs.row_for.Tie as tie
+use Rattle.ranks.proofs.row_for.Statement.{statement}
+use Rattle.ranks.proofs.row_for.Tie as tie
 
 component-requires : tie.Need-component-requires
 component-requires c κs = search needs

@@ -1,0 +1,2 @@
+-- Laws of the region's rows.
+pub mod Order

@@ -1,0 +1,2 @@
+-- What the functions of the region's rows cite.
+pub mod Fill
