@@ -1,5 +1,4 @@
 // The environment's table, filled from scratch that holds the winning region. Sorts of states are kept apart in every signature that has both.
-use environment_rows::plain;
 use game::Game;
 use game::InSet;
 use game::InState;

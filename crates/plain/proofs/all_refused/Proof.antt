@@ -4,8 +4,8 @@ use borrow.Author.Needs.{needs}
 use Prim.Native.Nat.{_≤_, _-_}
 use mathlib.Core.Path.{refl}
 use Rattle.environment_table.proofs.Reading.{Refusing, refusing-start, refusing-next, refusing-end, refused-none}
-use Rattle.environment_rows.proofs.plain.all_refused.Statement.{statement}
-use Rattle.environment_rows.proofs.plain.all_refused.Tie as tie
+use Rattle.plain.proofs.all_refused.Statement.{statement}
+use Rattle.plain.proofs.all_refused.Tie as tie
 
 abbrev Inv-loop : tie.InvT-loop
 Inv-loop moves s n m cores after₀ o₀ after o = (o ≤ m) × Refusing s n m (cores .0) moves o after

@@ -4,8 +4,8 @@ use borrow.Author.Needs.{needs}
 use mathlib.Core.Path.{sym, _∙_}
 use Rattle.environment_table.proofs.Places.{roomy-more}
 use Rattle.environment_table.proofs.Known.{shaped, spread-won, pushes-of, plain-both, plain-won}
-use Rattle.environment_rows.proofs.plain.plain_row.Statement.{statement}
-use Rattle.environment_rows.proofs.plain.plain_row.Tie as tie
+use Rattle.plain.proofs.plain_row.Statement.{statement}
+use Rattle.plain.proofs.plain_row.Tie as tie
 
 won-outputs-requires : tie.Need-won-outputs-requires
 won-outputs-requires c κs = (shaped _ _ _ (c .before .before .pre .0), c .before .before .pre .2)

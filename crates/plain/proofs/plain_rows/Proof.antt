@@ -7,8 +7,8 @@ use Rattle.environment_table.specs.Table.{Filled}
 use Rattle.environment_table.specs.Reading.{plain}
 use Rattle.environment_table.proofs.Places.{filled-none, filled-join, filled-same, roomy-more, below-next}
 use Rattle.environment_table.proofs.Known.{shaped}
-use Rattle.environment_rows.proofs.plain.plain_rows.Statement.{statement}
-use Rattle.environment_rows.proofs.plain.plain_rows.Tie as tie
+use Rattle.plain.proofs.plain_rows.Statement.{statement}
+use Rattle.plain.proofs.plain_rows.Tie as tie
 
 abbrev Inv-loop : tie.InvT-loop
 Inv-loop g s cores counters room₀ n t i₀ room i = (i ≤ n) × Filled g (λ a h b. (a < i) × (plain g a b ≡ true)) room₀ room

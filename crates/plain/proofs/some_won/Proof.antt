@@ -2,8 +2,8 @@
 use mathlib.Core.Path.{sym, _∙_}
 use borrow.Author.Needs.{needs}
 use Rattle.environment_table.proofs.Reading.{some-in, some-out}
-use Rattle.environment_rows.proofs.plain.some_won.Statement.{statement}
-use Rattle.environment_rows.proofs.plain.some_won.Tie as tie
+use Rattle.plain.proofs.some_won.Statement.{statement}
+use Rattle.plain.proofs.some_won.Tie as tie
 
 add-row : tie.Need-add-row
 add-row c = search needs

@@ -1,5 +1,5 @@
 // The start, and the rows that need no walk: those of won positions and of trivial components.
-use crate::rows;
+use environment_rows::rows;
 use game::Game;
 use game::InSet;
 use game::InState;

@@ -11,8 +11,8 @@ use Rattle.environment_table.specs.Table.{Same, Putting}
 use Rattle.environment_table.proofs.Places.{roomy-more, same-small}
 use Rattle.environment_table.proofs.Members.{Visiting, visit-start, visit-small, visit-in, visit-falls, visit-next, visit-end}
 use Rattle.environment_table.proofs.Known.{both-of}
-use Rattle.environment_rows.proofs.plain.push_rows.Statement.{statement}
-use Rattle.environment_rows.proofs.plain.push_rows.Tie as tie
+use Rattle.plain.proofs.push_rows.Statement.{statement}
+use Rattle.plain.proofs.push_rows.Tie as tie
 
 abbrev Inv-loop : tie.InvT-loop
 Inv-loop g counters i room₀ t n from rest₀ room rest = Visiting g (λ a b. b) (λ a h b. a ≡ i .0) rest₀ rest room₀ room

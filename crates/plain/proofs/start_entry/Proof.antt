@@ -4,8 +4,8 @@ use borrow.Author.Needs.{needs}
 use mathlib.Core.Path.{_∙_}
 use Rattle.environment_table.proofs.Reading.{refused-within, unanswered-both}
 use Rattle.environment_table.proofs.Known.{shaped, start-found, start-none, unanswered-of}
-use Rattle.environment_rows.proofs.plain.start_entry.Statement.{statement}
-use Rattle.environment_rows.proofs.plain.start_entry.Tie as tie
+use Rattle.plain.proofs.start_entry.Statement.{statement}
+use Rattle.plain.proofs.start_entry.Tie as tie
 
 out-initial-requires : tie.Need-out-initial-requires
 out-initial-requires c κs = search needs

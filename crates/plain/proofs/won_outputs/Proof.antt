@@ -5,8 +5,8 @@ use mathlib.Core.Path.{_≡_}
 use Rattle.sets.specs.Member.{pack}
 use Rattle.sets.proofs.Collect.{collect-none, collect-next, collect-end}
 use Rattle.stored.specs.Stored.{wonAt}
-use Rattle.environment_rows.proofs.plain.won_outputs.Statement.{statement}
-use Rattle.environment_rows.proofs.plain.won_outputs.Tie as tie
+use Rattle.plain.proofs.won_outputs.Statement.{statement}
+use Rattle.plain.proofs.won_outputs.Tie as tie
 
 abbrev Inv-loop : tie.InvT-loop
 Inv-loop s n m cores i x₀ o₀ x o = (o ≤ m) × (x ≡ pack o (wonAt s n (cores .0) (i .0)))

@@ -6,8 +6,8 @@ use native.Mathlib.Omega.{arith}
 use Rattle.sets.specs.Member.{has}
 use Rattle.environment_table.specs.Reading.{reachedAt}
 use Rattle.environment_table.proofs.Reading.{reached-start, reached-turn, reached-end}
-use Rattle.environment_rows.proofs.plain.reached.Statement.{statement}
-use Rattle.environment_rows.proofs.plain.reached.Tie as tie
+use Rattle.plain.proofs.reached.Statement.{statement}
+use Rattle.plain.proofs.reached.Tie as tie
 
 abbrev Inv-loop : tie.InvT-loop
 Inv-loop s n m set x₀ p₀ x p = (p ≤ m) × ((t : ℕ) → has x t ≡ reachedAt s n p (set .0) t)

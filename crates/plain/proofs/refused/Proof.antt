@@ -6,8 +6,8 @@ use Rattle.sets.specs.Member.{pack}
 use Rattle.sets.proofs.Collect.{collect-none, collect-next, collect-end}
 use Rattle.environment_table.specs.Reading.{refusedAt}
 use Rattle.environment_table.proofs.Reading.{refused-at}
-use Rattle.environment_rows.proofs.plain.refused.Statement.{statement}
-use Rattle.environment_rows.proofs.plain.refused.Tie as tie
+use Rattle.plain.proofs.refused.Statement.{statement}
+use Rattle.plain.proofs.refused.Tie as tie
 
 abbrev Inv-loop : tie.InvT-loop
 Inv-loop s n m cores set reach x₀ j₀ x j = (j ≤ n) × (x ≡ pack j (refusedAt s n m (cores .0) (set .0)))

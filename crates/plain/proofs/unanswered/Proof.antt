@@ -2,8 +2,8 @@
 use native.Mathlib.Omega.{arith}
 use borrow.Author.Needs.{needs}
 use Rattle.environment_table.proofs.Reading.{both-none, both-lowest}
-use Rattle.environment_rows.proofs.plain.unanswered.Statement.{statement}
-use Rattle.environment_rows.proofs.plain.unanswered.Tie as tie
+use Rattle.plain.proofs.unanswered.Statement.{statement}
+use Rattle.plain.proofs.unanswered.Tie as tie
 
 intersection-requires : tie.Need-intersection-requires
 intersection-requires c κs = search needs
