@@ -100,15 +100,7 @@ fn escape_rows(
     while rest != 0 {
         let k = sets::lowest(rest);
         let j = way_from(h.moves[k], out.0, w.next[k]);
-        rows::put(
-            g.output.states,
-            counters,
-            InState(k),
-            o,
-            j as u16,
-            64,
-            room,
-        );
+        rows::put(g.output.states, counters, InState(k), o, j as u16, 64, room);
         rest = sets::difference(rest, sets::insert(0, k));
     }
 }

@@ -131,14 +131,7 @@ fn won_outputs(s: &[u64], n: usize, m: usize, cores: InSet, i: InState) -> OutSe
 }
 
 // The rows of i, whose component is trivial, and of the outputs of `over`: the lowest move that leaves no won reply.
-fn push_rows(
-    g: Game,
-    counters: usize,
-    i: InState,
-    over: OutSet,
-    t: Refusals,
-    room: &mut [u16],
-)
+fn push_rows(g: Game, counters: usize, i: InState, over: OutSet, t: Refusals, room: &mut [u16])
     requires { ⌜ Roomy g counters (length (now room)) × Pushes g counters (i .0) (over .0) (t .after) ⌝ }
     ensures { λ r. ⌜ Filled g (λ a h b. (has (over .0) b ≡ true) × (a ≡ i .0)) (now (room .entry)) (now (room .exit)) ⌝ }
 {
