@@ -10,13 +10,14 @@
 --   same-outward       : what they ask of the entries
 --   whole-*            : the states of the component
 --   escape-won, escape-tours, escape-leaves : what one output's part ensures
-use Prim.Native.Nat.{ℕ, zero, suc, _+_, _*_, _<_}
+--   going-*, pressed-* : the same of any game with the counts and rows that are passed
+use Prim.Native.Nat.{ℕ, zero, suc, _+_, _*_, _<_, _≤_}
 use mathlib.Core.Path.{_≡_, refl, sym, _∙_, ap, subst, fun-ext}
 use mathlib.Core.Bool.{Bool, true, false, _&&_, not}
 use mathlib.Core.List.{List}
 use mathlib.Core.Logic.{inl, inr, _≢_}
 use native.Mathlib.Omega.{arith}
-use lib.ListN.{getD}
+use lib.ListN.{length, getD}
 use lib.Bits.{bitAnd}
 use Rattle.finite.specs.Bounded.{any, least}
 use Rattle.finite.proofs.Truth.{decide, clash, and-intro, and-left, and-right, and-false-left, and-false-right, not-true, same-test, false-of}
@@ -44,9 +45,9 @@ use Rattle.theory.proofs.EnvironmentRow.{lost-edge, lost-apart, lost-region, ga
 use Rattle.touring.proofs.Tours.{inside-kept, comp-has}
 use Rattle.components.specs.Component.{enters}
 use Rattle.stored.specs.Stored.{wonAt}
-use Rattle.environment_table.specs.Table.{Known, Same, Filled}
+use Rattle.environment_table.specs.Table.{Known, Roomy, Same, Filled}
 use Rattle.environment_table.specs.Reading.{lostAt}
-use Rattle.environment_table.specs.Pressing.{Whole, Leaves, Outward, Escape, lostIn, exitsAt, wayFrom, leavingAt, touringAt}
+use Rattle.environment_table.specs.Pressing.{Whole, Leaves, Outward, Going, Gone, Pressed, Escape, lostIn, exitsAt, wayFrom, leavingAt, touringAt}
 use Rattle.environment_table.proofs.Places.{filled-none, filled-same}
 use Rattle.environment_table.proofs.Known.{known-won, input-edge}
 
@@ -351,3 +352,67 @@ escape-won g s cores K c k W o lo {l} e = record {
   where
     won : region (separatedOf g) k o ≡ true
     won = sym (known-won g s cores K k o (W .below) lo) ∙ e
+
+-- the same of any game with these counts and rows
+
+pub going-same : (O M : ℕ) (rows : List ℕ) (c o out : ℕ) (next : List ℕ) (n : ℕ) (p : Going O M rows c o out next n) (k j : ℕ) → has c k ≡ true
+    → j ≡ wayFrom (getD rows k 0) out (getD next k 0) → Same (p .game) M k o j 64
+going-same O M rows c o out next n p k j e f =
+    same-outward (p .game) M c o out next (p .outward) k (p .outward .below k e) e j
+    (f ∙ ap (λ (x : List ℕ). wayFrom (getD x k 0) out (getD next k 0)) (p .moves))
+
+module _ (N O M : ℕ) (rows s : List ℕ) (cores c x k o n : ℕ) (p : Pressed N O M rows s cores c x k o n) where
+  pub pressed-won : (N ≤ 64) × (k < N) × (o < 64) × (N + N + o < length s)
+  pressed-won = (
+    omega (arith, p .inputs, p .known .inputs),
+    omega (arith, p .inputs, p .whole .below),
+    omega (arith, p .output, p .known .outputs),
+    omega (arith, p .inputs, p .output, p .known .ready .laid .long),
+  )
+
+  pub pressed-within : within x N ≡ true
+  pressed-within = subst (λ (y : ℕ). within x y ≡ true) (sym (p .inputs)) (leaves-within (p .game) s cores (p .known) c x (p .leaves))
+
+  at-game : {b : Bool} → wonAt s N cores k o ≡ b → wonAt s (p .game .input .states) cores k o ≡ b
+  at-game {b} e = subst (λ (y : ℕ). wonAt s y cores k o ≡ b) (p .inputs) e
+
+  pub pressed-escape-won : {l : List ℕ} → wonAt s N cores k o ≡ true → Escape (p .game) k o l l false
+  pressed-escape-won e = escape-won (p .game) s cores (p .known) c k (p .whole) o (p .output) (at-game e)
+
+  module _ (out gates : ℕ) (f : out ≡ pack N (lostIn s N cores x o)) (h : gates ≡ pack 64 (exitsAt rows c out)) where
+    words : Words (p .game) s cores c x o out gates
+    words = record {
+      lost = subst (λ (y : ℕ). out ≡ pack y (lostIn s y cores x o)) (p .inputs) f;
+      gate = subst (λ (y : List ℕ). gates ≡ pack 64 (exitsAt y c out)) (p .moves) h;
+    }
+
+    pub pressed-bounds : Bounds N gates
+    pressed-bounds = subst (λ (y : ℕ). Bounds y gates) (sym (p .inputs)) (gates-within (p .game) s cores (p .known) c k (p .whole) x (p .leaves) o (p .output) out gates words)
+
+    pub pressed-tours : {l : List ℕ} → wonAt s N cores k o ≡ false → gates ≡ 0 → Escape (p .game) k o l l true
+    pressed-tours e z = escape-tours (p .game) s cores (p .known) c k (p .whole) x (p .leaves) o (p .output) out gates words (at-game e) z
+
+    pub pressed-going : (next : List ℕ) → wonAt s N cores k o ≡ false → gates ≢ 0 → Toward rows N c gates next → Going O M rows c o out next n
+    pressed-going next e ne T = record {
+      game = p .game;
+      outputs = p .outputs;
+      moves = p .moves;
+      roomy = p .roomy;
+      outward = rows-outward (p .game) s cores (p .known) c k (p .whole) x (p .leaves) o (p .output) out gates words M next (at-game e) ne
+          (subst (λ (y : List ℕ). Toward y (p .game .input .states) c gates next) (p .moves) (subst (λ (y : ℕ). Toward rows y c gates next) (p .inputs) T));
+    }
+
+    pub pressed-leaves : {next l m : List ℕ} (e : wonAt s N cores k o ≡ false) (ne : gates ≢ 0) (T : Toward rows N c gates next) → length l ≡ n
+        → Gone O M rows c o out next l m → Escape (p .game) k o l m false
+    unfolding pressed-going
+    pressed-leaves {next} {l} e ne T q G =
+        escape-leaves (p .game) s cores (p .known) c k (p .whole) x (p .leaves) o (p .output) out gates words ne (G .fills going)
+      where
+        going : Going O M rows c o out next (length l)
+        going = record {
+          game = p .game;
+          outputs = p .outputs;
+          moves = p .moves;
+          roomy = subst (Roomy (p .game) M) (sym q) (p .roomy);
+          outward = pressed-going next e ne T .outward;
+        }

@@ -145,10 +145,6 @@ module _ (l : List ℕ) (n m cores from set : ℕ) where
       least-same n (both from x) (openAt l n m cores from set)
       (λ j b. ap (λ (k : Bool). has from j && k) (ap (λ (y : ℕ). has y j) e ∙ has-pack-below n (refusedAt l n m cores set) j b))
 
-  pub unanswered-most : unansweredAt l n m cores from set ≤ n
-  unfolding unansweredAt
-  unanswered-most = least-le n (openAt l n m cores from set)
-
 -- the refusals of all outputs
 
 pub refused-within : (n : ℕ) (p : ℕ → Bool) {x : ℕ} → x ≡ pack n p → within x n ≡ true

@@ -6,6 +6,10 @@
 --   exitsAt moves c out k           == k is in the set c, and a move of k enters the set out
 --   wayFrom row out next            == the lowest move into the set out; next where there is none
 --   Outward g M c o out next        == so go the rows of the states of c and output o, for all M counters
+--   Going O M rows c o out next n   == so go those of a game with O outputs and these rows of inputs, whose table fits n entries
+--   Gone O M rows c o out next l m  == from l to m they were written, of any such game
+--   Pressed N O M rows s cores c x first o n == c is the component with the number first of a game with N inputs, O outputs and these rows
+--                                      of inputs, whose region s holds and whose table fits n entries; moves out of c enter x
 --   leavingAt g first o             == (first, o) is not won, and the component has a way out
 --   touringAt g first o             == (first, o) is not won, and the component has none
 --   Escape g first o l m r          == the rows of output o are written where there is a way out; r tells whether they tour
@@ -14,7 +18,7 @@ use Prim.Native.Nat.{ℕ, _<_}
 use mathlib.Core.Path.{_≡_}
 use mathlib.Core.Bool.{Bool, true, false, _&&_, not}
 use mathlib.Core.List.{List}
-use lib.ListN.{getD}
+use lib.ListN.{length, getD}
 use lib.Bits.{bitAnd}
 use Rattle.finite.specs.Bounded.{least}
 use Rattle.sets.specs.Member.{has, pack, meets}
@@ -25,7 +29,7 @@ use Rattle.arena.specs.Table.{gives}
 use Rattle.theory.specs.Region.{region}
 use Rattle.theory.specs.Choice.{escapes, environmentRow}
 use Rattle.components.specs.Component.{enters}
-use Rattle.environment_table.specs.Table.{Filled}
+use Rattle.environment_table.specs.Table.{Known, Roomy, Filled}
 use Rattle.environment_table.specs.Reading.{lostAt}
 
 pub record Whole (g : Game) (c k : ℕ) : Type 0 where
@@ -53,6 +57,27 @@ pub record Outward (g : Game) (M c o out : ℕ) (next : List ℕ) : Type 0 where
   pub below : (k : ℕ) → has c k ≡ true → k < g .input .states
   pub row : (k h : ℕ) → k < g .input .states → has c k ≡ true → h < M
       → environmentRow (separatedOf g) k h o ≡ gives h (wayFrom (getD (g .input .moves) k 0) out (getD next k 0))
+
+pub record Going (O M : ℕ) (rows : List ℕ) (c o out : ℕ) (next : List ℕ) (n : ℕ) : Type 0 where
+  pub game : Game
+  pub outputs : O ≡ game .output .states
+  pub moves : rows ≡ game .input .moves
+  pub roomy : Roomy game M n
+  pub outward : Outward game M c o out next
+
+pub record Gone (O M : ℕ) (rows : List ℕ) (c o out : ℕ) (next l m : List ℕ) : Type 0 where
+  pub fills : (p : Going O M rows c o out next (length l)) → Filled (p .game) (λ a h b. (has c a ≡ true) × (b ≡ o)) l m
+
+pub record Pressed (N O M : ℕ) (rows s : List ℕ) (cores c x k o n : ℕ) : Type 0 where
+  pub game : Game
+  pub inputs : N ≡ game .input .states
+  pub outputs : O ≡ game .output .states
+  pub moves : rows ≡ game .input .moves
+  pub known : Known game s cores
+  pub roomy : Roomy game M n
+  pub whole : Whole game c k
+  pub output : o < game .output .states
+  pub leaves : Leaves game c x
 
 -- "Some move leaves the component to a j with (j, o) not won: .."; "Otherwise tour the input sets inside the component"
 unfoldable pub leavingAt : Game → ℕ → ℕ → Bool

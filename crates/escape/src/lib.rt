@@ -11,10 +11,10 @@ ghost use mathlib.Core.Path.{_≡_};
 ghost use mathlib.Core.Bool.{true};
 ghost use Prim.Native.Nat.{_+_, _<_, _≤_};
 ghost use lib.ListN.{length};
-ghost use Rattle.sets.specs.Member.{has, pack, within};
+ghost use Rattle.sets.specs.Member.{pack, within};
 ghost use Rattle.ways.specs.Search.{Bounds, Toward};
-ghost use Rattle.environment_table.specs.Table.{Known, Roomy, Filled};
-ghost use Rattle.environment_table.specs.Pressing.{Whole, Leaves, Outward, Escape, Escaped, lostIn, exitsAt, wayFrom};
+ghost use Rattle.environment_table.specs.Table.{Known, Roomy};
+ghost use Rattle.environment_table.specs.Pressing.{Whole, Going, Gone, Pressed, Escape, Escaped, lostIn, exitsAt, wayFrom};
 
 // The ways inside a component to its gates, as they were searched last.
 struct Found {
@@ -82,61 +82,73 @@ fn way_from(row: u64, out: u64, next: u8) -> usize
     next as usize
 }
 
-// The rows of the states of c with output o: the lowest move into `out`, else the next state on the way to one that has such a move.
-fn escape_rows(
-    g: Game,
+// The counts of a game, and the counters of its table.
+struct Size {
+    inputs: usize,
+    outputs: usize,
     counters: usize,
+}
+
+// A component: its states, the inputs that its moves out enter, and its number.
+struct Part {
+    states: InSet,
+    leaving: InSet,
+    first: InState,
+}
+
+// The rows of the states of c with output o: the lowest move into `out`, else the next state on the way to one that has such a move. Of the game only
+// counts and the rows of inputs are passed: so go the rows of any game that these fit.
+fn escape_rows(
+    moves: &[u64; 64],
+    z: Size,
     c: InSet,
     o: OutState,
     out: InSet,
     w: Ways,
     room: &mut [u16],
 )
-    requires { ⌜ Roomy g counters (length (now room)) × Outward g counters (c .0) (o .0) (out .0) (w .next) ⌝ }
-    ensures { λ r. ⌜ Filled g (λ a h b. (has (c .0) a ≡ true) × (b ≡ o .0)) (now (room .entry)) (now (room .exit)) ⌝ }
+    requires { ⌜ Going (z .outputs) (z .counters) (now moves) (c .0) (o .0) (out .0) (w .next) (length (now room)) ⌝ }
+    ensures { λ r. ⌜ Gone (z .outputs) (z .counters) (now (moves .entry)) (c .0) (o .0) (out .0) (w .next) (now (room .entry)) (now (room .exit)) ⌝ }
 {
-    let h = g.input;
     let mut rest = c.0;
     while rest != 0 {
         let k = sets::lowest(rest);
-        let j = way_from(h.moves[k], out.0, w.next[k]);
-        rows::put(g.output.states, counters, InState(k), o, j as u16, 64, room);
+        let j = way_from(moves[k], out.0, w.next[k]);
+        rows::put(z.outputs, z.counters, InState(k), o, j as u16, 64, room);
         rest = sets::difference(rest, sets::insert(0, k));
     }
 }
 
-// The rows of the component c, whose number is first, with output o; its moves out enter x. They are left to a tour where they are not won and
-// there is no way out.
+// The rows of a component with output o. They are left to a tour where they are not won and there is no way out.
 fn escape(
-    g: Game,
+    moves: &[u64; 64],
     s: &[u64],
+    z: Size,
     cores: InSet,
-    counters: usize,
-    c: InSet,
-    x: InSet,
-    first: InState,
+    part: Part,
     o: OutState,
     found: Found,
     room: &mut [u16],
 ) -> Turn
-    requires { ⌜ Known g (now s) (cores .0) × Roomy g counters (length (now room)) × Whole g (c .0) (first .0) × (o .0 < g .output .states) × Leaves g (c .0) (x .0) × Toward (g .input .moves) (g .input .states) (c .0) (found .gates) (found .ways .next) ⌝ }
-    ensures { λ r. ⌜ Escape g (first .0) (o .0) (now (room .entry)) (now (room .exit)) (r .tours) × Toward (g .input .moves) (g .input .states) (c .0) (r .found .gates) (r .found .ways .next) ⌝ }
+    requires { ⌜ Pressed (z .inputs) (z .outputs) (z .counters) (now moves) (now s) (cores .0) (part .states .0) (part .leaving .0) (part .first .0) (o .0) (length (now room)) × Toward (now moves) (z .inputs) (part .states .0) (found .gates) (found .ways .next) ⌝ }
+    ensures { λ r. ⌜ ((p : Pressed (z .inputs) (z .outputs) (z .counters) (now (moves .entry)) (now (s .entry)) (cores .0) (part .states .0) (part .leaving .0) (part .first .0) (o .0) (length (now (room .entry)))) → Escape (p .game) (part .first .0) (o .0) (now (room .entry)) (now (room .exit)) (r .tours)) × Toward (now (moves .entry)) (z .inputs) (part .states .0) (r .found .gates) (r .found .ways .next) ⌝ }
 {
-    let n = g.input.states;
+    let n = z.inputs;
+    let first = part.first;
     if stored::won(s, n, cores.0, first.0, o.0) {
         return Turn {
             tours: false,
             found,
         };
     }
-    let out = lost(s, n, cores, x, o);
-    let h = g.input;
-    let gates = exits(&h.moves, c.0, out.0);
+    let out = lost(s, n, cores, part.leaving, o);
+    let c = part.states;
+    let gates = exits(moves, c.0, out.0);
     if gates == 0 {
         return Turn { tours: true, found };
     }
-    let known = renew(&h.moves, n, c.0, gates, found);
-    escape_rows(g, counters, c, o, out, known.ways, room);
+    let known = renew(moves, n, c.0, gates, found);
+    escape_rows(moves, z, c, o, out, known.ways, room);
     Turn {
         tours: false,
         found: known,
@@ -156,8 +168,14 @@ pub fn escapes(
     requires { ⌜ Known g (now s) (cores .0) × Roomy g counters (length (now room)) × Whole g (c .0) (first .0) ⌝ }
     ensures { λ r. ⌜ Escaped g (first .0) (now (room .entry)) (now (room .exit)) (r .0) ⌝ }
 {
+    let h = g.input;
     let m = g.output.states;
-    let x = InSet(components::leaving(g.input, c.0));
+    let leaving = InSet(components::leaving(h, c.0));
+    let part = Part {
+        states: c,
+        leaving,
+        first,
+    };
     let next = [0u8; 64];
     let mut found = Found {
         gates: 0,
@@ -166,7 +184,12 @@ pub fn escapes(
     let mut touring: u64 = 0;
     let mut o: usize = 0;
     while o < m {
-        let t = escape(g, s, cores, counters, c, x, first, OutState(o), found, room);
+        let z = Size {
+            inputs: g.input.states,
+            outputs: m,
+            counters,
+        };
+        let t = escape(&h.moves, s, z, cores, part, OutState(o), found, room);
         found = t.found;
         touring = sets::insert_if(touring, o, t.tours);
         o += 1;
