@@ -3,11 +3,13 @@
 --   known-won, known-core : the region, and the nontrivial components
 --   start-found, start-none : the start
 --   same-none, same-push   : rows that need no walk
---   spread-won, pushes-of, plain-both, plain-won : those of one input
+--   spread-won, none-filled : those of one input that are none
+--   lone-of, lone-none, lone-within : the inputs in trivial components
+--   pushes-*, plain-join   : their pushes with one output, and all rows that need no walk
 use Prim.Native.Nat.{ℕ, _+_, _*_, _<_, _≤_}
 use native.Mathlib.Nat.{zero-mul}
 use mathlib.Core.Path.{_≡_, refl, sym, _∙_, ap, ap₂}
-use mathlib.Core.Bool.{true, false, _&&_, not}
+use mathlib.Core.Bool.{Bool, true, false, _&&_, not}
 use mathlib.Core.List.{List}
 use mathlib.Core.Logic.{_⊎_, inl, inr}
 use native.Mathlib.Omega.{arith}
@@ -17,8 +19,9 @@ use borrow.Author.Tests.{lt-ltb, ltb-true}
 use Rattle.finite.specs.Bounded.{any, least}
 use Rattle.finite.proofs.Truth.{decide, clash, and-intro, and-left, and-right, or-cases, not-true, false-of}
 use Rattle.finite.proofs.Bounded.{any-same, least-same, least-any, least-found}
-use Rattle.sets.specs.Member.{has, pack, both}
-use Rattle.sets.proofs.Membership.{has-pack-below}
+use Rattle.sets.specs.Member.{has, pack, within}
+use Rattle.sets.proofs.Membership.{has-zero, has-pack-below, has-within}
+use Rattle.ways.proofs.Kept.{pack-below}
 use Rattle.graphs.specs.Graph.{edge, begins}
 use Rattle.graphs.specs.Component.{nontrivial}
 use Rattle.game.specs.declared.Game.{Game}
@@ -34,17 +37,15 @@ use Rattle.theory.proofs.EnvironmentRow.{row-lost}
 use Rattle.stored.specs.Stored.{wonAt}
 use Rattle.stored.proofs.Read.{won-region}
 use Rattle.environment_table.specs.Table.{Known, Roomy, Filled, Same, Spread, Pushes}
-use Rattle.environment_table.specs.Reading.{Shaped, anyWon, refusedAt, Refused, openAt, unansweredAt, plain}
-use Rattle.environment_table.proofs.Places.{filled-join, filled-same, every-counter}
+use Rattle.environment_table.specs.Reading.{Shaped, anyWon, refusedAt, openAt, unansweredAt, lostAt, Lone, plain}
+use Rattle.environment_table.specs.Pressing.{lostIn}
+use Rattle.environment_table.proofs.Places.{filled-none, filled-join, filled-same, every-counter}
 use Rattle.environment_table.proofs.Reading.{refused-within, unanswered-both}
 
 -- what is read of the game's sets
 pub unanswered-of : (l : List ℕ) (n m cores : ℕ) {j : ℕ} {x x′ : InSet} {y y′ : OutSet} → x ≡ x′ → y ≡ y′ → j ≡ unansweredAt l n m cores (x .0) (y .0)
     → j ≡ unansweredAt l n m cores (x′ .0) (y′ .0)
 unanswered-of l n m cores p q e = e ∙ ap₂ (λ (a : InSet) (b : OutSet). unansweredAt l n m cores (a .0) (b .0)) p q
-
-pub both-of : (n y : ℕ) {j : ℕ} {x x′ : InSet} → x ≡ x′ → j ≡ least n (both (x .0) y) → j ≡ least n (both (x′ .0) y)
-both-of n y p e = e ∙ ap (λ (a : InSet). least n (both (a .0) y)) p
 
 -- the edges and the initial states in words
 begins-has : (g : Game) (o : ℕ) → o < g .output .states → has (g .output .initial) o ≡ begins (separatedOf g .output) o
@@ -157,44 +158,80 @@ module _ (g : Game) (s : List ℕ) (cores : ℕ) (K : Known g s cores) where
       entry = λ h o x b y. same-none i o a b M (sym (won-has o b) ∙ y) .entry h (ltb-true h M (sym (e h) ∙ x));
     }
 
-    module _ (b lost : ℕ) (f : (o : ℕ) → has b o ≡ ltb o (g .output .states)) (d : (o : ℕ) → has lost o ≡ (has b o && not (has won o))) where
-      lost-below : (o : ℕ) → has lost o ≡ true → o < g .output .states
-      lost-below o e = ltb-true o (g .output .states) (sym (f o) ∙ and-left (has b o) (not (has won o)) (sym (d o) ∙ e))
+    -- so the won rows of i are written
+    pub none-filled : {l m : List ℕ} (M n every : ℕ) → Roomy g M n → ((h : ℕ) → has every h ≡ ltb h M)
+        → Filled g (λ x h o. (x ≡ i) × (has every h ≡ true) × (has won o ≡ true)) l m → Filled g (λ x h o. (x ≡ i) × (region (separatedOf g) x o ≡ true)) l m
+    none-filled M n every R e F =
+        filled-same g F (λ x h o lx lh lo p. (p .0, every-counter g M n every h R e lh, won-has o lo ∙ known-won i o a lo ∙ ap (λ (y : ℕ). region (separatedOf g) y o) (sym (p .0)) ∙ p .1))
 
-      lost-won : (o : ℕ) → has lost o ≡ true → wonAt s (g .input .states) cores i o ≡ false
-      lost-won o e = sym (won-has o (lost-below o e)) ∙ not-true (has won o) (and-right (has b o) (not (has won o)) (sym (d o) ∙ e))
+  -- those of the inputs in trivial components that are not won with an output
 
-      -- in a trivial component those of the others are pushes
-      pub pushes-of : (M : ℕ) {after : List ℕ} → has cores i ≡ false → Refused s (g .input .states) (g .output .states) cores (g .output .moves) after
-          → Pushes g M i lost after
-      pushes-of M {after} t R = record {
-        input = a;
-        below = lost-below;
-        sets = λ o e. refused-within (g .input .states) (refusedAt s (g .input .states) (g .output .states) cores (getD (g .output .moves) o 0)) (R .row i o a t (lost-below o e));
-        same = λ o j e q. same-push i o a (lost-below o e) M j (lost-won o e) t
-            (q ∙ unanswered-both s (g .input .states) (g .output .states) cores (getD (g .input .moves) i 0) (getD (g .output .moves) o 0) (R .row i o a t (lost-below o e)));
+  module _ (lone : ℕ) (L : Lone (g .input .states) cores lone) where
+    lone-below : (i : ℕ) → has lone i ≡ true → i < g .input .states
+    lone-below i e = ltb-true i (g .input .states) (and-left (ltb i (g .input .states)) (not (has cores i)) (sym (L .each i) ∙ e))
+
+    lone-apart : (i : ℕ) → has lone i ≡ true → has cores i ≡ false
+    lone-apart i e = not-true (has cores i) (and-right (ltb i (g .input .states)) (not (has cores i)) (sym (L .each i) ∙ e))
+
+    pub lone-within : within lone (g .input .states) ≡ true
+    lone-within = has-within lone (g .input .states) lone-below
+
+    module _ (o : ℕ) (b : o < g .output .states) (which : ℕ) (w : which ≡ pack (g .input .states) (lostIn s (g .input .states) cores lone o)) where
+      which-below : (i : ℕ) → has which i ≡ true → i < g .input .states
+      which-below i e = pack-below (g .input .states) (lostIn s (g .input .states) cores lone o) i (ap (λ (x : ℕ). has x i) (sym w) ∙ e)
+
+      which-has : (i : ℕ) → i < g .input .states → has which i ≡ (has lone i && not (wonAt s (g .input .states) cores i o))
+      unfolding lostIn lostAt
+      which-has i a = ap (λ (x : ℕ). has x i) w ∙ has-pack-below (g .input .states) (lostIn s (g .input .states) cores lone o) i a
+
+      which-lone : (i : ℕ) → has which i ≡ true → has lone i ≡ true
+      which-lone i e = and-left (has lone i) (not (wonAt s (g .input .states) cores i o)) (sym (which-has i (which-below i e)) ∙ e)
+
+      which-lost : (i : ℕ) → has which i ≡ true → wonAt s (g .input .states) cores i o ≡ false
+      which-lost i e = not-true (wonAt s (g .input .states) cores i o) (and-right (has lone i) (not (wonAt s (g .input .states) cores i o)) (sym (which-has i (which-below i e)) ∙ e))
+
+      in-which : (i : ℕ) → has lone i ≡ true → region (separatedOf g) i o ≡ false → has which i ≡ true
+      in-which i e r = which-has i (lone-below i e) ∙ and-intro e (ap not (known-won i o (lone-below i e) b ∙ r))
+
+      -- they are pushes
+      pub pushes-of : (M : ℕ) {x : ℕ} {y : OutSet} → y ≡ record { 0 = getD (g .output .moves) o 0 } → x ≡ pack (g .input .states) (refusedAt s (g .input .states) (g .output .states) cores (y .0))
+          → Pushes g M which o x
+      pushes-of M {x} {y} q e = record {
+        below = which-below;
+        inside = refused-within (g .input .states) (refusedAt s (g .input .states) (g .output .states) cores (y .0)) e;
+        same = λ i j d f. same-push i o (which-below i d) b M j (which-lost i d) (lone-apart i (which-lone i d))
+            (f ∙ unanswered-both s (g .input .states) (g .output .states) cores (getD (g .input .moves) i 0) (y .0) e
+            ∙ ap (λ (z : OutSet). unansweredAt s (g .input .states) (g .output .states) cores (getD (g .input .moves) i 0) (z .0)) q);
       }
 
-      -- both make the rows of i that need no walk
-      pub plain-both : {l m k : List ℕ} (M n every : ℕ) → Roomy g M n → ((h : ℕ) → has every h ≡ ltb h M)
-          → Filled g (λ x h o. (x ≡ i) × (has every h ≡ true) × (has won o ≡ true)) l m → Filled g (λ x h o. (has lost o ≡ true) × (x ≡ i)) m k
-          → Filled g (λ x h o. (x ≡ i) × (plain g x o ≡ true)) l k
-      plain-both M n every R e F G = filled-join g F G (λ x h o lx lh lo p. go x h o lh lo (p .0) (decide (has won o)))
-        where
-          go : (x h o : ℕ) → h < environmentCounters (separatedOf g) → o < g .output .states → x ≡ i → (has won o ≡ true) ⊎ (has won o ≡ false)
-              → ((x ≡ i) × (has every h ≡ true) × (has won o ≡ true)) ⊎ ((has lost o ≡ true) × (x ≡ i))
-          go x h o lh lo p (inl q) = inl (p, every-counter g M n every h R e lh, q)
-          go x h o lh lo p (inr q) = inr (d o ∙ and-intro (f o ∙ lt-ltb o (g .output .states) lo) (ap not q), p)
+      pub pushes-filled : {l m : List ℕ} → Filled g (λ x h p. (has which x ≡ true) × (p ≡ o)) l m
+          → Filled g (λ x h p. (has lone x ≡ true) × (p ≡ o) × (region (separatedOf g) x p ≡ false)) l m
+      pushes-filled F = filled-same g F (λ x h p lx lh lp q. (in-which x (q .0) (ap (λ (y : ℕ). region (separatedOf g) x y) (sym (q .1)) ∙ q .2), q .1))
 
-    -- in a nontrivial component the won ones are all
-    pub plain-won : {l m : List ℕ} (M n every : ℕ) → Roomy g M n → ((h : ℕ) → has every h ≡ ltb h M) → has cores i ≡ true
-        → Filled g (λ x h o. (x ≡ i) × (has every h ≡ true) × (has won o ≡ true)) l m → Filled g (λ x h o. (x ≡ i) × (plain g x o ≡ true)) l m
+      -- there may be none
+      pub pushes-none : (l : List ℕ) → which ≡ 0 → Filled g (λ x h p. (has lone x ≡ true) × (p ≡ o) × (region (separatedOf g) x p ≡ false)) l l
+      pushes-none l z =
+          filled-none g l (λ x h p q. clash (in-which x (q .0) (ap (λ (y : ℕ). region (separatedOf g) x y) (sym (q .1)) ∙ q .2)) (ap (λ (y : ℕ). has y x) z ∙ has-zero x))
+
+    -- both are the rows that need no walk
+    pub plain-join : {l m k : List ℕ} → Filled g (λ x h o. region (separatedOf g) x o ≡ true) l m
+        → Filled g (λ x h o. (has lone x ≡ true) × (region (separatedOf g) x o ≡ false)) m k → Filled g (λ x h o. plain g x o ≡ true) l k
     unfolding plain
-    plain-won M n every R e t F = filled-same g F (λ x h o lx lh lo p. (p .0, every-counter g M n every h R e lh, at o lo (ap (λ (y : ℕ). plain g y o) (sym (p .0)) ∙ p .1)))
+    plain-join F G = filled-join g F G (λ x h o lx lh lo p. go x o lx p (decide (region (separatedOf g) x o)))
       where
-        at : (o : ℕ) → o < g .output .states → plain g i o ≡ true → has won o ≡ true
-        at o lo p =
-            elim (or-cases (region (separatedOf g) i o) (not (nontrivial (separatedOf g .input) i)) p) [
-              | inl x ↦ won-has o lo ∙ known-won i o a lo ∙ x
-              | inr x ↦ clash (sym (known-core i a) ∙ t) (not-true (nontrivial (separatedOf g .input) i) x)
+        go : (x o : ℕ) → x < g .input .states → plain g x o ≡ true → (region (separatedOf g) x o ≡ true) ⊎ (region (separatedOf g) x o ≡ false)
+            → (region (separatedOf g) x o ≡ true) ⊎ ((has lone x ≡ true) × (region (separatedOf g) x o ≡ false))
+        go x o lx p (inl r) = inl r
+        go x o lx p (inr r) =
+            elim (or-cases (region (separatedOf g) x o) (not (nontrivial (separatedOf g .input) x)) p) [
+              | inl y ↦ clash y r
+              | inr y ↦ inr (L .each x ∙ and-intro (lt-ltb x (g .input .states) lx) (ap not (known-core x lx) ∙ y), r)
             ]
+
+-- the inputs in trivial components, from all and those in the others
+pub lone-of : (n cores b : ℕ) {x : ℕ} → ((i : ℕ) → has b i ≡ ltb i n) → ((i : ℕ) → has x i ≡ (has b i && not (has cores i))) → Lone n cores x
+lone-of n cores b f d = record { each = λ i. d i ∙ ap (λ (y : Bool). y && not (has cores i)) (f i) }
+
+-- where there are none, there is nothing to push
+pub lone-none : (g : Game) (l : List ℕ) {x : ℕ} {P : ℕ → ℕ → ℕ → Type 0} → x ≡ 0 → Filled g (λ a h b. (has x a ≡ true) × P a h b) l l
+lone-none g l {x} z = filled-none g l (λ a h b p. clash (p .0) (ap (λ (y : ℕ). has y a) z ∙ has-zero a))

@@ -2,9 +2,7 @@
 --
 --   reached-*  : what the outputs of a set reach, output by output
 --   some-*     : whether a set has a won output, from what they reach or from the set
---   refused-at, both-none, both-lowest, unanswered-both : the inputs that no output answers, and the lowest of them
---   Refusing   == the refusals of the outputs below k are known
---   refusing-*, refused-none : how that begins, goes on and ends
+--   refused-at, refused-within, both-none, both-lowest, unanswered-both : the inputs that no output answers, and the lowest of them
 use Prim.Native.Nat.{ℕ, _+_, _^_, _<_, _≤_}
 use native.Mathlib.Numerals.{add-one}
 use mathlib.Core.Path.{_≡_, refl, sym, _∙_, ap}
@@ -12,10 +10,9 @@ use mathlib.Core.Bool.{Bool, true, false, _&&_, _||_, not}
 use mathlib.Core.List.{List}
 use mathlib.Core.Logic.{_≢_}
 use native.Mathlib.Omega.{arith}
-use native.Mathlib.Decide.{ℕ-discrete, decLt}
+use native.Mathlib.Decide.{decLt}
 use lib.Dec.{ltb}
-use lib.ListN.{length, getD, set, length-set}
-use lib.Seq.{getD-set-same, getD-set-other}
+use lib.ListN.{getD}
 use borrow.Author.Tests.{lt-ltb, ltb-true}
 use Rattle.finite.specs.Bounded.{any, least}
 use Rattle.finite.proofs.Truth.{clash, and-intro, and-left, and-right, same-test}
@@ -27,7 +24,7 @@ use Rattle.sets.proofs.Visit.{lowest-in}
 use Rattle.ways.proofs.Kept.{pack-below}
 use Rattle.stored.specs.Stored.{wonAt}
 use Rattle.stored.proofs.Read.{won-in, won-out}
-use Rattle.environment_table.specs.Reading.{reachedAt, anyWon, refusedAt, Refused, openAt, unansweredAt}
+use Rattle.environment_table.specs.Reading.{reachedAt, anyWon, refusedAt, openAt, unansweredAt}
 
 -- what the outputs of a set reach
 
@@ -109,6 +106,9 @@ pub refused-at : (l : List ℕ) (n m cores set j : ℕ) {b : Bool} → b ≡ any
 unfolding refusedAt
 refused-at l n m cores set j e = ap not e
 
+pub refused-within : (n : ℕ) (p : ℕ → Bool) {x : ℕ} → x ≡ pack n p → within x n ≡ true
+refused-within n p {x} e = has-within x n (λ s h. pack-below n p s (ap (λ (y : ℕ). has y s) (sym e) ∙ h))
+
 module _ (n from refused : ℕ) (few : n ≤ 64) (w : within refused n ≡ true) (x : ℕ) (i : (s : ℕ) → has x s ≡ (has from s && has refused s)) where
   in-both : (s : ℕ) → has x s ≡ both from refused s
   unfolding both
@@ -144,32 +144,3 @@ module _ (l : List ℕ) (n m cores from set : ℕ) where
   unanswered-both {x} e =
       least-same n (both from x) (openAt l n m cores from set)
       (λ j b. ap (λ (k : Bool). has from j && k) (ap (λ (y : ℕ). has y j) e ∙ has-pack-below n (refusedAt l n m cores set) j b))
-
--- the refusals of all outputs
-
-pub refused-within : (n : ℕ) (p : ℕ → Bool) {x : ℕ} → x ≡ pack n p → within x n ≡ true
-refused-within n p {x} e = has-within x n (λ s h. pack-below n p s (ap (λ (y : ℕ). has y s) (sym e) ∙ h))
-
-module _ (l : List ℕ) (n m cores : ℕ) (moves : List ℕ) where
-  -- those of the outputs below k
-  pub record Refusing (k : ℕ) (after : List ℕ) : Type 0 where
-    pub room : length after ≡ 64
-    pub row : (o : ℕ) → o < k → getD after o 0 ≡ pack n (refusedAt l n m cores (getD moves o 0))
-
-  pub refusing-start : {after : List ℕ} → length after ≡ 64 → Refusing 0 after
-  refusing-start e = record { room = e; row = λ o b. absurd (omega arith) }
-
-  pub refusing-next : {k x : ℕ} {after : List ℕ} → k < 64 → Refusing k after → x ≡ pack n (refusedAt l n m cores (getD moves k 0)) → Refusing (k + 1) (set after k x)
-  refusing-next {k} {x} {after} small R e = record { room = rw length-set (R .room); row = λ o b. go o b (ℕ-discrete o k) }
-    where
-      go : (o : ℕ) → o < k + 1 → Dec (o ≡ k) → getD (set after k x) o 0 ≡ pack n (refusedAt l n m cores (getD moves o 0))
-      go o b (yes q) = rw q (getD-set-same after k x 0 (omega (arith, R .room)) ∙ e)
-      go o b (no q) = getD-set-other after k o x 0 q ∙ R .row o (omega arith)
-
-  pub refusing-end : {k : ℕ} {after : List ℕ} → m ≤ k → Refusing k after → Refused l n m cores moves after
-  refusing-end a R = record { row = λ i o b c d. R .row o (omega (arith, d)) }
-
-  -- no component is trivial
-  pub refused-none : (b x : ℕ) {after : List ℕ} → ((s : ℕ) → has b s ≡ ltb s n) → ((s : ℕ) → has x s ≡ (has b s && not (has cores s))) → x ≡ 0
-      → Refused l n m cores moves after
-  refused-none b x f d z = record { row = λ i o li c lo. clash (d i ∙ and-intro (f i ∙ lt-ltb i n li) (ap not c)) (ap (λ (k : ℕ). has k i) z ∙ has-zero i) }

@@ -6,16 +6,17 @@
 --   openAt l n m cores from set j      == j is an input of `from` with which none does
 --   unansweredAt l n m cores from set  == the lowest such input; n where there is none
 --   refusedAt l n m cores set j        == no output of the set makes a won position with j
---   Refused l n m cores moves after    == where some component is trivial, after o is the set of the inputs that no move of o answers
 --   lostAt l n cores o j               == (j, o) is not won
+--   Lone n cores x                     == x are the inputs in trivial components: those that are not in the set cores
 --   plain g i o                        == (i, o) is won, or the component of i is trivial
-use Prim.Native.Nat.{ℕ, _+_, _≤_, _<_}
+use Prim.Native.Nat.{ℕ, _+_, _≤_}
 use mathlib.Core.Path.{_≡_}
-use mathlib.Core.Bool.{Bool, false, _&&_, _||_, not}
+use mathlib.Core.Bool.{Bool, _&&_, _||_, not}
 use mathlib.Core.List.{List}
+use lib.Dec.{ltb}
 use lib.ListN.{getD}
 use Rattle.finite.specs.Bounded.{any, least}
-use Rattle.sets.specs.Member.{has, pack}
+use Rattle.sets.specs.Member.{has}
 use Rattle.graphs.specs.Component.{nontrivial}
 use Rattle.game.specs.declared.Game.{Game}
 use Rattle.play.specs.Play.{separatedOf}
@@ -36,9 +37,6 @@ anyWon l n m cores j set = any m (λ p. has set p && wonAt l n cores j p)
 unfoldable pub refusedAt : List ℕ → ℕ → ℕ → ℕ → ℕ → ℕ → Bool
 refusedAt l n m cores set j = not (anyWon l n m cores j set)
 
-pub record Refused (l : List ℕ) (n m cores : ℕ) (moves after : List ℕ) : Type 0 where
-  pub row : (i o : ℕ) → i < n → has cores i ≡ false → o < m → getD after o 0 ≡ pack n (refusedAt l n m cores (getD moves o 0))
-
 unfoldable pub openAt : List ℕ → ℕ → ℕ → ℕ → ℕ → ℕ → ℕ → Bool
 openAt l n m cores from set j = has from j && not (anyWon l n m cores j set)
 
@@ -47,6 +45,10 @@ unansweredAt l n m cores from set = least n (openAt l n m cores from set)
 
 unfoldable pub lostAt : List ℕ → ℕ → ℕ → ℕ → ℕ → Bool
 lostAt l n cores o j = not (wonAt l n cores j o)
+
+-- "i's component not stayable"
+pub record Lone (n cores x : ℕ) : Type 0 where
+  pub each : (i : ℕ) → has x i ≡ (ltb i n && not (has cores i))
 
 unfoldable pub plain : Game → ℕ → ℕ → Bool
 plain g i o = region (separatedOf g) i o || not (nontrivial (separatedOf g .input) i)

@@ -10,7 +10,7 @@
 --   Spread g i over which first more == so do those of i and the outputs of `over`, for the counters of `which`
 --   Putting O M i o first more n     == so do those of a game with O outputs, whose table fits n entries
 --   Put O M i o first more l m       == from l to m they were written, of any such game
---   Pushes g M i over after          == so do those of i and an output o of `over`: first is the lowest move into the set after o, more is 64
+--   Pushes g M which o refused       == so do those of an input of `which` and o: first is its lowest move into the set `refused`, more is 64
 use Prim.Native.Nat.{ℕ, _+_, _*_, _<_, _≤_}
 use mathlib.Core.Path.{_≡_}
 use mathlib.Core.Bool.{true}
@@ -80,8 +80,7 @@ pub record Put (O M i o first more : ℕ) (l m : List ℕ) : Type 0 where
   pub fills : (p : Putting O M i o first more (length l)) → Filled (p .game) (λ a h b. (b ≡ o) × (a ≡ i)) l m
 
 -- "i's component not stayable: the lowest move to a j for which no output move from o makes a won position; h stays."
-pub record Pushes (g : Game) (M i over : ℕ) (after : List ℕ) : Type 0 where
-  pub input : i < g .input .states
-  pub below : (o : ℕ) → has over o ≡ true → o < g .output .states
-  pub sets : (o : ℕ) → has over o ≡ true → within (getD after o 0) (g .input .states) ≡ true
-  pub same : (o j : ℕ) → has over o ≡ true → j ≡ least (g .input .states) (both (getD (g .input .moves) i 0) (getD after o 0)) → Same g M i o j 64
+pub record Pushes (g : Game) (M which o refused : ℕ) : Type 0 where
+  pub below : (i : ℕ) → has which i ≡ true → i < g .input .states
+  pub inside : within refused (g .input .states) ≡ true
+  pub same : (i j : ℕ) → has which i ≡ true → j ≡ least (g .input .states) (both (getD (g .input .moves) i 0) refused) → Same g M i o j 64

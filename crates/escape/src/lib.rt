@@ -9,12 +9,12 @@ use game::OutState;
 use ways::Ways;
 ghost use mathlib.Core.Path.{_≡_};
 ghost use mathlib.Core.Bool.{true};
-ghost use Prim.Native.Nat.{_+_, _<_, _≤_};
+ghost use Prim.Native.Nat.{_<_};
 ghost use lib.ListN.{length};
-ghost use Rattle.sets.specs.Member.{pack, within};
+ghost use Rattle.sets.specs.Member.{pack};
 ghost use Rattle.ways.specs.Search.{Bounds, Toward};
 ghost use Rattle.environment_table.specs.Table.{Known, Roomy};
-ghost use Rattle.environment_table.specs.Pressing.{Whole, Going, Gone, Pressed, Escape, Escaped, lostIn, exitsAt, wayFrom};
+ghost use Rattle.environment_table.specs.Pressing.{Whole, Going, Gone, Pressed, Escape, Escaped, exitsAt, wayFrom};
 
 // The ways inside a component to its gates, as they were searched last.
 struct Found {
@@ -26,21 +26,6 @@ struct Found {
 struct Turn {
     tours: bool,
     found: Found,
-}
-
-// The members of x that make no won position with o. All of x are below n.
-fn lost(s: &[u64], n: usize, cores: InSet, x: InSet, o: OutState) -> InSet
-    requires { ⌜ (n ≤ 64) × (o .0 < 64) × (n + n + o .0 < length (now s)) × (within (x .0) n ≡ true) ⌝ }
-    ensures { λ r. ⌜ r .0 ≡ pack n (lostIn (now (s .entry)) n (cores .0) (x .0) (o .0)) ⌝ }
-{
-    let mut y: u64 = 0;
-    let mut rest = x.0;
-    while rest != 0 {
-        let j = sets::lowest(rest);
-        y = sets::insert_if(y, j, !stored::won(s, n, cores.0, j, o.0));
-        rest = sets::difference(rest, sets::insert(0, j));
-    }
-    InSet(y)
 }
 
 // The members of c with a move into the set `out`, all of one graph.
@@ -141,7 +126,7 @@ fn escape(
             found,
         };
     }
-    let out = lost(s, n, cores, part.leaving, o);
+    let out = environment_rows::lost(s, n, cores, part.leaving, o);
     let c = part.states;
     let gates = exits(moves, c.0, out.0);
     if gates == 0 {

@@ -6,17 +6,18 @@ use game::InState;
 use game::OutSet;
 use game::OutState;
 ghost use mathlib.Core.Path.{_≡_};
-ghost use mathlib.Core.Bool.{true};
+ghost use mathlib.Core.Bool.{true, false};
 ghost use Prim.Native.Nat.{ℕ, _<_, _≤_};
 ghost use lib.ListN.{length};
 ghost use Rattle.finite.specs.Bounded.{least};
 ghost use Rattle.sets.specs.Member.{has, pack, within, both};
 ghost use Rattle.play.specs.Play.{separatedOf};
+ghost use Rattle.theory.specs.Region.{region};
 ghost use Rattle.theory.specs.Choice.{environmentStart};
 ghost use Rattle.theory.specs.Entries.{entry};
 ghost use Rattle.environment_table.specs.Table.{Known, Roomy, Filled, Pushes};
 ghost use Rattle.stored.specs.Stored.{wonAt};
-ghost use Rattle.environment_table.specs.Reading.{Shaped, reachedAt, anyWon, refusedAt, Refused, plain};
+ghost use Rattle.environment_table.specs.Reading.{Shaped, reachedAt, anyWon, refusedAt, Lone, plain};
 
 // What the outputs of the set reach, from scratch for n inputs and m outputs.
 fn reached(s: &[u64], n: usize, m: usize, set: OutSet) -> OutSet
@@ -93,29 +94,6 @@ pub fn start_entry(g: Game, s: &[u64], cores: InSet) -> u16
     65535
 }
 
-// For each output, the inputs with which no move of it makes a won position.
-struct Refusals {
-    after: [u64; 64],
-}
-
-// The refusals of all outputs, whose moves are given. Only trivial components ask for them: where there is none they are left out.
-fn all_refused(moves: &[u64; 64], s: &[u64], n: usize, m: usize, cores: InSet) -> Refusals
-    requires { ⌜ Shaped (length (now s)) n m ⌝ }
-    ensures { λ r. ⌜ Refused (now (s .entry)) n m (cores .0) (now (moves .entry)) (r .after) ⌝ }
-{
-    let mut after = [0u64; 64];
-    if sets::difference(sets::below(n), cores.0) == 0 {
-        return Refusals { after };
-    }
-    let mut o: usize = 0;
-    while o < m {
-        let x = refused(s, n, m, cores, OutSet(moves[o]));
-        after[o] = x.0;
-        o += 1;
-    }
-    Refusals { after }
-}
-
 // The outputs that make a won position with i.
 fn won_outputs(s: &[u64], n: usize, m: usize, cores: InSet, i: InState) -> OutSet
     requires { ⌜ Shaped (length (now s)) n m × (i .0 < n) ⌝ }
@@ -130,64 +108,103 @@ fn won_outputs(s: &[u64], n: usize, m: usize, cores: InSet, i: InState) -> OutSe
     OutSet(x)
 }
 
-// The rows of i, whose component is trivial, and of the outputs of `over`: the lowest move that leaves no won reply.
-fn push_rows(g: Game, counters: usize, i: InState, over: OutSet, t: Refusals, room: &mut [u16])
-    requires { ⌜ Roomy g counters (length (now room)) × Pushes g counters (i .0) (over .0) (t .after) ⌝ }
-    ensures { λ r. ⌜ Filled g (λ a h b. (has (over .0) b ≡ true) × (a ≡ i .0)) (now (room .entry)) (now (room .exit)) ⌝ }
+// The rows of i where the position is won: none.
+fn none_row(g: Game, s: &[u64], cores: InSet, counters: usize, i: InState, room: &mut [u16])
+    requires { ⌜ Known g (now s) (cores .0) × Roomy g counters (length (now room)) × (i .0 < g .input .states) ⌝ }
+    ensures { λ r. ⌜ Filled g (λ a h b. (a ≡ i .0) × (region (separatedOf g) a b ≡ true)) (now (room .entry)) (now (room .exit)) ⌝ }
+{
+    let won = won_outputs(s, g.input.states, g.output.states, cores, i);
+    rows::spread(g, counters, i, won, sets::below(counters), 65535, 0, room);
+}
+
+// The rows of all won positions.
+fn none_rows(g: Game, s: &[u64], cores: InSet, counters: usize, room: &mut [u16])
+    requires { ⌜ Known g (now s) (cores .0) × Roomy g counters (length (now room)) ⌝ }
+    ensures { λ r. ⌜ Filled g (λ a h b. region (separatedOf g) a b ≡ true) (now (room .entry)) (now (room .exit)) ⌝ }
 {
     let n = g.input.states;
-    let from = game::in_moves(g, i);
-    let mut rest = over.0;
-    while rest != 0 {
-        let o = sets::lowest(rest);
-        let j = unanswered(n, from, InSet(t.after[o]));
-        rows::put(
-            g.output.states,
-            counters,
-            i,
-            OutState(o),
-            j as u16,
-            64,
-            room,
-        );
-        rest = sets::difference(rest, sets::insert(0, o));
+    let mut i: usize = 0;
+    while i < n {
+        none_row(g, s, cores, counters, InState(i), room);
+        i += 1;
     }
 }
 
-// The rows of i that need no walk: none where the position is won, and the pushes where i's component is trivial.
-fn plain_row(
+// The rows of the inputs of `which` and output o: the lowest move to an input that no move of o answers. Those inputs are `refused`.
+fn push_rows(
+    g: Game,
+    counters: usize,
+    o: OutState,
+    which: InSet,
+    refused: InSet,
+    room: &mut [u16],
+)
+    requires { ⌜ Roomy g counters (length (now room)) × Pushes g counters (which .0) (o .0) (refused .0) ⌝ }
+    ensures { λ r. ⌜ Filled g (λ a h b. (has (which .0) a ≡ true) × (b ≡ o .0)) (now (room .entry)) (now (room .exit)) ⌝ }
+{
+    let n = g.input.states;
+    let h = g.input;
+    let mut rest = which.0;
+    while rest != 0 {
+        let k = sets::lowest(rest);
+        let j = unanswered(n, InSet(h.moves[k]), refused);
+        rows::put(g.output.states, counters, InState(k), o, j as u16, 64, room);
+        rest = sets::difference(rest, sets::insert(0, k));
+    }
+}
+
+// The rows of the inputs of `lone`, whose components are trivial, that are not won with output o. What o refuses is worked out once for all of
+// them, and only where there are any.
+fn push_column(
     g: Game,
     s: &[u64],
     cores: InSet,
     counters: usize,
-    i: InState,
-    t: Refusals,
+    lone: InSet,
+    o: OutState,
     room: &mut [u16],
 )
-    requires { ⌜ Known g (now s) (cores .0) × Roomy g counters (length (now room)) × (i .0 < g .input .states) × Refused (now s) (g .input .states) (g .output .states) (cores .0) (g .output .moves) (t .after) ⌝ }
-    ensures { λ r. ⌜ Filled g (λ a h b. (a ≡ i .0) × (plain g a b ≡ true)) (now (room .entry)) (now (room .exit)) ⌝ }
+    requires { ⌜ Known g (now s) (cores .0) × Roomy g counters (length (now room)) × Lone (g .input .states) (cores .0) (lone .0) × (o .0 < g .output .states) ⌝ }
+    ensures { λ r. ⌜ Filled g (λ a h b. (has (lone .0) a ≡ true) × (b ≡ o .0) × (region (separatedOf g) a b ≡ false)) (now (room .entry)) (now (room .exit)) ⌝ }
 {
-    let m = g.output.states;
-    let won = won_outputs(s, g.input.states, m, cores, i);
-    rows::spread(g, counters, i, won, sets::below(counters), 65535, 0, room);
-    if sets::member(cores.0, i.0) {
+    let n = g.input.states;
+    let which = environment_rows::lost(s, n, cores, lone, o);
+    if which.0 == 0 {
         return;
     }
-    let lost = sets::difference(sets::below(m), won.0);
-    push_rows(g, counters, i, OutSet(lost), t, room);
+    let x = refused(s, n, g.output.states, cores, game::out_moves(g, o));
+    push_rows(g, counters, o, which, x, room);
 }
 
-// All rows that need no walk.
+// The same for every output; there may be no trivial component.
+fn push_columns(
+    g: Game,
+    s: &[u64],
+    cores: InSet,
+    counters: usize,
+    lone: InSet,
+    room: &mut [u16],
+)
+    requires { ⌜ Known g (now s) (cores .0) × Roomy g counters (length (now room)) × Lone (g .input .states) (cores .0) (lone .0) ⌝ }
+    ensures { λ r. ⌜ Filled g (λ a h b. (has (lone .0) a ≡ true) × (region (separatedOf g) a b ≡ false)) (now (room .entry)) (now (room .exit)) ⌝ }
+{
+    if lone.0 == 0 {
+        return;
+    }
+    let m = g.output.states;
+    let mut o: usize = 0;
+    while o < m {
+        push_column(g, s, cores, counters, lone, OutState(o), room);
+        o += 1;
+    }
+}
+
+// All rows that need no walk: none where the position is won, and the pushes where the component is trivial.
 pub fn plain_rows(g: Game, s: &[u64], cores: InSet, counters: usize, room: &mut [u16])
     requires { ⌜ Known g (now s) (cores .0) × Roomy g counters (length (now room)) ⌝ }
     ensures { λ r. ⌜ Filled g (λ a h b. plain g a b ≡ true) (now (room .entry)) (now (room .exit)) ⌝ }
 {
-    let n = g.input.states;
-    let h = g.output;
-    let t = all_refused(&h.moves, s, n, h.states, cores);
-    let mut i: usize = 0;
-    while i < n {
-        plain_row(g, s, cores, counters, InState(i), t, room);
-        i += 1;
-    }
+    none_rows(g, s, cores, counters, room);
+    let lone = InSet(sets::difference(sets::below(g.input.states), cores.0));
+    push_columns(g, s, cores, counters, lone, room);
 }

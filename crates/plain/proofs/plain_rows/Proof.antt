@@ -1,56 +1,39 @@
--- `plain_rows` goes through the inputs.
-use native.Mathlib.Omega.{arith}
-use Prim.Native.Nat.{_<_, _≤_, _-_}
-use mathlib.Core.Path.{_≡_}
-use mathlib.Core.Bool.{true}
-use Rattle.environment_table.specs.Table.{Filled}
-use Rattle.environment_table.specs.Reading.{plain}
-use Rattle.environment_table.proofs.Places.{filled-none, filled-join, filled-same, roomy-more, below-next}
-use Rattle.environment_table.proofs.Known.{shaped}
+-- `plain_rows`: the won positions, and then the trivial components.
+use borrow.Author.Needs.{needs}
+use Rattle.environment_table.proofs.Places.{roomy-more}
+use Rattle.environment_table.proofs.Known.{lone-of, plain-join}
 use Rattle.plain.proofs.plain_rows.Statement.{statement}
 use Rattle.plain.proofs.plain_rows.Tie as tie
 
-abbrev Inv-loop : tie.InvT-loop
-Inv-loop g s cores counters room₀ n t i₀ room i = (i ≤ n) × Filled g (λ a h b. (a < i) × (plain g a b ≡ true)) room₀ room
+none-rows-requires : tie.Need-none-rows-requires
+none-rows-requires c κs = search needs
 
-abbrev μ-loop : tie.MeasureT-loop
-μ-loop g s cores counters room₀ n t i₀ room i = n - i
+below-requires : tie.Need-below-requires
+below-requires c κs = search needs
 
-all-refused-requires : tie.Need-all-refused-requires Inv-loop μ-loop
-all-refused-requires c κs = shaped _ _ _ (c .before .before .before .before .before .pre .0)
+difference-requires : tie.Need-difference-requires
+difference-requires c κs = search needs
 
-loop-holds : tie.Need-loop-holds Inv-loop μ-loop
-loop-holds c = (omega arith, filled-none _ _ (λ a h b p. omega (arith, p .0)))
+push-columns-requires : tie.Need-push-columns-requires
+push-columns-requires c κs =
+    let p = c .before .before .before .before .before .before .before .before .before .pre in
+    (p .0, roomy-more _ (p .1) (c .before .before .before .before .before .none-rows .ensures), lone-of _ _ _ (c .before .before .below .ensures) (c .before .difference .ensures))
 
-plain-row-requires : tie.Need-plain-row-requires Inv-loop μ-loop
-plain-row-requires c κs = (c .before .before .before .before .before .before .before .before .before .pre .0, roomy-more _ (c .before .before .before .before .before .before .before .before .before .pre .1) (c .before .before .loop .inv .1), c .before .loop-test .taken, c .before .before .before .all-refused .ensures)
+same-length : tie.Need-same-length
+same-length c = search needs
 
-add-i : tie.Need-add-i Inv-loop μ-loop
-add-i c = omega arith
-
-loop-less : tie.Need-loop-less Inv-loop μ-loop
-loop-less c = omega arith
-
-loop-again : tie.Need-loop-again Inv-loop μ-loop
-loop-again c = (omega arith, filled-join _ (c .before .before .before .before .before .loop .inv .1) (c .before .before .plain-row .ensures) (λ a h b x y z p. below-next a (c .before .before .before .before .before .loop .i) (p .0) (λ q. (q, p .1)) (λ q. (q, p .1))))
-
-same-length : tie.Need-same-length Inv-loop μ-loop
-same-length c = c .before .loop .inv .1 .grows .long
-
-returns : tie.Need-returns Inv-loop μ-loop
-returns c = filled-same _ (c .before .loop .inv .1) (λ a h b x y z p. (omega (arith, x, c .loop-test .left), p))
+returns : tie.Need-returns
+returns c =
+    plain-join _ _ _ (c .before .before .before .before .before .before .before .before .before .before .before .before .pre .0) _ (lone-of _ _ _ (c .before .before .before .before .before .below .ensures) (c .before .before .before .before .difference .ensures))
+    (c .before .before .before .before .before .before .before .before .none-rows .ensures) (c .before .before .push-columns .ensures)
 
 pub plain-rows-spec : {M : Type 1} → statement M
 plain-rows-spec =
     tie.close
     (tie.spec
-    Inv-loop
-    μ-loop
-    all-refused-requires
-    loop-holds
-    plain-row-requires
-    add-i
-    loop-less
-    loop-again
+    none-rows-requires
+    below-requires
+    difference-requires
+    push-columns-requires
     same-length
     returns)

@@ -1,4 +1,4 @@
--- `push_rows` visits the outputs of the set.
+-- `push_rows` visits the inputs of the set.
 use native.Mathlib.Omega.{arith}
 use borrow.Author.Needs.{needs}
 use Prim.Native.Nat.{_<_}
@@ -10,35 +10,38 @@ use Rattle.sets.specs.Member.{has}
 use Rattle.environment_table.specs.Table.{Same, Putting}
 use Rattle.environment_table.proofs.Places.{roomy-more, same-small}
 use Rattle.environment_table.proofs.Members.{Visiting, visit-start, visit-small, visit-in, visit-falls, visit-next, visit-end}
-use Rattle.environment_table.proofs.Known.{both-of}
 use Rattle.plain.proofs.push_rows.Statement.{statement}
 use Rattle.plain.proofs.push_rows.Tie as tie
 
 abbrev Inv-loop : tie.InvT-loop
-Inv-loop g counters i room₀ t n from rest₀ room rest = Visiting g (λ a b. b) (λ a h b. a ≡ i .0) rest₀ rest room₀ room
+Inv-loop g counters o refused room₀ n h rest₀ room rest = Visiting g (λ a b. a) (λ a h b. b ≡ o .0) rest₀ rest room₀ room
 
 abbrev μ-loop : tie.MeasureT-loop
-μ-loop g counters i room₀ t n from rest₀ room rest = count 64 (has rest)
+μ-loop g counters o refused room₀ n h rest₀ room rest = count 64 (has rest)
 
 small : (c : tie.After-lowest Inv-loop μ-loop) → c .lowest .result < 64
 small c = visit-small _ _ _ _ (c .before .before .loop .rest) _ (c .before .before .loop .inv) (c .before .loop-test .taken) (c .lowest .ensures)
 
-member : (c : tie.After-lowest Inv-loop μ-loop) → has (c .before .before .before .before .before .args .over .0) (c .lowest .result) ≡ true
+member : (c : tie.After-lowest Inv-loop μ-loop) → has (c .before .before .before .before .before .args .which .0) (c .lowest .result) ≡ true
 member c = visit-in _ _ _ _ (c .before .before .loop .rest) _ (c .before .before .loop .inv) (c .before .loop-test .taken) (c .lowest .ensures)
 
--- what belongs in the rows of the output that is visited
-same : (c : tie.After-unanswered Inv-loop μ-loop) → Same (c .before .before .before .before .before .before .before .args .g) (c .before .before .before .before .before .before .before .args .counters) (c .before .before .before .before .before .before .before .args .i .0) (c .before .before .lowest .result) (c .unanswered .result) 64
-same c = c .before .before .before .before .before .before .before .pre .1 .same _ _ (member (c .before .before)) (both-of _ _ (c .before .before .before .before .before .in-moves .ensures) (c .unanswered .ensures))
+-- what belongs in the rows of the input that is visited
+same : (c : tie.After-unanswered Inv-loop μ-loop)
+    → Same (c .before .before .before .before .before .before .before .args .g) (c .before .before .before .before .before .before .before .args .counters)
+    (c .before .before .lowest .result) (c .before .before .before .before .before .before .before .args .o .0) (c .unanswered .result) 64
+same c = c .before .before .before .before .before .before .before .pre .1 .same _ _ (member (c .before .before)) (c .unanswered .ensures)
 
 putting : (c : tie.After-put-arg Inv-loop μ-loop)
-    → Putting (c .before .before .before .before .before .before .before .before .args .g .output .states) (c .before .before .before .before .before .before .before .before .args .counters) (c .before .before .before .before .before .before .before .before .args .i .0) (c .before .before .before .lowest .result) (c .before .unanswered .result) 64 (length (c .before .before .before .before .before .loop .room))
-putting c = record { game = c .before .before .before .before .before .before .before .before .args .g; outputs = refl; roomy = roomy-more _ (c .before .before .before .before .before .before .before .before .pre .0) (c .before .before .before .before .before .loop .inv .filled); same = same (c .before) }
-
-in-moves-requires : tie.Need-in-moves-requires Inv-loop μ-loop
-in-moves-requires c κs = omega (arith, c .before .pre .1 .input, c .before .pre .0 .inputs)
+    → Putting (c .before .before .before .before .before .before .before .before .args .g .output .states)
+    (c .before .before .before .before .before .before .before .before .args .counters) (c .before .before .before .lowest .result)
+    (c .before .before .before .before .before .before .before .before .args .o .0) (c .before .unanswered .result) 64
+    (length (c .before .before .before .before .before .loop .room))
+putting c =
+    let b = c .before .before .before .before .before in
+    record { game = b .before .before .before .args .g; outputs = refl; roomy = roomy-more _ (b .before .before .before .pre .0) (b .loop .inv .filled); same = same (c .before) }
 
 loop-holds : tie.Need-loop-holds Inv-loop μ-loop
-loop-holds c = visit-start _ _ _ _ _ _ (c .before .before .pre .0 .outputs) (c .before .before .pre .1 .below)
+loop-holds c = visit-start _ _ _ _ _ _ (c .before .before .pre .0 .inputs) (c .before .before .pre .1 .below)
 
 lowest-requires : tie.Need-lowest-requires Inv-loop μ-loop
 lowest-requires c κs = search needs
@@ -50,7 +53,7 @@ element-copy-out-difference : tie.Need-element-copy-out-difference Inv-loop μ-l
 element-copy-out-difference c = omega (arith, small c)
 
 unanswered-requires : tie.Need-unanswered-requires Inv-loop μ-loop
-unanswered-requires c κs = (c .before .before .before .before .before .before .pre .0 .inputs, c .before .before .before .before .before .before .pre .1 .sets _ (member (c .before)))
+unanswered-requires c κs = (c .before .before .before .before .before .before .pre .0 .inputs, c .before .before .before .before .before .before .pre .1 .inside)
 
 cast-put : tie.Need-cast-put Inv-loop μ-loop
 cast-put c = omega (arith, same-small _ _ _ _ _ _ _ (c .before .before .before .before .before .before .before .pre .0) (same c))
@@ -76,7 +79,7 @@ loop-again c =
     let l = c .before .before .before .before .before .before .before .before in
     let b = l .before .before in
     visit-next _ _ _ _ (b .loop .rest) _ (b .loop .inv) (l .before .loop-test .taken) (l .lowest .ensures) _ _ (c .before .insert .ensures) (c .difference .ensures)
-    (omega (arith, c .difference .ok)) (c .before .before .before .before .put .ensures .fills (putting (c .before .before .before .before .before))) (λ a h b e p. (e, p))
+    (omega (arith, c .difference .ok)) (c .before .before .before .before .put .ensures .fills (putting (c .before .before .before .before .before))) (λ a h b e p. (p, e))
 
 same-length : tie.Need-same-length Inv-loop μ-loop
 same-length c = c .before .loop .inv .filled .grows .long
@@ -90,7 +93,6 @@ push-rows-spec =
     (tie.spec
     Inv-loop
     μ-loop
-    in-moves-requires
     loop-holds
     lowest-requires
     mul-difference

@@ -9,8 +9,8 @@ use Rattle.sets.proofs.Visit.{Collected, collected-small, collected-below, coll
 use Rattle.environment_table.specs.Reading.{lostAt}
 use Rattle.environment_table.proofs.Members.{within-start}
 use Rattle.environment_table.proofs.Outward.{lost-at, lost-all}
-use Rattle.escape.proofs.lost.Statement.{statement}
-use Rattle.escape.proofs.lost.Tie as tie
+use Rattle.environment_rows.proofs.lost.Statement.{statement}
+use Rattle.environment_rows.proofs.lost.Tie as tie
 
 abbrev Inv-loop : tie.InvT-loop
 Inv-loop s n cores o y₀ rest₀ y rest = Collected rest₀ n (lostAt s n (cores .0) (o .0)) rest y

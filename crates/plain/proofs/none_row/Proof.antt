@@ -1,0 +1,35 @@
+-- `none_row`: the won outputs.
+use native.Mathlib.Omega.{arith}
+use borrow.Author.Needs.{needs}
+use Rattle.environment_table.proofs.Known.{shaped, spread-won, none-filled}
+use Rattle.plain.proofs.none_row.Statement.{statement}
+use Rattle.plain.proofs.none_row.Tie as tie
+
+won-outputs-requires : tie.Need-won-outputs-requires
+won-outputs-requires c κs = (shaped _ _ _ (c .before .before .pre .0), c .before .before .pre .2)
+
+below-requires : tie.Need-below-requires
+below-requires c κs = omega (arith, c .before .before .before .pre .1 .few)
+
+spread-requires : tie.Need-spread-requires
+spread-requires c κs =
+    let p = c .before .before .before .before .before .pre in
+    (p .1, spread-won _ _ _ (p .0) _ (p .2) _ (c .before .before .won-outputs .ensures) _ _ _ (p .1) (c .before .below .ensures))
+
+same-length : tie.Need-same-length
+same-length c = search needs
+
+returns : tie.Need-returns
+returns c =
+    let p = c .before .before .before .before .before .before .before .before .pre in
+    none-filled _ _ _ (p .0) _ (p .2) _ (c .before .before .before .before .before .won-outputs .ensures) _ _ _ (p .1) (c .before .before .before .before .below .ensures) (c .before .before .spread .ensures)
+
+pub none-row-spec : {M : Type 1} → statement M
+none-row-spec =
+    tie.close
+    (tie.spec
+    won-outputs-requires
+    below-requires
+    spread-requires
+    same-length
+    returns)
