@@ -7,6 +7,7 @@ ghost use Prim.Native.Nat.{_+_, _<_, _≤_};
 ghost use lib.ListN.{length};
 ghost use Rattle.sets.specs.Member.{pack, within};
 ghost use Rattle.environment_table.specs.Pressing.{lostIn};
+
 pub mod rows;
 
 // The members of x that make no won position with o. All of x are below n.

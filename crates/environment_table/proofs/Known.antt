@@ -32,7 +32,7 @@ use Rattle.components.proofs.Closed.{moved-edge}
 use Rattle.play.specs.Play.{graphOf, separatedOf}
 use Rattle.theory.specs.Region.{region, answers, opens}
 use Rattle.theory.specs.Choice.{environmentRow, environmentStart, pushing, refused}
-use Rattle.theory.specs.Entries.{entry, environmentCounters}
+use Rattle.theory.specs.Entries.{entry}
 use Rattle.theory.proofs.EnvironmentRow.{row-lost}
 use Rattle.stored.specs.Stored.{wonAt}
 use Rattle.stored.proofs.Read.{won-region}

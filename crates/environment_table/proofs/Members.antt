@@ -19,8 +19,6 @@ use Rattle.sets.proofs.Membership.{has-zero, within-has, within-lt, lt-within, 
 use Rattle.sets.proofs.Remove.{rest-in, rest-other, rest-falls}
 use Rattle.sets.proofs.Visit.{lowest-below, lowest-in, Collected}
 use Rattle.game.specs.declared.Game.{Game}
-use Rattle.play.specs.Play.{separatedOf}
-use Rattle.theory.specs.Entries.{environmentCounters}
 use Rattle.environment_table.specs.Table.{Filled}
 use Rattle.environment_table.proofs.Places.{filled-none, filled-join, filled-same}
 

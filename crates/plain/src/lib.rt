@@ -131,14 +131,7 @@ fn none_rows(g: Game, s: &[u64], cores: InSet, counters: usize, room: &mut [u16]
 }
 
 // The rows of the inputs of `which` and output o: the lowest move to an input that no move of o answers. Those inputs are `refused`.
-fn push_rows(
-    g: Game,
-    counters: usize,
-    o: OutState,
-    which: InSet,
-    refused: InSet,
-    room: &mut [u16],
-)
+fn push_rows(g: Game, counters: usize, o: OutState, which: InSet, refused: InSet, room: &mut [u16])
     requires { ⌜ Roomy g counters (length (now room)) × Pushes g counters (which .0) (o .0) (refused .0) ⌝ }
     ensures { λ r. ⌜ Filled g (λ a h b. (has (which .0) a ≡ true) × (b ≡ o .0)) (now (room .entry)) (now (room .exit)) ⌝ }
 {
@@ -177,14 +170,7 @@ fn push_column(
 }
 
 // The same for every output; there may be no trivial component.
-fn push_columns(
-    g: Game,
-    s: &[u64],
-    cores: InSet,
-    counters: usize,
-    lone: InSet,
-    room: &mut [u16],
-)
+fn push_columns(g: Game, s: &[u64], cores: InSet, counters: usize, lone: InSet, room: &mut [u16])
     requires { ⌜ Known g (now s) (cores .0) × Roomy g counters (length (now room)) × Lone (g .input .states) (cores .0) (lone .0) ⌝ }
     ensures { λ r. ⌜ Filled g (λ a h b. (has (lone .0) a ≡ true) × (region (separatedOf g) a b ≡ false)) (now (room .entry)) (now (room .exit)) ⌝ }
 {

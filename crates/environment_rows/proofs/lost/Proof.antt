@@ -1,5 +1,4 @@
 -- `lost` visits the members of x.
-use mathlib.Core.Path.{_≡_}
 use Prim.Native.Nat.{_<_}
 use borrow.Author.Needs.{needs}
 use native.Mathlib.Omega.{arith}

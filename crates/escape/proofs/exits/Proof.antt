@@ -1,5 +1,4 @@
 -- `exits` visits the members of c.
-use mathlib.Core.Path.{_≡_}
 use Prim.Native.Nat.{_<_}
 use borrow.Author.Needs.{needs}
 use native.Mathlib.Omega.{arith}
