@@ -1,4 +1,4 @@
-// Rows of the environment's table, written for sets of counters and outputs; the inputs that are not won with an output.
+// What several parts of the environment's table share: its rows, and the inputs that are not won with an output.
 use game::InSet;
 use game::OutState;
 ghost use mathlib.Core.Path.{_≡_};
@@ -8,7 +8,7 @@ ghost use lib.ListN.{length};
 ghost use Rattle.sets.specs.Member.{pack, within};
 ghost use Rattle.environment_table.specs.Pressing.{lostIn};
 
-pub mod rows;
+pub mod rows; // rows of the table, for many counters or outputs at once
 
 // The members of x that make no won position with o. All of x are below n.
 pub fn lost(s: &[u64], n: usize, cores: InSet, x: InSet, o: OutState) -> InSet

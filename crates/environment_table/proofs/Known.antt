@@ -144,13 +144,13 @@ module _ (g : Game) (s : List ℕ) (cores : ℕ) (K : Known g s cores) where
             ap entry (row-lost (separatedOf g) i h o (sym (known-won i o a b) ∙ e))
             ∙ rw (sym (known-core i a) ∙ t, pushing) refl
 
-  -- the rows of an input that need no walk
+  -- the rows of an input that are none
 
   module _ (i : ℕ) (a : i < g .input .states) (won : ℕ) (w : won ≡ pack (g .output .states) (wonAt s (g .input .states) cores i)) where
     won-has : (o : ℕ) → o < g .output .states → has won o ≡ wonAt s (g .input .states) cores i o
     won-has o b = ap (λ (x : ℕ). has x o) w ∙ has-pack-below (g .output .states) (wonAt s (g .input .states) cores i) o b
 
-    -- those of the won outputs are none
+    -- those of the won outputs
     pub spread-won : (M n every : ℕ) → Roomy g M n → ((h : ℕ) → has every h ≡ ltb h M) → Spread g i won every 65535 0
     spread-won M n every R e = record {
       input = a;
@@ -164,7 +164,7 @@ module _ (g : Game) (s : List ℕ) (cores : ℕ) (K : Known g s cores) where
     none-filled M n every R e F =
         filled-same g F (λ x h o lx lh lo p. (p .0, every-counter g M n every h R e lh, won-has o lo ∙ known-won i o a lo ∙ ap (λ (y : ℕ). region (separatedOf g) y o) (sym (p .0)) ∙ p .1))
 
-  -- those of the inputs in trivial components that are not won with an output
+  -- the rows of the inputs in trivial components that are not won
 
   module _ (lone : ℕ) (L : Lone (g .input .states) cores lone) where
     lone-below : (i : ℕ) → has lone i ≡ true → i < g .input .states

@@ -29,7 +29,9 @@ loop-less : tie.Need-loop-less Inv-loop μ-loop
 loop-less c = omega arith
 
 loop-again : tie.Need-loop-again Inv-loop μ-loop
-loop-again c = (omega arith, filled-join _ (c .before .before .before .before .before .loop .inv .1) (c .before .before .none-row .ensures) (λ a h b x y z p. below-next a (c .before .before .before .before .before .loop .i) (p .0) (λ q. (q, p .1)) (λ q. (q, p .1))))
+loop-again c =
+    let l = c .before .before .before .before .before .loop in
+    (omega arith, filled-join _ (l .inv .1) (c .before .before .none-row .ensures) (λ a h b x y z p. below-next a (l .i) (p .0) (λ q. (q, p .1)) (λ q. (q, p .1))))
 
 same-length : tie.Need-same-length Inv-loop μ-loop
 same-length c = c .before .loop .inv .1 .grows .long

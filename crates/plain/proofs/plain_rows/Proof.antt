@@ -24,8 +24,9 @@ same-length c = search needs
 
 returns : tie.Need-returns
 returns c =
-    plain-join _ _ _ (c .before .before .before .before .before .before .before .before .before .before .before .before .pre .0) _ (lone-of _ _ _ (c .before .before .before .before .before .below .ensures) (c .before .before .before .before .difference .ensures))
-    (c .before .before .before .before .before .before .before .before .none-rows .ensures) (c .before .before .push-columns .ensures)
+    let d = c .before .before .before .before in
+    let r = d .before .before .before .before in
+    plain-join _ _ _ (r .before .before .before .before .pre .0) _ (lone-of _ _ _ (d .before .below .ensures) (d .difference .ensures)) (r .none-rows .ensures) (c .before .before .push-columns .ensures)
 
 pub plain-rows-spec : {M : Type 1} → statement M
 plain-rows-spec =

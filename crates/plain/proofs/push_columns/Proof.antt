@@ -36,7 +36,9 @@ loop-less : tie.Need-loop-less Inv-loop μ-loop
 loop-less c = omega arith
 
 loop-again : tie.Need-loop-again Inv-loop μ-loop
-loop-again c = (omega arith, filled-join _ (c .before .before .before .before .before .loop .inv .1) (c .before .before .push-column .ensures) (λ a h b x y z p. below-next b (c .before .before .before .before .before .loop .o) (p .0) (λ q. (q, p .1, p .2)) (λ q. (p .1, q, p .2))))
+loop-again c =
+    let l = c .before .before .before .before .before .loop in
+    (omega arith, filled-join _ (l .inv .1) (c .before .before .push-column .ensures) (λ a h b x y z p. below-next b (l .o) (p .0) (λ q. (q, p .1, p .2)) (λ q. (p .1, q, p .2))))
 
 same-length : tie.Need-same-length Inv-loop μ-loop
 same-length c = c .before .loop .inv .1 .grows .long
