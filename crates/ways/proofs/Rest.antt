@@ -5,7 +5,7 @@
 --   trying-*               : how that begins, goes on and ends
 use Prim.Native.Nat.{ℕ, zero, suc, _+_, _^_, _≤_, _<_}
 use mathlib.Core.Path.{_≡_, refl, sym, _∙_, ap}
-use mathlib.Core.Bool.{true, false, not, _&&_, _||_}
+use mathlib.Core.Bool.{true, false, not, _&&_}
 use mathlib.Core.List.{List}
 use mathlib.Core.Logic.{inl, inr, _≢_}
 use native.Mathlib.Omega.{arith}
@@ -19,7 +19,7 @@ use Rattle.finite.proofs.Bounded.{least-below, least-member, least-before, leas
 use Rattle.sets.specs.Member.{has}
 use Rattle.sets.proofs.Membership.{has-zero}
 use Rattle.sets.proofs.Compare.{nonzero-below}
-use Rattle.sets.proofs.Remove.{rest-in, rest-out, rest-other, rest-falls}
+use Rattle.sets.proofs.Remove.{less-in, less-out, less-other, less-falls}
 use Rattle.ways.specs.Search.{Settled}
 use Rattle.ways.proofs.Round.{choices-none, settled-start, settled-miss, settled-end}
 
@@ -67,7 +67,7 @@ module _ (rows : List ℕ) (n c left l : ℕ) where
     pub try-small : s < 64
     try-small = let m = nonzero-below 64 rest (T .rests .small) ne in omega (arith, least-below 64 (has rest) (m .0) (m .1) (m .2))
 
-    try-in : has rest s ≡ true
+    pub try-in : has rest s ≡ true
     try-in = let b = try-small in rw e (least-member 64 (has rest) (rw e at b))
 
     pub try-below : s < n
@@ -87,9 +87,12 @@ module _ (rows : List ℕ) (n c left l : ℕ) where
               | inr q ↦ q
             ]
 
-    module _ (w v : ℕ) (f : (t : ℕ) → has w t ≡ (has 0 t || eqb t s)) (d : (t : ℕ) → has v t ≡ (has rest t && not (has w t))) where
+    module _ (v : ℕ) (d : (t : ℕ) → has v t ≡ (has rest t && not (eqb t (least 64 (has rest))))) where
+      less : (t : ℕ) → has v t ≡ (has rest t && not (eqb t s))
+      less t = rw e (d t)
+
       pub trying-falls : count 64 (has v) < count 64 (has rest)
-      trying-falls = rest-falls rest s v w f d 64 try-small try-in
+      trying-falls = less-falls rest s v less 64 try-small try-in
 
       pub trying-next : {y′ : List ℕ} {r′ : ℕ} → v < 2 ^ 64 → Settled rows (s + 1) c left l x y′ r′ → Trying rows n c left l x y′ r′ v
       trying-next small h = record {
@@ -98,10 +101,10 @@ module _ (rows : List ℕ) (n c left l : ℕ) where
         settled = h;
         rests = record {
           small = small;
-          member = λ t a. T .rests .member t (rest-in rest s v w f d t a);
+          member = λ t a. T .rests .member t (less-in rest s v less t a);
           from = from;
-          below = λ t a. T .rests .below t (rest-in rest s v w f d t a);
-          all = λ t a lt q. rest-other rest s v w f d t (λ z. omega arith) ∙ T .rests .all t (omega (arith, T .rests .from s try-in)) lt q;
+          below = λ t a. T .rests .below t (less-in rest s v less t a);
+          all = λ t a lt q. less-other rest s v less t (λ z. omega arith) ∙ T .rests .all t (omega (arith, T .rests .from s try-in)) lt q;
         };
       }
         where
@@ -109,10 +112,10 @@ module _ (rows : List ℕ) (n c left l : ℕ) where
           from t a = go (ℕ-discrete t s)
             where
               later : s ≤ t
-              later = rw e (least-at-most 64 (has rest) t (rest-in rest s v w f d t a))
+              later = rw e (least-at-most 64 (has rest) t (less-in rest s v less t a))
 
               go : Dec (t ≡ s) → s + 1 ≤ t
-              go (yes q) = clash a (ap (has v) q ∙ rest-out rest s v w f d)
+              go (yes q) = clash a (ap (has v) q ∙ less-out rest s v less)
               go (no q) = omega (arith, later)
 
   pub trying-end : {x y : List ℕ} {r rest : ℕ} → Trying rows n c left l x y r rest → rest ≡ 0 → Settled rows n c left l x y r

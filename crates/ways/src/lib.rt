@@ -1,5 +1,6 @@
 // Shortest ways to a set of states, the lowest on ties: a breadth-first search over words that goes backward from the set.
 ghost use mathlib.Core.Path.{_≡_};
+ghost use mathlib.Core.Bool.{true};
 ghost use Prim.Native.Nat.{_≤_, _<_};
 ghost use Rattle.sets.specs.Member.{has};
 ghost use Rattle.graphs.specs.Way.{prefer as preferred};
@@ -17,14 +18,11 @@ pub fn prefer(s: usize, set: u64) -> usize
     sets::lowest(set)
 }
 
-// The moves of s inside a set that land in `reached`; none where s is not one of `left`.
+// The moves of s, which is one of `left`, inside a set that land in `reached`.
 fn choices(rows: &[u64; 64], inside: u64, left: u64, reached: u64, s: usize) -> u64
-    requires { ⌜ s < 64 ⌝ }
+    requires { ⌜ (s < 64) × (has left s ≡ true) ⌝ }
     ensures { λ r. ⌜ r ≡ choicesOf (now (rows .entry)) inside left reached s ⌝ }
 {
-    if !sets::member(left, s) {
-        return 0;
-    }
     rows[s] & inside & reached
 }
 
@@ -49,7 +47,7 @@ fn settle(
             next[s] = prefer(s, open) as u8;
             settled = sets::insert(settled, s);
         }
-        rest = sets::difference(rest, sets::insert(0, s));
+        rest = sets::without_lowest(rest);
     }
     settled
 }

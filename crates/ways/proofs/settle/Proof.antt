@@ -6,7 +6,7 @@ use native.Mathlib.Omega.{arith}
 use Rattle.finite.specs.Bounded.{count}
 use Rattle.sets.specs.Member.{has}
 use Rattle.ways.proofs.Round.{choice-fits, settled-hit, settled-miss}
-use Rattle.ways.proofs.Rest.{Trying, trying-start, try-small, try-at, trying-falls, trying-next, trying-end}
+use Rattle.ways.proofs.Rest.{Trying, trying-start, try-small, try-in, try-at, trying-falls, trying-next, trying-end}
 use Rattle.ways.proofs.settle.Statement.{statement}
 use Rattle.ways.proofs.settle.Tie as tie
 
@@ -32,7 +32,7 @@ lowest-requires : tie.Need-lowest-requires Inv-loop μ-loop
 lowest-requires c κs = search needs
 
 choices-requires : tie.Need-choices-requires Inv-loop μ-loop
-choices-requires c κs = small c
+choices-requires c κs = (small c, c .before .before .loop .inv .rests .member _ (try-in _ _ _ _ _ (c .before .before .loop .inv) (c .before .loop-test .taken) (c .lowest .ensures)))
 
 prefer-requires : tie.Need-prefer-requires Inv-loop μ-loop
 prefer-requires c κs = search needs
@@ -47,29 +47,26 @@ element-write-next c = small (c .before .before .before)
 insert-requires : tie.Need-insert-requires Inv-loop μ-loop
 insert-requires c κs = small (c .before .before .before)
 
-insert-requires-2 : tie.Need-insert-requires-2 Inv-loop μ-loop
-insert-requires-2 c κs = small (c .before .before)
-
-difference-requires : tie.Need-difference-requires Inv-loop μ-loop
-difference-requires c κs = search needs
+without-lowest-requires : tie.Need-without-lowest-requires Inv-loop μ-loop
+without-lowest-requires c κs = c .before .before .before .loop-test .taken
 
 loop-less : tie.Need-loop-less Inv-loop μ-loop
 loop-less c =
-    let a = c .before .before .before .before in
-    trying-falls _ _ _ _ _ (a .before .before .loop .inv) (a .before .loop-test .taken) (a .lowest .ensures) _ _ (c .before .insert2 .ensures) (c .difference .ensures)
+    let a = c .before .before .before in
+    trying-falls _ _ _ _ _ (a .before .before .loop .inv) (a .before .loop-test .taken) (a .lowest .ensures) _ (c .without-lowest .ensures)
 
 loop-again : tie.Need-loop-again Inv-loop μ-loop
 loop-again c =
-    let a = c .before .before .before .before in
+    let a = c .before .before .before in
     let tried = a .before .before .loop .inv in
     let more = a .before .loop-test .taken in
     let at = try-at _ _ _ _ _ tried more (a .lowest .ensures) in
-    let chosen = c .before .before .before .choices .ensures in
-    trying-next _ _ _ _ _ tried more (a .lowest .ensures) _ _ (c .before .insert2 .ensures) (c .difference .ensures) (omega (arith, c .difference .ok))
+    let chosen = c .before .before .choices .ensures in
+    trying-next _ _ _ _ _ tried more (a .lowest .ensures) _ (c .without-lowest .ensures) (omega (arith, c .without-lowest .ok))
     (⊎-elim
     (λ w. settled-hit _ _ _ _ at chosen (w .0 .taken) (w .1 .ensures) (w .2 .ensures) (w .3) (w .4))
     (λ w. settled-miss _ _ _ _ at chosen (w .0 .left) (w .1) (w .2))
-    (c .before .before .if1 .came))
+    (c .before .if1 .came))
 
 returns : tie.Need-returns Inv-loop μ-loop
 returns c = trying-end _ _ _ _ _ (c .before .loop .inv) (c .loop-test .left)
@@ -89,8 +86,7 @@ settle-spec =
     cast-next
     element-write-next
     insert-requires
-    insert-requires-2
-    difference-requires
+    without-lowest-requires
     loop-less
     loop-again
     returns)
