@@ -5,7 +5,7 @@
 --   same-none, same-push   : rows that need no walk
 --   spread-won, none-filled : those of one input that are none
 --   lone-of, lone-none, lone-within : the inputs in trivial components
---   pushes-*, plain-join   : their pushes with one output, and all rows that need no walk
+--   pushes-*, plain-join   : their pushes, output after output, and all rows that need no walk
 use Prim.Native.Nat.{ℕ, _+_, _*_, _<_, _≤_}
 use native.Mathlib.Nat.{zero-mul}
 use mathlib.Core.Path.{_≡_, refl, sym, _∙_, ap, ap₂}
@@ -39,7 +39,7 @@ use Rattle.stored.proofs.Read.{won-region}
 use Rattle.environment_table.specs.Table.{Known, Roomy, Filled, Same, Spread, Pushes}
 use Rattle.environment_table.specs.Reading.{Shaped, anyWon, refusedAt, openAt, unansweredAt, lostAt, Lone, plain}
 use Rattle.environment_table.specs.Pressing.{lostIn}
-use Rattle.environment_table.proofs.Places.{filled-none, filled-join, filled-same, every-counter}
+use Rattle.environment_table.proofs.Places.{filled-none, filled-join, filled-same, below-next, every-counter}
 use Rattle.environment_table.proofs.Reading.{refused-within, unanswered-both}
 
 -- what is read of the game's sets
@@ -235,3 +235,9 @@ lone-of n cores b f d = record { each = λ i. d i ∙ ap (λ (y : Bool). y && no
 -- where there are none, there is nothing to push
 pub lone-none : (g : Game) (l : List ℕ) {x : ℕ} {P : ℕ → ℕ → ℕ → Type 0} → x ≡ 0 → Filled g (λ a h b. (has x a ≡ true) × P a h b) l l
 lone-none g l {x} z = filled-none g l (λ a h b p. clash (p .0) (ap (λ (y : ℕ). has y a) z ∙ has-zero a))
+
+-- the pushes, output after output
+pub pushes-next : (g : Game) (x k : ℕ) {l m n : List ℕ} → Filled g (λ a h b. (b < k) × (has x a ≡ true) × (region (separatedOf g) a b ≡ false)) l m
+    → Filled g (λ a h b. (has x a ≡ true) × (b ≡ k) × (region (separatedOf g) a b ≡ false)) m n
+    → Filled g (λ a h b. (b < k + 1) × (has x a ≡ true) × (region (separatedOf g) a b ≡ false)) l n
+pushes-next g x k F G = filled-join g F G (λ a h b la lh lb p. below-next b k (p .0) (λ q. (q, p .1, p .2)) (λ q. (p .1, q, p .2)))

@@ -7,8 +7,8 @@ use Rattle.sets.specs.Member.{has}
 use Rattle.play.specs.Play.{separatedOf}
 use Rattle.theory.specs.Region.{region}
 use Rattle.environment_table.specs.Table.{Filled}
-use Rattle.environment_table.proofs.Places.{filled-none, filled-join, filled-same, roomy-more, below-next}
-use Rattle.environment_table.proofs.Known.{lone-none}
+use Rattle.environment_table.proofs.Places.{filled-none, filled-same, roomy-more}
+use Rattle.environment_table.proofs.Known.{lone-none, pushes-next}
 use Rattle.plain.proofs.push_columns.Statement.{statement}
 use Rattle.plain.proofs.push_columns.Tie as tie
 
@@ -36,9 +36,7 @@ loop-less : tie.Need-loop-less Inv-loop μ-loop
 loop-less c = omega arith
 
 loop-again : tie.Need-loop-again Inv-loop μ-loop
-loop-again c =
-    let l = c .before .before .before .before .before .loop in
-    (omega arith, filled-join _ (l .inv .1) (c .before .before .push-column .ensures) (λ a h b x y z p. below-next b (l .o) (p .0) (λ q. (q, p .1, p .2)) (λ q. (p .1, q, p .2))))
+loop-again c = (omega arith, pushes-next _ _ _ (c .before .before .before .before .before .loop .inv .1) (c .before .before .push-column .ensures))
 
 same-length : tie.Need-same-length Inv-loop μ-loop
 same-length c = c .before .loop .inv .1 .grows .long
