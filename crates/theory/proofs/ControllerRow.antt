@@ -54,7 +54,7 @@ pub same-state : {m s m′ s′ : ℕ} → gives m s ≡ gives m′ s′ → s �
 same-state e = cc
 
 -- what has a way to the component of d reaches d
-near-reaches : (G : Graph) (d k s : ℕ) → near (G .states) (edge G) (joined G d) k s ≡ true → reaches G s d ≡ true
+pub near-reaches : (G : Graph) (d k s : ℕ) → near (G .states) (edge G) (joined G d) k s ≡ true → reaches G s d ≡ true
 near-reaches G d zero s h = joined-back G d s (near-zero (G .states) (edge G) (joined G d) s h)
 near-reaches G d (suc k) s h =
     elim (near-cases (G .states) (edge G) (joined G d) k s h) [

@@ -3,7 +3,6 @@ pub mod Region
 pub mod Delay
 pub mod Around
 pub mod Tour
-pub mod Bounds
 pub mod Loop
 pub mod Sets
 pub mod ControllerRow
