@@ -1,7 +1,7 @@
 -- What the phases of the filling give.
 --
 --   approach-bounds, approached    : the way home
---   met-at, met-goals              : the guarantees that meet a component
+--   met-goals                      : the guarantees that meet a component
 --   seek-.., sought                : the way to one goal
 --   sought-none, sought-next, sought-past, sought-all : to every goal
 --   rested                         : no goal
@@ -43,14 +43,14 @@ use Rattle.ways.specs.Kept.{kept}
 use Rattle.ways.specs.Search.{Bounds}
 use Rattle.ways.specs.Search.{Toward as Searched}
 use Rattle.ways.proofs.Kept.{kept-all, members-pack, toward-along, pack-below, pack-holds}
-use Rattle.touring.specs.Goal.{firstFrom, aimedAt}
+use Rattle.touring.specs.Goal.{firstFrom, aimedAt, metAt}
 use Rattle.touring.specs.Goal.{Goals as Counted}
 use Rattle.touring.proofs.Tours.{goal-meets, goal-below, goals-none, goals-some, goals-from, goal-word, prefer-inside, toward-target}
 use Rattle.controller_rows.specs.declared.Size.{Size}
 use Rattle.controller_rows.specs.declared.Home.{Home}
 use Rattle.controller_rows.specs.Writes.{Rest, Aims, States, Aim}
 use Rattle.controller_rows.specs.Writes.{Away as AwayLoop}
-use Rattle.controller_table.specs.Filled.{Filled, Away, There, Toward, Before, metBy, Sized, Given, HomeOf, Goals}
+use Rattle.controller_table.specs.Filled.{Filled, Away, There, Toward, Before, Sized, Given, HomeOf, Goals}
 use Rattle.controller_table.proofs.Fills.{filled-none, filled-more, filled-part}
 use Rattle.controller_table.proofs.Loops.{comp-in, fills-away, fills-rest, fills-aim}
 use Rattle.controller_table.proofs.Setting.{fits-of, sizes-of, few-outputs, told-of}
@@ -238,26 +238,28 @@ module _ (g : Game) (z : Size) (Z : Sized g z) (w : Home) (H : HomeOf (separated
         ])
         p)
 
-    pub sought-all : {l m : List ℕ} → q ≢ 0 → Filled (separatedOf g) (Before (separatedOf g) (w .state .0) (z .counters)) l m → Filled (separatedOf g) (There (separatedOf g) (w .state .0)) l m
-    sought-all n p =
-        filled-part (separatedOf g) (λ o c j x y d h. record { there = h; goal = omega (arith, some-goal (goal (separatedOf g .output) (w .state .0) (guarantees (separatedOf g)) c) (goal-in c y n), counters-are (goal (separatedOf g .output) (w .state .0) (guarantees (separatedOf g)) c) (some-goal (goal (separatedOf g .output) (w .state .0) (guarantees (separatedOf g)) c) (goal-in c y n))) }) p
+    pub sought-all : (n : ℕ) {l m : List ℕ} → n ≡ length (guarantees (separatedOf g)) → q ≢ 0 → Filled (separatedOf g) (Before (separatedOf g) (w .state .0) n) l m
+        → Filled (separatedOf g) (There (separatedOf g) (w .state .0)) l m
+    sought-all n e v p =
+        filled-part (separatedOf g)
+        (λ o c j x y d h. record { there = h; goal = omega (arith, some-goal (goal (separatedOf g .output) (w .state .0) (guarantees (separatedOf g)) c) (goal-in c y v)) }) p
 
 -- ---- the guarantees that meet a component
 
-pub met-at : (S : Separated) (y a : ℕ) {r : Bool} (x : ℕ) → has x ≡ goalAt (guarantees S) a → r ≡ meets 64 x y → r ≡ metBy S y a
-unfolding metBy meets both
-met-at S y a x e h = h ∙ any-same 64 (both x y) (λ t. goalAt (guarantees S) a t && has y t) (λ t b. ap (λ (p : ℕ → Bool). p t && has y t) e)
+met-at : (S : Separated) (y a x : ℕ) → has x ≡ goalAt (guarantees S) a → meets 64 x y ≡ any 64 (λ t. goalAt (guarantees S) a t && has y t)
+unfolding meets both
+met-at S y a x e = any-same 64 (both x y) (λ t. goalAt (guarantees S) a t && has y t) (λ t b. ap (λ (p : ℕ → Bool). p t && has y t) e)
 
-pub met-goals : (g : Game) (z : Size) → Sized g z → (w : Home) → HomeOf (separatedOf g) w → (q : ℕ)
-    → q ≡ pack (length (guarantees (separatedOf g))) (metBy (separatedOf g) (w .component .0)) → Goals (separatedOf g) w q
-unfolding metBy
-met-goals g z Z w H q e = record {
-  is = e ∙ pack-ext (length l) (metBy (separatedOf g) (w .component .0)) (λ k. meetsAt (separatedOf g .output) (w .state .0) (goalAt (guarantees (separatedOf g)) k)) (λ k b. at k);
+pub met-goals : (g : Game) (z : Size) → Sized g z → (w : Home) → HomeOf (separatedOf g) w → (n : ℕ) (r : List ℕ) (q : ℕ)
+    → n ≡ length (guarantees (separatedOf g)) → ((k : ℕ) → k < n → has (getD r k 0) ≡ goalAt (guarantees (separatedOf g)) k)
+    → q ≡ pack n (metAt r (w .component .0)) → Goals (separatedOf g) w q
+unfolding metAt
+met-goals g z Z w H n r q m d e = record {
+  is = e ∙ pack-ext n (metAt r (w .component .0)) (λ k. meetsAt (separatedOf g .output) (w .state .0) (goalAt (guarantees (separatedOf g)) k))
+      (λ k b. met-at (separatedOf g) (w .component .0) k (getD r k 0) (d k b) ∙ at k)
+      ∙ ap (λ (i : ℕ). pack i (λ k. meetsAt (separatedOf g .output) (w .state .0) (goalAt (guarantees (separatedOf g)) k))) m;
 }
   where
-    l : List (ℕ → Bool)
-    l = guarantees (separatedOf g)
-
     at : (k : ℕ) → any 64 (λ t. goalAt (guarantees (separatedOf g)) k t && has (w .component .0) t) ≡ meetsAt (separatedOf g .output) (w .state .0) (goalAt (guarantees (separatedOf g)) k)
     at k =
         same-test (any 64 (λ t. goalAt (guarantees (separatedOf g)) k t && has (w .component .0) t)) (meetsAt (separatedOf g .output) (w .state .0) (goalAt (guarantees (separatedOf g)) k))

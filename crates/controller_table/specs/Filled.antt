@@ -9,18 +9,21 @@
 --   Before S d k o c j   == and the goal of counter c is below k
 --   At S d o c j         == so it is, wherever o lies
 --   Below S k o c j      == the home of j at o is below k
---   metBy S x k          == guarantee number k meets the set x
 --   Sized g z            == an accepted game and the size of its table
 --   Given g z s cores    == with scratch, and the inputs in nontrivial components
 --   HomeOf S w           == w is a home with its component and the inputs that reside there
 --   Goals S w q          == q is the set of the numbers of the guarantees that meet its component
-use Prim.Native.Nat.{ℕ, _+_, _*_, _<_}
+--   Seeking r z w q x a n    == of a game with moves r, whose table fits n entries: x is goal number a at home w
+--   Sought r z w q x a l m   == from l to m the rows of the counters whose goal it is were written, of any such game
+--   Visiting r v c z w q n   == of such a game: the first c words of v are its guarantees, and some meet the component of w
+--   Visited r v c z w q k l m   == from l to m the rows of the counters whose goal is below k were written, of any such game
+use Prim.Native.Nat.{ℕ, _+_, _*_, _≤_, _<_}
 use mathlib.Core.Path.{_≡_}
-use mathlib.Core.Bool.{Bool, true, false, _&&_}
+use mathlib.Core.Bool.{true, false}
 use mathlib.Core.List.{List}
+use mathlib.Core.Logic.{_≢_}
 use lib.Dec.{ltb}
-use lib.ListN.{length}
-use Rattle.finite.specs.Bounded.{any}
+use lib.ListN.{length, getD}
 use Rattle.sets.specs.Member.{has, pack}
 use Rattle.graphs.specs.Component.{joined, nontrivial, meetsAt}
 use Rattle.arena.specs.Arena.{Separated}
@@ -74,9 +77,6 @@ pub record Below (S : Separated) (k o c j : ℕ) : Type 0 where
   pub resides : Resides S o (home S j o) j
   pub below : home S j o < k
 
-unfoldable pub metBy : Separated → ℕ → ℕ → Bool
-metBy S x k = any 64 (λ t. goalAt (guarantees S) k t && has x t)
-
 pub record Sized (g : Game) (z : Size) : Type 0 where
   pub accepted : acceptance g ≡ Accepted
   pub inputs : z .inputs ≡ g .input .states
@@ -98,3 +98,30 @@ pub record HomeOf (S : Separated) (w : Home) : Type 0 where
 
 pub record Goals (S : Separated) (w : Home) (q : ℕ) : Type 0 where
   pub is : q ≡ pack (length (guarantees S)) (λ k. meetsAt (S .output) (w .state .0) (goalAt (guarantees S) k))
+
+pub record Seeking (r : List ℕ) (z : Size) (w : Home) (q x a n : ℕ) : Type 0 where
+  pub game : Game
+  pub moves : r ≡ game .output .moves
+  pub sized : Sized game z
+  pub home : HomeOf (separatedOf game) w
+  pub goals : Goals (separatedOf game) w q
+  pub goal : has q a ≡ true
+  pub set : has x ≡ goalAt (guarantees (separatedOf game)) a
+  pub room : length (controllerEntries (separatedOf game)) ≤ n
+
+pub record Sought (r : List ℕ) (z : Size) (w : Home) (q x a : ℕ) (l m : List ℕ) : Type 0 where
+  pub fills : (p : Seeking r z w q x a (length l)) → Filled (separatedOf (p .game)) (Toward (separatedOf (p .game)) (w .state .0) a) l m
+
+pub record Visiting (r v : List ℕ) (c : ℕ) (z : Size) (w : Home) (q n : ℕ) : Type 0 where
+  pub game : Game
+  pub moves : r ≡ game .output .moves
+  pub sized : Sized game z
+  pub home : HomeOf (separatedOf game) w
+  pub goals : Goals (separatedOf game) w q
+  pub some : q ≢ 0
+  pub few : c ≤ 32
+  pub sets : (a : ℕ) → a < c → has (getD v a 0) ≡ goalAt (guarantees (separatedOf game)) a
+  pub room : length (controllerEntries (separatedOf game)) ≤ n
+
+pub record Visited (r v : List ℕ) (c : ℕ) (z : Size) (w : Home) (q k : ℕ) (l m : List ℕ) : Type 0 where
+  pub fills : (p : Visiting r v c z w q (length l)) → Filled (separatedOf (p .game)) (Before (separatedOf (p .game)) (w .state .0) k) l m

@@ -1,17 +1,16 @@
 -- The sets of the first r requirements, one requirement after the other.
 --
 --   Listed s    == the sets that the side takes are its words in use
-use Prim.Native.Nat.{ℕ, _+_, _-_, _≤_, _<_}
-use mathlib.Core.Path.{_≡_, refl, sym, _∙_, ap, fun-ext}
+use Prim.Native.Nat.{ℕ, _+_, _≤_, _<_}
+use mathlib.Core.Path.{_≡_, refl, sym, _∙_, ap}
 use mathlib.Core.Bool.{Bool, false}
 use mathlib.Core.List.{List}
 use native.Mathlib.Omega.{arith}
 use native.Mathlib.Numerals.{add-one}
-use lib.ListN.{length, getD, List·getD-eq-default}
+use lib.ListN.{length, getD}
 use Rattle.finite.specs.Tabulate.{tabulate, tabulateFrom}
 use Rattle.finite.proofs.Tabulate.{length-tabulate, getD-tabulate}
 use Rattle.sets.specs.Member.{has}
-use Rattle.sets.proofs.Membership.{has-zero}
 use Rattle.game.specs.declared.Game.{Game}
 use Rattle.game.specs.declared.Requirement.{Requirement as RequirementRecord}
 use Rattle.game.specs.declared.Acceptance.the-variants.{Accepted}
@@ -34,11 +33,6 @@ guarantees-listed q = refl
 pub assumptions-listed : Listed assumptionSide
 unfolding assumptionSide requirementOf
 assumptions-listed q = refl
-
--- a number past the last is the empty set
-none-at : (l : List (ℕ → Bool)) (a : ℕ) → length l ≤ a → has 0 ≡ goalAt l a
-unfolding goalAt
-none-at l a h = fun-ext has-zero ∙ sym (List·getD-eq-default l (λ s. false) h)
 
 module _ (s : Side) (L : Listed s) (g : Game) where
   -- how many sets requirement r has
@@ -63,13 +57,6 @@ module _ (s : Side) (L : Listed s) (g : Game) where
 
   -- set number a of all, j places after those of the first r requirements
 
-  pub set-first : (a : ℕ) → a ≡ length (setsBelow s g 0) + a
-  set-first a = omega (arith, below-none)
-
-  pub set-next : (r a j : ℕ) → s .count (requirementAt g r) ≤ j → a ≡ length (setsBelow s g r) + j
-      → a ≡ length (setsBelow s g (r + 1)) + (j - s .count (requirementAt g r))
-  set-next r a j l e = omega (arith, below-more r (length (setsBelow s g r)) refl)
-
   pub set-found : (r a j : ℕ) → r < g .k → a ≡ length (setsBelow s g r) + j → j < s .count (requirementAt g r)
       → has (s .word (requirementAt g r) j) ≡ goalAt (setsIn s g) a
   unfolding setsBelow setsIn separatedOf requirementsOf goalAt
@@ -78,9 +65,6 @@ module _ (s : Side) (L : Listed s) (g : Game) where
       (getD-within (s .sets) (λ k. requirementOf (requirementAt g k)) (g .k) r a j (λ t. false) l e (omega (arith, count-at r))
       ∙ ap (λ (x : List (ℕ → Bool)). getD x j (λ t. false)) (L (requirementAt g r))
       ∙ getD-tabulate (λ i. has (s .word (requirementAt g r) i)) (s .count (requirementAt g r)) j (λ t. false) b)
-
-  pub set-past : (r a j : ℕ) → r ≤ g .k → g .k ≤ r → a ≡ length (setsBelow s g r) + j → has 0 ≡ goalAt (setsIn s g) a
-  set-past r a j l m e = none-at (setsIn s g) a (omega (arith, below-all r (length (setsBelow s g r)) l m refl))
 
 module _ (g : Game) (a : acceptance g ≡ Accepted) where
   pub few : g .k ≤ 8

@@ -1,8 +1,22 @@
 // The counters of a tour past sets, for both sides. Nothing here knows of sides: counters and sets are plain numbers and words.
 ghost use mathlib.Core.Path.{_≡_};
-ghost use Prim.Native.Nat.{_<_};
+ghost use Prim.Native.Nat.{_≤_, _<_};
 ghost use Rattle.sets.specs.Member.{pack};
-ghost use Rattle.touring.specs.Goal.{Goals, passed, Past, aimedAt};
+ghost use Rattle.touring.specs.Goal.{Goals, passed, Past, aimedAt, metAt};
+
+// The numbers of the sets that have a state in x, the goals of a tour: the first count of words are the sets.
+pub fn met(words: &[u64; 32], count: usize, x: u64) -> u64
+    requires { ⌜ count ≤ 32 ⌝ }
+    ensures { λ r. ⌜ r ≡ pack count (metAt (now (words .entry)) x) ⌝ }
+{
+    let mut q: u64 = 0;
+    let mut a: usize = 0;
+    while a < count {
+        q = sets::insert_if(q, a, sets::meets(words[a], x));
+        a += 1;
+    }
+    q
+}
 
 // The counter after a move towards goal a: past it where the move landed there.
 pub fn next_counter(count: usize, a: usize, landed: bool) -> usize

@@ -6,19 +6,12 @@ use game::Game;
 use game::InSet;
 use game::OutSet;
 use game::OutState;
-ghost use mathlib.Core.Path.{_≡_};
 ghost use Prim.Native.Nat.{_≤_};
 ghost use lib.ListN.{length};
-ghost use Rattle.game.specs.Acceptance.{acceptance};
-ghost use Rattle.game.specs.declared.Acceptance.the-variants.{Accepted};
 ghost use Rattle.play.specs.Play.{separatedOf};
-ghost use Rattle.theory.specs.Choice.{guarantees};
 ghost use Rattle.theory.specs.Entries.{controllerEntries};
-ghost use mathlib.Core.Bool.{true};
-ghost use mathlib.Core.Logic.{_≢_};
-ghost use Rattle.sets.specs.Member.{has, pack};
 ghost use Rattle.controller_rows.specs.Writes.{Table, Rest, Aims, States, Aim};
-ghost use Rattle.controller_table.specs.Filled.{Filled, There, Toward, Before, metBy, Sized, HomeOf, Goals};
+ghost use Rattle.controller_table.specs.Filled.{Filled, There, Sized, HomeOf, Seeking, Sought, Visiting, Visited};
 
 // The rows of the outputs of a component where the inputs are at home and no guarantee is to be visited.
 fn rest(room: &mut [u16], z: Size, comp: OutSet, inputs: InSet, moves: &[u64; 64])
@@ -74,32 +67,23 @@ fn aim(
     }
 }
 
-// The numbers of the guarantees that meet a set.
-fn met(g: Game, x: OutSet) -> u64
-    requires { ⌜ acceptance g ≡ Accepted ⌝ }
-    ensures { λ r. ⌜ r ≡ pack (length (guarantees (separatedOf g))) (metBy (separatedOf g) (x .0)) ⌝ }
+// The rows at a home for the counters whose goal is a, the set goal: the way there inside, searched once for all outputs. Of the game only the outputs' moves
+// are passed: the rows are those of any game that these fit.
+fn seek(
+    moves: &[u64; 64],
+    room: &mut [u16],
+    z: Size,
+    w: Home,
+    q: u64,
+    goal: OutSet,
+    a: usize,
+)
+    requires { ⌜ Seeking (now moves) z w q (goal .0) a (length (now room)) ⌝ }
+    ensures { λ r. ⌜ Sought (now (moves .entry)) z w q (goal .0) a (now (room .entry)) (now (room .exit)) ⌝ }
 {
-    let count = sizes::guarantee_count(g);
-    let mut q: u64 = 0;
-    let mut a = 0;
-    while a < count {
-        let set = sizes::guarantee_set(g, a);
-        q = sets::insert_if(q, a, sets::meets(set.0, x.0));
-        a += 1;
-    }
-    q
-}
-
-// The rows at a home for the counters whose goal is a: the way there inside, searched once for all outputs.
-fn seek(g: Game, room: &mut [u16], z: Size, w: Home, q: u64, a: usize)
-    requires { ⌜ Sized g z × HomeOf (separatedOf g) w × Goals (separatedOf g) w q × (has q a ≡ true) × (length (controllerEntries (separatedOf g)) ≤ length (now room)) ⌝ }
-    ensures { λ r. ⌜ Filled (separatedOf g) (Toward (separatedOf g) (w .state .0) a) (now (room .entry)) (now (room .exit)) ⌝ }
-{
-    let h = g.output;
     let component = w.component;
-    let goal = sizes::guarantee_set(g, a);
     let found = ways::toward(
-        &h.moves,
+        moves,
         z.outputs,
         component.0,
         sets::intersection(goal.0, component.0),
@@ -109,31 +93,41 @@ fn seek(g: Game, room: &mut [u16], z: Size, w: Home, q: u64, a: usize)
     aim(room, z, component, w.inputs, which, goal, a, &next);
 }
 
-// The rows at a home for every goal of q.
-fn seek_all(g: Game, room: &mut [u16], z: Size, w: Home, q: u64)
-    requires { ⌜ Sized g z × HomeOf (separatedOf g) w × Goals (separatedOf g) w q × (q ≢ 0) × (length (controllerEntries (separatedOf g)) ≤ length (now room)) ⌝ }
-    ensures { λ r. ⌜ Filled (separatedOf g) (Before (separatedOf g) (w .state .0) (z .counters)) (now (room .entry)) (now (room .exit)) ⌝ }
+// The rows at a home for every goal of q, so passed: the first count of words are the guarantees.
+fn seek_all(
+    moves: &[u64; 64],
+    words: &[u64; 32],
+    count: usize,
+    room: &mut [u16],
+    z: Size,
+    w: Home,
+    q: u64,
+)
+    requires { ⌜ Visiting (now moves) (now words) count z w q (length (now room)) ⌝ }
+    ensures { λ r. ⌜ Visited (now (moves .entry)) (now (words .entry)) count z w q count (now (room .entry)) (now (room .exit)) ⌝ }
 {
-    let count = z.counters;
     let mut a = 0;
     while a < count {
         if sets::member(q, a) {
-            seek(g, room, z, w, q, a);
+            let x = words[a];
+            seek(moves, room, z, w, q, OutSet(x), a);
         }
         a += 1;
     }
 }
 
-// The rows at a home.
+// The rows at a home. The guarantees are listed once for all that goes through them.
 pub fn tour(g: Game, room: &mut [u16], z: Size, w: Home)
     requires { ⌜ Sized g z × HomeOf (separatedOf g) w × (length (controllerEntries (separatedOf g)) ≤ length (now room)) ⌝ }
     ensures { λ r. ⌜ Filled (separatedOf g) (There (separatedOf g) (w .state .0)) (now (room .entry)) (now (room .exit)) ⌝ }
 {
-    let q = met(g, w.component);
+    let all = sizes::all_guarantees(g);
+    let component = w.component;
+    let q = touring::met(&all.words, all.count, component.0);
+    let h = g.output;
     if q == 0 {
-        let h = g.output;
-        rest(room, z, w.component, w.inputs, &h.moves);
+        rest(room, z, component, w.inputs, &h.moves);
         return;
     }
-    seek_all(g, room, z, w, q);
+    seek_all(&h.moves, &all.words, all.count, room, z, w, q);
 }

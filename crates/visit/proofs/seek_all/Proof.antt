@@ -1,36 +1,37 @@
 -- `seek_all` goes through the goals.
 use Prim.Native.Nat.{_-_, _≤_}
-use mathlib.Core.Path.{_≡_, sym, _∙_}
+use mathlib.Core.Path.{sym, _∙_}
 use mathlib.Core.Logic.{⊎-elim}
-use Rattle.play.specs.Play.{separatedOf}
-use Rattle.controller_table.specs.Filled.{Filled, Before}
-use Rattle.controller_table.proofs.Setting.{table-of}
-use Rattle.controller_table.proofs.Phases.{sought-none, sought-next, sought-past}
+use Rattle.controller_table.specs.Filled.{Visited}
+use Rattle.controller_table.proofs.Seeking.{visiting-goal, visited-long, visited-none, visited-next, visited-past, visited-end}
 use native.Mathlib.Omega.{arith}
 use Rattle.visit.proofs.seek_all.Statement.{statement}
 use Rattle.visit.proofs.seek_all.Tie as tie
 
 abbrev Inv-loop : tie.InvT-loop
-Inv-loop g room₀ z w q count a₀ room a = (a ≤ count) × Filled (separatedOf g) (Before (separatedOf g) (w .state .0) a) room₀ room
+Inv-loop moves words count room₀ z w q a₀ room a = (a ≤ count) × Visited moves words count z w q a room₀ room
 
 abbrev μ-loop : tie.MeasureT-loop
-μ-loop g room₀ z w q count a₀ room a = count - a
+μ-loop moves words count room₀ z w q a₀ room a = count - a
 
 loop-holds : tie.Need-loop-holds Inv-loop μ-loop
-loop-holds c =
-    let b = c .before in
-    (omega arith, sought-none (b .args .g) (b .args .z) (b .pre .0) (b .args .w) (b .pre .1) (b .args .q) (b .pre .2) (b .args .room .now))
+loop-holds c = (omega arith, visited-none _ _ _ _ _ _ _)
 
 member-requires : tie.Need-member-requires Inv-loop μ-loop
-member-requires c κs =
-    let b = c .before .before .before in
-    omega (arith, table-of (b .args .g) (b .args .z) (b .pre .0) _ (b .pre .4) .counters)
+member-requires c κs = omega (arith, c .before .before .before .pre .few)
+
+mul-x : tie.Need-mul-x Inv-loop μ-loop
+mul-x c = omega (arith, c .before .before .before .before .before .pre .few)
+
+element-copy-out-x : tie.Need-element-copy-out-x Inv-loop μ-loop
+element-copy-out-x c = omega (arith, c .before .before .before .before .before .pre .few)
 
 seek-requires : tie.Need-seek-requires Inv-loop μ-loop
 seek-requires c κs =
-    let l = c .before .before .before .before in
-    let b = l .before .before in
-    (b .pre .0, b .pre .1, b .pre .2, sym (c .before .before .member .ensures) ∙ c .before .if1 .taken, omega (arith, b .pre .4, l .loop .inv .1 .grows .long))
+    let l = c .before .before .before .before .before in
+    let p = l .before .before .pre in
+    visiting-goal _ _ _ _ _ _ (l .loop .a) _ _ (c .before .before .before .before .loop-test .taken) (sym (c .before .before .before .member .ensures) ∙ c .before .before .if1 .taken)
+    (visited-long _ _ _ _ _ _ (l .loop .a) p (l .loop .inv .1)) p
 
 add-a : tie.Need-add-a Inv-loop μ-loop
 add-a c = omega arith
@@ -40,23 +41,19 @@ loop-less c = omega arith
 
 loop-again : tie.Need-loop-again Inv-loop μ-loop
 loop-again c =
-    let l = c .before .before .before in
-    let b = l .before .before in (
+    let l = c .before .before .before in (
       omega arith,
       ⊎-elim
-          (λ v. sought-next (b .args .g) (b .args .z) (b .pre .0) (b .args .w) (b .pre .1) (b .args .q) (b .pre .2) (l .loop .a) (l .loop .inv .1) (v .5) (v .2 .ensures))
-          (λ v. sought-past (b .args .g) (b .args .z) (b .pre .0) (b .args .w) (b .pre .1) (b .args .q) (b .pre .2) (l .loop .a) (l .loop .inv .1) (b .pre .3)
-          (sym (c .before .member .ensures) ∙ v .0 .left) (v .1))
+          (λ v. visited-next _ _ _ _ _ _ (l .loop .a) (c .before .before .loop-test .taken) (sym (c .before .member .ensures) ∙ v .0 .taken) (l .loop .inv .1) (v .6) (v .3 .ensures))
+          (λ v. visited-past _ _ _ _ _ _ (l .loop .a) (sym (c .before .member .ensures) ∙ v .0 .left) (l .loop .inv .1) (v .1))
           (c .if1 .came),
     )
 
 same-length : tie.Need-same-length Inv-loop μ-loop
-same-length c = c .before .loop .inv .1 .grows .long
+same-length c = visited-long _ _ _ _ _ _ (c .before .loop .a) (c .before .before .before .pre) (c .before .loop .inv .1)
 
 returns : tie.Need-returns Inv-loop μ-loop
-returns c =
-    let e : c .before .loop .a ≡ c .before .before .before .args .z .counters = omega arith in
-    rw e at (c .before .loop .inv .1)
+returns c = visited-end _ _ _ _ _ _ (c .before .loop .a) _ (omega arith) (omega arith) (c .before .loop .inv .1)
 
 pub seek-all-spec : {M : Type 1} → statement M
 seek-all-spec =
@@ -66,6 +63,8 @@ seek-all-spec =
     μ-loop
     loop-holds
     member-requires
+    mul-x
+    element-copy-out-x
     seek-requires
     add-a
     loop-less

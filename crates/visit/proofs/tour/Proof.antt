@@ -1,16 +1,20 @@
 -- `tour`: with no goal, or with some.
 use Rattle.controller_table.proofs.Setting.{table-of}
-use Rattle.controller_table.proofs.Phases.{met-goals, rested, sought-all}
+use Rattle.controller_table.proofs.Phases.{met-goals, rested}
+use Rattle.controller_table.proofs.Seeking.{visiting-of, visited-all}
 use borrow.Author.Needs.{needs}
 use Rattle.visit.proofs.tour.Statement.{statement}
 use Rattle.visit.proofs.tour.Tie as tie
+
+all-guarantees-requires : tie.Need-all-guarantees-requires
+all-guarantees-requires c κs = search needs
 
 met-requires : tie.Need-met-requires
 met-requires c κs = search needs
 
 rest-requires : tie.Need-rest-requires
 rest-requires c κs =
-    let b = c .before .before .before .before .before .before .before in
+    let b = c .before .before .before .before .before .before .before .before .before .before .before in
     table-of (b .args .g) (b .args .z) (b .pre .0) _ (b .pre .2)
 
 same-length : tie.Need-same-length
@@ -20,15 +24,19 @@ returns : tie.Need-returns
 returns c =
     let r = c .before .before in
     let q = r .before .before .before .before .before .before in
-    let b = q .before .before in
+    let i = q .before .before .before .before in
+    let b = i .before .before in
     rested (b .args .g) (b .args .z) (b .pre .0) (b .args .w) (b .pre .1) (q .met .result) (b .args .room .now) _
-    (met-goals (b .args .g) (b .args .z) (b .pre .0) (b .args .w) (b .pre .1) (q .met .result) (q .met .ensures)) (r .before .before .before .before .before .if1 .taken) (b .pre .2) (r .rest .ensures)
+    (met-goals (b .args .g) (b .args .z) (b .pre .0) (b .args .w) (b .pre .1) _ _ (q .met .result) (i .all-guarantees .ensures .all) (i .all-guarantees .ensures .set) (q .met .ensures))
+    (r .before .before .before .before .if1 .taken) (b .pre .2) (r .rest .ensures)
 
 seek-all-requires : tie.Need-seek-all-requires
 seek-all-requires c κs =
-    let q = c .before .before in
-    let b = q .before .before in
-    (b .pre .0, b .pre .1, met-goals (b .args .g) (b .args .z) (b .pre .0) (b .args .w) (b .pre .1) (q .met .result) (q .met .ensures), c .before .if1 .left, b .pre .2)
+    let q = c .before .before .before .before .before .before .before in
+    let i = q .before .before .before .before in
+    let b = i .before .before in
+    visiting-of (b .args .g) (b .args .z) (b .pre .0) (b .args .w) (b .pre .1) _ _ (q .met .result) (i .all-guarantees .ensures .all) (i .all-guarantees .ensures .few) (i .all-guarantees .ensures .set)
+    (q .met .ensures) (c .before .before .before .before .before .if1 .left) _ (b .pre .2)
 
 same-length-2 : tie.Need-same-length-2
 same-length-2 c = search needs
@@ -36,15 +44,17 @@ same-length-2 c = search needs
 returns-2 : tie.Need-returns-2
 returns-2 c =
     let r = c .before .before in
-    let q = r .before .before .before in
-    let b = q .before .before in
-    sought-all (b .args .g) (b .args .z) (b .pre .0) (b .args .w) (b .pre .1) (q .met .result)
-    (met-goals (b .args .g) (b .args .z) (b .pre .0) (b .args .w) (b .pre .1) (q .met .result) (q .met .ensures)) (r .before .before .if1 .left) (r .seek-all .ensures)
+    let q = r .before .before .before .before .before .before .before .before in
+    let i = q .before .before .before .before in
+    let b = i .before .before in
+    visited-all (b .args .g) (b .args .z) (b .pre .0) (b .args .w) (b .pre .1) _ _ (q .met .result) (i .all-guarantees .ensures .all) (i .all-guarantees .ensures .few) (i .all-guarantees .ensures .set)
+    (q .met .ensures) (r .before .before .before .before .before .before .if1 .left) (b .args .room .now) _ (b .pre .2) (r .seek-all .ensures)
 
 pub tour-spec : {M : Type 1} → statement M
 tour-spec =
     tie.close
     (tie.spec
+    all-guarantees-requires
     met-requires
     rest-requires
     same-length
