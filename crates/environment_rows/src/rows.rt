@@ -1,13 +1,9 @@
 // Rows written for several counters at once. A row of input i and output o lies outputs entries after that of the counter before.
-use game::Game;
 use game::InState;
 use game::OutSet;
 use game::OutState;
-ghost use mathlib.Core.Path.{_≡_};
-ghost use mathlib.Core.Bool.{true};
 ghost use lib.ListN.{length};
-ghost use Rattle.sets.specs.Member.{has};
-ghost use Rattle.environment_table.specs.Table.{Roomy, Spread, Filled, Putting, Put};
+ghost use Rattle.environment_table.specs.Table.{Spreading, Spreads, Putting, Put};
 
 // first + more × h in the row of every counter h. Of the game only the count of outputs is passed: the rows are those of any game that this fits.
 pub fn put(
@@ -34,7 +30,7 @@ pub fn put(
 
 // The same for each output of `over` and each counter of `which`.
 pub fn spread(
-    g: Game,
+    outputs: usize,
     counters: usize,
     i: InState,
     over: OutSet,
@@ -43,10 +39,9 @@ pub fn spread(
     more: u16,
     room: &mut [u16],
 )
-    requires { ⌜ Roomy g counters (length (now room)) × Spread g (i .0) (over .0) which first more ⌝ }
-    ensures { λ r. ⌜ Filled g (λ a h b. (a ≡ i .0) × (has which h ≡ true) × (has (over .0) b ≡ true)) (now (room .entry)) (now (room .exit)) ⌝ }
+    requires { ⌜ Spreading outputs counters (i .0) (over .0) which first more (length (now room)) ⌝ }
+    ensures { λ r. ⌜ Spreads outputs counters (i .0) (over .0) which first more (now (room .entry)) (now (room .exit)) ⌝ }
 {
-    let outputs = g.output.states;
     columns::block(
         room,
         1 + i.0 * counters * outputs,

@@ -5,5 +5,6 @@ pub mod Known
 pub mod Reading
 pub mod Outward
 pub mod Toured
+pub mod Aiming
 pub mod Walked
 pub mod Filling

@@ -4,7 +4,7 @@
 --   entry-small               : every entry fits 16 bits
 --   filled-none, filled-join  : nothing written, and one writing after the other
 --   filled-same               : fewer rows than were written
---   putting-*, put-done, spread-* : what the columns and blocks of rows ask and give
+--   putting-*, put-done, spreading-*, spread-done, spread-in : what the columns and blocks of rows ask and give
 --   filled-skip, filled-next  : the states of a set, one after the other
 use Prim.Native.Nat.{ℕ, suc, _+_, _-_, _*_, _<_, _≤_}
 use native.Mathlib.Nat.{mul-comm, mul-zero, add-mul, mul-le-mul, le-max-left}
@@ -36,7 +36,7 @@ use Rattle.demands.proofs.Sizes.{environment-few}
 use Rattle.filling.specs.Grows.{Right}
 use Rattle.filling.proofs.Grows.{grows-none, grows-more}
 use Rattle.columns.specs.Column.{Fits, Agrees, Columned, Column, BlockFits, BlockAgrees, Blocked, Block}
-use Rattle.environment_table.specs.Table.{entriesOf, place, Roomy, Filled, Same, Spread, Putting, Put}
+use Rattle.environment_table.specs.Table.{entriesOf, place, Roomy, Filled, Same, Spread, Spreading, Spreads, Putting, Put}
 
 -- the length of the list, and what stands at the place of a row
 
@@ -195,7 +195,7 @@ module _ (g : Game) (M n i over which first more : ℕ) (R : Roomy g M n) (S : S
   counter-of : (h : ℕ) → has which h ≡ true → h < M
   counter-of h e = omega (arith, S .counter h e, R .counters)
 
-  pub spread-fits : BlockFits n (1 + i * M * g .output .states) (g .output .states) over which first more
+  spread-fits : BlockFits n (1 + i * M * g .output .states) (g .output .states) over which first more
   spread-fits = record {
     narrow = R .outputs;
     inside = omega (arith, first-row g M n i R (S .input), R .room);
@@ -213,7 +213,7 @@ module _ (g : Game) (M n i over which first more : ℕ) (R : Roomy g M n) (S : S
     };
   }
 
-  pub spread-filled : {l m : List ℕ} → length l ≡ n → Block l m (1 + i * M * g .output .states) (g .output .states) over which first more
+  spread-filled : {l m : List ℕ} → length l ≡ n → Block l m (1 + i * M * g .output .states) (g .output .states) over which first more
       → Filled g (λ a h b. (a ≡ i) × (has which h ≡ true) × (has over b ≡ true)) l m
   spread-filled {l} {m} e B = record { grows = done .grows; rows = λ a h b x y z q. rows a h b z (q .0) (q .1) (q .2) }
     where
@@ -223,6 +223,33 @@ module _ (g : Game) (M n i over which first more : ℕ) (R : Roomy g M n) (S : S
       rows : (a h b : ℕ) → b < g .output .states → a ≡ i → has which h ≡ true → has over b ≡ true
           → Right (entriesOf g) m (place (environmentCounters (separatedOf g)) (g .output .states) a h b)
       rows a h b z p q r = rw (p, ← at g M n i R (S .input) h b) (done .right b h z r q)
+
+module _ (O M i over which first more n : ℕ) (p : Spreading O M i over which first more n) where
+  pub spreading-rows : i * M ≤ 2048
+  spreading-rows = rows-small (p .game) M n i (p .roomy) (p .spread .input)
+
+  pub spreading-entries : i * M * O ≤ 131072
+  spreading-entries = rw (p .outputs) (entries-small (p .game) M n i (p .roomy) (p .spread .input))
+
+  pub spreading-fits : BlockFits n (1 + i * M * O) O over which first more
+  spreading-fits = rw (p .outputs) (spread-fits (p .game) M n i over which first more (p .roomy) (p .spread))
+
+pub spread-done : (O M i over which first more : ℕ) {l m : List ℕ} → Block l m (1 + i * M * O) O over which first more → Spreads O M i over which first more l m
+spread-done O M i over which first more {l} {m} B = record {
+  fills = λ p. spread-filled (p .game) M (length l) i over which first more (p .roomy) (p .spread) refl
+      (subst (λ (k : ℕ). Block l m (1 + i * M * k) k over which first more) (p .outputs) B);
+}
+
+-- of one game
+
+module _ (g : Game) (M i over which first more : ℕ) where
+  pub spreading-of : (n : ℕ) → Roomy g M n → Spread g i over which first more → Spreading (g .output .states) M i over which first more n
+  spreading-of n R S = record { game = g; outputs = refl; roomy = R; spread = S }
+
+  pub spread-in : {l m : List ℕ} → Roomy g M (length l) → Spread g i over which first more → Spreads (g .output .states) M i over which first more l m
+      → Filled g (λ a h b. (a ≡ i) × (has which h ≡ true) × (has over b ≡ true)) l m
+  unfolding spreading-of
+  spread-in {l} R S D = D .fills (spreading-of (length l) R S)
 
 -- the states of a set, one after the other
 

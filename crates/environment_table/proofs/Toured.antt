@@ -42,7 +42,7 @@ use Rattle.theory.specs.Entries.{entry, environmentCounters}
 use Rattle.theory.proofs.Delay.{region-same}
 use Rattle.theory.proofs.EnvironmentRow.{escapes-same, row-lost, pushing-nontrivial, pressing-tours}
 use Rattle.demands.proofs.Sizes.{assumptions-few}
-use Rattle.touring.specs.Goal.{Goals, firstFrom, passed, aimedAt}
+use Rattle.touring.specs.Goal.{Goals, firstFrom, passed, aimedAt, metAt}
 use Rattle.touring.proofs.Goal.{first-member, first-below, passed-below}
 use Rattle.touring.proofs.Tours.{goal-meets, goal-below, goals-none, goals-some, goals-from, goal-word, prefer-inside, toward-target, target-next, tour-rests, tour-aims}
 use Rattle.environment_table.specs.Table.{Roomy, Filled, Spread}
@@ -53,7 +53,7 @@ use Rattle.environment_table.proofs.Outward.{whole-has, whole-number, w
 
 -- the sets that meet a component
 
-pub met-at : (g : Game) (c a x : ℕ) {b : Bool} → g .input .states ≤ 64 → within c (g .input .states) ≡ true
+met-at : (g : Game) (c a x : ℕ) {b : Bool} → g .input .states ≤ 64 → within c (g .input .states) ≡ true
     → has x ≡ goalAt (assumptions (separatedOf g)) a → b ≡ meets 64 x c → b ≡ metIn g c a
 unfolding metIn
 met-at g c a x n w e f = f ∙ same-test (meets 64 x c) (any (g .input .states) (λ t. goalAt (assumptions (separatedOf g)) a t && has c t)) there back
@@ -71,6 +71,11 @@ met-at g c a x n w e f = f ∙ same-test (meets 64 x c) (any (g .input .states) 
         meets-intro 64 x c (v .0) (omega (arith, v .1))
         (ap (λ (p : ℕ → Bool). p (v .0)) e ∙ and-left (goalAt (assumptions (separatedOf g)) a (v .0)) (has c (v .0)) both)
         (and-right (goalAt (assumptions (separatedOf g)) a (v .0)) (has c (v .0)) both)
+
+pub met-pack : (g : Game) (c n q : ℕ) (v : List ℕ) → g .input .states ≤ 64 → within c (g .input .states) ≡ true
+    → ((a : ℕ) → a < n → has (getD v a 0) ≡ goalAt (assumptions (separatedOf g)) a) → q ≡ pack n (metAt v c) → q ≡ pack n (metIn g c)
+unfolding metAt
+met-pack g c n q v b w f e = e ∙ pack-ext n (metAt v c) (metIn g c) (λ a d. met-at g c a (getD v a 0) b w (f a d) refl)
 
 pub whole-within : (g : Game) (c k : ℕ) → Whole g c k → within c (g .input .states) ≡ true
 unfolding graphOf

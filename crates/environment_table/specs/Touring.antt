@@ -6,6 +6,10 @@
 --   Tours g M c x a over which next == towards goal a, the set x: those rows, for the counters of which
 --   Left g c over             == c is a nontrivial component, and over the outputs with which it has no way out
 --   Aims g c q over M         == so it is, and q are the numbers of the goals
+--   Ranging N O M c x a over which next n == the rows towards goal a, of a game with N inputs and O outputs, whose table fits n entries
+--   Ranged N O M c x a over which next k l m == from l to m those of the states below k were written, of any such game
+--   Aiming r N O M c q x a over n    == of such a game with moves r: x is goal number a
+--   Aimed r N O M c q x a over l m   == from l to m the rows of the counters whose goal it is were written, of any such game
 use Prim.Native.Nat.{ℕ, _<_, _≤_}
 use mathlib.Core.Path.{_≡_}
 use mathlib.Core.Bool.{Bool, true, _&&_}
@@ -24,7 +28,8 @@ use Rattle.arena.specs.Table.{gives}
 use Rattle.theory.specs.Tour.{goalAt}
 use Rattle.theory.specs.Choice.{assumptions, environmentRow}
 use Rattle.theory.specs.Entries.{environmentCounters}
-use Rattle.touring.specs.Goal.{passed}
+use Rattle.touring.specs.Goal.{firstFrom, passed}
+use Rattle.environment_table.specs.Table.{Roomy, Filled}
 use Rattle.environment_table.specs.Pressing.{Whole, touringAt}
 
 unfoldable pub metIn : Game → ℕ → ℕ → Bool
@@ -59,3 +64,28 @@ pub record Aims (g : Game) (c q over M : ℕ) : Type 0 where
   pub count : Count g M
   pub goals : q ≡ pack M (metIn g c)
   pub some : q ≢ 0
+
+pub record Ranging (N O M c x a over which : ℕ) (next : List ℕ) (n : ℕ) : Type 0 where
+  pub game : Game
+  pub inputs : N ≡ game .input .states
+  pub outputs : O ≡ game .output .states
+  pub roomy : Roomy game M n
+  pub tours : Tours game M c x a over which next
+
+pub record Ranged (N O M c x a over which : ℕ) (next : List ℕ) (k : ℕ) (l m : List ℕ) : Type 0 where
+  pub fills : (p : Ranging N O M c x a over which next (length l))
+      → Filled (p .game) (λ i h b. (i < k) × ((has c i ≡ true) × (has which h ≡ true) × (has over b ≡ true))) l m
+
+pub record Aiming (r : List ℕ) (N O M c q x a over n : ℕ) : Type 0 where
+  pub game : Game
+  pub moves : r ≡ game .input .moves
+  pub inputs : N ≡ game .input .states
+  pub outputs : O ≡ game .output .states
+  pub roomy : Roomy game M n
+  pub aims : Aims game c q over M
+  pub goal : has q a ≡ true
+  pub set : has x ≡ goalAt (assumptions (separatedOf game)) a
+
+pub record Aimed (r : List ℕ) (N O M c q x a over : ℕ) (l m : List ℕ) : Type 0 where
+  pub fills : (p : Aiming r N O M c q x a over (length l))
+      → Filled (p .game) (λ k h b. (firstFrom M q h ≡ a) × (has c k ≡ true) × (has over b ≡ true)) l m

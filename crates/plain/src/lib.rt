@@ -114,7 +114,16 @@ fn none_row(g: Game, s: &[u64], cores: InSet, counters: usize, i: InState, room:
     ensures { λ r. ⌜ Filled g (λ a h b. (a ≡ i .0) × (region (separatedOf g) a b ≡ true)) (now (room .entry)) (now (room .exit)) ⌝ }
 {
     let won = won_outputs(s, g.input.states, g.output.states, cores, i);
-    rows::spread(g, counters, i, won, sets::below(counters), 65535, 0, room);
+    rows::spread(
+        g.output.states,
+        counters,
+        i,
+        won,
+        sets::below(counters),
+        65535,
+        0,
+        room,
+    );
 }
 
 // The rows of all won positions.

@@ -10,7 +10,7 @@ use lib.Bits.{bitAnd}
 use Rattle.finite.proofs.Truth.{clash}
 use Rattle.sets.specs.Member.{has}
 use Rattle.environment_table.specs.Table.{Filled}
-use Rattle.environment_table.proofs.Places.{filled-none, filled-same, roomy-more, filled-skip, filled-next, every-counter}
+use Rattle.environment_table.proofs.Places.{filled-none, filled-same, roomy-more, filled-skip, filled-next, every-counter, spreading-of, spread-in}
 use Rattle.environment_table.proofs.Toured.{prefer-most, spread-rest}
 use Rattle.tours.proofs.rests.Statement.{statement}
 use Rattle.tours.proofs.rests.Tie as tie
@@ -44,10 +44,11 @@ cast-spread : tie.Need-cast-spread Inv-loop μ-loop
 cast-spread c = omega (arith, c .prefer .ensures, prefer-most 64 (c .before .before .before .before .before .before .loop .k) (has (bitAnd (getD (c .before .before .before .before .before .before .before .before .before .before .args .g .input .moves) (c .before .before .before .before .before .before .loop .k) 0) (c .before .before .before .before .before .before .before .before .before .before .args .c .0))))
 
 spread-requires : tie.Need-spread-requires Inv-loop μ-loop
-spread-requires c κs = (
-  roomy-more _ (c .before .before .before .before .before .before .before .before .before .before .before .pre .0) (c .before .before .before .before .before .before .before .loop .inv .1),
-  spread-rest _ _ _ _ _ _ (c .before .before .before .before .before .before .before .loop .k) _ (c .before .before .before .before .before .before .before .before .before .before .before .pre .0) (c .before .before .before .before .before .before .before .before .before .before .before .pre .1) (c .before .before .before .before .before .before .loop-test .taken) (sym (c .before .before .before .before .before .member .ensures) ∙ c .before .before .before .before .if1 .taken) (c .before .before .before .before .before .before .before .before .before .below .ensures) (c .before .prefer .ensures),
-)
+spread-requires c κs =
+    let l = c .before .before .before .before .before .before .before in
+    let b = l .before .before .before .before in
+    spreading-of _ _ _ _ _ _ _ _ (roomy-more _ (b .pre .0) (l .loop .inv .1))
+    (spread-rest _ _ _ _ _ _ (l .loop .k) _ (b .pre .0) (b .pre .1) (c .before .before .before .before .before .before .loop-test .taken) (sym (c .before .before .before .before .before .member .ensures) ∙ c .before .before .before .before .if1 .taken) (c .before .before .before .before .before .before .before .before .before .below .ensures) (c .before .prefer .ensures))
 
 add-k : tie.Need-add-k Inv-loop μ-loop
 add-k c = omega arith
@@ -56,13 +57,19 @@ loop-less : tie.Need-loop-less Inv-loop μ-loop
 loop-less c = omega arith
 
 loop-again : tie.Need-loop-again Inv-loop μ-loop
-loop-again c = (
-  omega arith,
-  ⊎-elim
-      (λ w. filled-next _ _ _ _ (c .before .before .before .loop .inv .1) (w .5 .ensures) (λ a h b y e p. (e, every-counter _ _ _ _ _ (c .before .before .before .before .before .before .before .pre .0) (c .before .before .before .before .before .below .ensures) y, p .1)) (w .8))
-      (λ w. filled-skip _ _ _ _ (c .before .before .before .loop .inv .1) (λ h b p. clash (p .0) (sym (c .before .member .ensures) ∙ w .0 .left)) (w .1))
-      (c .if1 .came),
-)
+loop-again c =
+    let l = c .before .before .before in
+    let b = l .before .before .before .before in (
+      omega arith,
+      ⊎-elim
+          (λ w. filled-next _ _ _ _ (l .loop .inv .1)
+          (spread-in _ _ _ _ _ _ _ (roomy-more _ (b .pre .0) (l .loop .inv .1))
+          (spread-rest _ _ _ _ _ _ (l .loop .k) _ (b .pre .0) (b .pre .1) (c .before .before .loop-test .taken) (sym (c .before .member .ensures) ∙ w .0 .taken) (l .before .before .below .ensures) (w .3 .ensures))
+          (w .5 .ensures))
+          (λ a h o y e p. (e, every-counter _ _ _ _ _ (b .pre .0) (l .before .before .below .ensures) y, p .1)) (w .8))
+          (λ w. filled-skip _ _ _ _ (l .loop .inv .1) (λ h b p. clash (p .0) (sym (c .before .member .ensures) ∙ w .0 .left)) (w .1))
+          (c .if1 .came),
+    )
 
 same-length : tie.Need-same-length Inv-loop μ-loop
 same-length c = c .before .loop .inv .1 .grows .long

@@ -1,0 +1,105 @@
+-- The rows towards one goal, of any game that fits what is passed.
+--
+--   ranging-state, ranging-counter, ranging-spread      : what one state's row asks
+--   ranged-none, ranged-next, ranged-skip, ranged-end   : the states, one after the other
+--   ranged-long                                         : the room stays as long as it is
+--   aiming-goals, aiming-bounds, aiming-rows            : what the search and the rows ask
+--   aimed-done                                          : what they give
+--   aiming-of, aimed-in                                 : in one game
+use Prim.Native.Nat.{ℕ, _+_, _*_, _≤_, _<_}
+use mathlib.Core.Path.{_≡_, refl, sym, subst}
+use mathlib.Core.Bool.{Bool, true, false, _&&_}
+use mathlib.Core.List.{List}
+use native.Mathlib.Omega.{arith}
+use lib.ListN.{length, getD}
+use Rattle.finite.proofs.Truth.{clash}
+use Rattle.sets.specs.Member.{has, pack}
+use Rattle.game.specs.declared.Game.{Game}
+use Rattle.play.specs.Play.{separatedOf}
+use Rattle.theory.specs.Tour.{goalAt}
+use Rattle.theory.specs.Choice.{assumptions}
+use Rattle.ways.specs.Search.{Bounds, Toward}
+use Rattle.touring.specs.Goal.{Goals, firstFrom, passed, aimedAt}
+use Rattle.environment_table.specs.Table.{Roomy, Filled, Spreading, Spreads}
+use Rattle.environment_table.specs.Touring.{Aims, Ranging, Ranged, Aiming, Aimed}
+use Rattle.environment_table.proofs.Places.{filled-none, filled-same, filled-skip, filled-next}
+use Rattle.environment_table.proofs.Toured.{counter-small, spread-tour, aims-goals, some-goal, aims-counter, target-within, into-aimed, aims-rows}
+
+module _ (N O M c x a over which : ℕ) (next : List ℕ) where
+  module _ (n : ℕ) (p : Ranging N O M c x a over which next n) (k : ℕ) (b : k < N) (e : has c k ≡ true) where
+    pub ranging-state : getD next k 0 < 64
+    ranging-state = p .tours .state k (omega (arith, p .inputs)) e
+
+    module _ (v : ℕ) (t : Bool) (d : v ≡ passed M t a) (f : t ≡ has x (getD next k 0)) where
+      pub ranging-counter : v < M
+      ranging-counter = counter-small (p .game) M c x a over which next (p .tours) k v t (omega (arith, p .inputs)) e d f
+
+      pub ranging-spread : (m : ℕ) → m ≡ n → Spreading O M k over which (getD next k 0 + 64 * v) 0 m
+      ranging-spread m s = record {
+        game = p .game;
+        outputs = p .outputs;
+        roomy = subst (Roomy (p .game) M) (sym s) (p .roomy);
+        spread = spread-tour (p .game) M c x a over which next (p .tours) k v t (omega (arith, p .inputs)) e d f;
+      }
+
+  pub ranged-none : (l : List ℕ) → Ranged N O M c x a over which next 0 l l
+  ranged-none l = record { fills = λ p. filled-none (p .game) l (λ i h b q. omega (arith, q .0)) }
+
+  pub ranged-long : (k : ℕ) {l m : List ℕ} → Ranging N O M c x a over which next (length l) → Ranged N O M c x a over which next k l m → length m ≡ length l
+  ranged-long k p D = D .fills p .grows .long
+
+  pub ranged-skip : (k : ℕ) {l m r : List ℕ} → has c k ≡ false → Ranged N O M c x a over which next k l m → r ≡ m → Ranged N O M c x a over which next (k + 1) l r
+  ranged-skip k {l} {m} f D s = record { fills = λ p. filled-skip (p .game) l m k (D .fills p) (λ h b q. clash (q .0) f) s }
+
+  pub ranged-next : (k v : ℕ) (t : Bool) {l m n r : List ℕ} → k < N → has c k ≡ true → v ≡ passed M t a → t ≡ has x (getD next k 0)
+      → Ranged N O M c x a over which next k l m → Spreads O M k over which (getD next k 0 + 64 * v) 0 m n → r ≡ n
+      → Ranged N O M c x a over which next (k + 1) l r
+  unfolding ranging-spread
+  ranged-next k v t {l} {m} b e d f D S s = record {
+    fills = λ p.
+        filled-next (p .game) l m k (D .fills p) (S .fills (ranging-spread (length l) p k b e v t d f (length m) (ranged-long k p D)))
+        (λ i h o y z q. (z, q .1, q .2)) s;
+  }
+
+  pub ranged-end : (k n : ℕ) {l m : List ℕ} → k ≤ n → n ≤ k → Ranged N O M c x a over which next k l m → Ranged N O M c x a over which next n l m
+  ranged-end k n {l} {m} b d D = subst (λ (i : ℕ). Ranged N O M c x a over which next i l m) (omega arith) D
+
+module _ (r : List ℕ) (N O M c q x a over : ℕ) where
+  pub aiming-goals : (n : ℕ) → Aiming r N O M c q x a over n → Goals q M 0
+  aiming-goals n p = aims-goals (p .game) c q over M (p .aims) 0 (some-goal (p .game) c q over M (p .aims))
+
+  module _ (y which : ℕ) (f : (t : ℕ) → has y t ≡ (has x t && has c t)) (w : which ≡ pack M (aimedAt M q a)) where
+    pub aiming-bounds : (n : ℕ) → Aiming r N O M c q x a over n → Bounds N y
+    aiming-bounds n p = rw (p .inputs) (target-within (p .game) c q over M (p .aims) a x y which (p .goal) (p .set) f w)
+
+    module _ (next : List ℕ) (found : Toward r N c y next) where
+      pub aiming-rows : (n : ℕ) → Aiming r N O M c q x a over n → Ranging N O M c x a over which next n
+      aiming-rows n p = record {
+        game = p .game;
+        inputs = p .inputs;
+        outputs = p .outputs;
+        roomy = p .roomy;
+        tours =
+            aims-rows (p .game) c q over M (p .aims) a x y which (p .goal) (p .set) f w next
+            (subst (λ (k : List ℕ). Toward k (p .game .input .states) c y next) (p .moves) (subst (λ (k : ℕ). Toward r k c y next) (p .inputs) found));
+      }
+
+      pub aimed-done : (l m : List ℕ) → Ranged N O M c x a over which next N l m → Aimed r N O M c q x a over l m
+      unfolding aiming-rows
+      aimed-done l m D = record {
+        fills = λ p.
+            filled-same (p .game) (D .fills (aiming-rows (length l) p))
+            (λ k h o i j z d. (
+              omega (arith, i, p .inputs),
+              (d .1, into-aimed (p .game) c q over M (p .aims) a x y which (p .goal) (p .set) f w h (aims-counter (p .game) c q over M (p .aims) h j (p .roomy .counters)) (d .0), d .2),
+            ));
+      }
+
+module _ (g : Game) (M c q x a over : ℕ) (A : Aims g c q over M) (i : has q a ≡ true) (e : has x ≡ goalAt (assumptions (separatedOf g)) a) where
+  pub aiming-of : (n : ℕ) → Roomy g M n → Aiming (g .input .moves) (g .input .states) (g .output .states) M c q x a over n
+  aiming-of n R = record { game = g; moves = refl; inputs = refl; outputs = refl; roomy = R; aims = A; goal = i; set = e }
+
+  pub aimed-in : {l m : List ℕ} → Roomy g M (length l) → Aimed (g .input .moves) (g .input .states) (g .output .states) M c q x a over l m
+      → Filled g (λ k h b. (firstFrom M q h ≡ a) × (has c k ≡ true) × (has over b ≡ true)) l m
+  unfolding aiming-of
+  aimed-in {l} R D = D .fills (aiming-of (length l) R)
