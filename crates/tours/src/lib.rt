@@ -64,7 +64,16 @@ fn tour_rows(
         if sets::member(c.0, k) {
             let p = w.next[k] as usize;
             let e = p + 64 * touring::next_counter(counters, a, sets::member(x.0, p));
-            rows::spread(outputs, counters, InState(k), over, which, e as u16, 0, room);
+            rows::spread(
+                outputs,
+                counters,
+                InState(k),
+                over,
+                which,
+                e as u16,
+                0,
+                room,
+            );
         }
         k += 1;
     }

@@ -69,15 +69,7 @@ fn aim(
 
 // The rows at a home for the counters whose goal is a, the set goal: the way there inside, searched once for all outputs. Of the game only the outputs' moves
 // are passed: the rows are those of any game that these fit.
-fn seek(
-    moves: &[u64; 64],
-    room: &mut [u16],
-    z: Size,
-    w: Home,
-    q: u64,
-    goal: OutSet,
-    a: usize,
-)
+fn seek(moves: &[u64; 64], room: &mut [u16], z: Size, w: Home, q: u64, goal: OutSet, a: usize)
     requires { ⌜ Seeking (now moves) z w q (goal .0) a (length (now room)) ⌝ }
     ensures { λ r. ⌜ Sought (now (moves .entry)) z w q (goal .0) a (now (room .entry)) (now (room .exit)) ⌝ }
 {
