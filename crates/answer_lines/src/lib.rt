@@ -102,7 +102,14 @@ pub fn at_least_one(n: usize) -> usize
 
 // The line of a row, by its number; no byte where the entry is none. `sets` counts the sets that the counter runs over, `last` the
 // states that run fastest.
-pub fn put_step(buffer: &mut [u8], at: usize, sets: usize, last: usize, row: usize, entry: u16) -> usize
+pub fn put_step(
+    buffer: &mut [u8],
+    at: usize,
+    sets: usize,
+    last: usize,
+    row: usize,
+    entry: u16,
+) -> usize
     requires { ⌜ at + 160 ≤ 2 ^ 32 ⌝ }
     ensures { λ r. ⌜ Puts (now (buffer .entry)) at (stepLine sets last row entry) r (now (buffer .exit)) ⌝ }
 {

@@ -56,12 +56,14 @@ module _ (h : Record) (l : List ℕ) (C : Closes h l) where
     where
       comp : ℕ
       comp = pack (h .states) (joined (graphOf h) s)
+
       there : meets 64 (getD (h .moves) s 0) comp ≡ true → nontrivial (graphOf h) s ≡ true
       there e =
           let v = meets-elim 64 (getD (h .moves) s 0) comp e in
           let b = has-lt (h .states) comp (v .0) (pack-lt (h .states) (joined (graphOf h) s)) (v .3) in
           let j = sym (has-pack-below (h .states) (joined (graphOf h) s) (v .0) b) ∙ v .3 in
           nontrivial-intro (graphOf h) s (v .0) (edge-moved h s (v .0) a b (v .2)) (joined-back (graphOf h) s (v .0) j)
+
       back : nontrivial (graphOf h) s ≡ true → meets 64 (getD (h .moves) s 0) comp ≡ true
       back e =
           let v = nontrivial-move (graphOf h) s e in
@@ -94,9 +96,9 @@ module _ (h : Record) (F : GraphFits h) where
   leaving-closed s r e t =
       e t
       ∙ ap₂ (λ (a b : Bool). a && not b)
-        (any-same (h .states) (λ k. has comp k && has (getD (h .moves) k 0) t) (λ k. joined (graphOf h) s k && edge (graphOf h) k t)
-          (λ k b. ap₂ _&&_ (has-pack-below (h .states) (joined (graphOf h) s) k b) (moved-edge k t b)))
-        (has-pack-all (h .states) (joined (graphOf h) s) (λ u j. joined-to (graphOf h) s u j) t)
+      (any-same (h .states) (λ k. has comp k && has (getD (h .moves) k 0) t) (λ k. joined (graphOf h) s k && edge (graphOf h) k t)
+      (λ k b. ap₂ _&&_ (has-pack-below (h .states) (joined (graphOf h) s) k b) (moved-edge k t b)))
+      (has-pack-all (h .states) (joined (graphOf h) s) (λ u j. joined-to (graphOf h) s u j) t)
     where
       comp : ℕ
       comp = pack (h .states) (joined (graphOf h) s)

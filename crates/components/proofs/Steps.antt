@@ -36,5 +36,5 @@ unfolding enters any
 enters-next moves c k t x r ok e o h =
     rw (add-one k)
     (h ∙ ap (λ (b : Bool). b || (ok && has (getD moves k 0) t)) e
-      ∙ or-comm (any k (λ j. has c j && has (getD moves j 0) t)) (ok && has (getD moves k 0) t)
-      ∙ ap (λ (b : Bool). (b && has (getD moves k 0) t) || any k (λ j. has c j && has (getD moves j 0) t)) o)
+    ∙ or-comm (any k (λ j. has c j && has (getD moves j 0) t)) (ok && has (getD moves k 0) t)
+    ∙ ap (λ (b : Bool). (b && has (getD moves k 0) t) || any k (λ j. has c j && has (getD moves j 0) t)) o)

@@ -5,7 +5,6 @@ ghost use Prim.Native.Nat.{ℕ, _≤_, _<_};
 ghost use lib.ListN.{length};
 ghost use Rattle.sets.specs.Member.{has, pack};
 ghost use Rattle.components.specs.Component.{together, turns, enters};
-
 use game::Graph;
 
 // Whether t belongs to row and s to other.

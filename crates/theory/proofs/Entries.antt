@@ -107,7 +107,7 @@ module _ (S : Separated) (d : ℕ) where
       ap (λ (k : ℕ). getD (starts ++ replies) (k + r) d) (sym starts-length)
       ∙ getD-append-add starts replies r d
       ∙ getD-tabulate (rowOf (controllerCounters S) (S .input .states) (controllerRow S)) (S .output .states * controllerCounters S * S .input .states) r d
-        (place-below (S .output .states) (controllerCounters S) (S .input .states) o g j lo lg lj)
+      (place-below (S .output .states) (controllerCounters S) (S .input .states) o g j lo lg lj)
       ∙ row-at (S .output .states) (controllerCounters S) (S .input .states) o g j lo lg lj (controllerRow S)
 
   pub environment-row-at : (i h o : ℕ) → i < S .input .states → h < environmentCounters S → o < S .output .states
@@ -118,7 +118,7 @@ module _ (S : Separated) (d : ℕ) where
       let rows : List ℕ = tabulate (S .input .states * environmentCounters S * S .output .states) (rowOf (environmentCounters S) (S .output .states) (environmentRow S)) in
       ap (λ (k : ℕ). getD (entry (environmentStart S) ∷ rows) k d) (one-add r)
       ∙ getD-tabulate (rowOf (environmentCounters S) (S .output .states) (environmentRow S)) (S .input .states * environmentCounters S * S .output .states) r d
-        (place-below (S .input .states) (environmentCounters S) (S .output .states) i h o li lh lo)
+      (place-below (S .input .states) (environmentCounters S) (S .output .states) i h o li lh lo)
       ∙ row-at (S .input .states) (environmentCounters S) (S .output .states) i h o li lh lo (environmentRow S)
 
 module _ (S : Separated) (Z : Sized S) where

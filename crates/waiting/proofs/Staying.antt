@@ -140,10 +140,10 @@ module _ (S : Separated) (T : ControllerTable) (F : Follows S T) (x : Configurat
       elim (decide (joined O d (a .output))) [
         | inl h ↦ joined-back O d (b .output) (home-turn a b s t h)
         | inr f ↦
-          elim (away-turn a b s t f) [
-            | inl h ↦ joined-back O d (b .output) h
-            | inr v ↦ reaches-trans O (b .output) (v .0 .next) d (reaches-edge O (b .output) (v .0 .next) (v .0 .move)) (near-reaches O d (v .0 .moves) (v .0 .next) (v .0 .way))
-          ]
+            elim (away-turn a b s t f) [
+              | inl h ↦ joined-back O d (b .output) h
+              | inr v ↦ reaches-trans O (b .output) (v .0 .next) d (reaches-edge O (b .output) (v .0 .next) (v .0 .move)) (near-reaches O d (v .0 .moves) (v .0 .next) (v .0 .way))
+            ]
       ]
 
   -- what b reaches a reaches too, so that no lower home comes into reach

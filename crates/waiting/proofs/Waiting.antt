@@ -85,11 +85,11 @@ module _ (g : Game) (a : acceptance g ≡ Accepted) where
   unfolding separatedOf graphOf
   right-to-wait = record {
     waits = λ i i′ o o′ b e v w W.
-      let c = walk-below (graphOf (g .input)) v b in
-      let f = walk-above (graphOf (g .output)) w e in
-      demand-two g .marks i′ o′ c f .0
-      (delay (separatedOf g) i i′ o o′ (path-reaches (graphOf (g .input)) i i′ b v) (path-reaches (graphOf (g .output)) o′ o f w)
-      (demand-two g .marks i o b e .1 W));
+        let c = walk-below (graphOf (g .input)) v b in
+        let f = walk-above (graphOf (g .output)) w e in
+        demand-two g .marks i′ o′ c f .0
+        (delay (separatedOf g) i i′ o o′ (path-reaches (graphOf (g .input)) i i′ b v) (path-reaches (graphOf (g .output)) o′ o f w)
+        (demand-two g .marks i o b e .1 W));
     homecoming = λ x y B n w l. comes-home x B n w l;
     visits = λ x y z B n v h w l q b m. visits-each x B n v h w l q b m;
   }

@@ -46,9 +46,11 @@ loop-less c = omega arith
 loop-again : tie.Need-loop-again Inv-loop μ-loop
 loop-again c =
     let b = c .before .before .before .before in
-    let a = b .before .before .before .args in
-    (omega arith, collect-next _ (b .loop .t) (b .loop .c) (c .insert-if .result) (c .before .both-ways .result) (b .loop .inv .1)
-      (together-at (a .rows .now) (a .s) (b .loop .t) (c .before .both-ways .ensures)) (c .insert-if .ensures))
+    let a = b .before .before .before .args in (
+      omega arith,
+      collect-next _ (b .loop .t) (b .loop .c) (c .insert-if .result) (c .before .both-ways .result) (b .loop .inv .1)
+          (together-at (a .rows .now) (a .s) (b .loop .t) (c .before .both-ways .ensures)) (c .insert-if .ensures),
+    )
 
 returns : tie.Need-returns Inv-loop μ-loop
 returns c = collect-end _ (c .before .loop .t) _ _ (omega arith) (omega arith) (c .before .loop .inv .1)

@@ -43,10 +43,12 @@ loop-less c = omega arith
 loop-again : tie.Need-loop-again Inv-loop μ-loop
 loop-again c =
     let b = c .before .before .before .before .before in
-    let a = b .before .before .args in
-    (omega arith, collect-next _ (b .loop .s) (b .loop .c) (c .insert-if .result) (c .before .meets .result) (b .loop .inv .1)
-      (turns-at (a .t1 .moves) (a .rows .now) (a .t1 .states) (b .loop .s) (c .before .before .component .result) (c .before .before .component .ensures) (c .before .meets .ensures))
-      (c .insert-if .ensures))
+    let a = b .before .before .args in (
+      omega arith,
+      collect-next _ (b .loop .s) (b .loop .c) (c .insert-if .result) (c .before .meets .result) (b .loop .inv .1)
+          (turns-at (a .t1 .moves) (a .rows .now) (a .t1 .states) (b .loop .s) (c .before .before .component .result) (c .before .before .component .ensures) (c .before .meets .ensures))
+          (c .insert-if .ensures),
+    )
 
 returns : tie.Need-returns Inv-loop μ-loop
 returns c = collect-end _ (c .before .loop .s) _ _ (omega arith) (omega arith) (c .before .loop .inv .1)

@@ -39,9 +39,11 @@ loop-less c = omega arith
 loop-again : tie.Need-loop-again Inv-loop μ-loop
 loop-again c =
     let b = c .before .before .before .before in
-    let a = b .before .args in
-    (omega arith, λ t. enters-next (a .t1 .moves) (a .c) (b .loop .k) t (b .loop .x) (c .union-if .result) (c .before .member .result) (b .loop .inv .1 t)
-      (c .before .member .ensures) (c .union-if .ensures t))
+    let a = b .before .args in (
+      omega arith,
+      λ t. enters-next (a .t1 .moves) (a .c) (b .loop .k) t (b .loop .x) (c .union-if .result) (c .before .member .result) (b .loop .inv .1 t)
+          (c .before .member .ensures) (c .union-if .ensures t),
+    )
 
 returns : tie.Need-returns Inv-loop μ-loop
 returns c t =

@@ -18,8 +18,7 @@ toward-requires c κs =
 
 away-requires : tie.Need-away-requires
 away-requires c κs =
-    let b = c .before .before .before .before .before .before .before .before .before .before .before in
-    (
+    let b = c .before .before .before .before .before .before .before .before .before .before .before in (
       table-of (b .args .g) (b .args .z) (b .pre .0 .sized) _ (b .pre .2),
       scratch-long (b .pre .0),
       omega (arith, b .pre .1 .below, sizes-of (b .args .g) (b .args .z) (b .pre .0 .sized) .outputs, approach-bounds (b .args .g) (b .args .z) (b .pre .0 .sized) (b .args .w) (b .pre .1) .states),

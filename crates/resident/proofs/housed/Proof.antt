@@ -76,7 +76,7 @@ loop-again c =
 returns : tie.Need-returns Inv-loop μ-loop
 returns c =
     let b = c .before .before in
-    housed-all _ _ _ _ 
+    housed-all _ _ _ _
     (visit-end _ _ _ _ (b .before .below .ensures) (b .intersection .ensures) _ (c .before .loop .rest) _ (c .before .loop .inv) (c .loop-test .left))
 
 pub housed-spec : {M : Type 1} → statement M
