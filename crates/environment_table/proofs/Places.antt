@@ -118,10 +118,10 @@ unfolding place
 place-base M O i h o = omega (arith, add-mul (i * M) h O, mul-comm h O)
 
 module _ (g : Game) (M n i : ℕ) (R : Roomy g M n) (li : i < g .input .states) where
-  pub rows-small : i * M ≤ 2048
+  rows-small : i * M ≤ 2048
   rows-small = mul-le-mul {n₂ = 64} {m₂ = 32} (omega (arith, R .inputs)) (R .few)
 
-  pub entries-small : i * M * g .output .states ≤ 131072
+  entries-small : i * M * g .output .states ≤ 131072
   entries-small = mul-le-mul rows-small (R .outputs)
 
   counter-in : (h : ℕ) → h < M → h < environmentCounters (separatedOf g)

@@ -254,7 +254,7 @@ module _ (g : Game) (M c x a over which : ℕ) (next : List ℕ) (T : Tours g M 
 
 -- the assumptions, counted
 
-pub count-of : (g : Game) (n : ℕ) → acceptance g ≡ Accepted → n ≡ length (assumptions (separatedOf g)) → Count g n
+count-of : (g : Game) (n : ℕ) → acceptance g ≡ Accepted → n ≡ length (assumptions (separatedOf g)) → Count g n
 count-of g n a e = record {
   accepted = a;
   all = e;

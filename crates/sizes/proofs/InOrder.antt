@@ -14,7 +14,7 @@ use Rattle.game.specs.declared.Game.{Game}
 use Rattle.game.specs.declared.Requirement.{Requirement}
 use Rattle.game.specs.Access.{requirementAt}
 use Rattle.theory.specs.Tour.{goalAt}
-use Rattle.sizes.specs.Below.{Side, setsBelow, setsIn}
+use Rattle.sizes.specs.Below.{Side, setsIn}
 use Rattle.sizes.specs.InOrder.{Placed, Upto, InOrder}
 use Rattle.sizes.proofs.Below.{Listed, below-none, below-more, below-all, set-found}
 
