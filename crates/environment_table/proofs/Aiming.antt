@@ -10,6 +10,7 @@ use Prim.Native.Nat.{ℕ, _+_, _*_, _≤_, _<_}
 use mathlib.Core.Path.{_≡_, refl, sym, subst}
 use mathlib.Core.Bool.{Bool, true, false, _&&_}
 use mathlib.Core.List.{List}
+use native.Mathlib.Decide.{decLt}
 use native.Mathlib.Omega.{arith}
 use lib.ListN.{length, getD}
 use Rattle.finite.proofs.Truth.{clash}
@@ -22,7 +23,7 @@ use Rattle.ways.specs.Search.{Bounds, Toward}
 use Rattle.touring.specs.Goal.{Goals, firstFrom, passed, aimedAt}
 use Rattle.environment_table.specs.Table.{Roomy, Filled, Spreading, Spreads}
 use Rattle.environment_table.specs.Touring.{Aims, Ranging, Ranged, Aiming, Aimed}
-use Rattle.environment_table.proofs.Places.{filled-none, filled-same, filled-skip, filled-next}
+use Rattle.environment_table.proofs.Places.{filled-none, filled-same, filled-next}
 use Rattle.environment_table.proofs.Toured.{counter-small, spread-tour, aims-goals, some-goal, aims-counter, target-within, into-aimed, aims-rows}
 
 module _ (N O M c x a over which : ℕ) (next : List ℕ) where
@@ -48,8 +49,16 @@ module _ (N O M c x a over which : ℕ) (next : List ℕ) where
   pub ranged-long : (k : ℕ) {l m : List ℕ} → Ranging N O M c x a over which next (length l) → Ranged N O M c x a over which next k l m → length m ≡ length l
   ranged-long k p D = D .fills p .grows .long
 
-  pub ranged-skip : (k : ℕ) {l m r : List ℕ} → has c k ≡ false → Ranged N O M c x a over which next k l m → r ≡ m → Ranged N O M c x a over which next (k + 1) l r
-  ranged-skip k {l} {m} f D s = record { fills = λ p. filled-skip (p .game) l m k (D .fills p) (λ h b q. clash (q .0) f) s }
+  -- over states that are not of c
+  pub ranged-skip : (e k : ℕ) {l m : List ℕ} → k ≤ e → ((s : ℕ) → k ≤ s → s < e → has c s ≡ false) → Ranged N O M c x a over which next k l m
+      → Ranged N O M c x a over which next e l m
+  ranged-skip e k {l} {m} b f D = record {
+    fills = λ p. filled-same (p .game) (D .fills p) (λ i h o y z u q. (reached i (q .1 .0) (q .0) (decLt i k), q .1));
+  }
+    where
+      reached : (i : ℕ) → has c i ≡ true → i < e → Dec (i < k) → i < k
+      reached i q l (yes s) = s
+      reached i q l (no s) = clash q (f i (omega arith) l)
 
   pub ranged-next : (k v : ℕ) (t : Bool) {l m n r : List ℕ} → k < N → has c k ≡ true → v ≡ passed M t a → t ≡ has x (getD next k 0)
       → Ranged N O M c x a over which next k l m → Spreads O M k over which (getD next k 0 + 64 * v) 0 m n → r ≡ n

@@ -2,3 +2,4 @@
 pub mod Goal
 pub mod Aims
 pub mod Tours
+pub mod Next

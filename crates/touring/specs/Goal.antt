@@ -6,6 +6,7 @@
 --   Past x r            == the members of x are below r, and the number before r is one
 --   aimedAt m q a h     == a is the first member from h on
 --   metAt w x a         == word a of w has a state in the set x
+--   NextIn x n k r      == r is the first member of x from k on and below n; n where there is none
 use Prim.Native.Nat.{ℕ, _+_, _≤_, _<_}
 use mathlib.Core.Path.{_≡_}
 use mathlib.Core.Bool.{Bool, true, false}
@@ -41,3 +42,9 @@ aimedAt m q a h = eqb (firstFrom m q h) a
 
 unfoldable pub metAt : List ℕ → ℕ → ℕ → Bool
 metAt w x a = meets 64 (getD w a 0) x
+
+pub record NextIn (x n k r : ℕ) : Type 0 where
+  pub from : k ≤ r
+  pub most : r ≤ n
+  pub passes : (t : ℕ) → k ≤ t → t < r → has x t ≡ false
+  pub here : r < n → has x r ≡ true

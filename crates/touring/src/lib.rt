@@ -2,7 +2,7 @@
 ghost use mathlib.Core.Path.{_≡_};
 ghost use Prim.Native.Nat.{_≤_, _<_};
 ghost use Rattle.sets.specs.Member.{pack};
-ghost use Rattle.touring.specs.Goal.{Goals, passed, Past, aimedAt, metAt};
+ghost use Rattle.touring.specs.Goal.{Goals, passed, Past, aimedAt, metAt, NextIn};
 
 // The numbers of the sets that have a state in x, the goals of a tour: the first count of words are the sets.
 pub fn met(words: &[u64; 32], count: usize, x: u64) -> u64
@@ -57,4 +57,16 @@ pub fn counters_toward(q: u64, count: usize, a: usize) -> u64
     }
     let round = sets::difference(sets::below(count), sets::below(past(q)));
     sets::union(upto, round)
+}
+
+// The first member of x from k on and below n; n where there is none. A loop that goes by it passes over all other numbers at once.
+pub fn next_in(x: u64, n: usize, k: usize) -> usize
+    requires { ⌜ (k ≤ n) × (n ≤ 64) ⌝ }
+    ensures { λ r. ⌜ NextIn x n k r ⌝ }
+{
+    let r = sets::lowest(sets::difference(x, sets::below(k)));
+    if r < n {
+        return r;
+    }
+    n
 }

@@ -59,23 +59,21 @@ fn tour_rows(
     requires { ⌜ Ranging inputs outputs counters (c .0) (x .0) a (over .0) which (w .next) (length (now room)) ⌝ }
     ensures { λ r. ⌜ Ranged inputs outputs counters (c .0) (x .0) a (over .0) which (w .next) inputs (now (room .entry)) (now (room .exit)) ⌝ }
 {
-    let mut k: usize = 0;
+    let mut k = touring::next_in(c.0, inputs, 0);
     while k < inputs {
-        if sets::member(c.0, k) {
-            let p = w.next[k] as usize;
-            let e = p + 64 * touring::next_counter(counters, a, sets::member(x.0, p));
-            rows::spread(
-                outputs,
-                counters,
-                InState(k),
-                over,
-                which,
-                e as u16,
-                0,
-                room,
-            );
-        }
-        k += 1;
+        let p = w.next[k] as usize;
+        let e = p + 64 * touring::next_counter(counters, a, sets::member(x.0, p));
+        rows::spread(
+            outputs,
+            counters,
+            InState(k),
+            over,
+            which,
+            e as u16,
+            0,
+            room,
+        );
+        k = touring::next_in(c.0, inputs, k + 1);
     }
 }
 

@@ -49,21 +49,19 @@ fn aim(
     ensures { λ r. ⌜ Aim z (goal .0) a (comp .0) (inputs .0) which (now (next .entry)) (z .outputs) (now (room .entry)) (now (room .exit)) ⌝ }
 {
     let m = z.outputs;
-    let mut o = 0;
+    let mut o = touring::next_in(comp.0, m, 0);
     while o < m {
-        if sets::member(comp.0, o) {
-            rows::write_aimed(
-                room,
-                z,
-                OutState(o),
-                inputs,
-                which,
-                goal,
-                a,
-                rows::wide(next[o]),
-            );
-        }
-        o += 1;
+        rows::write_aimed(
+            room,
+            z,
+            OutState(o),
+            inputs,
+            which,
+            goal,
+            a,
+            rows::wide(next[o]),
+        );
+        o = touring::next_in(comp.0, m, o + 1);
     }
 }
 

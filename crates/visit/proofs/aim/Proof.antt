@@ -1,27 +1,31 @@
--- `aim` writes the rows of a component for one goal, output by output.
-use Prim.Native.Nat.{_-_, _≤_}
-use mathlib.Core.Path.{sym, _∙_}
-use mathlib.Core.Logic.{⊎-elim}
+-- `aim` writes the rows of a component for one goal, one of its outputs after the other.
+use Prim.Native.Nat.{_-_, _≤_, _<_}
+use mathlib.Core.Path.{_≡_, refl}
+use mathlib.Core.Bool.{true}
 use Rattle.controller_rows.specs.Each.{none}
 use Rattle.controller_rows.specs.Writes.{Aim}
-use Rattle.controller_rows.proofs.Each.{each-hit, each-miss, each-end}
+use Rattle.controller_rows.proofs.Each.{each-hit, each-skip, each-end}
 use Rattle.controller_rows.proofs.Writes.{table-long, aimed-at, long-aim}
 use native.Mathlib.Omega.{arith}
 use borrow.Author.Needs.{needs}
+use Rattle.sets.specs.Member.{has}
 use Rattle.visit.proofs.aim.Statement.{statement}
 use Rattle.visit.proofs.aim.Tie as tie
 
 abbrev Inv-loop : tie.InvT-loop
-Inv-loop room₀ z comp inputs which goal a next m o₀ room o = (o ≤ m) × Aim z (goal .0) a (comp .0) (inputs .0) which next o room₀ room
+Inv-loop room₀ z comp inputs which goal a next m o₀ room o =
+    (o ≤ m) × (o < m → has (comp .0) o ≡ true) × Aim z (goal .0) a (comp .0) (inputs .0) which next o room₀ room
 
 abbrev μ-loop : tie.MeasureT-loop
 μ-loop room₀ z comp inputs which goal a next m o₀ room o = m - o
 
-loop-holds : tie.Need-loop-holds Inv-loop μ-loop
-loop-holds c = (omega arith, record { each = none })
+next-in-requires : tie.Need-next-in-requires Inv-loop μ-loop
+next-in-requires c κs = (omega arith, omega arith)
 
-member-requires : tie.Need-member-requires Inv-loop μ-loop
-member-requires c κs = omega arith
+loop-holds : tie.Need-loop-holds Inv-loop μ-loop
+loop-holds c =
+    let n = c .next-in .ensures in
+    (n .most, n .here, record { each = each-skip _ (n .from) (n .passes) none })
 
 element-copy-out-wide : tie.Need-element-copy-out-wide Inv-loop μ-loop
 element-copy-out-wide c = omega arith
@@ -31,31 +35,32 @@ wide-requires c κs = search needs
 
 write-aimed-requires : tie.Need-write-aimed-requires Inv-loop μ-loop
 write-aimed-requires c κs =
-    let b = c .before .before .before .before .before .before in
-    let p = b .before .before .pre in
-    (table-long (p .0) (long-aim (b .loop .inv .1)), omega arith, p .1, rw (c .wide .ensures) (p .2 .below (b .loop .o) (omega arith) (sym (c .before .before .before .before .member .ensures) ∙ c .before .before .before .if1 .taken)))
+    let l = c .before .before .before .before in
+    let p = l .before .before .before .pre in
+    let o = c .before .before .before .loop-test .taken in
+    (table-long (p .0) (long-aim (l .loop .inv .2)), o, p .1, rw (c .wide .ensures) (p .2 .below (l .loop .o) o (l .loop .inv .1 o)))
 
-add-o : tie.Need-add-o Inv-loop μ-loop
-add-o c = omega arith
+add-next-in : tie.Need-add-next-in Inv-loop μ-loop
+add-next-in c = omega arith
+
+next-in-requires-2 : tie.Need-next-in-requires-2 Inv-loop μ-loop
+next-in-requires-2 c κs = (omega arith, omega arith)
 
 loop-less : tie.Need-loop-less Inv-loop μ-loop
-loop-less c = omega arith
+loop-less c = omega (arith, c .next-in2 .ensures .from, c .next-in2 .ensures .most)
 
 loop-again : tie.Need-loop-again Inv-loop μ-loop
 loop-again c =
-    let b = c .before .before .before in (
-      omega arith,
-      ⊎-elim
-          (λ w. record { each = each-hit (b .loop .inv .1 .each) (sym (c .before .member .ensures) ∙ w .0 .taken) (w .7) (aimed-at (w .3 .ensures) (w .4 .ensures)) })
-          (λ w. record { each = each-miss (b .loop .inv .1 .each) (sym (c .before .member .ensures) ∙ w .0 .left) (w .1) })
-          (c .if1 .came),
-    )
+    let n = c .next-in2 .ensures in
+    let w = c .before .before .before .before in
+    let l = w .before .before .before .before in
+    (n .most, n .here, record { each = each-skip _ (n .from) (n .passes) (each-hit (l .loop .inv .2 .each) (l .loop .inv .1 (w .before .before .before .loop-test .taken)) refl (aimed-at (w .wide .ensures) (c .before .before .before .write-aimed .ensures))) })
 
 same-length : tie.Need-same-length Inv-loop μ-loop
-same-length c = long-aim (c .before .loop .inv .1)
+same-length c = long-aim (c .before .loop .inv .2)
 
 returns : tie.Need-returns Inv-loop μ-loop
-returns c = record { each = each-end (omega arith) (omega arith) (c .before .loop .inv .1 .each) }
+returns c = record { each = each-end (c .before .loop .inv .0) (c .loop-test .left) (c .before .loop .inv .2 .each) }
 
 pub aim-spec : {M : Type 1} → statement M
 aim-spec =
@@ -63,12 +68,13 @@ aim-spec =
     (tie.spec
     Inv-loop
     μ-loop
+    next-in-requires
     loop-holds
-    member-requires
     element-copy-out-wide
     wide-requires
     write-aimed-requires
-    add-o
+    add-next-in
+    next-in-requires-2
     loop-less
     loop-again
     same-length
