@@ -90,8 +90,7 @@ loop-again c =
     let n = c .before .before .before .before .before in
     let l = n .before .before .before .before in
     let b = n .before .before .before .loop-test .taken in
-    let v = c .next-in2 .ensures in
-    (
+    let v = c .next-in2 .ensures in (
       v .most,
       v .here,
       ranged-skip _ _ _ _ _ _ _ _ _ _ _ (v .from) (v .passes)
