@@ -26,7 +26,8 @@ use Rattle.sets.proofs.Compare.{member-nonzero, nonzero-member}
 use Rattle.graphs.specs.Graph.{edge}
 use Rattle.graphs.specs.Closure.{reaches}
 use Rattle.graphs.specs.Component.{joined, nontrivial, meetsAt}
-use Rattle.graphs.specs.Way.{toward}
+use Rattle.graphs.specs.Way.{near, toward}
+use Rattle.graphs.proofs.Closure.{reaches-edge, reaches-trans}
 use Rattle.graphs.proofs.Component.{joined-to, nontrivial-same, meetsAt-intro, meetsAt-elim}
 use Rattle.graphs.proofs.Way.{toward-below}
 use Rattle.arena.specs.Arena.{Separated}
@@ -35,14 +36,15 @@ use Rattle.play.specs.Play.{graphOf, separatedOf}
 use Rattle.theory.specs.Tour.{goalAt, goal, inside, target}
 use Rattle.theory.specs.Choice.{guarantees}
 use Rattle.theory.specs.Entries.{controllerCounters, controllerEntries}
-use Rattle.theory.proofs.ControllerRow.{home-leads}
+use Rattle.theory.proofs.ControllerRow.{near-reaches, home-leads}
 use Rattle.theory.proofs.Tour.{inside-leads}
 use Rattle.theory.proofs.Tour.{goal-below as aim-below, goal-meets as aim-meets}
 use Rattle.demands.proofs.Sizes.{guarantees-few}
 use Rattle.ways.specs.Kept.{kept}
 use Rattle.ways.specs.Search.{Bounds}
 use Rattle.ways.specs.Search.{Toward as Searched}
-use Rattle.ways.proofs.Kept.{kept-all, members-pack, toward-along, pack-below, pack-holds}
+use Rattle.ways.proofs.Kept.{kept-pack, members-pack, toward-along, pack-below, pack-holds}
+use Rattle.ways.proofs.Narrow.{toward-narrow, leads-narrow}
 use Rattle.touring.specs.Goal.{firstFrom, aimedAt, metAt}
 use Rattle.touring.specs.Goal.{Goals as Counted}
 use Rattle.touring.proofs.Tours.{goal-meets, goal-below, goals-none, goals-some, goals-from, goal-word, prefer-inside, toward-target}
@@ -53,6 +55,7 @@ use Rattle.controller_rows.specs.Writes.{Away as AwayLoop}
 use Rattle.controller_table.specs.Filled.{Filled, Away, There, Toward, Before, Sized, Given, HomeOf, Goals}
 use Rattle.controller_table.proofs.Fills.{filled-none, filled-more, filled-part}
 use Rattle.controller_table.proofs.Loops.{comp-in, fills-away, fills-rest, fills-aim}
+use Rattle.controller_table.proofs.Told.{Told}
 use Rattle.controller_table.proofs.Setting.{fits-of, sizes-of, few-outputs, told-of}
 
 -- the rows of the game's moves are the graph's moves
@@ -77,25 +80,41 @@ module _ (g : Game) (z : Size) (Z : Sized g z) (w : Home) (H : HomeOf (separated
         (pack-lt (separatedOf g .output .states) (joined (separatedOf g .output) (w .state .0))));
   }
 
-  all-states : (all : ℕ) → ((t : ℕ) → has all t ≡ ltb t (z .outputs)) → all ≡ pack (separatedOf g .output .states) (λ t. true)
-  all-states all f = ext all (pack (separatedOf g .output .states) (λ t. true)) (λ t. f t ∙ rw (sizes-of g z Z .outputs) (and-all (ltb t (separatedOf g .output .states)) ∙ sym (has-pack (separatedOf g .output .states) (λ k. true) t)))
-    where
-      and-all : (b : Bool) → b ≡ (b && true)
-      and-all true = refl
-      and-all false = refl
+  -- what has a way home is among the outputs that reach it
+  way-inside : (s t k : ℕ) → edge (separatedOf g .output) s t ≡ true
+      → near (separatedOf g .output .states) (edge (separatedOf g .output)) (joined (separatedOf g .output) (w .state .0)) k t ≡ true
+      → (reaches (separatedOf g .output) s (w .state .0) ≡ true) × (reaches (separatedOf g .output) t (w .state .0) ≡ true)
+  way-inside s t k e h =
+      let r = near-reaches (separatedOf g .output) (w .state .0) k t h in
+      (reaches-trans (separatedOf g .output) s t (w .state .0) (reaches-edge (separatedOf g .output) s t e) r, r)
 
-  pub approached : (s : List ℕ) (cores all : ℕ) (next l m : List ℕ) → Given g z s cores → ((t : ℕ) → has all t ≡ ltb t (z .outputs))
-      → Searched (g .output .moves) (z .outputs) all (w .component .0) next → length (controllerEntries (separatedOf g)) ≤ length l
+  pub approached : (s : List ℕ) (cores among : ℕ) (next l m : List ℕ) → Given g z s cores
+      → among ≡ pack (z .outputs) (λ o. has (getD s (z .inputs + z .inputs + o) 0) (w .state .0))
+      → Searched (g .output .moves) (z .outputs) among (w .component .0) next → length (controllerEntries (separatedOf g)) ≤ length l
       → AwayLoop z s cores (w .state .0) (w .component .0) next (z .outputs) l m → Filled (separatedOf g) (Away (separatedOf g) (w .state .0)) l m
-  approached s cores all next l m G f found long e =
-      fills-away (separatedOf g) z (sizes-of g z Z) s cores (g .output .moves) (told-of g z s cores G) w H next way .fills l m e long
+  approached s cores among next l m G f found long e =
+      fills-away (separatedOf g) z (sizes-of g z Z) s cores (g .output .moves) T w H next way .fills l m e long
     where
+      T : Told (separatedOf g) s (z .inputs) cores (g .output .moves)
+      T = told-of g z s cores G
+
+      all : among ≡ pack (separatedOf g .output .states) (λ o. reaches (separatedOf g .output) o (w .state .0))
+      all =
+          f ∙ rw (sizes-of g z Z .outputs)
+          (pack-ext (separatedOf g .output .states) (λ o. has (getD s (z .inputs + z .inputs + o) 0) (w .state .0)) (λ o. reaches (separatedOf g .output) o (w .state .0))
+          (λ o b. T .reach o (w .state .0) b))
+
       way : (o : ℕ) → o < separatedOf g .output .states → reaches (separatedOf g .output) o (w .state .0) ≡ true
           → getD next o 0 ≡ toward (separatedOf g .output .states) (edge (separatedOf g .output)) (joined (separatedOf g .output) (w .state .0)) o
       way o b r =
-          toward-along (edge (separatedOf g .output)) (joined (separatedOf g .output) (w .state .0))
-          (ap (kept (g .output .moves)) (all-states all f) ∙ kept-all (separatedOf g .output) (g .output .moves) (same-moves g)) comp-joined
-          (rw (sizes-of g z Z .outputs) at found) o b (home-leads (separatedOf g .output) (w .state .0) o r (H .core))
+          toward-along (λ s t. edge (separatedOf g .output) s t && (reaches (separatedOf g .output) s (w .state .0) && reaches (separatedOf g .output) t (w .state .0)))
+          (joined (separatedOf g .output) (w .state .0))
+          (ap (kept (g .output .moves)) all
+          ∙ kept-pack (separatedOf g .output) (g .output .moves) (same-moves g) (λ o. reaches (separatedOf g .output) o (w .state .0)))
+          comp-joined (rw (sizes-of g z Z .outputs) at found) o b
+          (leads-narrow (separatedOf g .output .states) (edge (separatedOf g .output)) (joined (separatedOf g .output) (w .state .0)) (λ u. reaches (separatedOf g .output) u (w .state .0)) way-inside o
+          (home-leads (separatedOf g .output) (w .state .0) o r (H .core)))
+          ∙ toward-narrow (separatedOf g .output .states) (edge (separatedOf g .output)) (joined (separatedOf g .output) (w .state .0)) (λ u. reaches (separatedOf g .output) u (w .state .0)) way-inside o
 
   -- ---- no goal
 

@@ -20,7 +20,7 @@ use Rattle.finite.proofs.Bounded.{all-intro, all-fails, any-intro, any-none}
 use Rattle.sets.specs.Member.{has, meets}
 use Rattle.sets.proofs.Membership.{has-zero}
 use Rattle.sets.proofs.Compare.{meets-intro, meets-elim}
-use Rattle.sets.proofs.Remove.{rest-in, rest-other, rest-falls}
+use Rattle.sets.proofs.Remove.{less-in, less-other, less-falls}
 use Rattle.sets.proofs.Visit.{lowest-below, lowest-in, cut-in, cut-all}
 use Rattle.stored.specs.Stored.{wonAt}
 use Rattle.stored.proofs.Read.{won-in, won-out}
@@ -48,9 +48,13 @@ module _ (l : List ℕ) (n m moves : ℕ) (t : Tried) (T : Trying l n m moves t)
   pub take-below : p < m
   take-below = T .left p (lowest-in (t .left) p (T .small) ne e) .0
 
-  module _ (x : ℕ) (r : Tried) (f : (s : ℕ) → has x s ≡ (has 0 s || eqb s p)) (d : (s : ℕ) → has (r .left) s ≡ (has (t .left) s && not (has x s))) where
+  module _ (x : ℕ) (r : Tried) (f : (s : ℕ) → has x s ≡ (has 0 s || eqb s p))
+      (d : (s : ℕ) → has (r .left) s ≡ (has (t .left) s && not (eqb s (least 64 (has (t .left)))))) where
+    less : (s : ℕ) → has (r .left) s ≡ (has (t .left) s && not (eqb s p))
+    less s = rw e (d s)
+
     pub trying-falls : count 64 (has (r .left)) < count 64 (has (t .left))
-    trying-falls = rest-falls (t .left) p (r .left) x f d 64 take-small (lowest-in (t .left) p (T .small) ne e)
+    trying-falls = less-falls (t .left) p (r .left) less 64 take-small (lowest-in (t .left) p (T .small) ne e)
 
     only : (s : ℕ) → has x s ≡ true → s ≡ p
     only s h = elim (or-cases (has 0 s) (eqb s p) (sym (f s) ∙ h)) [ inl a ↦ clash a (has-zero s) | inr a ↦ eqb-true s p a ]
@@ -62,7 +66,7 @@ module _ (l : List ℕ) (n m moves : ℕ) (t : Tried) (T : Trying l n m moves t)
         → ((s : ℕ) → has (r .reach) s ≡ (has (t .reach) s || has (getD l (n + n + p) 0) s)) → Trying l n m moves r
     trying-next small u v = record {
       small = small;
-      left = λ q h. T .left q (rest-in (t .left) p (r .left) x f d q h);
+      left = λ q h. T .left q (less-in (t .left) p (r .left) less q h);
       seen = seen;
       either = λ q b h. either q b h (ℕ-discrete q p);
       reached = reached;
@@ -83,7 +87,7 @@ module _ (l : List ℕ) (n m moves : ℕ) (t : Tried) (T : Trying l n m moves t)
         either q b h (yes k) = inr (u q ∙ or-right (has (t .seen) q) (ap (has x) k ∙ itself))
         either q b h (no k) =
             elim (T .either q b h) [
-              | inl a ↦ inl (rest-other (t .left) p (r .left) x f d q k ∙ a)
+              | inl a ↦ inl (less-other (t .left) p (r .left) less q k ∙ a)
               | inr a ↦ inr (u q ∙ or-left (has x q) a)
             ]
 
@@ -189,20 +193,23 @@ module _ (l : List ℕ) (n m cores next moves : ℕ) where
     pub pass-below : j < n
     pass-below = P .inside j (lowest-in rest j (P .small) ne e) .0
 
-    module _ (x r : ℕ) (f : (s : ℕ) → has x s ≡ (has 0 s || eqb s j)) (d : (s : ℕ) → has r s ≡ (has rest s && not (has x s))) where
+    module _ (r : ℕ) (d : (s : ℕ) → has r s ≡ (has rest s && not (eqb s (least 64 (has rest))))) where
+      fewer : (s : ℕ) → has r s ≡ (has rest s && not (eqb s j))
+      fewer s = rw e (d s)
+
       pub passing-falls : count 64 (has r) < count 64 (has rest)
-      passing-falls = rest-falls rest j r x f d 64 pass-small (lowest-in rest j (P .small) ne e)
+      passing-falls = less-falls rest j r fewer 64 pass-small (lowest-in rest j (P .small) ne e)
 
       pub passing-next : r < 2 ^ 64 → replied l n cores next moves m j ≡ true → Passing r
       passing-next small h = record {
         small = small;
-        inside = λ k a. P .inside k (rest-in rest j r x f d k a);
+        inside = λ k a. P .inside k (less-in rest j r fewer k a);
         passed = λ k b a g. passed k b a g (ℕ-discrete k j);
       }
         where
           passed : (k : ℕ) → k < n → has next k ≡ true → has r k ≡ false → Dec (k ≡ j) → replied l n cores next moves m k ≡ true
           passed k b a g (yes q) = rw q h
-          passed k b a g (no q) = P .passed k b a (sym (rest-other rest j r x f d k q) ∙ g)
+          passed k b a g (no q) = P .passed k b a (sym (less-other rest j r fewer k q) ∙ g)
 
     -- j has no reply
     pub passing-not : (t : Tried) → Trying l n m moves t → m ≤ 64 → t .left ≡ 0 → answeredAt l n cores j t ≡ false → eqb rest 0 ≡ repliesAt l n cores next moves m n

@@ -23,7 +23,7 @@ fn take(s: &[u64], n: usize, m: usize, moves: u64, t: Tried) -> Tried
     let p = sets::lowest(t.left);
     let x = sets::insert(0, p);
     Tried {
-        left: sets::difference(t.left, x),
+        left: sets::without_lowest(t.left),
         seen: sets::union(t.seen, x),
         reach: sets::union(t.reach, s[n + n + p]),
     }
@@ -64,7 +64,7 @@ fn replies(s: &[u64], n: usize, m: usize, cores: u64, next: u64, moves: u64) -> 
             }
             tried = take(s, n, m, moves, tried);
         }
-        rest = sets::difference(rest, sets::insert(0, j));
+        rest = sets::without_lowest(rest);
     }
     rest == 0
 }

@@ -14,7 +14,7 @@ ghost use Rattle.play.specs.Play.{separatedOf};
 ghost use Rattle.theory.specs.Entries.{controllerEntries};
 ghost use Rattle.sets.specs.Member.{pack};
 ghost use Rattle.controller_rows.specs.Writes.{Table, residesAt, Away};
-ghost use Rattle.resident.specs.Housed.{lowestIs, housedAt};
+ghost use Rattle.resident.specs.Housed.{lowestIs, housedAt, reachesAt};
 ghost use Rattle.controller_table.specs.Filled.{Filled, Away as AwayRow, Given, HomeOf};
 
 // Whether the lowest home of a row in reach is d.
@@ -82,7 +82,21 @@ fn away(
     }
 }
 
-// The rows outside a home: the way to it, searched once for all outputs.
+// The outputs that reach d.
+fn reaching(s: &[u64], n: usize, m: usize, d: OutState) -> OutSet
+    requires { ⌜ (n ≤ 64) × (m ≤ 64) × (d .0 < 64) × (n + n + m ≤ length (now s)) ⌝ }
+    ensures { λ r. ⌜ r .0 ≡ pack m (reachesAt (now (s .entry)) n (d .0)) ⌝ }
+{
+    let mut x: u64 = 0;
+    let mut o: usize = 0;
+    while o < m {
+        x = sets::insert_if(x, o, sets::member(s[n + n + o], d.0));
+        o += 1;
+    }
+    OutSet(x)
+}
+
+// The rows outside a home: the way to it, searched once for all outputs, among those that have one.
 pub fn approach(g: Game, s: &[u64], room: &mut [u16], z: Size, cores: InSet, w: Home)
     requires { ⌜ Given g z (now s) (cores .0) × HomeOf (separatedOf g) w × (length (controllerEntries (separatedOf g)) ≤ length (now room)) ⌝ }
     ensures { λ r. ⌜ Filled (separatedOf g) (AwayRow (separatedOf g) (w .state .0)) (now (room .entry)) (now (room .exit)) ⌝ }
@@ -90,7 +104,8 @@ pub fn approach(g: Game, s: &[u64], room: &mut [u16], z: Size, cores: InSet, w: 
     let h = g.output;
     let m = z.outputs;
     let component = w.component;
-    let found = ways::toward(&h.moves, m, sets::below(m), component.0);
+    let among = reaching(s, z.inputs, m, w.state);
+    let found = ways::toward(&h.moves, m, among.0, component.0);
     let next = found.next;
     away(room, s, z, cores, w.state, component, &next);
 }

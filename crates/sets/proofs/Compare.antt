@@ -16,7 +16,7 @@ use borrow.Author.Tests.{eqb-true, eqb-false, eq-eqb, ne-eqb}
 use Rattle.finite.specs.Bounded.{least, leastFrom, count, one}
 use Rattle.finite.proofs.Truth.{decide, clash, false-of, and-intro, and-left, and-right, same-test, not-true}
 use Rattle.finite.proofs.Bounded.{all-intro, all-elim, any-intro, any-elim, count-same, least-same, least-member, least-before, least-below}
-use Rattle.sets.specs.Member.{has, outside, implies, both, empty, subset, meets}
+use Rattle.sets.specs.Member.{has, implies, both, subset, meets}
 use Rattle.sets.proofs.Membership.{digit, has-low, has-suc, has-zero, has-and, has-past, has-lt, ext, has-block-low}
 
 -- ---- a set that is not empty has a member
@@ -107,30 +107,6 @@ meets-word w x y h = same-test (not (eqb (bitAnd x y) 0)) (meets w x y) to back
     back e =
         let c = meets-elim w x y e in
         ap not (ne-eqb (bitAnd x y) 0 (common-nonzero x y (c .0) (c .2) (c .3)))
-
--- ---- emptiness
-
-pub empty-intro : (w x : ℕ) → ((s : ℕ) → s < w → has x s ≡ false) → empty w x ≡ true
-unfolding empty outside
-empty-intro w x h = all-intro w (outside x) (λ s l. ap not (h s l))
-
-pub empty-elim : (w x : ℕ) → x < 2 ^ w → empty w x ≡ true → (s : ℕ) → has x s ≡ false
-unfolding empty outside
-empty-elim w x h e s = go (decLt s w)
-  where
-    go : Dec (s < w) → has x s ≡ false
-    go (yes l) = not-true (has x s) (all-elim w (outside x) e s l)
-    go (no g) = has-past w x s h (omega arith)
-
-pub empty-none : (w x : ℕ) → x < 2 ^ w → empty w x ≡ true → x ≡ 0
-empty-none w x h e = ext x 0 (λ s. empty-elim w x h e s ∙ sym (has-zero s))
-
--- the test on words: `x == 0`
-pub empty-word : (w x : ℕ) → x < 2 ^ w → eqb x 0 ≡ empty w x
-empty-word w x h =
-    same-test (eqb x 0) (empty w x)
-    (λ e. empty-intro w x (λ s l. ap (λ (n : ℕ). has n s) (eqb-true x 0 e) ∙ has-zero s))
-    (λ e. eq-eqb x 0 (empty-none w x h e))
 
 -- ---- the lowest member
 

@@ -1,7 +1,6 @@
 -- Laws of moves inside a set.
 --
 --   kept-intro, kept-from, kept-to, kept-move : what such a move is
---   kept-all       : inside the set of all states the moves are the graph's edges
 --   kept-pack      : inside the set of the states with p they are the edges between such states
 --   members-pack   : a test of states is the set of the states that pass it
 --   toward-along   : what `toward` ensures, over to the relation and the test that the words stand for
@@ -69,14 +68,6 @@ module _ (G : Graph) (rows : List ℕ)
       (has-pack-below (G .states) p s a ∙ u)
       (has-pack-below (G .states) p t b ∙ v)
       (sym (same s t a b) ∙ edge-moves G s t h)
-
-  pub kept-all : kept rows (pack (G .states) (λ t. true)) ≡ edge G
-  kept-all =
-      fun-ext
-      (λ s. fun-ext
-      (λ t. same-test (kept rows (pack (G .states) (λ t. true)) s t) (edge G s t)
-      (to-edge (λ t. true) s t)
-      (λ h. of-edge (λ t. true) s t h refl refl)))
 
   pub kept-pack : (p : ℕ → Bool) → kept rows (pack (G .states) p) ≡ (λ s t. edge G s t && (p s && p t))
   kept-pack p = fun-ext (λ s. fun-ext (λ t. same-test (kept rows c s t) (edge G s t && (p s && p t)) (to s t) (back s t)))

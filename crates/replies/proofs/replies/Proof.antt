@@ -7,7 +7,7 @@ use borrow.Author.Needs.{needs}
 use Rattle.finite.specs.Bounded.{count}
 use Rattle.sets.specs.Member.{has}
 use Rattle.replies.specs.Replies.{Trying}
-use Rattle.replies.proofs.Tries.{trying-start, answered-replied, Passing, passing-start, pass-small, pass-below, passing-falls, passing-next, passing-not, passing-end}
+use Rattle.replies.proofs.Tries.{trying-start, answered-replied, Passing, passing-start, pass-below, passing-falls, passing-next, passing-not, passing-end}
 use Rattle.replies.proofs.replies.Statement.{statement}
 use Rattle.replies.proofs.replies.Tie as tie
 
@@ -67,30 +67,24 @@ loop-less c = c .take .ensures .1
 loop-again : tie.Need-loop-again Inv-loop μ-loop Inv-next μ-next
 loop-again c = c .take .ensures .0
 
-insert-requires : tie.Need-insert-requires Inv-loop μ-loop Inv-next μ-next
-insert-requires c κs =
-    let l = c .before .before .before in
-    let b = l .before .before in
-    pass-small _ _ _ _ _ _ (b .next .rest) (b .next .inv .1) (l .before .next-test .taken) _ (l .lowest .ensures)
-
-difference-requires : tie.Need-difference-requires Inv-loop μ-loop Inv-next μ-next
-difference-requires c κs = search needs
+without-lowest-requires : tie.Need-without-lowest-requires Inv-loop μ-loop Inv-next μ-next
+without-lowest-requires c κs = c .before .before .before .before .next-test .taken
 
 next-less : tie.Need-next-less Inv-loop μ-loop Inv-next μ-next
 next-less c =
-    let l = c .before .before .before .before .before in
+    let l = c .before .before .before .before in
     let b = l .before .before in
-    passing-falls _ _ _ _ _ _ (b .next .rest) (b .next .inv .1) (l .before .next-test .taken) _ (l .lowest .ensures) _ _ (c .before .insert .ensures) (c .difference .ensures)
+    passing-falls _ _ _ _ _ _ (b .next .rest) (b .next .inv .1) (l .before .next-test .taken) _ (l .lowest .ensures) _ (c .without-lowest .ensures)
 
 next-again : tie.Need-next-again Inv-loop μ-loop Inv-next μ-next
 next-again c =
-    let a = c .before .before .before in
+    let a = c .before .before in
     let l = a .before .before in
     let b = l .before .before in (
       a .before .loop .inv,
-      passing-next _ _ _ _ _ _ (b .next .rest) (b .next .inv .1) (l .before .next-test .taken) _ (l .lowest .ensures) _ _ (c .before .insert .ensures) (c .difference .ensures)
-          (omega (arith, c .difference .ok))
-          (answered-replied _ _ _ _ _ _ (a .before .loop .tried) (a .before .loop .inv) _ (sym (a .answers .ensures) ∙ c .before .before .if1 .taken)),
+      passing-next _ _ _ _ _ _ (b .next .rest) (b .next .inv .1) (l .before .next-test .taken) _ (l .lowest .ensures) _ (c .without-lowest .ensures)
+          (omega (arith, c .without-lowest .ok))
+          (answered-replied _ _ _ _ _ _ (a .before .loop .tried) (a .before .loop .inv) _ (sym (a .answers .ensures) ∙ c .before .if1 .taken)),
     )
 
 returns : tie.Need-returns Inv-loop μ-loop Inv-next μ-next
@@ -121,8 +115,7 @@ replies-spec =
     take-requires
     loop-less
     loop-again
-    insert-requires
-    difference-requires
+    without-lowest-requires
     next-less
     next-again
     returns)

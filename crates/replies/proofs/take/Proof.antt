@@ -14,8 +14,8 @@ insert-requires c κs =
     let b = c .before .before in
     take-small _ _ _ _ _ (b .pre .3) (b .pre .4) _ (c .lowest .ensures)
 
-difference-requires : tie.Need-difference-requires
-difference-requires c κs = search needs
+without-lowest-requires : tie.Need-without-lowest-requires
+without-lowest-requires c κs = c .before .before .before .pre .4
 
 union-requires : tie.Need-union-requires
 union-requires c κs = search needs
@@ -43,7 +43,7 @@ returns c =
     let l = c .before .before .before .before .before in
     let b = l .before .before in
     let x = c .before .before .before .before .insert in
-    let d = c .before .before .before .difference in (
+    let d = c .before .before .before .without-lowest in (
       trying-next _ _ _ _ (b .args .t) (b .pre .3) (b .pre .4) _ (l .lowest .ensures) (x .result) _ (x .ensures) (d .ensures) (omega (arith, d .ok)) (c .before .before .union .ensures) (c .union2 .ensures),
       trying-falls _ _ _ _ (b .args .t) (b .pre .3) (b .pre .4) _ (l .lowest .ensures) (x .result) (record { left = d .result; seen = 0; reach = 0 }) (x .ensures) (d .ensures),
     )
@@ -54,7 +54,7 @@ take-spec =
     (tie.spec
     lowest-requires
     insert-requires
-    difference-requires
+    without-lowest-requires
     union-requires
     add-union
     add-union-2
