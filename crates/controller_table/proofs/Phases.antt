@@ -3,7 +3,7 @@
 --   approach-bounds, approached    : the way home
 --   met-goals                      : the guarantees that meet a component
 --   seek-.., sought                : the way to one goal
---   sought-none, sought-next, sought-past, sought-all : to every goal
+--   sought-none, sought-next, sought-past, sought-join, sought-all : to every goal
 --   rested                         : no goal
 use Prim.Native.Nat.{ℕ, _+_, _≤_, _<_}
 use native.Mathlib.Nat.{max-eq-right}
@@ -12,6 +12,7 @@ use mathlib.Core.Bool.{Bool, true, false, _&&_}
 use mathlib.Core.List.{List}
 use mathlib.Core.Logic.{inl, inr, _≢_}
 use native.Mathlib.Omega.{arith}
+use native.Mathlib.Decide.{decLt}
 use native.Mathlib.Numerals.{add-one}
 use lib.Dec.{ltb}
 use lib.Bits.{bitAnd}
@@ -45,14 +46,15 @@ use Rattle.ways.specs.Search.{Bounds}
 use Rattle.ways.specs.Search.{Toward as Searched}
 use Rattle.ways.proofs.Kept.{kept-pack, members-pack, toward-along, pack-below, pack-holds}
 use Rattle.ways.proofs.Narrow.{toward-narrow, leads-narrow}
-use Rattle.touring.specs.Goal.{firstFrom, aimedAt, metAt}
+use Rattle.touring.specs.Goal.{firstFrom, aimedAt}
 use Rattle.touring.specs.Goal.{Goals as Counted}
-use Rattle.touring.proofs.Tours.{goal-meets, goal-below, goals-none, goals-some, goals-from, goal-word, prefer-inside, toward-target}
+use Rattle.touring.specs.Stretches.{metIn}
+use Rattle.touring.proofs.Tours.{met-pack, goal-meets, goal-below, goals-none, goals-some, goals-from, goal-word, prefer-inside, toward-target}
 use Rattle.controller_rows.specs.declared.Size.{Size}
 use Rattle.controller_rows.specs.declared.Home.{Home}
 use Rattle.controller_rows.specs.Writes.{Rest, Aims, States, Aim}
 use Rattle.controller_rows.specs.Writes.{Away as AwayLoop}
-use Rattle.controller_table.specs.Filled.{Filled, Away, There, Toward, Before, Sized, Given, HomeOf, Goals}
+use Rattle.controller_table.specs.Filled.{Filled, Away, There, Toward, Between, Sized, Given, HomeOf, Goals}
 use Rattle.controller_table.proofs.Fills.{filled-none, filled-more, filled-part}
 use Rattle.controller_table.proofs.Loops.{comp-in, fills-away, fills-rest, fills-aim}
 use Rattle.controller_table.proofs.Told.{Told}
@@ -232,61 +234,58 @@ module _ (g : Game) (z : Size) (Z : Sized g z) (w : Home) (H : HomeOf (separated
         (aim-below (separatedOf g .output) (w .state .0) (guarantees (separatedOf g)) (v .0) c l m k)
         ∙ aim-meets (separatedOf g .output) (w .state .0) (guarantees (separatedOf g)) (v .0) c l m k
 
-    pub sought-none : (l : List ℕ) → Filled (separatedOf g) (Before (separatedOf g) (w .state .0) 0) l l
-    sought-none l = filled-none (separatedOf g) l (λ o c j a b d h. omega (arith, h .goal))
+    pub sought-none : (i k : ℕ) (l : List ℕ) → k ≤ i → Filled (separatedOf g) (Between (separatedOf g) (w .state .0) i k) l l
+    sought-none i k l e = filled-none (separatedOf g) l (λ o c j a b d h. omega (arith, h .from, h .goal))
 
-    pub sought-next : (a : ℕ) {l m r k : List ℕ} → Filled (separatedOf g) (Before (separatedOf g) (w .state .0) a) l m → k ≡ r
-        → Filled (separatedOf g) (Toward (separatedOf g) (w .state .0) a) m r → Filled (separatedOf g) (Before (separatedOf g) (w .state .0) (a + 1)) l k
-    sought-next a p e r =
+    pub sought-next : (i a n : ℕ) {l m r k : List ℕ} → Filled (separatedOf g) (Between (separatedOf g) (w .state .0) i a) l m → k ≡ r
+        → Filled (separatedOf g) (Toward (separatedOf g) (w .state .0) a) m r → n ≤ a + 1 → Filled (separatedOf g) (Between (separatedOf g) (w .state .0) i n) l k
+    sought-next i a n p e r b =
         rw e
         (filled-part (separatedOf g)
-        (λ o c j x y d h. elim (below-suc (goal (separatedOf g .output) (w .state .0) (guarantees (separatedOf g)) c) a (rw add-one at (h .goal))) [
+        (λ o c j x y d h. elim (below-suc (goal (separatedOf g .output) (w .state .0) (guarantees (separatedOf g)) c) a (omega (arith, h .goal))) [
           | inl u ↦ inr (record { there = h .there; goal = u })
-          | inr u ↦ inl (record { there = h .there; goal = u })
+          | inr u ↦ inl (record { there = h .there; from = h .from; goal = u })
         ])
         (filled-more (separatedOf g) p r))
 
-    pub sought-past : (a : ℕ) {l m k : List ℕ} → Filled (separatedOf g) (Before (separatedOf g) (w .state .0) a) l m → q ≢ 0 → has q a ≡ false → k ≡ m
-        → Filled (separatedOf g) (Before (separatedOf g) (w .state .0) (a + 1)) l k
-    sought-past a p n f e =
+    pub sought-past : (i a n : ℕ) {l m k : List ℕ} → Filled (separatedOf g) (Between (separatedOf g) (w .state .0) i a) l m → q ≢ 0 → has q a ≡ false → k ≡ m
+        → n ≤ a + 1 → Filled (separatedOf g) (Between (separatedOf g) (w .state .0) i n) l k
+    sought-past i a n p v f e b =
         rw e
         (filled-part (separatedOf g)
-        (λ o c j x y d h. elim (below-suc (goal (separatedOf g .output) (w .state .0) (guarantees (separatedOf g)) c) a (rw add-one at (h .goal))) [
-          | inl u ↦ clash (ap (has q) (sym u) ∙ goal-in c y n) f
-          | inr u ↦ record { there = h .there; goal = u }
+        (λ o c j x y d h. elim (below-suc (goal (separatedOf g .output) (w .state .0) (guarantees (separatedOf g)) c) a (omega (arith, h .goal))) [
+          | inl u ↦ clash (ap (has q) (sym u) ∙ goal-in c y v) f
+          | inr u ↦ record { there = h .there; from = h .from; goal = u }
         ])
         p)
 
-    pub sought-all : (n : ℕ) {l m : List ℕ} → n ≡ length (guarantees (separatedOf g)) → q ≢ 0 → Filled (separatedOf g) (Before (separatedOf g) (w .state .0) n) l m
+    -- goals below a, and from a on
+    pub sought-join : (i a n : ℕ) {l m r k : List ℕ} → Filled (separatedOf g) (Between (separatedOf g) (w .state .0) i a) l m → k ≡ r
+        → Filled (separatedOf g) (Between (separatedOf g) (w .state .0) a n) m r → Filled (separatedOf g) (Between (separatedOf g) (w .state .0) i n) l k
+    sought-join i a n p e r =
+        rw e
+        (filled-part (separatedOf g)
+        (λ o c j x y d h. elim (decLt (goal (separatedOf g .output) (w .state .0) (guarantees (separatedOf g)) c) a) [
+          | yes u ↦ inl (record { there = h .there; from = h .from; goal = u })
+          | no u ↦ inr (record { there = h .there; from = omega arith; goal = h .goal })
+        ])
+        (filled-more (separatedOf g) p r))
+
+    pub sought-all : (n : ℕ) {l m : List ℕ} → n ≡ length (guarantees (separatedOf g)) → q ≢ 0 → Filled (separatedOf g) (Between (separatedOf g) (w .state .0) 0 n) l m
         → Filled (separatedOf g) (There (separatedOf g) (w .state .0)) l m
     sought-all n e v p =
         filled-part (separatedOf g)
-        (λ o c j x y d h. record { there = h; goal = omega (arith, some-goal (goal (separatedOf g .output) (w .state .0) (guarantees (separatedOf g)) c) (goal-in c y v)) }) p
+        (λ o c j x y d h. record {
+          there = h;
+          from = omega arith;
+          goal = omega (arith, some-goal (goal (separatedOf g .output) (w .state .0) (guarantees (separatedOf g)) c) (goal-in c y v));
+        })
+        p
 
 -- ---- the guarantees that meet a component
 
-met-at : (S : Separated) (y a x : ℕ) → has x ≡ goalAt (guarantees S) a → meets 64 x y ≡ any 64 (λ t. goalAt (guarantees S) a t && has y t)
-unfolding meets both
-met-at S y a x e = any-same 64 (both x y) (λ t. goalAt (guarantees S) a t && has y t) (λ t b. ap (λ (p : ℕ → Bool). p t && has y t) e)
-
-pub met-goals : (g : Game) (z : Size) → Sized g z → (w : Home) → HomeOf (separatedOf g) w → (n : ℕ) (r : List ℕ) (q : ℕ)
-    → n ≡ length (guarantees (separatedOf g)) → ((k : ℕ) → k < n → has (getD r k 0) ≡ goalAt (guarantees (separatedOf g)) k)
-    → q ≡ pack n (metAt r (w .component .0)) → Goals (separatedOf g) w q
-unfolding metAt
-met-goals g z Z w H n r q m d e = record {
-  is = e ∙ pack-ext n (metAt r (w .component .0)) (λ k. meetsAt (separatedOf g .output) (w .state .0) (goalAt (guarantees (separatedOf g)) k))
-      (λ k b. met-at (separatedOf g) (w .component .0) k (getD r k 0) (d k b) ∙ at k)
-      ∙ ap (λ (i : ℕ). pack i (λ k. meetsAt (separatedOf g .output) (w .state .0) (goalAt (guarantees (separatedOf g)) k))) m;
+pub met-goals : (g : Game) (z : Size) → Sized g z → (w : Home) → HomeOf (separatedOf g) w → (q : ℕ)
+    → q ≡ pack (length (guarantees (separatedOf g))) (metIn (guarantees (separatedOf g)) (w .component .0)) → Goals (separatedOf g) w q
+met-goals g z Z w H q e = record {
+  is = e ∙ met-pack (separatedOf g .output) (w .state .0) (w .component .0) (few-outputs g z Z) (comp-in (separatedOf g) w H) (guarantees (separatedOf g)) (length (guarantees (separatedOf g)));
 }
-  where
-    at : (k : ℕ) → any 64 (λ t. goalAt (guarantees (separatedOf g)) k t && has (w .component .0) t) ≡ meetsAt (separatedOf g .output) (w .state .0) (goalAt (guarantees (separatedOf g)) k)
-    at k =
-        same-test (any 64 (λ t. goalAt (guarantees (separatedOf g)) k t && has (w .component .0) t)) (meetsAt (separatedOf g .output) (w .state .0) (goalAt (guarantees (separatedOf g)) k))
-        (λ h. let v = any-elim 64 (λ t. goalAt (guarantees (separatedOf g)) k t && has (w .component .0) t) h in
-        meetsAt-intro (separatedOf g .output) (w .state .0) (goalAt (guarantees (separatedOf g)) k) (v .0)
-        (and-left (goalAt (guarantees (separatedOf g)) k (v .0)) (has (w .component .0) (v .0)) (v .2))
-        (sym (comp-in (separatedOf g) w H (v .0)) ∙ and-right (goalAt (guarantees (separatedOf g)) k (v .0)) (has (w .component .0) (v .0)) (v .2)))
-        (λ h. let v = meetsAt-elim (separatedOf g .output) (w .state .0) (goalAt (guarantees (separatedOf g)) k) h in
-        any-intro 64 (λ t. goalAt (guarantees (separatedOf g)) k t && has (w .component .0) t) (v .0)
-        (omega (arith, joined-to (separatedOf g .output) (w .state .0) (v .0) (v .2), few-outputs g z Z))
-        (and-intro (v .1) (comp-in (separatedOf g) w H (v .0) ∙ v .2)))

@@ -5,7 +5,10 @@
 --   ranged-long                                         : the room stays as long as it is
 --   aiming-goals, aiming-bounds, aiming-rows            : what the search and the rows ask
 --   aimed-done                                          : what they give
---   aiming-of, aimed-in                                 : in one game
+--   facing-goal                                         : what one goal asks
+--   faced-none, faced-next, faced-past, faced-end       : some goals, one after the other
+--   faced-long                                          : the room stays as long as it is
+--   facing-of, faced-further                            : in one game, one stretch of goals after the other
 use Prim.Native.Nat.{ℕ, _+_, _*_, _≤_, _<_}
 use mathlib.Core.Path.{_≡_, refl, sym, subst}
 use mathlib.Core.Bool.{Bool, true, false, _&&_}
@@ -20,11 +23,13 @@ use Rattle.play.specs.Play.{separatedOf}
 use Rattle.theory.specs.Tour.{goalAt}
 use Rattle.theory.specs.Choice.{assumptions}
 use Rattle.ways.specs.Search.{Bounds, Toward}
+use Rattle.touring.specs.declared.Stretch.{Stretch}
 use Rattle.touring.specs.Goal.{Goals, firstFrom, passed, aimedAt}
+use Rattle.touring.specs.Stretches.{Short}
 use Rattle.environment_table.specs.Table.{Roomy, Filled, Spreading, Spreads}
-use Rattle.environment_table.specs.Touring.{Aims, Ranging, Ranged, Aiming, Aimed}
+use Rattle.environment_table.specs.Touring.{Aims, Ranging, Ranged, Aiming, Aimed, Headed, Facing, Faced}
 use Rattle.environment_table.proofs.Places.{filled-none, filled-same, filled-next}
-use Rattle.environment_table.proofs.Toured.{counter-small, spread-tour, aims-goals, some-goal, aims-counter, target-within, into-aimed, aims-rows}
+use Rattle.environment_table.proofs.Toured.{counter-small, spread-tour, aims-goals, some-goal, aims-counter, target-within, into-aimed, aims-rows, aims-next, aims-skip, aims-join}
 
 module _ (N O M c x a over which : ℕ) (next : List ℕ) where
   module _ (n : ℕ) (p : Ranging N O M c x a over which next n) (k : ℕ) (b : k < N) (e : has c k ≡ true) where
@@ -104,11 +109,52 @@ module _ (r : List ℕ) (N O M c q x a over : ℕ) where
             ));
       }
 
-module _ (g : Game) (M c q x a over : ℕ) (A : Aims g c q over M) (i : has q a ≡ true) (e : has x ≡ goalAt (assumptions (separatedOf g)) a) where
-  pub aiming-of : (n : ℕ) → Roomy g M n → Aiming (g .input .moves) (g .input .states) (g .output .states) M c q x a over n
-  aiming-of n R = record { game = g; moves = refl; inputs = refl; outputs = refl; roomy = R; aims = A; goal = i; set = e }
+module _ (r : List ℕ) (t : Stretch) (N O M c q over : ℕ) where
+  pub facing-goal : (j n m : ℕ) → j < t .count → has q (t .from + j) ≡ true → n ≡ m → Facing r t N O M c q over m
+      → Aiming r N O M c q (getD (t .words) j 0) (t .from + j) over n
+  facing-goal j n m b i e p = record {
+    game = p .game;
+    moves = p .moves;
+    inputs = p .inputs;
+    outputs = p .outputs;
+    roomy = subst (Roomy (p .game) M) (sym e) (p .roomy);
+    aims = p .aims;
+    goal = i;
+    set = p .sets j b;
+  }
 
-  pub aimed-in : {l m : List ℕ} → Roomy g M (length l) → Aimed (g .input .moves) (g .input .states) (g .output .states) M c q x a over l m
-      → Filled g (λ k h b. (firstFrom M q h ≡ a) × (has c k ≡ true) × (has over b ≡ true)) l m
-  unfolding aiming-of
-  aimed-in {l} R D = D .fills (aiming-of (length l) R)
+  pub faced-long : (j : ℕ) {l m : List ℕ} → Facing r t N O M c q over (length l) → Faced r t N O M c q over j l m → length m ≡ length l
+  faced-long j p D = D .fills p .grows .long
+
+  pub faced-none : (l : List ℕ) → Faced r t N O M c q over 0 l l
+  faced-none l = record { fills = λ p. filled-none (p .game) l (λ k h b f. omega (arith, f .from, f .below)) }
+
+  pub faced-next : (j : ℕ) {l m n k : List ℕ} → j < t .count → has q (t .from + j) ≡ true → Faced r t N O M c q over j l m → k ≡ n
+      → Aimed r N O M c q (getD (t .words) j 0) (t .from + j) over m n → Faced r t N O M c q over (j + 1) l k
+  unfolding facing-goal
+  faced-next j {l} {m} b i D e s = record {
+    fills = λ p.
+        aims-next (p .game) c q over M (t .from) (t .from + j) (t .from + (j + 1)) (omega arith) l m (D .fills p)
+        (s .fills (facing-goal j (length m) (length l) b i (faced-long j p D) p)) e;
+  }
+
+  pub faced-past : (j : ℕ) {l m k : List ℕ} → has q (t .from + j) ≡ false → Faced r t N O M c q over j l m → k ≡ m → Faced r t N O M c q over (j + 1) l k
+  faced-past j {l} {m} f D e = record {
+    fills = λ p.
+        aims-skip (p .game) c q over M (t .from) (t .from + j) (t .from + (j + 1)) (omega arith) l m (p .aims) (p .roomy .counters) (D .fills p) f e;
+  }
+
+  pub faced-end : (j n : ℕ) {l m : List ℕ} → j ≤ n → n ≤ j → Faced r t N O M c q over j l m → Faced r t N O M c q over n l m
+  faced-end j n {l} {m} b d D = subst (λ (k : ℕ). Faced r t N O M c q over k l m) (omega arith) D
+
+module _ (g : Game) (M c q over : ℕ) (A : Aims g c q over M) (t : Stretch) (short : Short t)
+    (sets : (j : ℕ) → j < t .count → has (getD (t .words) j 0) ≡ goalAt (assumptions (separatedOf g)) (t .from + j)) where
+  pub facing-of : (n : ℕ) → Roomy g M n → Facing (g .input .moves) t (g .input .states) (g .output .states) M c q over n
+  facing-of n R = record { game = g; moves = refl; inputs = refl; outputs = refl; roomy = R; aims = A; short = short; sets = sets }
+
+  pub faced-further : (n : ℕ) {l m k e : List ℕ} → t .from ≡ n → Roomy g M (length m) → Filled g (Headed M c q over 0 n) l m → e ≡ k
+      → Faced (g .input .moves) t (g .input .states) (g .output .states) M c q over (t .count) m k → Filled g (Headed M c q over 0 (n + t .count)) l e
+  unfolding facing-of
+  faced-further n {l} {m} {k} {e} s R F d D =
+      subst (λ (i : ℕ). Filled g (Headed M c q over 0 (i + t .count)) l e) s
+      (aims-join g c q over M 0 (t .from) (t .from + t .count) (subst (λ (i : ℕ). Filled g (Headed M c q over 0 i) l m) (sym s) F) (D .fills (facing-of (length m) R)) d)

@@ -1,19 +1,18 @@
 -- Tours in words.
 --
---   met-at                  : the sets that meet a component
 --   tour-row                : a row that is left to a tour is the tour's
 --   rests-rows, aims-rows   : so are the rows that are written, with no goal and with goals
 --   spread-rest, spread-tour : what these ask of the entries
 --   aims-goals, aims-below  : the counters of a tour
---   aims-next, aims-skip    : one goal after the other
+--   aims-next, aims-skip, aims-join, aims-all : one goal after the other
 use Prim.Native.Nat.{ℕ, _+_, _*_, _<_, _≤_}
 use native.Mathlib.Nat.{le-max-right, max-eq-right, zero-mul}
 use mathlib.Core.Path.{_≡_, refl, sym, _∙_, ap, ap₂, subst}
 use mathlib.Core.Bool.{Bool, true, false, _&&_, not}
 use mathlib.Core.List.{List}
-use mathlib.Core.Logic.{_≢_}
+use mathlib.Core.Logic.{inl, inr, _≢_}
 use native.Mathlib.Omega.{arith}
-use native.Mathlib.Decide.{ℕ-discrete}
+use native.Mathlib.Decide.{ℕ-discrete, decLt}
 use lib.Dec.{ltb}
 use lib.ListN.{length, getD}
 use lib.Bits.{bitAnd}
@@ -42,58 +41,28 @@ use Rattle.theory.specs.Entries.{entry, environmentCounters}
 use Rattle.theory.proofs.Delay.{region-same}
 use Rattle.theory.proofs.EnvironmentRow.{escapes-same, row-lost, pushing-nontrivial, pressing-tours}
 use Rattle.demands.proofs.Sizes.{assumptions-few}
-use Rattle.touring.specs.Goal.{Goals, firstFrom, passed, aimedAt, metAt}
+use Rattle.touring.specs.Goal.{Goals, firstFrom, passed, aimedAt}
+use Rattle.touring.specs.Stretches.{metIn}
 use Rattle.touring.proofs.Goal.{first-member, first-below, passed-below}
-use Rattle.touring.proofs.Tours.{goal-meets, goal-below, goals-none, goals-some, goals-from, goal-word, prefer-inside, toward-target, target-next, tour-rests, tour-aims}
+use Rattle.touring.proofs.Tours.{met-pack, goal-meets, goal-below, goals-none, goals-some, goals-from, goal-word, prefer-inside, toward-target, target-next, tour-rests, tour-aims}
 use Rattle.environment_table.specs.Table.{Roomy, Filled, Spread}
 use Rattle.environment_table.specs.Pressing.{Whole, touringAt}
-use Rattle.environment_table.specs.Touring.{metIn, Count, Rests, Tours, Left, Aims}
+use Rattle.environment_table.specs.Touring.{Count, Rests, Tours, Left, Aims, Headed}
 use Rattle.environment_table.proofs.Places.{filled-join, filled-same, below-next}
 use Rattle.environment_table.proofs.Outward.{whole-has, whole-number, whole-core, whole-in}
-
--- the sets that meet a component
-
-met-at : (g : Game) (c a x : ℕ) {b : Bool} → g .input .states ≤ 64 → within c (g .input .states) ≡ true
-    → has x ≡ goalAt (assumptions (separatedOf g)) a → b ≡ meets 64 x c → b ≡ metIn g c a
-unfolding metIn
-met-at g c a x n w e f = f ∙ same-test (meets 64 x c) (any (g .input .states) (λ t. goalAt (assumptions (separatedOf g)) a t && has c t)) there back
-  where
-    there : meets 64 x c ≡ true → any (g .input .states) (λ t. goalAt (assumptions (separatedOf g)) a t && has c t) ≡ true
-    there h =
-        let v = meets-elim 64 x c h in
-        any-intro (g .input .states) (λ t. goalAt (assumptions (separatedOf g)) a t && has c t) (v .0) (within-has c (g .input .states) (v .0) w (v .3))
-        (and-intro (ap (λ (p : ℕ → Bool). p (v .0)) (sym e) ∙ v .2) (v .3))
-
-    back : any (g .input .states) (λ t. goalAt (assumptions (separatedOf g)) a t && has c t) ≡ true → meets 64 x c ≡ true
-    back h =
-        let v = any-elim (g .input .states) (λ t. goalAt (assumptions (separatedOf g)) a t && has c t) h in
-        let both = v .2 in
-        meets-intro 64 x c (v .0) (omega (arith, v .1))
-        (ap (λ (p : ℕ → Bool). p (v .0)) e ∙ and-left (goalAt (assumptions (separatedOf g)) a (v .0)) (has c (v .0)) both)
-        (and-right (goalAt (assumptions (separatedOf g)) a (v .0)) (has c (v .0)) both)
-
-pub met-pack : (g : Game) (c n q : ℕ) (v : List ℕ) → g .input .states ≤ 64 → within c (g .input .states) ≡ true
-    → ((a : ℕ) → a < n → has (getD v a 0) ≡ goalAt (assumptions (separatedOf g)) a) → q ≡ pack n (metAt v c) → q ≡ pack n (metIn g c)
-unfolding metAt
-met-pack g c n q v b w f e = e ∙ pack-ext n (metAt v c) (metIn g c) (λ a d. met-at g c a (getD v a 0) b w (f a d) refl)
 
 pub whole-within : (g : Game) (c k : ℕ) → Whole g c k → within c (g .input .states) ≡ true
 unfolding graphOf
 whole-within g c k W = has-within c (g .input .states) (λ t e. joined-to (graphOf (g .input)) k t (whole-in g c k W t e))
 
 module _ (g : Game) (c k : ℕ) (W : Whole g c k) where
-  met-meets : (a : ℕ) → metIn g c a ≡ meetsAt (graphOf (g .input)) k (goalAt (assumptions (separatedOf g)) a)
-  unfolding metIn meetsAt graphOf
-  met-meets a =
-      any-same (g .input .states) (λ t. goalAt (assumptions (separatedOf g)) a t && has c t)
-      (λ t. goalAt (assumptions (separatedOf g)) a t && joined (graphOf (g .input)) k t)
-      (λ t b. ap (λ (y : Bool). goalAt (assumptions (separatedOf g)) a t && y) (ap (λ (p : ℕ → Bool). p t) (whole-has g c k W)))
-
-  goals-pack : (q M : ℕ) → M ≡ length (assumptions (separatedOf g)) → q ≡ pack M (metIn g c)
+  -- the sets that meet it
+  goals-pack : (q M : ℕ) → g .input .states ≤ 64 → M ≡ length (assumptions (separatedOf g)) → q ≡ pack M (metIn (assumptions (separatedOf g)) c)
       → q ≡ pack (length (assumptions (separatedOf g))) (λ a. meetsAt (graphOf (g .input)) k (goalAt (assumptions (separatedOf g)) a))
-  goals-pack q M m e =
-      e ∙ ap (λ (n : ℕ). pack n (metIn g c)) m
-      ∙ pack-ext (length (assumptions (separatedOf g))) (metIn g c) (λ a. meetsAt (graphOf (g .input)) k (goalAt (assumptions (separatedOf g)) a)) (λ a b. met-meets a)
+  unfolding graphOf
+  goals-pack q M few m e =
+      e ∙ met-pack (graphOf (g .input)) k c few (λ t. ap (λ (p : ℕ → Bool). p t) (whole-has g c k W)) (assumptions (separatedOf g)) M
+      ∙ ap (λ (n : ℕ). pack n (λ a. meetsAt (graphOf (g .input)) k (goalAt (assumptions (separatedOf g)) a))) m
 
   -- a row that is left to a tour
   tour-row : (a h o : ℕ) → has c a ≡ true → o < g .output .states → touringAt g k o ≡ true
@@ -117,14 +86,14 @@ module _ (g : Game) (c k : ℕ) (W : Whole g c k) where
 
 -- the rows with no goal
 
-pub rests-rows : (g : Game) (c over q M : ℕ) → g .input .states ≤ 64 → Left g c over → M ≡ length (assumptions (separatedOf g)) → q ≡ pack M (metIn g c) → q ≡ 0
-    → Rests g c over
+pub rests-rows : (g : Game) (c over q : ℕ) → g .input .states ≤ 64 → Left g c over
+    → q ≡ pack (length (assumptions (separatedOf g))) (metIn (assumptions (separatedOf g)) c) → q ≡ 0 → Rests g c over
 unfolding graphOf
-rests-rows g c over q M n L m e z = record {
+rests-rows g c over q n L e z = record {
   row = λ a h o b x y d w.
       tour-row g c k W a h o x d (pack-holds (g .output .states) (touringAt g k) o (ap (λ (v : ℕ). has v o) (sym (L .outputs)) ∙ w))
       ∙ tour-rests (graphOf (g .input)) k (assumptions (separatedOf g)) a h (prefer 64 a (has (bitAnd (getD (g .input .moves) a 0) c)))
-      (goals-none (graphOf (g .input)) k (assumptions (separatedOf g)) q (goals-pack g c k W q M m e) z)
+      (goals-none (graphOf (g .input)) k (assumptions (separatedOf g)) q (goals-pack g c k W q (length (assumptions (separatedOf g))) n refl e) z)
       (prefer-inside (graphOf (g .input)) k (g .input .moves) c (λ s t u v. refl) (W .word) a (bitAnd (getD (g .input .moves) a 0) c) n
       (whole-in g c k W a x) (whole-core g c k W a (whole-in g c k W a x)) (λ t. has-and (getD (g .input .moves) a 0) c t));
 }
@@ -155,7 +124,7 @@ spread-rest g M c over which n k p R T b e w f = record {
 
 module _ (g : Game) (c q over M : ℕ) (A : Aims g c q over M) where
   aims-word : q ≡ pack (length (assumptions (separatedOf g))) (λ a. meetsAt (graphOf (g .input)) (A .left .first) (goalAt (assumptions (separatedOf g)) a))
-  aims-word = goals-pack g c (A .left .first) (A .left .whole) q M (A .count .all) (A .goals)
+  aims-word = goals-pack g c (A .left .first) (A .left .whole) q M (A .count .inputs) (A .count .all) (A .goals)
 
   pub aims-goals : (h : ℕ) → h < M → Goals q M h
   aims-goals h b =
@@ -262,35 +231,63 @@ count-of g n a e = record {
   inputs = accepted-fits g a .input .most;
 }
 
-pub aims-of : (g : Game) (M n c over q count : ℕ) → Roomy g M n → Left g c over → count ≡ length (assumptions (separatedOf g)) → q ≡ pack count (metIn g c) → q ≢ 0
-    → Aims g c q over M
+pub aims-of : (g : Game) (M n c over q : ℕ) → Roomy g M n → Left g c over → q ≡ pack (length (assumptions (separatedOf g))) (metIn (assumptions (separatedOf g)) c)
+    → q ≢ 0 → Aims g c q over M
 unfolding environmentCounters
-aims-of g M n c over q count R L m e ne = record {
+aims-of g M n c over q R L e ne = record {
   left = L;
-  count = count-of g M (R .accepted) (same ∙ m);
-  goals = e ∙ ap (λ (k : ℕ). pack k (metIn g c)) (sym same);
+  count = count-of g M (R .accepted) same;
+  goals = e ∙ ap (λ (k : ℕ). pack k (metIn (assumptions (separatedOf g)) c)) (sym same);
   some = ne;
 }
   where
-    some : 0 < count
-    some = let v = nonzero-member q ne in omega (arith, pack-below count (metIn g c) (v .0) (ap (λ (y : ℕ). has y (v .0)) (sym e) ∙ v .1))
+    some : 0 < length (assumptions (separatedOf g))
+    some =
+        let v = nonzero-member q ne in
+        omega (arith, pack-below (length (assumptions (separatedOf g))) (metIn (assumptions (separatedOf g)) c) (v .0) (ap (λ (y : ℕ). has y (v .0)) (sym e) ∙ v .1))
 
-    same : M ≡ count
-    same = R .counters ∙ max-eq-right (omega (arith, m, some)) ∙ sym m
+    same : M ≡ length (assumptions (separatedOf g))
+    same = R .counters ∙ max-eq-right (omega (arith, some))
 
 -- one goal after the other
 
-module _ (g : Game) (c q over M : ℕ) (l m : List ℕ) (a : ℕ) where
-  pub aims-next : {n r : List ℕ} → Filled g (λ k h b. (firstFrom M q h < a) × (has c k ≡ true) × (has over b ≡ true)) l m
-      → Filled g (λ k h b. (firstFrom M q h ≡ a) × (has c k ≡ true) × (has over b ≡ true)) m n → r ≡ n
-      → Filled g (λ k h b. (firstFrom M q h < a + 1) × (has c k ≡ true) × (has over b ≡ true)) l r
-  aims-next f d e = rw e (filled-join g f d (λ k h b x y z p. below-next (firstFrom M q h) a (p .0) (λ v. (v, p .1, p .2)) (λ v. (v, p .1, p .2))))
+module _ (g : Game) (c q over M i a e : ℕ) (next : e ≤ a + 1) (l m : List ℕ) where
+  pub aims-next : {n r : List ℕ} → Filled g (Headed M c q over i a) l m → Filled g (λ k h b. (firstFrom M q h ≡ a) × (has c k ≡ true) × (has over b ≡ true)) m n → r ≡ n
+      → Filled g (Headed M c q over i e) l r
+  aims-next f d s =
+      rw s
+      (filled-join g f d
+      (λ k h b x y z p. below-next (firstFrom M q h) a (omega (arith, p .below)) (λ v. record { from = p .from; below = v; input = p .input; output = p .output })
+      (λ v. (v, p .input, p .output))))
 
-  pub aims-skip : {r : List ℕ} → Aims g c q over M → M ≡ environmentCounters (separatedOf g)
-      → Filled g (λ k h b. (firstFrom M q h < a) × (has c k ≡ true) × (has over b ≡ true)) l m → has q a ≡ false → r ≡ m
-      → Filled g (λ k h b. (firstFrom M q h < a + 1) × (has c k ≡ true) × (has over b ≡ true)) l r
-  aims-skip A s f e d = rw d (filled-same g f (λ k h b x y z p. (go h y (p .0) (ℕ-discrete (firstFrom M q h) a), p .1, p .2)))
+  pub aims-skip : {r : List ℕ} → Aims g c q over M → M ≡ environmentCounters (separatedOf g) → Filled g (Headed M c q over i a) l m → has q a ≡ false → r ≡ m
+      → Filled g (Headed M c q over i e) l r
+  aims-skip A s f n d =
+      rw d
+      (filled-same g f (λ k h b x y z p. record { from = p .from; below = go h y (p .below) (ℕ-discrete (firstFrom M q h) a); input = p .input; output = p .output }))
     where
-      go : (h : ℕ) → h < environmentCounters (separatedOf g) → firstFrom M q h < a + 1 → Dec (firstFrom M q h ≡ a) → firstFrom M q h < a
-      go h y p (yes v) = clash (ap (has q) (sym v) ∙ aims-member g c q over M A h (aims-counter g c q over M A h y s)) e
+      go : (h : ℕ) → h < environmentCounters (separatedOf g) → firstFrom M q h < e → Dec (firstFrom M q h ≡ a) → firstFrom M q h < a
+      go h y p (yes v) = clash (ap (has q) (sym v) ∙ aims-member g c q over M A h (aims-counter g c q over M A h y s)) n
       go h y p (no v) = omega arith
+
+-- goals below a, and from a on
+pub aims-join : (g : Game) (c q over M i a e : ℕ) {l m n r : List ℕ} → Filled g (Headed M c q over i a) l m → Filled g (Headed M c q over a e) m n → r ≡ n
+    → Filled g (Headed M c q over i e) l r
+aims-join g c q over M i a e f d s =
+    rw s
+    (filled-join g f d
+    (λ k h b x y z p. elim (decLt (firstFrom M q h) a) [
+      | yes v ↦ inl (record { from = p .from; below = v; input = p .input; output = p .output })
+      | no v ↦ inr (record { from = omega arith; below = p .below; input = p .input; output = p .output })
+    ]))
+
+pub aims-all : (g : Game) (c q over M n : ℕ) {l m : List ℕ} → Aims g c q over M → M ≡ environmentCounters (separatedOf g) → n ≡ length (assumptions (separatedOf g))
+    → Filled g (Headed M c q over 0 n) l m → Filled g (λ k h b. (has c k ≡ true) × (has over b ≡ true)) l m
+aims-all g c q over M n A s e f =
+    filled-same g f
+    (λ k h b x y z p. record {
+      from = omega arith;
+      below = omega (arith, aims-below g c q over M A h (aims-counter g c q over M A h y s), A .count .all);
+      input = p .0;
+      output = p .1;
+    })

@@ -1,6 +1,5 @@
 -- Tours of a nontrivial component past the assumptions. The outputs that are left to a tour are a word `over`.
 --
---   metIn g c a               == assumption a has a state in the set c
 --   Count g n                 == there are n assumptions, few enough for a word
 --   Rests g c over            == with no goal: the rows of the states of c and the outputs of over
 --   Tours g M c x a over which next == towards goal a, the set x: those rows, for the counters of which
@@ -10,14 +9,16 @@
 --   Ranged N O M c x a over which next k l m == from l to m those of the states below k were written, of any such game
 --   Aiming r N O M c q x a over n    == of such a game with moves r: x is goal number a
 --   Aimed r N O M c q x a over l m   == from l to m the rows of the counters whose goal it is were written, of any such game
-use Prim.Native.Nat.{ℕ, _<_, _≤_}
+--   Headed M c q over i e k h b      == the goal of counter h is at least i and below e, and the row is one of c and over
+--   Facing r t N O M c q over n      == of such a game: t are some of its assumptions by their numbers
+--   Faced r t N O M c q over j l m   == from l to m the rows of the counters whose goal is among the first j of t were written, of any such game
+use Prim.Native.Nat.{ℕ, _+_, _<_, _≤_}
 use mathlib.Core.Path.{_≡_}
-use mathlib.Core.Bool.{Bool, true, _&&_}
+use mathlib.Core.Bool.{true}
 use mathlib.Core.List.{List}
 use mathlib.Core.Logic.{_≢_}
 use lib.ListN.{length, getD}
 use lib.Bits.{bitAnd}
-use Rattle.finite.specs.Bounded.{any}
 use Rattle.sets.specs.Member.{has, pack}
 use Rattle.graphs.specs.Way.{prefer}
 use Rattle.game.specs.declared.Game.{Game}
@@ -28,12 +29,11 @@ use Rattle.arena.specs.Table.{gives}
 use Rattle.theory.specs.Tour.{goalAt}
 use Rattle.theory.specs.Choice.{assumptions, environmentRow}
 use Rattle.theory.specs.Entries.{environmentCounters}
+use Rattle.touring.specs.declared.Stretch.{Stretch}
 use Rattle.touring.specs.Goal.{firstFrom, passed}
+use Rattle.touring.specs.Stretches.{metIn, Short}
 use Rattle.environment_table.specs.Table.{Roomy, Filled}
 use Rattle.environment_table.specs.Pressing.{Whole, touringAt}
-
-unfoldable pub metIn : Game → ℕ → ℕ → Bool
-metIn g c a = any (g .input .states) (λ t. goalAt (assumptions (separatedOf g)) a t && has c t)
 
 pub record Count (g : Game) (n : ℕ) : Type 0 where
   pub accepted : acceptance g ≡ Accepted
@@ -62,7 +62,7 @@ pub record Left (g : Game) (c over : ℕ) : Type 0 where
 pub record Aims (g : Game) (c q over M : ℕ) : Type 0 where
   pub left : Left g c over
   pub count : Count g M
-  pub goals : q ≡ pack M (metIn g c)
+  pub goals : q ≡ pack M (metIn (assumptions (separatedOf g)) c)
   pub some : q ≢ 0
 
 pub record Ranging (N O M c x a over which : ℕ) (next : List ℕ) (n : ℕ) : Type 0 where
@@ -89,3 +89,22 @@ pub record Aiming (r : List ℕ) (N O M c q x a over n : ℕ) : Type 0 where
 pub record Aimed (r : List ℕ) (N O M c q x a over : ℕ) (l m : List ℕ) : Type 0 where
   pub fills : (p : Aiming r N O M c q x a over (length l))
       → Filled (p .game) (λ k h b. (firstFrom M q h ≡ a) × (has c k ≡ true) × (has over b ≡ true)) l m
+
+pub record Headed (M c q over i e k h b : ℕ) : Type 0 where
+  pub from : i ≤ firstFrom M q h
+  pub below : firstFrom M q h < e
+  pub input : has c k ≡ true
+  pub output : has over b ≡ true
+
+pub record Facing (r : List ℕ) (t : Stretch) (N O M c q over n : ℕ) : Type 0 where
+  pub game : Game
+  pub moves : r ≡ game .input .moves
+  pub inputs : N ≡ game .input .states
+  pub outputs : O ≡ game .output .states
+  pub roomy : Roomy game M n
+  pub aims : Aims game c q over M
+  pub short : Short t
+  pub sets : (j : ℕ) → j < t .count → has (getD (t .words) j 0) ≡ goalAt (assumptions (separatedOf game)) (t .from + j)
+
+pub record Faced (r : List ℕ) (t : Stretch) (N O M c q over j : ℕ) (l m : List ℕ) : Type 0 where
+  pub fills : (p : Facing r t N O M c q over (length l)) → Filled (p .game) (Headed M c q over (t .from) (t .from + j)) l m

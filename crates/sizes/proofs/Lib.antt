@@ -1,5 +1,5 @@
 -- Laws for the counts.
 pub mod Concat
 pub mod Below
-pub mod InOrder
+pub mod Numbered
 pub mod Lengths

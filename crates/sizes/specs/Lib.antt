@@ -1,3 +1,3 @@
 -- What the invariants of the counts cite, and the sets in file order.
 pub mod Below
-pub mod InOrder
+pub mod Numbered

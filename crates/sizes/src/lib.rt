@@ -1,16 +1,19 @@
-// The sizes of an accepted game's tables, and the sets of all its requirements by number, in file order.
+// The sizes of an accepted game's tables, and the sets of all its requirements by number, in file order: one requirement after the other.
 use game::Game;
 use game::Requirement;
+use touring::Stretch;
 ghost use mathlib.Core.Path.{_≡_};
-ghost use Prim.Native.Nat.{_+_, _≤_, max};
+ghost use Prim.Native.Nat.{max};
 ghost use lib.ListN.{length};
+ghost use Rattle.sets.specs.Member.{pack};
 ghost use Rattle.game.specs.Acceptance.{acceptance};
 ghost use Rattle.game.specs.declared.Acceptance.the-variants.{Accepted};
 ghost use Rattle.play.specs.Play.{separatedOf};
 ghost use Rattle.theory.specs.Choice.{guarantees, assumptions};
 ghost use Rattle.theory.specs.Entries.{controllerCounters, environmentCounters, controllerEntries, environmentEntries};
 ghost use Rattle.sizes.specs.Below.{guaranteeSide, assumptionSide};
-ghost use Rattle.sizes.specs.InOrder.{Placed, InOrder};
+ghost use Rattle.touring.specs.Stretches.{metIn};
+ghost use Rattle.sizes.specs.Numbered.{SetsOf};
 
 // How many guarantees all requirements have.
 pub fn guarantee_count(g: Game) -> usize
@@ -42,72 +45,68 @@ pub fn assumption_count(g: Game) -> usize
     n
 }
 
-// All sets of one side in file order. Of the 32 places `count` are in use.
-pub struct Listing {
-    pub words: [u64; 32],
-    pub count: usize,
-}
-
-// Puts the guarantees of one requirement at the places from `from` on.
-fn place_guarantees(q: Requirement, from: usize, words: &mut [u64; 32])
-    requires { ⌜ (q .guaranteed ≤ 4) × (from + q .guaranteed ≤ 32) × (length (now words) ≡ 32) ⌝ }
-    ensures { λ _. ⌜ Placed guaranteeSide q from (q .guaranteed) (now (words .entry)) (now (words .exit)) ⌝ }
+// The guarantees of one requirement, the first of them number `from` of all.
+pub fn guarantees_of(q: Requirement, from: usize) -> Stretch
+    ensures { λ s. ⌜ SetsOf guaranteeSide q from s ⌝ }
 {
-    let n = q.guaranteed;
-    let mut j: usize = 0;
-    while j < n {
-        let x = q.guarantees[j];
-        words[from + j] = x.0;
-        j += 1;
+    let a = q.guarantees[0];
+    let b = q.guarantees[1];
+    let c = q.guarantees[2];
+    let d = q.guarantees[3];
+    Stretch {
+        words: [a.0, b.0, c.0, d.0],
+        count: q.guaranteed,
+        from,
     }
 }
 
-// All guarantees of a game. Who goes through them more than once asks for them here, and then needs no game: to pass one copies it.
-pub fn all_guarantees(g: Game) -> Listing
+// The numbers of the guarantees that have a state in x.
+pub fn guarantees_met(g: Game, x: u64) -> u64
     requires { ⌜ acceptance g ≡ Accepted ⌝ }
-    ensures { λ x. ⌜ InOrder (guarantees (separatedOf g)) (x .count) (x .words) ⌝ }
+    ensures { λ q. ⌜ q ≡ pack (length (guarantees (separatedOf g))) (metIn (guarantees (separatedOf g)) x) ⌝ }
 {
-    let mut words = [0u64; 32];
-    let mut count: usize = 0;
+    let mut q: u64 = 0;
+    let mut n: usize = 0;
     let mut r: usize = 0;
     while r < g.k {
-        let q = g.requirements[r];
-        place_guarantees(q, count, &mut words);
-        count += q.guaranteed;
+        let s = guarantees_of(g.requirements[r], n);
+        q = touring::add_met(q, s, x);
+        n += s.count;
         r += 1;
     }
-    Listing { words, count }
+    q
 }
 
-// Puts the assumptions of one requirement at the places from `from` on.
-fn place_assumptions(q: Requirement, from: usize, words: &mut [u64; 32])
-    requires { ⌜ (q .assumed ≤ 4) × (from + q .assumed ≤ 32) × (length (now words) ≡ 32) ⌝ }
-    ensures { λ _. ⌜ Placed assumptionSide q from (q .assumed) (now (words .entry)) (now (words .exit)) ⌝ }
+// The assumptions of one requirement, the first of them number `from` of all.
+pub fn assumptions_of(q: Requirement, from: usize) -> Stretch
+    ensures { λ s. ⌜ SetsOf assumptionSide q from s ⌝ }
 {
-    let n = q.assumed;
-    let mut j: usize = 0;
-    while j < n {
-        let x = q.assumptions[j];
-        words[from + j] = x.0;
-        j += 1;
+    let a = q.assumptions[0];
+    let b = q.assumptions[1];
+    let c = q.assumptions[2];
+    let d = q.assumptions[3];
+    Stretch {
+        words: [a.0, b.0, c.0, d.0],
+        count: q.assumed,
+        from,
     }
 }
 
-// All assumptions of a game, for the same use.
-pub fn all_assumptions(g: Game) -> Listing
+// The numbers of the assumptions that have a state in x.
+pub fn assumptions_met(g: Game, x: u64) -> u64
     requires { ⌜ acceptance g ≡ Accepted ⌝ }
-    ensures { λ x. ⌜ InOrder (assumptions (separatedOf g)) (x .count) (x .words) ⌝ }
+    ensures { λ q. ⌜ q ≡ pack (length (assumptions (separatedOf g))) (metIn (assumptions (separatedOf g)) x) ⌝ }
 {
-    let mut words = [0u64; 32];
-    let mut count: usize = 0;
+    let mut q: u64 = 0;
+    let mut n: usize = 0;
     let mut r: usize = 0;
     while r < g.k {
-        let q = g.requirements[r];
-        place_assumptions(q, count, &mut words);
-        count += q.assumed;
+        let s = assumptions_of(g.requirements[r], n);
+        q = touring::add_met(q, s, x);
+        n += s.count;
         r += 1;
     }
-    Listing { words, count }
+    q
 }
 
 // A counter runs even where there is no set.

@@ -3,3 +3,4 @@ pub mod Goal
 pub mod Aims
 pub mod Tours
 pub mod Next
+pub mod Stretches

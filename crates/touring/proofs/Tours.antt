@@ -1,5 +1,6 @@
 -- A tour of the component of c in words: what the searches and the counters give is what `tour` says.
 --
+--   met-pack               : the sets that meet the component, from its states as a word
 --   goals-none, goals-some : whether some set meets the component
 --   goals-from             : a counter, with the word of the sets that meet the component
 --   goal-word              : the first member from g on is the goal
@@ -17,15 +18,16 @@ use mathlib.Core.Logic.{_≢_}
 use native.Mathlib.Omega.{arith}
 use lib.ListN.{length, getD}
 use Rattle.finite.proofs.Truth.{and-intro, and-left, and-right, same-test}
-use Rattle.finite.proofs.Bounded.{any-intro, any-none, least-same}
+use Rattle.finite.specs.Bounded.{any}
+use Rattle.finite.proofs.Bounded.{any-intro, any-elim, any-none, least-same}
 use Rattle.sets.specs.Member.{has, pack}
-use Rattle.sets.proofs.Membership.{has-zero, has-pack-below, has-lt, pack-lt, lt-within}
+use Rattle.sets.proofs.Membership.{has-zero, has-pack-below, has-lt, pack-lt, pack-ext, lt-within}
 use Rattle.sets.proofs.Compare.{nonzero-member}
 use Rattle.graphs.specs.Graph.{Graph}
 use Rattle.graphs.specs.Component.{joined, nontrivial, meetsAt}
 use Rattle.graphs.specs.Way.{prefer, toward}
 use Rattle.graphs.proofs.Graph.{edge-intro, edge-moves}
-use Rattle.graphs.proofs.Component.{joined-to, meetsAt-elim}
+use Rattle.graphs.proofs.Component.{joined-to, meetsAt-intro, meetsAt-elim}
 use Rattle.arena.specs.Table.{Answer, gives}
 use Rattle.theory.specs.Tour.{goalAt, around, inside, ahead, goal, hasGoal, target, arrive, tour}
 use Rattle.theory.proofs.Around.{around-below}
@@ -36,6 +38,21 @@ use Rattle.ways.specs.Search.{Toward}
 use Rattle.ways.proofs.Kept.{kept-pack, members-pack, toward-along}
 use Rattle.ways.proofs.Choice.{prefer-same, prefer-wider}
 use Rattle.touring.specs.Goal.{Goals, firstFrom, passed}
+use Rattle.touring.specs.Stretches.{metIn}
+
+-- the sets that meet the component, whose states are the word x
+met-meets : (G : Graph) (c x : ℕ) → G .states ≤ 64 → ((t : ℕ) → has x t ≡ joined G c t) → (l : List (ℕ → Bool)) (a : ℕ) → metIn l x a ≡ meetsAt G c (goalAt l a)
+unfolding metIn
+met-meets G c x few f l a =
+    same-test (any 64 (λ t. goalAt l a t && has x t)) (meetsAt G c (goalAt l a))
+    (λ h. let v = any-elim 64 (λ t. goalAt l a t && has x t) h in
+    meetsAt-intro G c (goalAt l a) (v .0) (and-left (goalAt l a (v .0)) (has x (v .0)) (v .2)) (sym (f (v .0)) ∙ and-right (goalAt l a (v .0)) (has x (v .0)) (v .2)))
+    (λ h. let v = meetsAt-elim G c (goalAt l a) h in
+    any-intro 64 (λ t. goalAt l a t && has x t) (v .0) (omega (arith, joined-to G c (v .0) (v .2))) (and-intro (v .1) (f (v .0) ∙ v .2)))
+
+pub met-pack : (G : Graph) (c x : ℕ) → G .states ≤ 64 → ((t : ℕ) → has x t ≡ joined G c t) → (l : List (ℕ → Bool)) (n : ℕ)
+    → pack n (metIn l x) ≡ pack n (λ a. meetsAt G c (goalAt l a))
+met-pack G c x few f l n = pack-ext n (metIn l x) (λ a. meetsAt G c (goalAt l a)) (λ a b. met-meets G c x few f l a)
 
 -- the sets that meet the component, as a word of their numbers
 module _ (G : Graph) (c : ℕ) (l : List (ℕ → Bool)) (q : ℕ) (e : q ≡ pack (length l) (λ k. meetsAt G c (goalAt l k))) where

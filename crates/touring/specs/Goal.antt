@@ -5,17 +5,14 @@
 --   passed m b a        == the counter after a move towards goal a; b tells whether the move landed in it
 --   Past x r            == the members of x are below r, and the number before r is one
 --   aimedAt m q a h     == a is the first member from h on
---   metAt w x a         == word a of w has a state in the set x
 --   NextIn x n k r      == r is the first member of x from k on and below n; n where there is none
 use Prim.Native.Nat.{ℕ, _+_, _≤_, _<_}
 use mathlib.Core.Path.{_≡_}
 use mathlib.Core.Bool.{Bool, true, false}
 use mathlib.Core.Logic.{_≢_}
-use mathlib.Core.List.{List}
 use lib.Dec.{eqb}
-use lib.ListN.{getD}
 use Rattle.finite.specs.Bounded.{least}
-use Rattle.sets.specs.Member.{has, within, meets}
+use Rattle.sets.specs.Member.{has, within}
 use Rattle.theory.specs.Tour.{around}
 
 pub record Goals (q m g : ℕ) : Type 0 where
@@ -39,9 +36,6 @@ pub record Past (x r : ℕ) : Type 0 where
 
 unfoldable pub aimedAt : ℕ → ℕ → ℕ → ℕ → Bool
 aimedAt m q a h = eqb (firstFrom m q h) a
-
-unfoldable pub metAt : List ℕ → ℕ → ℕ → Bool
-metAt w x a = meets 64 (getD w a 0) x
 
 pub record NextIn (x n k r : ℕ) : Type 0 where
   pub from : k ≤ r

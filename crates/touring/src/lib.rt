@@ -2,20 +2,28 @@
 ghost use mathlib.Core.Path.{_≡_};
 ghost use Prim.Native.Nat.{_≤_, _<_};
 ghost use Rattle.sets.specs.Member.{pack};
-ghost use Rattle.touring.specs.Goal.{Goals, passed, Past, aimedAt, metAt, NextIn};
+ghost use Rattle.touring.specs.Goal.{Goals, passed, Past, aimedAt, NextIn};
+ghost use Rattle.touring.specs.Stretches.{Short, MetMore};
 
-// The numbers of the sets that have a state in x, the goals of a tour: the first count of words are the sets.
-pub fn met(words: &[u64; 32], count: usize, x: u64) -> u64
-    requires { ⌜ count ≤ 32 ⌝ }
-    ensures { λ r. ⌜ r ≡ pack count (metAt (now (words .entry)) x) ⌝ }
+// Some sets of a tour, one after the other, as words: the first of them is number `from` of all. Of the four places `count` are in use.
+pub struct Stretch {
+    pub words: [u64; 4],
+    pub count: usize,
+    pub from: usize,
+}
+
+// q, and the numbers of the sets of s that have a state in x: these are goals of a tour through x.
+pub fn add_met(q: u64, s: Stretch, x: u64) -> u64
+    requires { ⌜ Short s ⌝ }
+    ensures { λ r. ⌜ MetMore s x q (s .count) r ⌝ }
 {
-    let mut q: u64 = 0;
-    let mut a: usize = 0;
-    while a < count {
-        q = sets::insert_if(q, a, sets::meets(words[a], x));
-        a += 1;
+    let mut m = q;
+    let mut j: usize = 0;
+    while j < s.count {
+        m = sets::insert_if(m, s.from + j, sets::meets(s.words[j], x));
+        j += 1;
     }
-    q
+    m
 }
 
 // The counter after a move towards goal a: past it where the move landed there.

@@ -4,16 +4,14 @@ use game::Game;
 use game::InSet;
 use game::InState;
 use game::OutSet;
+use touring::Stretch;
 use ways::Ways;
 ghost use mathlib.Core.Path.{_≡_};
 ghost use mathlib.Core.Bool.{true};
 ghost use lib.ListN.{length};
 ghost use Rattle.sets.specs.Member.{has};
-ghost use Rattle.play.specs.Play.{separatedOf};
-ghost use Rattle.theory.specs.Choice.{assumptions};
-ghost use Rattle.sizes.specs.InOrder.{InOrder};
 ghost use Rattle.environment_table.specs.Table.{Roomy, Filled};
-ghost use Rattle.environment_table.specs.Touring.{Rests, Left, Aims, Ranging, Ranged, Aiming, Aimed};
+ghost use Rattle.environment_table.specs.Touring.{Rests, Left, Aims, Ranging, Ranged, Aiming, Aimed, Facing, Faced};
 
 // With no goal: each state's lowest move inside the component; the counter stays.
 fn rests(g: Game, counters: usize, c: InSet, over: OutSet, room: &mut [u16])
@@ -99,28 +97,30 @@ fn aim(
     tour_rows(inputs, outputs, counters, c, x, a, over, which, w, room);
 }
 
-// One goal after the other: word a is assumption a.
-fn aims(
-    g: Game,
-    words: &[u64; 32],
+// The rows towards the goals of q among the assumptions of t, one after the other; so passed.
+fn aim_some(
+    moves: &[u64; 64],
+    inputs: usize,
+    outputs: usize,
     counters: usize,
+    t: Stretch,
     c: InSet,
     q: u64,
     over: OutSet,
     room: &mut [u16],
 )
-    requires { ⌜ Roomy g counters (length (now room)) × Aims g (c .0) q (over .0) counters × InOrder (assumptions (separatedOf g)) counters (now words) ⌝ }
-    ensures { λ r. ⌜ Filled g (λ k h b. (has (c .0) k ≡ true) × (has (over .0) b ≡ true)) (now (room .entry)) (now (room .exit)) ⌝ }
+    requires { ⌜ Facing (now moves) t inputs outputs counters (c .0) q (over .0) (length (now room)) ⌝ }
+    ensures { λ r. ⌜ Faced (now (moves .entry)) t inputs outputs counters (c .0) q (over .0) (t .count) (now (room .entry)) (now (room .exit)) ⌝ }
 {
-    let h = g.input;
-    let mut a: usize = 0;
-    while a < counters {
+    let mut j: usize = 0;
+    while j < t.count {
+        let a = t.from + j;
         if sets::member(q, a) {
-            let x = words[a];
+            let x = t.words[j];
             aim(
-                &h.moves,
-                h.states,
-                g.output.states,
+                moves,
+                inputs,
+                outputs,
                 counters,
                 c,
                 q,
@@ -130,20 +130,45 @@ fn aims(
                 room,
             );
         }
-        a += 1;
+        j += 1;
     }
 }
 
-// The rows of the component c and the outputs of `over`, those with which it has no way out. The assumptions are listed once for all that goes through them.
+// The rows towards all goals, one requirement after the other.
+fn aims(g: Game, counters: usize, c: InSet, q: u64, over: OutSet, room: &mut [u16])
+    requires { ⌜ Roomy g counters (length (now room)) × Aims g (c .0) q (over .0) counters ⌝ }
+    ensures { λ r. ⌜ Filled g (λ k h b. (has (c .0) k ≡ true) × (has (over .0) b ≡ true)) (now (room .entry)) (now (room .exit)) ⌝ }
+{
+    let h = g.input;
+    let mut n: usize = 0;
+    let mut r: usize = 0;
+    while r < g.k {
+        let t = sizes::assumptions_of(g.requirements[r], n);
+        aim_some(
+            &h.moves,
+            h.states,
+            g.output.states,
+            counters,
+            t,
+            c,
+            q,
+            over,
+            room,
+        );
+        n += t.count;
+        r += 1;
+    }
+}
+
+// The rows of the component c and the outputs of `over`, those with which it has no way out. The goals are found once for all of them.
 pub fn tours(g: Game, counters: usize, c: InSet, over: OutSet, room: &mut [u16])
     requires { ⌜ Roomy g counters (length (now room)) × Left g (c .0) (over .0) ⌝ }
     ensures { λ r. ⌜ Filled g (λ k h b. (has (c .0) k ≡ true) × (has (over .0) b ≡ true)) (now (room .entry)) (now (room .exit)) ⌝ }
 {
-    let all = sizes::all_assumptions(g);
-    let q = touring::met(&all.words, all.count, c.0);
+    let q = sizes::assumptions_met(g, c.0);
     if q == 0 {
         rests(g, counters, c, over, room);
         return;
     }
-    aims(g, &all.words, counters, c, q, over, room);
+    aims(g, counters, c, q, over, room);
 }

@@ -6,12 +6,14 @@ use game::Game;
 use game::InSet;
 use game::OutSet;
 use game::OutState;
+use touring::Stretch;
 ghost use Prim.Native.Nat.{_≤_};
+ghost use mathlib.Core.Logic.{_≢_};
 ghost use lib.ListN.{length};
 ghost use Rattle.play.specs.Play.{separatedOf};
 ghost use Rattle.theory.specs.Entries.{controllerEntries};
 ghost use Rattle.controller_rows.specs.Writes.{Table, Rest, Aims, States, Aim};
-ghost use Rattle.controller_table.specs.Filled.{Filled, There, Sized, HomeOf, Seeking, Sought, Visiting, Visited};
+ghost use Rattle.controller_table.specs.Filled.{Filled, There, Sized, HomeOf, Goals, Seeking, Sought, Visiting, Visited};
 
 // The rows of the outputs of a component where the inputs are at home and no guarantee is to be visited.
 fn rest(room: &mut [u16], z: Size, comp: OutSet, inputs: InSet, moves: &[u64; 64])
@@ -83,41 +85,49 @@ fn seek(moves: &[u64; 64], room: &mut [u16], z: Size, w: Home, q: u64, goal: Out
     aim(room, z, component, w.inputs, which, goal, a, &next);
 }
 
-// The rows at a home for every goal of q, so passed: the first count of words are the guarantees.
-fn seek_all(
-    moves: &[u64; 64],
-    words: &[u64; 32],
-    count: usize,
-    room: &mut [u16],
-    z: Size,
-    w: Home,
-    q: u64,
-)
-    requires { ⌜ Visiting (now moves) (now words) count z w q (length (now room)) ⌝ }
-    ensures { λ r. ⌜ Visited (now (moves .entry)) (now (words .entry)) count z w q count (now (room .entry)) (now (room .exit)) ⌝ }
+// The rows at a home for the goals of q among the guarantees of t, so passed.
+fn seek_some(moves: &[u64; 64], t: Stretch, room: &mut [u16], z: Size, w: Home, q: u64)
+    requires { ⌜ Visiting (now moves) t z w q (length (now room)) ⌝ }
+    ensures { λ r. ⌜ Visited (now (moves .entry)) t z w q (t .count) (now (room .entry)) (now (room .exit)) ⌝ }
 {
-    let mut a = 0;
-    while a < count {
+    let mut j: usize = 0;
+    while j < t.count {
+        let a = t.from + j;
         if sets::member(q, a) {
-            let x = words[a];
+            let x = t.words[j];
             seek(moves, room, z, w, q, OutSet(x), a);
         }
-        a += 1;
+        j += 1;
     }
 }
 
-// The rows at a home. The guarantees are listed once for all that goes through them.
+// The rows at a home for every goal of q, one requirement after the other.
+fn seek_all(g: Game, room: &mut [u16], z: Size, w: Home, q: u64)
+    requires { ⌜ Sized g z × HomeOf (separatedOf g) w × Goals (separatedOf g) w q × (q ≢ 0) × (length (controllerEntries (separatedOf g)) ≤ length (now room)) ⌝ }
+    ensures { λ r. ⌜ Filled (separatedOf g) (There (separatedOf g) (w .state .0)) (now (room .entry)) (now (room .exit)) ⌝ }
+{
+    let h = g.output;
+    let mut n: usize = 0;
+    let mut r: usize = 0;
+    while r < g.k {
+        let t = sizes::guarantees_of(g.requirements[r], n);
+        seek_some(&h.moves, t, room, z, w, q);
+        n += t.count;
+        r += 1;
+    }
+}
+
+// The rows at a home. The goals are found once for all counters.
 pub fn tour(g: Game, room: &mut [u16], z: Size, w: Home)
     requires { ⌜ Sized g z × HomeOf (separatedOf g) w × (length (controllerEntries (separatedOf g)) ≤ length (now room)) ⌝ }
     ensures { λ r. ⌜ Filled (separatedOf g) (There (separatedOf g) (w .state .0)) (now (room .entry)) (now (room .exit)) ⌝ }
 {
-    let all = sizes::all_guarantees(g);
     let component = w.component;
-    let q = touring::met(&all.words, all.count, component.0);
-    let h = g.output;
+    let q = sizes::guarantees_met(g, component.0);
     if q == 0 {
+        let h = g.output;
         rest(room, z, component, w.inputs, &h.moves);
         return;
     }
-    seek_all(&h.moves, &all.words, all.count, room, z, w, q);
+    seek_all(g, room, z, w, q);
 }

@@ -1,59 +1,100 @@
--- `seek_all` goes through the goals.
+-- `seek_all` goes through the requirements.
 use Prim.Native.Nat.{_-_, _≤_}
-use mathlib.Core.Path.{sym, _∙_}
-use mathlib.Core.Logic.{⊎-elim}
-use Rattle.controller_table.specs.Filled.{Visited}
-use Rattle.controller_table.proofs.Seeking.{visiting-goal, visited-long, visited-none, visited-next, visited-past, visited-end}
+use mathlib.Core.Path.{refl}
 use native.Mathlib.Omega.{arith}
+use borrow.Author.Needs.{needs}
+use Rattle.play.specs.Play.{separatedOf}
+use Rattle.theory.specs.Choice.{guarantees}
+use Rattle.sizes.specs.Below.{guaranteeSide, setsIn}
+use Rattle.sizes.specs.Numbered.{Upto}
+use Rattle.sizes.proofs.Below.{guarantees-listed, few, guaranteed-few}
+use Rattle.sizes.proofs.Numbered.{upto-none, upto-next, upto-all, stretch-short, stretch-set}
+use Rattle.controller_table.specs.Filled.{Filled, Between}
+use Rattle.controller_table.proofs.Phases.{sought-none, sought-all}
+use Rattle.controller_table.proofs.Seeking.{visiting-of, visited-further}
 use Rattle.visit.proofs.seek_all.Statement.{statement}
 use Rattle.visit.proofs.seek_all.Tie as tie
 
 abbrev Inv-loop : tie.InvT-loop
-Inv-loop moves words count room₀ z w q a₀ room a = (a ≤ count) × Visited moves words count z w q a room₀ room
+Inv-loop room₀ z w q g h n₀ r₀ room n r =
+    (r ≤ g .k) × (g .k ≤ 8) × Upto guaranteeSide g r n × Filled (separatedOf g) (Between (separatedOf g) (w .state .0) 0 n) room₀ room
 
 abbrev μ-loop : tie.MeasureT-loop
-μ-loop moves words count room₀ z w q a₀ room a = count - a
+μ-loop room₀ z w q g h n₀ r₀ room n r = g .k - r
 
 loop-holds : tie.Need-loop-holds Inv-loop μ-loop
-loop-holds c = (omega arith, visited-none _ _ _ _ _ _ _)
+loop-holds c =
+    let b = c .before .before in (
+      omega arith,
+      few _ (b .pre .0 .accepted),
+      upto-none guaranteeSide guarantees-listed _,
+      sought-none _ _ (b .pre .0) _ (b .pre .1) _ (b .pre .2) 0 0 _ (omega arith),
+    )
 
-member-requires : tie.Need-member-requires Inv-loop μ-loop
-member-requires c κs = omega (arith, c .before .before .before .pre .few)
+mul-guarantees-of : tie.Need-mul-guarantees-of Inv-loop μ-loop
+mul-guarantees-of c = omega arith
 
-mul-x : tie.Need-mul-x Inv-loop μ-loop
-mul-x c = omega (arith, c .before .before .before .before .before .pre .few)
+element-copy-out-guarantees-of : tie.Need-element-copy-out-guarantees-of Inv-loop μ-loop
+element-copy-out-guarantees-of c = omega arith
 
-element-copy-out-x : tie.Need-element-copy-out-x Inv-loop μ-loop
-element-copy-out-x c = omega (arith, c .before .before .before .before .before .pre .few)
+guarantees-of-requires : tie.Need-guarantees-of-requires Inv-loop μ-loop
+guarantees-of-requires c κs = search needs
 
-seek-requires : tie.Need-seek-requires Inv-loop μ-loop
-seek-requires c κs =
-    let l = c .before .before .before .before .before in
-    let p = l .before .before .pre in
-    visiting-goal _ _ _ _ _ _ (l .loop .a) _ _ (c .before .before .before .before .loop-test .taken) (sym (c .before .before .before .member .ensures) ∙ c .before .before .if1 .taken)
-    (visited-long _ _ _ _ _ _ (l .loop .a) p (l .loop .inv .1)) p
+seek-some-requires : tie.Need-seek-some-requires Inv-loop μ-loop
+unfolding guaranteeSide setsIn guarantees
+seek-some-requires c κs =
+    let o = c .before .before .before in
+    let l = o .before .before .before in
+    let i = l .loop .inv in
+    let p = l .before .before .before .pre in
+    let b = o .before .before .loop-test .taken in
+    let f = guaranteed-few _ (p .0 .accepted) (l .loop .r) b in
+    visiting-of _ _ (p .0) _ (p .1) _ (p .2) (p .3) _ (stretch-short guaranteeSide guarantees-listed _ (l .loop .r) _ _ b (i .1) f (i .2) (o .guarantees-of .ensures))
+    (stretch-set guaranteeSide guarantees-listed _ (l .loop .r) _ _ b (i .1) f (i .2) (o .guarantees-of .ensures)) _ (omega (arith, p .4, i .3 .grows .long))
 
-add-a : tie.Need-add-a Inv-loop μ-loop
-add-a c = omega arith
+add-n : tie.Need-add-n Inv-loop μ-loop
+unfolding guaranteeSide
+add-n c =
+    let o = c .before .before .before .before .before .before .before in
+    let l = o .before .before .before in
+    let i = l .loop .inv in
+    let p = l .before .before .before .pre in
+    let b = o .before .before .loop-test .taken in
+    let f = guaranteed-few _ (p .0 .accepted) (l .loop .r) b in
+    omega (arith, i .1, upto-next guaranteeSide guarantees-listed _ (l .loop .r) _ _ b (i .1) f (i .2) (o .guarantees-of .ensures) .few)
+
+add-r : tie.Need-add-r Inv-loop μ-loop
+add-r c = omega arith
 
 loop-less : tie.Need-loop-less Inv-loop μ-loop
 loop-less c = omega arith
 
 loop-again : tie.Need-loop-again Inv-loop μ-loop
+unfolding guaranteeSide setsIn guarantees
 loop-again c =
-    let l = c .before .before .before in (
+    let o = c .before .before .before .before .before .before .before in
+    let l = o .before .before .before in
+    let i = l .loop .inv in
+    let p = l .before .before .before .pre in
+    let b = o .before .before .loop-test .taken in
+    let f = guaranteed-few _ (p .0 .accepted) (l .loop .r) b in (
       omega arith,
-      ⊎-elim
-          (λ v. visited-next _ _ _ _ _ _ (l .loop .a) (c .before .before .loop-test .taken) (sym (c .before .member .ensures) ∙ v .0 .taken) (l .loop .inv .1) (v .6) (v .3 .ensures))
-          (λ v. visited-past _ _ _ _ _ _ (l .loop .a) (sym (c .before .member .ensures) ∙ v .0 .left) (l .loop .inv .1) (v .1))
-          (c .if1 .came),
+      i .1,
+      upto-next guaranteeSide guarantees-listed _ (l .loop .r) _ _ b (i .1) f (i .2) (o .guarantees-of .ensures),
+      visited-further _ _ (p .0) _ (p .1) _ (p .2) (p .3) _ (stretch-short guaranteeSide guarantees-listed _ (l .loop .r) _ _ b (i .1) f (i .2) (o .guarantees-of .ensures))
+          (stretch-set guaranteeSide guarantees-listed _ (l .loop .r) _ _ b (i .1) f (i .2) (o .guarantees-of .ensures)) _ (o .guarantees-of .ensures .first) (p .4) (i .3) refl
+          (c .before .before .before .seek-some .ensures),
     )
 
 same-length : tie.Need-same-length Inv-loop μ-loop
-same-length c = visited-long _ _ _ _ _ _ (c .before .loop .a) (c .before .before .before .pre) (c .before .loop .inv .1)
+same-length c = c .before .loop .inv .3 .grows .long
 
 returns : tie.Need-returns Inv-loop μ-loop
-returns c = visited-end _ _ _ _ _ _ (c .before .loop .a) _ (omega arith) (omega arith) (c .before .loop .inv .1)
+unfolding guaranteeSide setsIn guarantees
+returns c =
+    let i = c .before .loop .inv in
+    let p = c .before .before .before .before .pre in
+    sought-all _ _ (p .0) _ (p .1) _ (p .2) _ (upto-all guaranteeSide guarantees-listed _ (c .before .loop .r) _ (i .0) (c .loop-test .left) (i .2)) (p .3) (i .3)
 
 pub seek-all-spec : {M : Type 1} → statement M
 seek-all-spec =
@@ -62,11 +103,12 @@ seek-all-spec =
     Inv-loop
     μ-loop
     loop-holds
-    member-requires
-    mul-x
-    element-copy-out-x
-    seek-requires
-    add-a
+    mul-guarantees-of
+    element-copy-out-guarantees-of
+    guarantees-of-requires
+    seek-some-requires
+    add-n
+    add-r
     loop-less
     loop-again
     same-length

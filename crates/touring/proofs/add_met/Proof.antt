@@ -1,0 +1,63 @@
+-- `add_met` goes through the sets.
+use native.Mathlib.Omega.{arith}
+use borrow.Author.Needs.{needs}
+use Prim.Native.Nat.{_≤_, _-_}
+use Rattle.touring.specs.Stretches.{MetMore}
+use Rattle.touring.proofs.Stretches.{met-none, met-next, met-end}
+use Rattle.touring.proofs.add_met.Statement.{statement}
+use Rattle.touring.proofs.add_met.Tie as tie
+
+abbrev Inv-loop : tie.InvT-loop
+Inv-loop q x s m₀ j₀ m j = (j ≤ s .count) × MetMore s x q j m
+
+abbrev μ-loop : tie.MeasureT-loop
+μ-loop q x s m₀ j₀ m j = s .count - j
+
+loop-holds : tie.Need-loop-holds Inv-loop μ-loop
+loop-holds c = (omega arith, met-none _ _ _)
+
+add-insert-if : tie.Need-add-insert-if Inv-loop μ-loop
+add-insert-if c = omega (arith, c .before .before .pre .numbers)
+
+mul-meets : tie.Need-mul-meets Inv-loop μ-loop
+mul-meets c = omega (arith, c .before .before .pre .places)
+
+element-copy-out-meets : tie.Need-element-copy-out-meets Inv-loop μ-loop
+element-copy-out-meets c = omega (arith, c .before .before .pre .places)
+
+meets-requires : tie.Need-meets-requires Inv-loop μ-loop
+meets-requires c κs = search needs
+
+insert-if-requires : tie.Need-insert-if-requires Inv-loop μ-loop
+insert-if-requires c κs = omega (arith, c .before .before .before .before .pre .numbers)
+
+add-j : tie.Need-add-j Inv-loop μ-loop
+add-j c = omega (arith, c .before .before .before .before .before .pre .places)
+
+loop-less : tie.Need-loop-less Inv-loop μ-loop
+loop-less c = omega arith
+
+loop-again : tie.Need-loop-again Inv-loop μ-loop
+loop-again c =
+    let l = c .before .before .before .before in
+    (omega arith, met-next _ _ _ (l .loop .j) _ _ _ (c .before .before .before .loop-test .taken) (l .loop .inv .1) (c .before .meets .ensures) (c .insert-if .ensures))
+
+returns : tie.Need-returns Inv-loop μ-loop
+returns c = met-end _ _ _ (c .before .loop .j) _ _ (omega arith) (omega arith) (c .before .loop .inv .1)
+
+pub add-met-spec : {M : Type 1} → statement M
+add-met-spec =
+    tie.close
+    (tie.spec
+    Inv-loop
+    μ-loop
+    loop-holds
+    add-insert-if
+    mul-meets
+    element-copy-out-meets
+    meets-requires
+    insert-if-requires
+    add-j
+    loop-less
+    loop-again
+    returns)

@@ -1,0 +1,77 @@
+-- `aim_some` goes through the sets.
+use native.Mathlib.Omega.{arith}
+use Prim.Native.Nat.{_≤_, _-_}
+use mathlib.Core.Path.{sym, _∙_}
+use mathlib.Core.Logic.{⊎-elim}
+use Rattle.environment_table.specs.Touring.{Faced}
+use Rattle.environment_table.proofs.Aiming.{facing-goal, faced-long, faced-none, faced-next, faced-past, faced-end}
+use Rattle.tours.proofs.aim_some.Statement.{statement}
+use Rattle.tours.proofs.aim_some.Tie as tie
+
+abbrev Inv-loop : tie.InvT-loop
+Inv-loop moves inputs outputs counters c q over room₀ t j₀ room j = (j ≤ t .count) × Faced moves t inputs outputs counters (c .0) q (over .0) j room₀ room
+
+abbrev μ-loop : tie.MeasureT-loop
+μ-loop moves inputs outputs counters c q over room₀ t j₀ room j = t .count - j
+
+loop-holds : tie.Need-loop-holds Inv-loop μ-loop
+loop-holds c = (omega arith, faced-none _ _ _ _ _ _ _ _ _)
+
+add-a : tie.Need-add-a Inv-loop μ-loop
+add-a c = omega (arith, c .before .before .before .pre .short .numbers)
+
+member-requires : tie.Need-member-requires Inv-loop μ-loop
+member-requires c κs = omega (arith, c .before .before .before .pre .short .numbers)
+
+mul-x : tie.Need-mul-x Inv-loop μ-loop
+mul-x c = omega (arith, c .before .before .before .before .before .pre .short .places)
+
+element-copy-out-x : tie.Need-element-copy-out-x Inv-loop μ-loop
+element-copy-out-x c = omega (arith, c .before .before .before .before .before .pre .short .places)
+
+aim-requires : tie.Need-aim-requires Inv-loop μ-loop
+aim-requires c κs =
+    let l = c .before .before .before .before .before in
+    let p = l .before .before .pre in
+    facing-goal _ _ _ _ _ _ _ _ (l .loop .j) _ _ (c .before .before .before .before .loop-test .taken) (sym (c .before .before .before .member .ensures) ∙ c .before .before .if1 .taken)
+    (faced-long _ _ _ _ _ _ _ _ (l .loop .j) p (l .loop .inv .1)) p
+
+add-j : tie.Need-add-j Inv-loop μ-loop
+add-j c = omega arith
+
+loop-less : tie.Need-loop-less Inv-loop μ-loop
+loop-less c = omega arith
+
+loop-again : tie.Need-loop-again Inv-loop μ-loop
+loop-again c =
+    let l = c .before .before .before in (
+      omega arith,
+      ⊎-elim
+          (λ v. faced-next _ _ _ _ _ _ _ _ (l .loop .j) (c .before .before .loop-test .taken) (sym (c .before .member .ensures) ∙ v .0 .taken) (l .loop .inv .1) (v .6) (v .3 .ensures))
+          (λ v. faced-past _ _ _ _ _ _ _ _ (l .loop .j) (sym (c .before .member .ensures) ∙ v .0 .left) (l .loop .inv .1) (v .1))
+          (c .if1 .came),
+    )
+
+same-length : tie.Need-same-length Inv-loop μ-loop
+same-length c = faced-long _ _ _ _ _ _ _ _ (c .before .loop .j) (c .before .before .before .pre) (c .before .loop .inv .1)
+
+returns : tie.Need-returns Inv-loop μ-loop
+returns c = faced-end _ _ _ _ _ _ _ _ (c .before .loop .j) _ (omega arith) (omega arith) (c .before .loop .inv .1)
+
+pub aim-some-spec : {M : Type 1} → statement M
+aim-some-spec =
+    tie.close
+    (tie.spec
+    Inv-loop
+    μ-loop
+    loop-holds
+    add-a
+    member-requires
+    mul-x
+    element-copy-out-x
+    aim-requires
+    add-j
+    loop-less
+    loop-again
+    same-length
+    returns)
