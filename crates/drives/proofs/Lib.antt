@@ -1,0 +1,3 @@
+-- Laws of drives and kits.
+pub mod Moves
+pub mod Acceptance

@@ -1,0 +1,3 @@
+-- What is said of drives and kits.
+pub mod Drive
+pub mod Acceptance

@@ -1,0 +1,2 @@
+-- Plays that never end.
+pub mod Endless

@@ -1,0 +1,1 @@
+// Plays that never end. Statements and laws.
