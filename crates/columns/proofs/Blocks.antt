@@ -16,7 +16,7 @@ use Rattle.finite.proofs.Truth.{clash}
 use Rattle.sets.specs.Member.{has}
 use Rattle.sets.proofs.Membership.{has-zero}
 use Rattle.sets.proofs.Remove.{less-in, less-other, less-falls}
-use Rattle.sets.proofs.Visit.{lowest-below, lowest-in, cut-in, cut-all}
+use Rattle.sets.proofs.Visit.{lowest-below, lowest-in, lowest-less, cut-in, cut-all}
 use Rattle.filling.specs.Grows.{Right, Grows}
 use Rattle.filling.proofs.Grows.{grows-none, grows-more}
 use Rattle.columns.specs.Column.{Fits, Columned, Column, BlockFits, BlockAgrees, Block}
@@ -51,7 +51,7 @@ module _ (l m : List ℕ) (base width over which first more left x : ℕ) (C : B
 
   module _ (r : ℕ) (d : (s : ℕ) → has r s ≡ (has left s && not (eqb s (least 64 (has left))))) where
     less : (s : ℕ) → has r s ≡ (has left s && not (eqb s x))
-    less s = d s ∙ ap (λ (k : ℕ). has left s && not (eqb s k)) (sym e)
+    less = lowest-less left x r e d
 
     pub blocking-turn : (k : List ℕ) → Column m k (base + x) width which first more → r < 2 ^ 64 → Blocking l k base width over which first more r
     blocking-turn k R small = record {

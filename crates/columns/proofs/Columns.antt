@@ -16,7 +16,7 @@ use Rattle.finite.proofs.Truth.{clash}
 use Rattle.sets.specs.Member.{has}
 use Rattle.sets.proofs.Membership.{has-zero}
 use Rattle.sets.proofs.Remove.{less-in, less-other, less-falls}
-use Rattle.sets.proofs.Visit.{lowest-below, lowest-in}
+use Rattle.sets.proofs.Visit.{lowest-below, lowest-in, lowest-less}
 use Rattle.filling.specs.Grows.{Right, Grows}
 use Rattle.filling.proofs.Grows.{grows-none, grows-more, grows-set, right-set}
 use Rattle.columns.specs.Column.{Agrees, Column}
@@ -43,7 +43,7 @@ columning-start l base step which first more b = record {
 module _ (l m : List ℕ) (base step which first more rest h r : ℕ) (C : Columning l m base step which first more rest)
     (ne : rest ≢ 0) (e : h ≡ least 64 (has rest)) (d : (s : ℕ) → has r s ≡ (has rest s && not (eqb s (least 64 (has rest))))) where
   less : (s : ℕ) → has r s ≡ (has rest s && not (eqb s h))
-  less s = d s ∙ ap (λ (k : ℕ). has rest s && not (eqb s k)) (sym e)
+  less = lowest-less rest h r e d
 
   pub column-member : has which h ≡ true
   column-member = C .inside h (lowest-in rest h (C .small) ne e)

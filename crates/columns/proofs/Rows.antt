@@ -36,7 +36,7 @@ use Rattle.columns.specs.Column.{
   BlockAgrees,
   Block,
 }
-use Rattle.sets.proofs.Visit.{lowest-below, lowest-in}
+use Rattle.sets.proofs.Visit.{lowest-below, lowest-in, lowest-less}
 
 -- ---- runs
 
@@ -176,7 +176,7 @@ rowing-start l base width over which first more b = record {
 module _ (l m : List ℕ) (base width over which first more left h r : ℕ) (C : Rowing l m base width over which first more left)
     (ne : left ≢ 0) (e : h ≡ least 64 (has left)) (d : (s : ℕ) → has r s ≡ (has left s && not (eqb s (least 64 (has left))))) where
   less : (s : ℕ) → has r s ≡ (has left s && not (eqb s h))
-  less s = d s ∙ ap (λ (k : ℕ). has left s && not (eqb s k)) (sym e)
+  less = lowest-less left h r e d
 
   row-member : has which h ≡ true
   row-member = C .inside h (lowest-in left h (C .small) ne e)

@@ -1,12 +1,11 @@
 -- The members of a word, visited lowest first.
 --
---   word-start, within-start   : how the members of a word, or of a set of states below n, begin to be collected
 --   Visiting g key P c rest l m  == from l to m the rows with P and with a key in c were written, but for those with a key in `rest`;
 --                                 the key of a row is its input or its output
 --   visit-*                    : how that begins, goes on and ends
 use Prim.Native.Nat.{ℕ, _^_, _<_, _≤_}
 use mathlib.Core.Path.{_≡_, sym, _∙_, ap}
-use mathlib.Core.Bool.{Bool, true, false, _&&_, _||_, not}
+use mathlib.Core.Bool.{true, false, _&&_, _||_, not}
 use mathlib.Core.List.{List}
 use mathlib.Core.Logic.{_⊎_, inl, inr, _≢_}
 use native.Mathlib.Omega.{arith}
@@ -14,32 +13,13 @@ use native.Mathlib.Decide.{ℕ-discrete}
 use lib.Dec.{eqb}
 use Rattle.finite.specs.Bounded.{least, count}
 use Rattle.finite.proofs.Truth.{clash}
-use Rattle.sets.specs.Member.{has, within}
-use Rattle.sets.proofs.Membership.{has-zero, within-has, within-lt, lt-within, has-within}
+use Rattle.sets.specs.Member.{has}
+use Rattle.sets.proofs.Membership.{has-zero}
 use Rattle.sets.proofs.Remove.{rest-in, rest-other, rest-falls}
-use Rattle.sets.proofs.Visit.{lowest-below, lowest-in, Collected}
+use Rattle.sets.proofs.Visit.{small-word, lowest-below, lowest-in}
 use Rattle.game.specs.declared.Game.{Game}
 use Rattle.environment_table.specs.Table.{Filled}
 use Rattle.environment_table.proofs.Places.{filled-none, filled-join, filled-same}
-
--- a set of states below 64 is a word
-small-word : (x : ℕ) → ((s : ℕ) → has x s ≡ true → s < 64) → x < 2 ^ 64
-small-word x f = within-lt x 64 (has-within x 64 f)
-
--- before the first visit nothing is collected, and all members are left
-start : (x n : ℕ) (p : ℕ → Bool) → x < 2 ^ 64 → within x n ≡ true → Collected x n p x 0
-start x n p small w = record {
-  small = small;
-  inside = λ s e. (within-has x n s w e, e);
-  right = λ s e. clash e (has-zero s);
-  all = λ s l e r q. clash e r;
-}
-
-pub word-start : (x : ℕ) (p : ℕ → Bool) → x < 2 ^ 64 → Collected x 64 p x 0
-word-start x p small = start x 64 p small (lt-within x 64 small)
-
-pub within-start : (x n : ℕ) (p : ℕ → Bool) → n ≤ 64 → within x n ≡ true → Collected x n p x 0
-within-start x n p b w = start x n p (small-word x (λ s e. omega (arith, within-has x n s w e))) w
 
 pub record Visiting (g : Game) (key : ℕ → ℕ → ℕ) (P : ℕ → ℕ → ℕ → Type 0) (c rest : ℕ) (l m : List ℕ) : Type 0 where
   pub small : rest < 2 ^ 64

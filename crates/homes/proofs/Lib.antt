@@ -1,3 +1,3 @@
 -- Laws of homes.
-pub mod Passing
+pub mod Exits
 pub mod Meaning

@@ -2,8 +2,7 @@
 --
 --   trying-*     : how the moves that are left and seen begin, and go on by one
 --   answered-*   : what the moves seen tell of an input
---   Passing      == the next inputs but those of `rest` have replies
---   passing-*    : how that begins, goes on and ends
+--   replies-*    : where all next inputs have replies, or one has none
 use Prim.Native.Nat.{ℕ, _+_, _^_, _≤_, _<_}
 use mathlib.Core.Path.{_≡_, refl, sym, _∙_, ap}
 use mathlib.Core.Bool.{Bool, true, false, _&&_, _||_, not}
@@ -21,7 +20,8 @@ use Rattle.sets.specs.Member.{has, meets}
 use Rattle.sets.proofs.Membership.{has-zero}
 use Rattle.sets.proofs.Compare.{meets-intro, meets-elim}
 use Rattle.sets.proofs.Remove.{less-in, less-other, less-falls}
-use Rattle.sets.proofs.Visit.{lowest-below, lowest-in, cut-in, cut-all}
+use Rattle.sets.proofs.Visit.{lowest-below, lowest-in, lowest-less, cut-in, cut-all}
+use Rattle.sets.proofs.Passing.{Passing, passing-below, passing-member, passing-end}
 use Rattle.stored.specs.Stored.{wonAt}
 use Rattle.stored.proofs.Read.{won-in, won-out}
 use Rattle.replies.specs.declared.Tried.{Tried}
@@ -51,7 +51,7 @@ module _ (l : List ℕ) (n m moves : ℕ) (t : Tried) (T : Trying l n m moves t)
   module _ (x : ℕ) (r : Tried) (f : (s : ℕ) → has x s ≡ (has 0 s || eqb s p))
       (d : (s : ℕ) → has (r .left) s ≡ (has (t .left) s && not (eqb s (least 64 (has (t .left)))))) where
     less : (s : ℕ) → has (r .left) s ≡ (has (t .left) s && not (eqb s p))
-    less s = rw e (d s)
+    less = lowest-less (t .left) p (r .left) e d
 
     pub trying-falls : count 64 (has (r .left)) < count 64 (has (t .left))
     trying-falls = less-falls (t .left) p (r .left) less 64 take-small (lowest-in (t .left) p (T .small) ne e)
@@ -174,59 +174,23 @@ module _ (l : List ℕ) (n m cores moves j : ℕ) (t : Tried) (T : Trying l n m 
 -- ---- the next inputs
 
 module _ (l : List ℕ) (n m cores next moves : ℕ) where
-  pub record Passing (rest : ℕ) : Type 0 where
-    pub small : rest < 2 ^ 64
-    pub inside : (j : ℕ) → has rest j ≡ true → (j < n) × (has next j ≡ true)
-    pub passed : (j : ℕ) → j < n → has next j ≡ true → has rest j ≡ false → replied l n cores next moves m j ≡ true
-
-  pub passing-start : (b rest : ℕ) → rest < 2 ^ 64 → ((s : ℕ) → has b s ≡ ltb s n) → ((s : ℕ) → has rest s ≡ (has next s && has b s)) → Passing rest
-  passing-start b rest small f i = record {
-    small = small;
-    inside = cut-in next b rest n f i;
-    passed = λ j a e h. clash (cut-all next b rest n f i j a e) h;
-  }
-
-  module _ (rest : ℕ) (P : Passing rest) (ne : rest ≢ 0) (j : ℕ) (e : j ≡ least 64 (has rest)) where
-    pub pass-small : j < 64
-    pass-small = lowest-below rest j (P .small) ne e
-
-    pub pass-below : j < n
-    pass-below = P .inside j (lowest-in rest j (P .small) ne e) .0
-
-    module _ (r : ℕ) (d : (s : ℕ) → has r s ≡ (has rest s && not (eqb s (least 64 (has rest))))) where
-      fewer : (s : ℕ) → has r s ≡ (has rest s && not (eqb s j))
-      fewer s = rw e (d s)
-
-      pub passing-falls : count 64 (has r) < count 64 (has rest)
-      passing-falls = less-falls rest j r fewer 64 pass-small (lowest-in rest j (P .small) ne e)
-
-      pub passing-next : r < 2 ^ 64 → replied l n cores next moves m j ≡ true → Passing r
-      passing-next small h = record {
-        small = small;
-        inside = λ k a. P .inside k (less-in rest j r fewer k a);
-        passed = λ k b a g. passed k b a g (ℕ-discrete k j);
-      }
-        where
-          passed : (k : ℕ) → k < n → has next k ≡ true → has r k ≡ false → Dec (k ≡ j) → replied l n cores next moves m k ≡ true
-          passed k b a g (yes q) = rw q h
-          passed k b a g (no q) = P .passed k b a (sym (less-other rest j r fewer k q) ∙ g)
-
-    -- j has no reply
-    pub passing-not : (t : Tried) → Trying l n m moves t → m ≤ 64 → t .left ≡ 0 → answeredAt l n cores j t ≡ false → eqb rest 0 ≡ repliesAt l n cores next moves m n
-    unfolding repliesAt
-    passing-not t T most z h =
-        ne-eqb rest 0 ne
-        ∙ sym (all-fails n (replied l n cores next moves m) j pass-below
-        (unanswered-not l n m cores moves j t T next most (P .inside j (lowest-in rest j (P .small) ne e) .1) z h))
+  -- j has no reply
+  pub replies-not : (rest : ℕ) → Passing next n (replied l n cores next moves m) rest → rest ≢ 0 → (j : ℕ) → j ≡ least 64 (has rest)
+      → (t : Tried) → Trying l n m moves t → m ≤ 64 → t .left ≡ 0 → answeredAt l n cores j t ≡ false → eqb rest 0 ≡ repliesAt l n cores next moves m n
+  unfolding repliesAt
+  replies-not rest P ne j e t T most z h =
+      ne-eqb rest 0 ne
+      ∙ sym (all-fails n (replied l n cores next moves m) j (passing-below next n (replied l n cores next moves m) rest P ne j e)
+      (unanswered-not l n m cores moves j t T next most (passing-member next n (replied l n cores next moves m) rest P ne j e) z h))
 
   -- an input that is not next needs no reply
-  pub passing-end : (rest : ℕ) → Passing rest → 0 < m → rest ≡ 0 → eqb rest 0 ≡ repliesAt l n cores next moves m n
+  pub replies-all : (rest : ℕ) → Passing next n (replied l n cores next moves m) rest → 0 < m → rest ≡ 0 → eqb rest 0 ≡ repliesAt l n cores next moves m n
   unfolding repliesAt replied excused
-  passing-end rest P some z = eq-eqb rest 0 z ∙ sym (all-intro n (replied l n cores next moves m) (λ j b. at j b (decide (has next j))))
+  replies-all rest P some z = eq-eqb rest 0 z ∙ sym (all-intro n (replied l n cores next moves m) (λ j b. at j b (decide (has next j))))
     where
       free : (j : ℕ) → has next j ≡ false → replied l n cores next moves m j ≡ true
       free j q = any-intro m (excused l n cores next moves j) 0 some (or-left (has moves 0 && wonAt l n cores j 0) (ap not q))
 
       at : (j : ℕ) → j < n → (has next j ≡ true) ⊎ (has next j ≡ false) → replied l n cores next moves m j ≡ true
-      at j b (inl q) = P .passed j b q (ap (λ (x : ℕ). has x j) z ∙ has-zero j)
+      at j b (inl q) = passing-end next n (replied l n cores next moves m) rest P z j b q
       at j b (inr q) = free j q

@@ -7,7 +7,7 @@
 --   visit-*           : how a set below a bound is visited, told of the set that is left at first
 use Prim.Native.Nat.{ℕ, _+_, _^_, _<_}
 use mathlib.Core.Path.{_≡_, refl, sym, _∙_, ap}
-use mathlib.Core.Bool.{Bool, true, false, _&&_, not}
+use mathlib.Core.Bool.{Bool, true, _&&_, not}
 use mathlib.Core.List.{List}
 use native.Mathlib.Omega.{arith}
 use lib.Dec.{eqb, ltb}
@@ -15,11 +15,11 @@ use lib.Bits.{bitAnd}
 use lib.ListN.{getD}
 use borrow.Author.Tests.{eqb-true}
 use Rattle.finite.specs.Bounded.{least}
-use Rattle.finite.proofs.Truth.{clash, same-test, and-intro, and-left, and-right}
+use Rattle.finite.proofs.Truth.{same-test, and-intro, and-left, and-right}
 use Rattle.finite.proofs.Bounded.{least-member}
 use Rattle.sets.specs.Member.{has, pack}
-use Rattle.sets.proofs.Membership.{has-zero, has-and, has-pack-below, pack-ext}
-use Rattle.sets.proofs.Visit.{cut-in, cut-all, Collected, collected-end}
+use Rattle.sets.proofs.Membership.{has-and, has-pack-below, pack-ext}
+use Rattle.sets.proofs.Visit.{cut-in, cut-all, Collected, whole-start, collected-end}
 use Rattle.controller_rows.specs.declared.Size.{Size}
 use Rattle.controller_rows.specs.Each.{Each, none, hit, miss}
 use Rattle.controller_rows.specs.Writes.{homeAt, residesAt, Rows, Away}
@@ -28,12 +28,7 @@ use Rattle.resident.specs.Housed.{lowestIs, housedAt}
 
 module _ (x b y n : ℕ) (f : (s : ℕ) → has b s ≡ ltb s n) (i : (s : ℕ) → has y s ≡ (has x s && has b s)) (p : ℕ → Bool) where
   pub visit-start : y < 2 ^ 64 → Collected y n p y 0
-  visit-start small = record {
-    small = small;
-    inside = λ s e. (cut-in x b y n f i s e .0, e);
-    right = λ s e. clash e (has-zero s);
-    all = λ s l e r q. clash e r;
-  }
+  visit-start small = whole-start y n p small (λ s e. cut-in x b y n f i s e .0)
 
   pub visit-end : (rest c : ℕ) → Collected y n p rest c → rest ≡ 0 → c ≡ pack n (λ s. has x s && p s)
   visit-end rest c C z = collected-end y n p rest c C z ∙ pack-ext n (λ s. has y s && p s) (λ s. has x s && p s) (λ s l. ap (λ (k : Bool). k && p s) (same s l))

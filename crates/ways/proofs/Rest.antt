@@ -12,14 +12,13 @@ use native.Mathlib.Omega.{arith}
 use native.Mathlib.Numerals.{add-one}
 use native.Mathlib.Decide.{ℕ-discrete}
 use lib.Dec.{eqb, ltb}
-use borrow.Author.Tests.{lt-ltb, ltb-true}
 use Rattle.finite.specs.Bounded.{least, count}
-use Rattle.finite.proofs.Truth.{decide, clash, and-intro, and-left, and-right}
-use Rattle.finite.proofs.Bounded.{least-below, least-member, least-before, least-at-most}
+use Rattle.finite.proofs.Truth.{decide, clash}
+use Rattle.finite.proofs.Bounded.{least-before, least-at-most}
 use Rattle.sets.specs.Member.{has}
 use Rattle.sets.proofs.Membership.{has-zero}
-use Rattle.sets.proofs.Compare.{nonzero-below}
 use Rattle.sets.proofs.Remove.{less-in, less-out, less-other, less-falls}
+use Rattle.sets.proofs.Visit.{lowest-below, lowest-in, lowest-less, cut-in, cut-all}
 use Rattle.ways.specs.Search.{Settled}
 use Rattle.ways.proofs.Round.{choices-none, settled-start, settled-miss, settled-end}
 
@@ -45,10 +44,10 @@ module _ (rows : List ℕ) (n c left l : ℕ) where
     settled = settled-start rows c left l x;
     rests = record {
       small = small;
-      member = λ t e. and-left (has left t) (has b t) (sym (i t) ∙ e);
+      member = λ t e. cut-in left b rest n f i t e .1;
       from = λ t e. omega arith;
-      below = λ t e. ltb-true t n (sym (f t) ∙ and-right (has left t) (has b t) (sym (i t) ∙ e));
-      all = λ t a lt e. i t ∙ and-intro e (f t ∙ lt-ltb t n lt);
+      below = λ t e. cut-in left b rest n f i t e .0;
+      all = λ t a lt e. cut-all left b rest n f i t lt e;
     };
   }
 
@@ -65,10 +64,10 @@ module _ (rows : List ℕ) (n c left l : ℕ) where
 
   module _ {x y : List ℕ} {r rest s : ℕ} (T : Trying rows n c left l x y r rest) (ne : rest ≢ 0) (e : s ≡ least 64 (has rest)) where
     pub try-small : s < 64
-    try-small = let m = nonzero-below 64 rest (T .rests .small) ne in omega (arith, least-below 64 (has rest) (m .0) (m .1) (m .2))
+    try-small = lowest-below rest s (T .rests .small) ne e
 
     pub try-in : has rest s ≡ true
-    try-in = let b = try-small in rw e (least-member 64 (has rest) (rw e at b))
+    try-in = lowest-in rest s (T .rests .small) ne e
 
     pub try-below : s < n
     try-below = T .rests .below s try-in
@@ -89,7 +88,7 @@ module _ (rows : List ℕ) (n c left l : ℕ) where
 
     module _ (v : ℕ) (d : (t : ℕ) → has v t ≡ (has rest t && not (eqb t (least 64 (has rest))))) where
       less : (t : ℕ) → has v t ≡ (has rest t && not (eqb t s))
-      less t = rw e (d t)
+      less = lowest-less rest s v e d
 
       pub trying-falls : count 64 (has v) < count 64 (has rest)
       trying-falls = less-falls rest s v less 64 try-small try-in

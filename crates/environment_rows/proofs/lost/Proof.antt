@@ -4,9 +4,8 @@ use borrow.Author.Needs.{needs}
 use native.Mathlib.Omega.{arith}
 use Rattle.finite.specs.Bounded.{count}
 use Rattle.sets.specs.Member.{has}
-use Rattle.sets.proofs.Visit.{Collected, collected-small, collected-below, collected-falls, collected-next, collected-end}
+use Rattle.sets.proofs.Visit.{Collected, within-start, collected-small, collected-below, collected-falls, collected-next, collected-end}
 use Rattle.environment_table.specs.Reading.{lostAt}
-use Rattle.environment_table.proofs.Members.{within-start}
 use Rattle.environment_table.proofs.Outward.{lost-at, lost-all}
 use Rattle.environment_rows.proofs.lost.Statement.{statement}
 use Rattle.environment_rows.proofs.lost.Tie as tie

@@ -5,8 +5,7 @@ use native.Mathlib.Omega.{arith}
 use lib.ListN.{getD}
 use Rattle.finite.specs.Bounded.{count}
 use Rattle.sets.specs.Member.{has, meets}
-use Rattle.sets.proofs.Visit.{Collected, collected-small, collected-falls, collected-next, collected-end}
-use Rattle.environment_table.proofs.Members.{word-start}
+use Rattle.sets.proofs.Visit.{Collected, word-start, collected-small, collected-falls, collected-next, collected-end}
 use Rattle.environment_table.proofs.Outward.{exits-all}
 use Rattle.escape.proofs.exits.Statement.{statement}
 use Rattle.escape.proofs.exits.Tie as tie

@@ -4,8 +4,10 @@ use borrow.Author.Needs.{needs}
 use Rattle.finite.specs.Bounded.{count}
 use Rattle.finite.proofs.Loops.{failed, passed}
 use Rattle.sets.specs.Member.{has}
+use Rattle.sets.proofs.Remove.{rest-less}
+use Rattle.sets.proofs.Passing.{Passing, passing-start, passing-small, passing-below, passing-falls, passing-next}
 use Rattle.stored.specs.Stored.{wonAt}
-use Rattle.homes.proofs.Passing.{Passing, passing-start, passing-small, passing-below, passing-falls, passing-next, safe-fails, safe-holds}
+use Rattle.homes.proofs.Exits.{safe-fails, safe-holds}
 use Rattle.homes.proofs.safe.Statement.{statement}
 use Rattle.homes.proofs.safe.Tie as tie
 
@@ -51,14 +53,14 @@ loop-less : tie.Need-loop-less Inv-loop μ-loop
 loop-less c =
     let a = c .before .before .before .before in
     let b = a .before .before in
-    passing-falls _ _ _ (b .loop .rest) (b .loop .inv) (a .before .loop-test .taken) _ (a .lowest .ensures) _ _ (c .before .insert .ensures) (c .difference .ensures)
+    passing-falls _ _ _ (b .loop .rest) (b .loop .inv) (a .before .loop-test .taken) _ (a .lowest .ensures) _ (rest-less _ _ _ _ (c .before .insert .ensures) (c .difference .ensures))
 
 loop-again : tie.Need-loop-again Inv-loop μ-loop
 loop-again c =
     let w = c .before .before .before in
     let a = w .before in
     let b = a .before .before in
-    passing-next _ _ _ (b .loop .rest) (b .loop .inv) (a .before .loop-test .taken) _ (a .lowest .ensures) _ _ (c .before .insert .ensures) (c .difference .ensures)
+    passing-next _ _ _ (b .loop .rest) (b .loop .inv) (a .before .loop-test .taken) _ (a .lowest .ensures) _ (rest-less _ _ _ _ (c .before .insert .ensures) (c .difference .ensures))
     (omega (arith, c .difference .ok)) (passed (w .won .ensures) (c .before .before .if1 .left))
 
 returns-2 : tie.Need-returns-2 Inv-loop μ-loop

@@ -6,8 +6,10 @@ use mathlib.Core.Logic.{⊎-elim}
 use borrow.Author.Needs.{needs}
 use Rattle.finite.specs.Bounded.{count}
 use Rattle.sets.specs.Member.{has}
-use Rattle.replies.specs.Replies.{Trying}
-use Rattle.replies.proofs.Tries.{trying-start, answered-replied, Passing, passing-start, pass-below, passing-falls, passing-next, passing-not, passing-end}
+use Rattle.sets.proofs.Visit.{lowest-less}
+use Rattle.sets.proofs.Passing.{Passing, passing-start, passing-below, passing-falls, passing-next}
+use Rattle.replies.specs.Replies.{Trying, replied}
+use Rattle.replies.proofs.Tries.{trying-start, answered-replied, replies-not, replies-all}
 use Rattle.replies.proofs.replies.Statement.{statement}
 use Rattle.replies.proofs.replies.Tie as tie
 
@@ -18,7 +20,7 @@ abbrev μ-loop : tie.MeasureT-loop
 μ-loop s n m cores next moves tried₀ rest j tried = count 64 (has (tried .left))
 
 abbrev Inv-next : tie.InvT-next
-Inv-next s n m cores next moves tried₀ rest₀ tried rest = Trying s n m moves tried × Passing s n m cores next moves rest
+Inv-next s n m cores next moves tried₀ rest₀ tried rest = Trying s n m moves tried × Passing next n (replied s n cores next moves m) rest
 
 abbrev μ-next : tie.MeasureT-next
 μ-next s n m cores next moves tried₀ rest₀ tried rest = count 64 (has rest)
@@ -39,7 +41,7 @@ next-holds : tie.Need-next-holds Inv-loop μ-loop Inv-next μ-next
 next-holds c =
     let b = c .before .before .before in (
       trying-start _ _ _ _ _ _ (omega (arith, c .before .before .intersection .ok)) (b .below .ensures) (c .before .before .intersection .ensures),
-      passing-start _ _ _ _ _ _ _ _ (omega (arith, c .intersection2 .ok)) (c .before .below2 .ensures) (c .intersection2 .ensures),
+      passing-start _ _ _ _ _ (omega (arith, c .intersection2 .ok)) (c .before .below2 .ensures) (c .intersection2 .ensures),
     )
 
 lowest-requires : tie.Need-lowest-requires Inv-loop μ-loop Inv-next μ-next
@@ -48,7 +50,7 @@ lowest-requires c κs = search needs
 below : (c : tie.After-lowest Inv-loop μ-loop Inv-next μ-next) → c .lowest .result < c .before .before .before .before .before .before .before .before .args .n
 below c =
     let b = c .before .before in
-    pass-below _ _ _ _ _ _ (b .next .rest) (b .next .inv .1) (c .before .next-test .taken) _ (c .lowest .ensures)
+    passing-below _ _ _ (b .next .rest) (b .next .inv .1) (c .before .next-test .taken) _ (c .lowest .ensures)
 
 loop-holds : tie.Need-loop-holds Inv-loop μ-loop Inv-next μ-next
 loop-holds c = c .before .before .next .inv .0
@@ -74,7 +76,7 @@ next-less : tie.Need-next-less Inv-loop μ-loop Inv-next μ-next
 next-less c =
     let l = c .before .before .before .before in
     let b = l .before .before in
-    passing-falls _ _ _ _ _ _ (b .next .rest) (b .next .inv .1) (l .before .next-test .taken) _ (l .lowest .ensures) _ (c .without-lowest .ensures)
+    passing-falls _ _ _ (b .next .rest) (b .next .inv .1) (l .before .next-test .taken) _ (l .lowest .ensures) _ (lowest-less _ _ _ (l .lowest .ensures) (c .without-lowest .ensures))
 
 next-again : tie.Need-next-again Inv-loop μ-loop Inv-next μ-next
 next-again c =
@@ -82,7 +84,7 @@ next-again c =
     let l = a .before .before in
     let b = l .before .before in (
       a .before .loop .inv,
-      passing-next _ _ _ _ _ _ (b .next .rest) (b .next .inv .1) (l .before .next-test .taken) _ (l .lowest .ensures) _ (c .without-lowest .ensures)
+      passing-next _ _ _ (b .next .rest) (b .next .inv .1) (l .before .next-test .taken) _ (l .lowest .ensures) _ (lowest-less _ _ _ (l .lowest .ensures) (c .without-lowest .ensures))
           (omega (arith, c .without-lowest .ok))
           (answered-replied _ _ _ _ _ _ (a .before .loop .tried) (a .before .loop .inv) _ (sym (a .answers .ensures) ∙ c .before .if1 .taken)),
     )
@@ -92,8 +94,8 @@ returns c =
     let b = c .before in
     let s = b .before .before .before .before .before .before in
     ⊎-elim
-    (λ w. passing-end _ _ _ _ _ _ (b .next .rest) (b .next .inv .1) (s .pre .2) (w .left))
-    (λ w. passing-not _ _ _ _ _ _ (b .next .rest) (b .next .inv .1) (w .0 .taken) _ (w .1 .ensures) (w .2 .tried) (w .2 .inv) (s .pre .1) (w .6 .taken) (sym (w .3 .ensures) ∙ w .4 .left))
+    (λ w. replies-all _ _ _ _ _ _ (b .next .rest) (b .next .inv .1) (s .pre .2) (w .left))
+    (λ w. replies-not _ _ _ _ _ _ (b .next .rest) (b .next .inv .1) (w .0 .taken) _ (w .1 .ensures) (w .2 .tried) (w .2 .inv) (s .pre .1) (w .6 .taken) (sym (w .3 .ensures) ∙ w .4 .left))
     (c .next-test .came)
 
 pub replies-spec : {M : Type 1} → statement M
