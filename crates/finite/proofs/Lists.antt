@@ -4,12 +4,11 @@
 --   anyOf-intro, anyOf-elim      : it holds of some member
 --   allOf-false, anyOf-false     : it fails of some member, of every member
 --   allOf-same, anyOf-same       : tests that agree
---   allOf-map, anyOf-map         : the images of a list
---   allOf-append, anyOf-append   : two lists joined
+--   map-same, anyOf-map          : the images of a list
 --   allOf-anyOf                  : where a test holds of every member and another of some member, they hold of one together
 use mathlib.Core.Path.{_≡_, refl, sym, _∙_, ap}
-use mathlib.Core.Bool.{Bool, true, false, _&&_, _||_, and-assoc, or-assoc}
-use mathlib.Core.List.{List, [], _∷_, _++_, map, List·Memᴰ, List·Memᴰ·head, List·Memᴰ·tail, List·Memᴰ·not-nil, List·Memᴰ·cases-cons}
+use mathlib.Core.Bool.{Bool, true, false, _&&_, _||_}
+use mathlib.Core.List.{List, [], _∷_, map, List·Memᴰ, List·Memᴰ·head, List·Memᴰ·tail, List·Memᴰ·not-nil, List·Memᴰ·cases-cons}
 use mathlib.Core.Logic.{_⊎_, inl, inr}
 use Rattle.finite.specs.Lists.{allOf, anyOf}
 use Rattle.finite.proofs.Truth.{clash, false-of, and-intro, and-left, and-right, and-cases, or-left, or-right, or-cases}
@@ -74,26 +73,11 @@ module _ {A : Type 0} where
   anyOf-same p q [] h = refl
   anyOf-same p q (a ∷ l) h = rw (h a (List·Memᴰ·head refl), anyOf-same p q l (λ b m. h b (List·Memᴰ·tail m))) refl
 
-  pub allOf-append : (p : A → Bool) (k l : List A) → allOf p (k ++ l) ≡ (allOf p k && allOf p l)
-  unfolding allOf
-  allOf-append p [] l = refl
-  allOf-append p (a ∷ k) l = ap (_&&_ (p a)) (allOf-append p k l) ∙ sym (and-assoc (p a) (allOf p k) (allOf p l))
-
-  pub anyOf-append : (p : A → Bool) (k l : List A) → anyOf p (k ++ l) ≡ (anyOf p k || anyOf p l)
-  unfolding anyOf
-  anyOf-append p [] l = refl
-  anyOf-append p (a ∷ k) l = ap (_||_ (p a)) (anyOf-append p k l) ∙ sym (or-assoc (p a) (anyOf p k) (anyOf p l))
-
   -- where p holds of every member and q of some member, p and q hold of one together
   pub allOf-anyOf : (p q : A → Bool) (l : List A) → allOf p l ≡ true → anyOf q l ≡ true → (a : A) × (p a ≡ true) × (q a ≡ true)
   allOf-anyOf p q l h k = let w = anyOf-elim q l k in (w .0, allOf-elim p l h (w .0) (w .1), w .2)
 
 module _ {A B : Type 0} where
-  pub allOf-map : (p : B → Bool) (f : A → B) (l : List A) → allOf p (map f l) ≡ allOf (λ a. p (f a)) l
-  unfolding allOf
-  allOf-map p f [] = refl
-  allOf-map p f (a ∷ l) = ap (_&&_ (p (f a))) (allOf-map p f l)
-
   -- two ways to take an image's image that agree
   pub map-same : {C : Type 0} (f g : A → B) (u v : B → C) → ((a : A) → u (f a) ≡ v (g a)) → (l : List A) → map u (map f l) ≡ map v (map g l)
   map-same f g u v h [] = refl

@@ -1,12 +1,12 @@
 -- Loops that test every number below n, or look for one: what holds at the start, after a turn, where the loop is left and at its end.
-use Prim.Native.Nat.{ℕ, suc, _+_, _≤_, _<_}
+use Prim.Native.Nat.{ℕ, _+_, _≤_, _<_}
 use native.Mathlib.Nat.{le-antisymm}
 use native.Mathlib.Numerals.{add-one}
 use mathlib.Core.Path.{_≡_, refl, sym, _∙_, ap}
 use mathlib.Core.Bool.{Bool, true, false, not, _&&_}
 use Rattle.finite.specs.Bounded.{all, any}
 use Rattle.finite.proofs.Truth.{not-true, not-false, or-false}
-use Rattle.finite.proofs.Bounded.{all-fails, any-intro}
+use Rattle.finite.proofs.Bounded.{all-fails}
 
 pub all-start : (p : ℕ → Bool) → all 0 p ≡ true
 unfolding all
@@ -29,9 +29,6 @@ any-start p = refl
 pub any-turn : (i : ℕ) (p : ℕ → Bool) → any i p ≡ false → p i ≡ false → any (i + 1) p ≡ false
 unfolding any
 any-turn i p h e = rw add-one (or-false e h)
-
-pub any-stop : (n i : ℕ) (p : ℕ → Bool) → i < n → p i ≡ true → any n p ≡ true
-any-stop n i p l e = any-intro n p i l e
 
 pub any-end : (n i : ℕ) (p : ℕ → Bool) → i ≤ n → n ≤ i → any i p ≡ false → any n p ≡ false
 any-end n i p l g h = ap (λ (m : ℕ). any m p) (le-antisymm g l) ∙ h
