@@ -28,9 +28,6 @@ module _ {g : Game} {l : List ℕ} {cores : ℕ} (R : Reading g l cores) where
   reading-won i o a b e =
       e ∙ won-region g l cores i o (R .fits .output .most) a b (R .inner) (R .ready .rows i a) (R .ready .laid .outputs o b)
 
-  pub reading-long : (o : ℕ) → o < g .output .states → g .input .states + g .input .states + o < length l
-  reading-long o b = omega (arith, R .ready .laid .long)
-
 pub map-row-read : {g : Game} {l : List ℕ} {cores : ℕ} → Reading g l cores → (i : ℕ) → i < g .input .states → {c : ℕ}
     → c ≡ pack (g .output .states) (wonAt l (g .input .states) cores i) → c ≡ mapRow g i
 unfolding mapRow

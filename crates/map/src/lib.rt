@@ -11,6 +11,8 @@ ghost use Rattle.map.specs.Read.{Reading, mapRow};
 ghost use Rattle.map.specs.Map.{cleared, MapMade};
 use game::Acceptance;
 use game::Game;
+use game::InSet;
+use game::InState;
 
 // Sets the first 512 words to zero.
 pub fn clear(s: &mut [u64])
@@ -31,13 +33,8 @@ fn map_row(g: Game, s: &[u64], cores: u64, i: usize) -> u64
 {
     let n = g.input.states;
     let m = g.output.states;
-    let mut c: u64 = 0;
-    let mut o: usize = 0;
-    while o < m {
-        c = sets::insert_if(c, o, stored::won(s, n, cores, i, o));
-        o += 1;
-    }
-    c
+    let won = stored::won_outputs(s, n, m, InSet(cores), InState(i));
+    won.0
 }
 
 // Writes the map.

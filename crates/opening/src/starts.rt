@@ -7,24 +7,7 @@ use game::OutSet;
 ghost use mathlib.Core.Path.{_≡_};
 ghost use Prim.Native.Nat.{_+_, _≤_, _<_};
 ghost use lib.ListN.{length};
-ghost use Rattle.stored.specs.Stored.{wonAt};
-ghost use Rattle.sets.specs.Member.{pack};
 ghost use Rattle.controller_rows.specs.Writes.{Table, startOf, Starts};
-
-// The outputs that are won with input i.
-fn won_with(s: &[u64], z: Size, cores: InSet, i: InState) -> OutSet
-    requires { ⌜ (z .inputs ≤ 64) × (z .outputs ≤ 64) × (i .0 < z .inputs) × (z .inputs + z .inputs + z .outputs ≤ length (now s)) ⌝ }
-    ensures { λ r. ⌜ r .0 ≡ pack (z .outputs) (wonAt (now (s .entry)) (z .inputs) (cores .0) (i .0)) ⌝ }
-{
-    let m = z.outputs;
-    let mut x: u64 = 0;
-    let mut o = 0;
-    while o < m {
-        x = sets::insert_if(x, o, stored::won(s, z.inputs, cores.0, i.0, o));
-        o += 1;
-    }
-    OutSet(x)
-}
 
 // The start entry of input i, from the initial states of both sides.
 fn start(s: &[u64], z: Size, cores: InSet, ins: InSet, outs: OutSet, i: InState) -> u16
@@ -32,7 +15,7 @@ fn start(s: &[u64], z: Size, cores: InSet, ins: InSet, outs: OutSet, i: InState)
     ensures { λ r. ⌜ r ≡ startOf z (now (s .entry)) (cores .0) (ins .0) (outs .0) (i .0) ⌝ }
 {
     if sets::member(ins.0, i.0) {
-        let won = won_with(s, z, cores, i);
+        let won = stored::won_outputs(s, z.inputs, z.outputs, cores, i);
         let e = rows::staying(sets::lowest(outs.0 & won.0));
         return e.first;
     }

@@ -16,7 +16,6 @@ ghost use Rattle.theory.specs.Region.{region};
 ghost use Rattle.theory.specs.Choice.{environmentStart};
 ghost use Rattle.theory.specs.Entries.{entry};
 ghost use Rattle.environment_table.specs.Table.{Known, Roomy, Filled, Pushes};
-ghost use Rattle.stored.specs.Stored.{wonAt};
 ghost use Rattle.environment_table.specs.Reading.{Shaped, reachedAt, anyWon, refusedAt, Lone, plain};
 
 // What the outputs of the set reach, from scratch for n inputs and m outputs.
@@ -94,26 +93,12 @@ pub fn start_entry(g: Game, s: &[u64], cores: InSet) -> u16
     65535
 }
 
-// The outputs that make a won position with i.
-fn won_outputs(s: &[u64], n: usize, m: usize, cores: InSet, i: InState) -> OutSet
-    requires { ⌜ Shaped (length (now s)) n m × (i .0 < n) ⌝ }
-    ensures { λ r. ⌜ r .0 ≡ pack m (wonAt (now (s .entry)) n (cores .0) (i .0)) ⌝ }
-{
-    let mut x: u64 = 0;
-    let mut o: usize = 0;
-    while o < m {
-        x = sets::insert_if(x, o, stored::won(s, n, cores.0, i.0, o));
-        o += 1;
-    }
-    OutSet(x)
-}
-
 // The rows of i where the position is won: none.
 fn none_row(g: Game, s: &[u64], cores: InSet, counters: usize, i: InState, room: &mut [u16])
     requires { ⌜ Known g (now s) (cores .0) × Roomy g counters (length (now room)) × (i .0 < g .input .states) ⌝ }
     ensures { λ r. ⌜ Filled g (λ a h b. (a ≡ i .0) × (region (separatedOf g) a b ≡ true)) (now (room .entry)) (now (room .exit)) ⌝ }
 {
-    let won = won_outputs(s, g.input.states, g.output.states, cores, i);
+    let won = stored::won_outputs(s, g.input.states, g.output.states, cores, i);
     rows::spread(
         g.output.states,
         counters,

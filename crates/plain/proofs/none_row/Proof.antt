@@ -7,7 +7,10 @@ use Rattle.plain.proofs.none_row.Statement.{statement}
 use Rattle.plain.proofs.none_row.Tie as tie
 
 won-outputs-requires : tie.Need-won-outputs-requires
-won-outputs-requires c κs = (shaped _ _ _ (c .before .before .pre .0), c .before .before .pre .2)
+won-outputs-requires c κs =
+    let p = c .before .before .pre in
+    let h = shaped _ _ _ (p .0) in
+    (h .inputs, h .outputs, p .2, h .long)
 
 below-requires : tie.Need-below-requires
 below-requires c κs = omega (arith, c .before .before .before .pre .1 .few)

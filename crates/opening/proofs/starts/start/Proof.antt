@@ -8,8 +8,8 @@ use Rattle.opening.proofs.starts.start.Tie as tie
 member-requires : tie.Need-member-requires
 member-requires c κs = search needs
 
-won-with-requires : tie.Need-won-with-requires
-won-with-requires c κs = search needs
+won-outputs-requires : tie.Need-won-outputs-requires
+won-outputs-requires c κs = search needs
 
 lowest-requires : tie.Need-lowest-requires
 lowest-requires c κs = search needs
@@ -20,7 +20,7 @@ staying-requires c κs = search needs
 returns : tie.Need-returns
 returns c =
     let b = c .before .before .before .before in
-    start-in _ _ _ _ _ _ (sym (b .before .before .member .ensures) ∙ b .before .if1 .taken) (b .won-with .ensures) (c .before .lowest .ensures) (c .staying .ensures)
+    start-in _ _ _ _ _ _ (sym (b .before .before .member .ensures) ∙ b .before .if1 .taken) (b .won-outputs .ensures) (c .before .lowest .ensures) (c .staying .ensures)
 
 returns-2 : tie.Need-returns-2
 returns-2 c = start-out _ _ _ _ _ _ (sym (c .before .member .ensures) ∙ c .if1 .left)
@@ -28,4 +28,4 @@ returns-2 c = start-out _ _ _ _ _ _ (sym (c .before .member .ensures) ∙ c .if1
 pub start-spec : {M : Type 1} → statement M
 start-spec =
     tie.close
-    (tie.spec member-requires won-with-requires lowest-requires staying-requires returns returns-2)
+    (tie.spec member-requires won-outputs-requires lowest-requires staying-requires returns returns-2)

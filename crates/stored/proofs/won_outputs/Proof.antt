@@ -1,18 +1,18 @@
--- `won_with` collects the outputs that are won with i.
-use Prim.Native.Nat.{_-_, _≤_}
+-- `won_outputs` collects the outputs below o.
+use native.Mathlib.Omega.{arith}
+use Prim.Native.Nat.{_≤_, _-_}
 use mathlib.Core.Path.{_≡_}
 use Rattle.sets.specs.Member.{pack}
 use Rattle.sets.proofs.Collect.{collect-none, collect-next, collect-end}
 use Rattle.stored.specs.Stored.{wonAt}
-use native.Mathlib.Omega.{arith}
-use Rattle.opening.proofs.starts.won_with.Statement.{statement}
-use Rattle.opening.proofs.starts.won_with.Tie as tie
+use Rattle.stored.proofs.won_outputs.Statement.{statement}
+use Rattle.stored.proofs.won_outputs.Tie as tie
 
 abbrev Inv-loop : tie.InvT-loop
-Inv-loop s z cores i m x₀ o₀ x o = (o ≤ m) × (x ≡ pack o (wonAt s (z .inputs) (cores .0) (i .0)))
+Inv-loop s n m cores i x₀ o₀ x o = (o ≤ m) × (x ≡ pack o (wonAt s n (cores .0) (i .0)))
 
 abbrev μ-loop : tie.MeasureT-loop
-μ-loop s z cores i m x₀ o₀ x o = m - o
+μ-loop s n m cores i x₀ o₀ x o = m - o
 
 loop-holds : tie.Need-loop-holds Inv-loop μ-loop
 loop-holds c = (omega arith, collect-none _)
@@ -37,8 +37,8 @@ loop-again c =
 returns : tie.Need-returns Inv-loop μ-loop
 returns c = collect-end _ (c .before .loop .o) _ _ (omega arith) (omega arith) (c .before .loop .inv .1)
 
-pub won-with-spec : {M : Type 1} → statement M
-won-with-spec =
+pub won-outputs-spec : {M : Type 1} → statement M
+won-outputs-spec =
     tie.close
     (tie.spec
     Inv-loop
