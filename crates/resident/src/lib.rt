@@ -14,7 +14,7 @@ ghost use Rattle.play.specs.Play.{separatedOf};
 ghost use Rattle.theory.specs.Entries.{controllerEntries};
 ghost use Rattle.sets.specs.Member.{pack};
 ghost use Rattle.controller_rows.specs.Writes.{Table, residesAt, Away};
-ghost use Rattle.resident.specs.Housed.{lowestIs, housedAt, reachesAt};
+ghost use Rattle.resident.specs.Housed.{lowestIs, settledAt, housedAt, reachesAt};
 ghost use Rattle.controller_table.specs.Filled.{Filled, Away as AwayRow, Given, HomeOf};
 
 // Whether the lowest home of a row in reach is d.
@@ -24,37 +24,38 @@ fn home_is(row: OutSet, reach: OutSet, d: OutState) -> bool
     sets::lowest(row.0 & reach.0) == d.0
 }
 
+// The inputs of cores whose lowest home in reach is d.
+fn settled(s: &[u64], n: usize, cores: InSet, reach: OutSet, d: OutState) -> InSet
+    requires { ⌜ (n ≤ 64) × (n + n ≤ length (now s)) ⌝ }
+    ensures { λ r. ⌜ r .0 ≡ pack n (settledAt (now (s .entry)) n (cores .0) (reach .0) (d .0)) ⌝ }
+{
+    let mut x: u64 = 0;
+    let mut rest = sets::intersection(cores.0, sets::below(n));
+    while rest != 0 {
+        let j = sets::lowest(rest);
+        let row = s[n + j];
+        x = sets::insert_if(x, j, home_is(OutSet(row), reach, d));
+        rest = sets::difference(rest, sets::insert(0, j));
+    }
+    InSet(x)
+}
+
 // The inputs whose home at output o is d.
 pub fn residents(s: &[u64], n: usize, cores: InSet, o: OutState, d: OutState) -> InSet
     requires { ⌜ (n ≤ 64) × (o .0 < 64) × (n + n + o .0 < length (now s)) ⌝ }
     ensures { λ r. ⌜ r .0 ≡ pack n (residesAt (now (s .entry)) n (cores .0) (o .0) (d .0)) ⌝ }
 {
     let reach = s[n + n + o.0];
-    let mut x: u64 = 0;
-    let mut rest = sets::intersection(cores.0, sets::below(n));
-    while rest != 0 {
-        let j = sets::lowest(rest);
-        let row = s[n + j];
-        x = sets::insert_if(x, j, home_is(OutSet(row), OutSet(reach), d));
-        rest = sets::difference(rest, sets::insert(0, j));
-    }
-    InSet(x)
+    settled(s, n, cores, OutSet(reach), d)
 }
 
-// The inputs of cores with the home d. No other resides at d, whatever the output.
+// The inputs of cores with the home d: where d alone is in reach, it is the lowest. No other resides at d, whatever the output.
 fn housed(s: &[u64], n: usize, cores: InSet, d: OutState) -> InSet
     requires { ⌜ (n ≤ 64) × (d .0 < 64) × (n + n ≤ length (now s)) ⌝ }
     ensures { λ r. ⌜ r .0 ≡ pack n (housedAt (now (s .entry)) n (cores .0) (d .0)) ⌝ }
 {
-    let mut x: u64 = 0;
-    let mut rest = sets::intersection(cores.0, sets::below(n));
-    while rest != 0 {
-        let j = sets::lowest(rest);
-        let row = s[n + j];
-        x = sets::insert_if(x, j, sets::member(row, d.0));
-        rest = sets::difference(rest, sets::insert(0, j));
-    }
-    InSet(x)
+    let alone = sets::insert(0, d.0);
+    settled(s, n, cores, OutSet(alone), d)
 }
 
 // The rows of the outputs outside the component of home d, for the inputs whose home there is d: next is the way home.
