@@ -1,0 +1,193 @@
+-- The kit's answers, case by case.
+--
+--   kit-faulty, kit-scratch-short, kit-controller-short, kit-room-short    : the refusals that are told before the solver begins
+--   system-length          : the solver hands over the whole table
+--   kit-system, kit-environment, kit-refused    : its answers
+use Prim.Native.Nat.{ℕ, _+_, _*_, _≤_, _<_}
+use mathlib.Core.Path.{_≡_, refl, sym, _∙_, ap, subst}
+use mathlib.Core.Bool.{Bool, true, false, _&&_}
+use mathlib.Core.List.{List, _++_}
+use mathlib.Core.Logic.{_⊎_, inl, inr}
+use native.Mathlib.Omega.{arith}
+use lib.Dec.{leb}
+use lib.ListN.{length, take, drop}
+use lib.Seq.{take-append-seam}
+use borrow.Author.Tests.{le-leb, lt-leb}
+use Rattle.finite.proofs.Truth.{decide, and-intro}
+use Rattle.arena.specs.Win.{ControllerWins, DemandThree, system}
+use Rattle.arena.proofs.Demand.{system-holds}
+use Rattle.game.specs.declared.Game.{Game}
+use Rattle.game.specs.declared.Acceptance.{Acceptance}
+use Rattle.game.specs.declared.Acceptance.the-variants.{Accepted, Refused as Faulty}
+use Rattle.game.specs.Acceptance.{acceptance}
+use Rattle.play.specs.Play.{separatedOf}
+use Rattle.theory.specs.Region.{verdict}
+use Rattle.theory.specs.Entries.{controllerEntries}
+use Rattle.demands.specs.Demands.{playOf, controllerOf}
+use Rattle.solver.specs.declared.Verdict.{Verdict}
+use Rattle.solver.specs.declared.Verdict.the-variants.{System, Environment, Refused}
+use Rattle.solver.specs.Promise.{controllerLength, environmentLength, named, tenth, ninth, eighth, verdictAnswer, controllerAfter, environmentAfter, verdictScratch, Decided, Solved}
+use Rattle.solver.proofs.Verdicts.{controller-long}
+use Rattle.drives.specs.declared.Kit.{Kit}
+use Rattle.drives.specs.Drive.{graphFrom, gameFrom}
+use Rattle.drives.specs.Acceptance.{kitAcceptance}
+use Rattle.drives.proofs.Acceptance.{Fitting, kit-fitting}
+use Rattle.kit_rows.specs.Rows.{kitLength, kitEntries}
+use Rattle.kit_rows.proofs.Kits.{entries-long}
+use Rattle.kit_runs.specs.Exchange.{Exchanged}
+use Rattle.kit_runs.proofs.Turns.{kit-reads}
+use Rattle.kit_runs.proofs.Exchange.{kit-exchanged}
+use Rattle.kit.specs.Promise.{kitNamed, kitTenth, kitNinth, kitEighth, kitAnswer, solverAnswer, kitAfter, Kept, KitSolved}
+
+-- what an answer of the solver is for the kit
+unfoldable lifted : Kit → Verdict → Verdict
+lifted k (System n) = System (kitLength k)
+lifted k (Environment n) = Environment n
+lifted k (Refused n) = Refused n
+
+-- the front of a room
+front-of : (l m : List ℕ) (n : ℕ) → n ≡ length l → take n (l ++ m) ≡ l
+front-of l m n q = ap (λ (i : ℕ). take i (l ++ m)) q ∙ take-append-seam l m
+
+modes-in : (k : Kit) → k .old .modes ≤ length (controllerEntries (separatedOf (gameFrom k)))
+unfolding controllerLength gameFrom graphFrom
+modes-in k = omega (arith, controller-long (gameFrom k))
+
+module _ (k : Kit) (s c e t : List ℕ) where
+  refused : (n : ℕ) → Refused n ≡ kitAnswer k (length s) (length c) (length e) (length t) → KitSolved k s s c c e e t t (Refused n)
+  unfolding verdictScratch controllerAfter environmentAfter solverAnswer kitAfter Kept Decided
+  refused n a = record { answer = a; scratch = refl; controller = refl; environment = refl; kit = refl; demand = tt; kept = tt }
+
+  pub kit-faulty : (n : ℕ) → kitAcceptance k ≡ Faulty n → KitSolved k s s c c e e t t (Refused n)
+  unfolding kitAnswer
+  kit-faulty n a = refused n (rw (a, kitAnswer) refl)
+
+  module _ (a : kitAcceptance k ≡ Accepted) where
+    at-eight : kitAnswer k (length s) (length c) (length e) (length t) ≡ kitEighth k (length s) (length c) (length e) (length t)
+    unfolding kitAnswer
+    at-eight = rw (a, kitAnswer) refl
+
+    pub kit-scratch-short : length s < 512 → KitSolved k s s c c e e t t (Refused 8)
+    unfolding kitEighth
+    kit-scratch-short b = refused 8 (sym (at-eight ∙ rw (lt-leb 512 (length s) b, kitEighth) refl))
+
+    at-nine : 512 ≤ length s → kitAnswer k (length s) (length c) (length e) (length t) ≡ kitNinth k (length c) (length e) (length t)
+    unfolding kitEighth
+    at-nine b = at-eight ∙ rw (le-leb 512 (length s) b, kitEighth) refl
+
+    short : 512 ≤ length s → (leb (controllerLength (gameFrom k)) (length c) && leb (kitLength k) (length t)) ≡ false → KitSolved k s s c c e e t t (Refused 9)
+    unfolding kitNinth
+    short b d = refused 9 (sym (at-nine b ∙ rw (d, kitNinth) refl))
+
+    pub kit-controller-short : 512 ≤ length s → length c < controllerLength (gameFrom k) → KitSolved k s s c c e e t t (Refused 9)
+    kit-controller-short b d = short b (ap (λ (x : Bool). x && leb (kitLength k) (length t)) (lt-leb (controllerLength (gameFrom k)) (length c) d))
+
+    pub kit-room-short : 512 ≤ length s → controllerLength (gameFrom k) ≤ length c → length t < kitLength k → KitSolved k s s c c e e t t (Refused 9)
+    kit-room-short b d f =
+        short b (ap (λ (x : Bool). x && leb (kitLength k) (length t)) (le-leb (controllerLength (gameFrom k)) (length c) d) ∙ lt-leb (kitLength k) (length t) f)
+
+    -- past the tests: what the solver answers, lifted
+    module _ (b : 512 ≤ length s) (d : controllerLength (gameFrom k) ≤ length c) (f : kitLength k ≤ length t) where
+      at-ten : kitAnswer k (length s) (length c) (length e) (length t) ≡ kitTenth k (length e)
+      unfolding kitNinth
+      at-ten =
+          at-nine b
+          ∙ rw (and-intro (le-leb (controllerLength (gameFrom k)) (length c) d) (le-leb (kitLength k) (length t) f), kitNinth) refl
+
+      solver-ten : verdictAnswer (gameFrom k) (length s) (length c) (length e) ≡ tenth (gameFrom k) (length e)
+      unfolding verdictAnswer eighth ninth
+      solver-ten =
+          rw (kit-fitting k a .game, verdictAnswer)
+          (rw (le-leb 512 (length s) b, eighth) (rw (le-leb (controllerLength (gameFrom k)) (length c) d, ninth) refl))
+
+      same-ten : kitTenth k (length e) ≡ lifted k (tenth (gameFrom k) (length e))
+      unfolding kitTenth tenth kitNamed named lifted
+      same-ten = go (leb (environmentLength (gameFrom k)) (length e)) (verdict (separatedOf (gameFrom k)))
+        where
+          go : (x y : Bool)
+              → elim x as (λ v. Verdict) [
+                | true ↦ elim y [ true ↦ System (kitLength k) | false ↦ Environment (environmentLength (gameFrom k)) ]
+                | false ↦ Refused 10
+              ] ≡ lifted k (elim x [
+                | true ↦ elim y [ true ↦ System (controllerLength (gameFrom k)) | false ↦ Environment (environmentLength (gameFrom k)) ]
+                | false ↦ Refused 10
+              ])
+          go true true = refl
+          go true false = refl
+          go false y = refl
+
+      answer-lifted : (r : Verdict) → r ≡ verdictAnswer (gameFrom k) (length s) (length c) (length e)
+          → lifted k r ≡ kitAnswer k (length s) (length c) (length e) (length t)
+      answer-lifted r q = ap (lifted k) (q ∙ solver-ten) ∙ sym (at-ten ∙ same-ten)
+
+      pub system-length : (n : ℕ) → System n ≡ verdictAnswer (gameFrom k) (length s) (length c) (length e) → n ≡ controllerLength (gameFrom k)
+      unfolding tenth named
+      system-length n q = go (leb (environmentLength (gameFrom k)) (length e)) (verdict (separatedOf (gameFrom k))) (q ∙ solver-ten)
+        where
+          go : (x y : Bool)
+              → System n ≡ elim x [
+                | true ↦ elim y [ true ↦ System (controllerLength (gameFrom k)) | false ↦ Environment (environmentLength (gameFrom k)) ]
+                | false ↦ Refused 10
+              ] → n ≡ controllerLength (gameFrom k)
+          go true true h = cc
+          go true false h = absurd (let z : _≡_ {A = ℕ} 0 1 = cc in omega arith)
+          go false y h = absurd (let z : _≡_ {A = ℕ} 0 1 = cc in omega arith)
+
+      -- the table that the solver hands over
+      pub handed : (n : ℕ) (s′ c′ e′ : List ℕ) → Solved (gameFrom k) s s′ c c′ e e′ (System n) → take n c′ ≡ controllerEntries (separatedOf (gameFrom k))
+      unfolding controllerAfter
+      handed n s′ c′ e′ S =
+          ap (take n) (S .controller)
+          ∙ front-of (controllerEntries (separatedOf (gameFrom k))) (drop n c) n (system-length n (S .answer) ∙ sym (controller-long (gameFrom k)))
+
+      pub kit-system : (n : ℕ) (s′ c′ e′ t′ : List ℕ) → Solved (gameFrom k) s s′ c c′ e e′ (System n) → t′ ≡ kitEntries k (take n c′) ++ drop (kitLength k) t
+          → KitSolved k s s′ c c′ e e′ t t′ (System (kitLength k))
+      unfolding lifted verdictScratch controllerAfter environmentAfter solverAnswer kitAfter Kept Decided
+      kit-system n s′ c′ e′ t′ S q = record {
+        answer = answer-lifted (System n) (S .answer);
+        scratch = S .scratch;
+        controller = S .controller ∙ ap (λ (m : ℕ). controllerEntries (separatedOf (gameFrom k)) ++ drop m c) (system-length n (S .answer));
+        environment = S .environment;
+        kit = filled;
+        demand = subst (λ (m : ℕ). Decided (gameFrom k) (System m) c′ e′) (system-length n (S .answer)) (S .demand);
+        kept = subst (Exchanged k) (sym front) exchanged;
+      }
+        where
+          E : List ℕ
+          E = controllerEntries (separatedOf (gameFrom k))
+
+          filled : t′ ≡ kitEntries k E ++ drop (kitLength k) t
+          filled = q ∙ ap (λ (l : List ℕ). kitEntries k l ++ drop (kitLength k) t) (handed n s′ c′ e′ S)
+
+          front : take (kitLength k) t′ ≡ kitEntries k E
+          front = ap (take (kitLength k)) filled ∙ front-of (kitEntries k E) (drop (kitLength k) t) (kitLength k) (sym (entries-long k E (modes-in k)))
+
+          wins : ControllerWins (playOf (gameFrom k)) (controllerOf (gameFrom k) E)
+          wins = system-holds (playOf (gameFrom k)) (controllerOf (gameFrom k) E) (subst (λ (l : List ℕ). DemandThree (playOf (gameFrom k)) (system (controllerOf (gameFrom k) l))) (handed n s′ c′ e′ S) (S .demand))
+
+          exchanged : Exchanged k (kitEntries k E)
+          exchanged = kit-exchanged k (kit-fitting k a) E (kitEntries k E) (kit-reads k E (modes-in k)) wins
+
+      pub kit-environment : (n : ℕ) (s′ c′ e′ : List ℕ) → Solved (gameFrom k) s s′ c c′ e e′ (Environment n) → KitSolved k s s′ c c′ e e′ t t (Environment n)
+      unfolding lifted verdictScratch controllerAfter environmentAfter solverAnswer kitAfter Kept Decided
+      kit-environment n s′ c′ e′ S = record {
+        answer = answer-lifted (Environment n) (S .answer);
+        scratch = S .scratch;
+        controller = S .controller;
+        environment = S .environment;
+        kit = refl;
+        demand = S .demand;
+        kept = tt;
+      }
+
+      pub kit-refused : (n : ℕ) (s′ c′ e′ : List ℕ) → Solved (gameFrom k) s s′ c c′ e e′ (Refused n) → KitSolved k s s′ c c′ e e′ t t (Refused n)
+      unfolding lifted verdictScratch controllerAfter environmentAfter solverAnswer kitAfter Kept Decided
+      kit-refused n s′ c′ e′ S = record {
+        answer = answer-lifted (Refused n) (S .answer);
+        scratch = S .scratch;
+        controller = S .controller;
+        environment = S .environment;
+        kit = refl;
+        demand = tt;
+        kept = tt;
+      }

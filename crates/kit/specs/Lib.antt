@@ -1,0 +1,3 @@
+-- What the kit's solver promises.
+pub mod Promise
+pub mod Roomy

@@ -1,0 +1,68 @@
+-- What the kit's solver promises, for every input.
+--
+--   kitAnswer k s c e t        == its answer, scratch being of s words, the controller's room of c entries, the panel's of e and the kit's of t
+--   solverAnswer k r           == the solver's answer to the kit's game, where the kit's is r
+--   kitAfter k r t             == the kit's room, t before
+--   Kept k r t                 == what the kit's table is for, read from the front of the room t
+--   KitSolved k s s′ c c′ e e′ t t′ r    == it answers r and leaves scratch s as s′, the controller's room c as c′, the panel's e as e′, the kit's t as t′
+use Prim.Native.Nat.{ℕ}
+use mathlib.Core.Path.{_≡_}
+use mathlib.Core.Bool.{true, false, _&&_}
+use mathlib.Core.List.{List, _++_}
+use lib.Dec.{leb}
+use lib.ListN.{length, take, drop}
+use Rattle.game.specs.declared.Acceptance.the-variants.{Accepted, Refused as Faulty}
+use Rattle.play.specs.Play.{separatedOf}
+use Rattle.theory.specs.Region.{verdict}
+use Rattle.theory.specs.Entries.{controllerEntries}
+use Rattle.solver.specs.declared.Verdict.{Verdict}
+use Rattle.solver.specs.declared.Verdict.the-variants.{System, Environment, Refused}
+use Rattle.solver.specs.Promise.{controllerLength, environmentLength, controllerAfter, environmentAfter, verdictScratch, Decided}
+use Rattle.drives.specs.declared.Kit.{Kit}
+use Rattle.drives.specs.Drive.{gameFrom}
+use Rattle.drives.specs.Acceptance.{kitAcceptance}
+use Rattle.kit_rows.specs.Rows.{kitLength, kitEntries}
+use Rattle.kit_runs.specs.Exchange.{Exchanged}
+
+-- the side that wins, with the length of what is handed over: the kit's table or the panel's
+unfoldable pub kitNamed : Kit → Verdict
+kitNamed k = elim (verdict (separatedOf (gameFrom k))) [ true ↦ System (kitLength k) | false ↦ Environment (environmentLength (gameFrom k)) ]
+
+unfoldable pub kitTenth : Kit → ℕ → Verdict
+kitTenth k e = elim (leb (environmentLength (gameFrom k)) e) [ true ↦ kitNamed k | false ↦ Refused 10 ]
+
+-- "9 also covers a kit's room too short, whoever wins."
+unfoldable pub kitNinth : Kit → ℕ → ℕ → ℕ → Verdict
+kitNinth k c e t = elim (leb (controllerLength (gameFrom k)) c && leb (kitLength k) t) [ true ↦ kitTenth k e | false ↦ Refused 9 ]
+
+unfoldable pub kitEighth : Kit → ℕ → ℕ → ℕ → ℕ → Verdict
+kitEighth k s c e t = elim (leb 512 s) [ true ↦ kitNinth k c e t | false ↦ Refused 8 ]
+
+unfoldable pub kitAnswer : Kit → ℕ → ℕ → ℕ → ℕ → Verdict
+kitAnswer k s c e t = elim (kitAcceptance k) [ Accepted ↦ kitEighth k s c e t | Faulty n ↦ Refused n ]
+
+-- "the other rooms are as the solver leaves them"
+unfoldable pub solverAnswer : Kit → Verdict → Verdict
+solverAnswer k (System n) = System (controllerLength (gameFrom k))
+solverAnswer k (Environment n) = Environment n
+solverAnswer k (Refused n) = Refused n
+
+-- "The rest of the kit's room is unchanged, all of it where the panel wins"
+unfoldable pub kitAfter : Kit → Verdict → List ℕ → List ℕ
+kitAfter k (System n) t = kitEntries k (controllerEntries (separatedOf (gameFrom k))) ++ drop n t
+kitAfter k (Environment n) t = t
+kitAfter k (Refused n) t = t
+
+unfoldable pub Kept : Kit → Verdict → List ℕ → Type 0
+Kept k (System n) t = Exchanged k (take n t)
+Kept k (Environment n) t = Unit {0}
+Kept k (Refused n) t = Unit {0}
+
+pub record KitSolved (k : Kit) (s s′ c c′ e e′ t t′ : List ℕ) (r : Verdict) : Type 0 where
+  pub answer : r ≡ kitAnswer k (length s) (length c) (length e) (length t)
+  pub scratch : s′ ≡ verdictScratch r s
+  pub controller : c′ ≡ controllerAfter (gameFrom k) (solverAnswer k r) c
+  pub environment : e′ ≡ environmentAfter (gameFrom k) r e
+  pub kit : t′ ≡ kitAfter k r t
+  pub demand : Decided (gameFrom k) (solverAnswer k r) c′ e′
+  pub kept : Kept k r t′

@@ -1,0 +1,80 @@
+-- `output_rows` goes through the counters.
+use Prim.Native.Nat.{_≤_, _<_, _-_, _+_, _*_}
+use mathlib.Core.Path.{refl}
+use native.Mathlib.Omega.{arith}
+use Rattle.kit_rows.proofs.Blocks.{Rounds, rounds-none, rounds-next, rounds-end}
+use Rattle.kit_rows.proofs.Kits.{counters-small, first-small, count-fits, outputs-one}
+use Rattle.kit_rows.proofs.output_rows.Statement.{statement}
+use Rattle.kit_rows.proofs.output_rows.Tie as tie
+
+abbrev Inv-loop : tie.InvT-loop
+Inv-loop counters o controller room₀ old to c₀ room c = (c ≤ counters) × Rounds old counters o to controller c room₀ room
+
+abbrev μ-loop : tie.MeasureT-loop
+μ-loop counters o controller room₀ old to c₀ room c = counters - c
+
+lowest-commands-requires : tie.Need-lowest-commands-requires Inv-loop μ-loop
+lowest-commands-requires c κs = let p = c .before .before .before .before .before .before .pre in (p .0 .new .commands, omega (arith, p .1, p .0 .new .modes))
+
+loop-holds : tie.Need-loop-holds Inv-loop μ-loop
+loop-holds c = (omega arith, rounds-none _ _ _ _ _ _)
+
+small : (c : tie.After-to2 Inv-loop μ-loop)
+    → c .before .before .before .before .before .before .before .before .before .before .before .before .before .args .o * c .before .before .before .before .before .before .before .before .before .before .before .before .before .args .counters + c .before .before .before .before .loop .c < 2048
+small c =
+    let b = c .before .before .before .before .before .before .before .before .before .before .before .before .before in
+    counters-small _ (b .args .controller .now) _ _ (b .pre .0) _ (b .pre .1) _ (c .before .before .before .loop-test .taken)
+
+mul-counter-rows : tie.Need-mul-counter-rows Inv-loop μ-loop
+mul-counter-rows c = omega (arith, small c)
+
+add-counter-rows : tie.Need-add-counter-rows Inv-loop μ-loop
+add-counter-rows c = omega (arith, small c)
+
+mul-counter-rows-2 : tie.Need-mul-counter-rows-2 Inv-loop μ-loop
+mul-counter-rows-2 c =
+    let b = c .before .before .before .before .before .before .before .before .before .before .before .before .before in
+    omega (arith, first-small _ (b .args .controller .now) _ _ (b .pre .0) _ (b .pre .1) _ (c .before .before .before .loop-test .taken))
+
+counter-rows-requires : tie.Need-counter-rows-requires Inv-loop μ-loop
+counter-rows-requires c κs =
+    let b = c .before .before .before .before .before .before .before .before .before .before .before .before .before .before in
+    count-fits _ (b .args .controller .now) _ _ (b .pre .0) _ (b .pre .1) _ _ (c .before .before .before .before .loop-test .taken) (c .before .before .before .before .before .loop .inv .1 .long)
+
+add-c : tie.Need-add-c Inv-loop μ-loop
+add-c c = omega (arith, c .before .before .before .before .before .before .before .loop-test .taken)
+
+loop-less : tie.Need-loop-less Inv-loop μ-loop
+loop-less c = omega (arith, c .before .before .before .before .before .before .before .loop-test .taken)
+
+loop-again : tie.Need-loop-again Inv-loop μ-loop
+loop-again c =
+    let a = c .before .before .before .before .before .before .before in
+    (omega (arith, a .loop-test .taken), rounds-next _ _ _ _ _ (a .before .loop .c) (a .loop-test .taken) (a .before .loop .inv .1) (c .before .before .counter-rows .ensures) refl)
+
+same-length : tie.Need-same-length Inv-loop μ-loop
+same-length c = c .before .loop .inv .1 .long
+
+returns : tie.Need-returns Inv-loop μ-loop
+returns c =
+    let b = c .before .before .before .before .before .before .before .before .before .before in
+    outputs-one _ (b .args .controller .now) _ _ (b .pre .0) _ (b .pre .1) _ (c .before .before .before .lowest-commands .ensures)
+    (rounds-end _ _ _ _ _ (c .before .loop .c) (c .before .loop .inv .0) (c .loop-test .left) (c .before .loop .inv .1))
+
+pub output-rows-spec : {M : Type 1} → statement M
+output-rows-spec =
+    tie.close
+    (tie.spec
+    Inv-loop
+    μ-loop
+    lowest-commands-requires
+    loop-holds
+    mul-counter-rows
+    add-counter-rows
+    mul-counter-rows-2
+    counter-rows-requires
+    add-c
+    loop-less
+    loop-again
+    same-length
+    returns)

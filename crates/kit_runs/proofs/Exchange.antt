@@ -1,0 +1,100 @@
+-- The kit's table does what it is for, where the controller's table wins.
+--
+--   come-kit           : what the kit comes to, the controller comes to
+--   answered           : so every allowed command is answered
+--   At, run, run-played : a sequence of commands that never ends is answered for ever
+--   kit-meets          : and along what it makes, recurring modes meet every requirement
+--   kit-exchanged      : the theorem
+use Prim.Native.Nat.{ℕ, zero, suc, _+_}
+use native.Mathlib.Numerals.{add-one}
+use mathlib.Core.Path.{_≡_, refl, sym, _∙_, ap, subst}
+use mathlib.Core.Bool.{true}
+use mathlib.Core.List.{List, List·Memᴰ}
+use Rattle.graphs.specs.Walk.{Walk, stay, step}
+use Rattle.arena.specs.Arena.{Requirement, arenaOf}
+use Rattle.arena.specs.Play.{Configuration, ControllerFirst, ControllerTurn, Reachable}
+use Rattle.arena.specs.Win.{ControllerWins}
+use Rattle.arena.proofs.Bounds.{bounded-arenaOf}
+use Rattle.play.specs.Play.{requirementsOf, separatedOf}
+use Rattle.demands.specs.Demands.{playOf, controllerOf}
+use Rattle.endless.specs.Endless.{Endless, RecurringMeet}
+use Rattle.endless.proofs.Endless.{endless-meets}
+use Rattle.drives.specs.declared.Kit.{Kit}
+use Rattle.drives.specs.Drive.{nextMode, allows, gameFrom}
+use Rattle.drives.proofs.Acceptance.{Fitting}
+use Rattle.kit_runs.specs.Exchange.{startsIn, KitFirst, KitTurn, KitMove, modeAt, Played, Exchanged}
+use Rattle.kit_runs.proofs.Turns.{Reads, Come, StepAt, step-at, turn-kit, turn-controller, onward, first-controller, first-kit}
+
+module _ (k : Kit) (F : Fitting k) (l t : List ℕ) (R : Reads k l t) (W : ControllerWins (playOf (gameFrom k)) (controllerOf (gameFrom k) l)) where
+  begun : (x : Configuration) → KitFirst k t x → Come k F l t R W x
+  begun x f = record { origin = x; first = first-controller k F l t R W x f; walk = stay }
+
+  along : (x y : Configuration) → Come k F l t R W x → Walk (KitMove k t) x y → Come k F l t R W y
+  along x y r stay = r
+  along x y r (step {b = z} m w) = along z y (onward k F l t R W x z (m .command) r (m .turn)) w
+
+  come-kit : (x : Configuration) → Reachable (KitFirst k t) (KitMove k t) x → Come k F l t R W x
+  come-kit x r = along (r .origin) x (begun (r .origin) (r .first)) (r .walk)
+
+  answered : (x : Configuration) → Come k F l t R W x → (u : ℕ) → allows (k .old) (x .input) u ≡ true → (y : Configuration) × KitTurn k t u x y
+  answered x r u a =
+      let s = step-at k F l t R W x r u a in
+      (record { input = nextMode (k .old) (x .input) u; output = s .output; memory = s .memory }, turn-kit k F l t R W x u a s)
+
+  -- a sequence of commands that never ends, from mode i on
+  module _ (i : ℕ) (b : startsIn (k .old) i ≡ true) (us : ℕ → ℕ) (a : (n : ℕ) → allows (k .old) (modeAt (k .old) i us n) (us n) ≡ true) where
+    record At (n : ℕ) : Type 0 where
+      pub here : Configuration
+      pub come : Come k F l t R W here
+      pub mode : here .input ≡ modeAt (k .old) i us n
+
+    allowed-at : (n : ℕ) (p : At n) → allows (k .old) (p .here .input) (us n) ≡ true
+    allowed-at n p = ap (λ (m : ℕ). allows (k .old) m (us n)) (p .mode) ∙ a n
+
+    next : (n : ℕ) → At n → At (suc n)
+    unfolding modeAt
+    next n p =
+        let v = answered (p .here) (p .come) (us n) (allowed-at n p) in record {
+          here = v .0;
+          come = onward k F l t R W (p .here) (v .0) (us n) (p .come) (v .1);
+          mode = v .1 .input ∙ ap (λ (m : ℕ). nextMode (k .old) m (us n)) (p .mode);
+        }
+
+    run : (n : ℕ) → At n
+    unfolding modeAt
+    run zero =
+        let v = first-kit k F l t R W i b in
+        record { here = v .0; come = begun (v .0) (v .1); mode = v .2 }
+    run (suc n) = next n (run n)
+
+    run-played : Played k t i us (λ n. run n .here)
+    unfolding run next answered modeAt
+    run-played = record {
+      first = first-kit k F l t R W i b .1;
+      begins = first-kit k F l t R W i b .2;
+      turn = λ n. rw add-one (answered (run n .here) (run n .come) (us n) (allowed-at n (run n)) .1);
+    }
+
+  come-along : (f : ℕ → Configuration) → Endless (KitFirst k t) (KitMove k t) f → (n : ℕ) → Come k F l t R W (f n)
+  come-along f E zero = begun (f 0) (E .first)
+  come-along f E (suc n) =
+      subst (λ (m : ℕ). Come k F l t R W (f m)) (add-one n)
+      (onward k F l t R W (f n) (f (n + 1)) (E .turn n .command) (come-along f E n) (E .turn n .turn))
+
+  kit-meets : (f : ℕ → Configuration) → Endless (KitFirst k t) (KitMove k t) f → (q : Requirement) → List·Memᴰ q (requirementsOf (gameFrom k)) → RecurringMeet q f
+  unfolding playOf arenaOf separatedOf
+  kit-meets f E q h =
+      endless-meets (playOf (gameFrom k)) (bounded-arenaOf (separatedOf (gameFrom k))) (controllerOf (gameFrom k) l) W f
+      (record {
+        first = first-controller k F l t R W (f 0) (E .first);
+        turn = λ n. turn-controller k F l t R W (f n) (f (n + 1)) (E .turn n .command) (come-along f E n) (E .turn n .turn);
+      })
+      q h
+
+  pub kit-exchanged : Exchanged k t
+  kit-exchanged = record {
+    starts = first-kit k F l t R W;
+    answers = λ x r u a. answered x (come-kit x r) u a;
+    plays = λ i b us a. (λ n. run i b us a n .here, run-played i b us a);
+    meets = kit-meets;
+  }

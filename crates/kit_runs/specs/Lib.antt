@@ -1,0 +1,2 @@
+-- What a kit is for.
+pub mod Exchange
