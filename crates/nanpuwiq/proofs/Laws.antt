@@ -7,12 +7,14 @@ use Rattle.map.specs.declared.Mapped.{Mapped}
 use Rattle.solver.specs.declared.Verdict.{Verdict}
 use Rattle.map.specs.Map.{MapMade}
 use Rattle.solver.specs.Promise.{Solved}
+use Rattle.drives.specs.declared.Kit.{Kit}
+use Rattle.kit.specs.Promise.{KitSolved}
 use Rattle.text.specs.declared.WriteAnswer.{WriteAnswer}
 use Rattle.text.specs.Write.{Writes}
 use Rattle.results.specs.declared.SolveResult.{SolveResult}
 use Rattle.results.specs.declared.WriteResult.{WriteResult}
 use Rattle.results.specs.Results.{mapCode, solveResult, writeResult}
-use Rattle.nanpuwiq.specs.Calls.{MapCalled, SolveCalled, WriteCalled}
+use Rattle.nanpuwiq.specs.Calls.{MapCalled, SolveCalled, KitCalled, WriteCalled}
 
 pub map-called : {g : Game} {s s′ m m′ : List ℕ} {a : Mapped} {r : ℕ} → MapMade g s s′ m m′ a → r ≡ mapCode a → MapCalled g s s′ m m′ r
 map-called {g} {s} {s′} {m} {m′} f e = record { answer = e ∙ ap mapCode (f .answer); made = subst (MapMade g s s′ m m′) (f .answer) f }
@@ -21,6 +23,11 @@ pub solve-called : {g : Game} {s s′ c c′ e e′ : List ℕ} {v : Verdict} {r
     → SolveCalled g s s′ c c′ e e′ r
 solve-called {g} {s} {s′} {c} {c′} {e} {e′} f is =
     record { answer = is ∙ ap solveResult (f .answer); solved = subst (Solved g s s′ c c′ e e′) (f .answer) f }
+
+pub kit-called : {k : Kit} {s s′ c c′ e e′ t t′ : List ℕ} {v : Verdict} {r : SolveResult} → KitSolved k s s′ c c′ e e′ t t′ v → r ≡ solveResult v
+    → KitCalled k s s′ c c′ e e′ t t′ r
+kit-called {k} {s} {s′} {c} {c′} {e} {e′} {t} {t′} f is =
+    record { answer = is ∙ ap solveResult (f .answer); solved = subst (KitSolved k s s′ c c′ e e′ t t′) (f .answer) f }
 
 pub write-called : {g : Game} {d d′ : List ℕ} {a : WriteAnswer} {r : WriteResult} → Writes g d a d′ → r ≡ writeResult a → WriteCalled g d d′ r
 write-called f e = record { answer = e ∙ ap writeResult (f .answer); buffer = f .buffer }

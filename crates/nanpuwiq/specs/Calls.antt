@@ -2,6 +2,7 @@
 --
 --   MapCalled g s s′ m m′ r            == the map's call answers r and leaves scratch s as s′ and the map m as m′
 --   SolveCalled g s s′ c c′ e e′ r     == the solver answers r and leaves scratch s as s′, the controller's buffer c as c′ and the environment's e as e′
+--   KitCalled k s s′ c c′ e e′ t t′ r  == the same of a kit, whose room t is left as t′
 --   ReadCalled s r                     == the reader answers r to the bytes s
 --   WriteCalled g d d′ r               == the writer answers r and leaves the buffer d as d′
 use Prim.Native.Nat.{ℕ}
@@ -11,6 +12,8 @@ use lib.ListN.{length}
 use Rattle.game.specs.declared.Game.{Game}
 use Rattle.map.specs.Map.{mapAnswer, MapMade}
 use Rattle.solver.specs.Promise.{verdictAnswer, Solved}
+use Rattle.drives.specs.declared.Kit.{Kit}
+use Rattle.kit.specs.Promise.{kitAnswer, KitSolved}
 use Rattle.text.specs.declared.Reading.{Reading}
 use Rattle.text.specs.Read.{Reads}
 use Rattle.text.specs.Write.{writeAnswer, writeBuffer}
@@ -28,6 +31,11 @@ pub record MapCalled (g : Game) (s s′ m m′ : List ℕ) (r : ℕ) : Type 0 wh
 pub record SolveCalled (g : Game) (s s′ c c′ e e′ : List ℕ) (r : SolveResult) : Type 0 where
   pub answer : r ≡ solveResult (verdictAnswer g (length s) (length c) (length e))
   pub solved : Solved g s s′ c c′ e e′ (verdictAnswer g (length s) (length c) (length e))
+
+-- `solved` says what all four rooms hold, and carries demand 3 and what the kit's table is for
+pub record KitCalled (k : Kit) (s s′ c c′ e e′ t t′ : List ℕ) (r : SolveResult) : Type 0 where
+  pub answer : r ≡ solveResult (kitAnswer k (length s) (length c) (length e) (length t))
+  pub solved : KitSolved k s s′ c c′ e e′ t t′ (kitAnswer k (length s) (length c) (length e) (length t))
 
 -- `Reads` fixes the reading for every list of bytes
 pub record ReadCalled (s : List ℕ) (r : ReadResult) : Type 0 where

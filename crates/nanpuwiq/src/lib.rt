@@ -4,7 +4,9 @@ ghost use mathlib.Core.Path.{_≡_};
 ghost use Rattle.game.specs.Acceptance.{acceptance};
 ghost use Rattle.player.specs.Player.{movedOf, beginning, stepping, Advanced};
 ghost use Rattle.results.specs.Results.{acceptCode, nowhere};
-ghost use Rattle.nanpuwiq.specs.Calls.{MapCalled, SolveCalled, ReadCalled, WriteCalled};
+ghost use Rattle.drives.specs.Acceptance.{kitAcceptance};
+ghost use Rattle.nanpuwiq.specs.Calls.{MapCalled, SolveCalled, KitCalled, ReadCalled, WriteCalled};
+use drives::Kit;
 use game::Game;
 use game::InState;
 use place::Position;
@@ -40,6 +42,28 @@ pub extern "C" fn nanpuwiq_solve(
     ensures { λ r. ⌜ SolveCalled g (now (scratch .entry)) (now (scratch .exit)) (now (controller .entry)) (now (controller .exit)) (now (panel .entry)) (now (panel .exit)) r ⌝ }
 {
     results::solve_result(solver::solve_into(g, scratch, controller, panel))
+}
+
+// Whether the kit is accepted.
+#[no_mangle]
+pub extern "C" fn nanpuwiq_accept_kit(k: Kit) -> u8
+    ensures { λ r. ⌜ r ≡ acceptCode (kitAcceptance k) ⌝ }
+{
+    results::accept_code(kit_checks::accept_kit(k))
+}
+
+// Names the side that wins the kit's game. Where the system does, the front of room becomes the kit's table.
+#[no_mangle]
+pub extern "C" fn nanpuwiq_solve_kit(
+    k: Kit,
+    scratch: &mut [u64],
+    controller: &mut [u16],
+    panel: &mut [u16],
+    room: &mut [u16],
+) -> SolveResult
+    ensures { λ r. ⌜ KitCalled k (now (scratch .entry)) (now (scratch .exit)) (now (controller .entry)) (now (controller .exit)) (now (panel .entry)) (now (panel .exit)) (now (room .entry)) (now (room .exit)) r ⌝ }
+{
+    results::solve_result(kit::solve_kit(k, scratch, controller, panel, room))
 }
 
 // The game that a text describes.

@@ -1,0 +1,38 @@
+-- `nanpuwiq_solve_kit` meets its contract.
+use Rattle.nanpuwiq.proofs.Laws.{kit-called}
+use borrow.Author.Needs.{needs}
+use Rattle.nanpuwiq.proofs.nanpuwiq_solve_kit.Statement.{statement}
+use Rattle.nanpuwiq.proofs.nanpuwiq_solve_kit.Tie as tie
+
+solve-kit-requires : tie.Need-solve-kit-requires
+solve-kit-requires c κs = search needs
+
+solve-result-requires : tie.Need-solve-result-requires
+solve-result-requires c κs = search needs
+
+same-length : tie.Need-same-length
+same-length c = search needs
+
+same-length-2 : tie.Need-same-length-2
+same-length-2 c = search needs
+
+same-length-3 : tie.Need-same-length-3
+same-length-3 c = search needs
+
+same-length-4 : tie.Need-same-length-4
+same-length-4 c = search needs
+
+returns : tie.Need-returns
+returns c = kit-called (c .before .before .before .before .before .before .before .before .before .solve-kit .ensures) (c .solve-result .ensures)
+
+pub nanpuwiq-solve-kit-spec : {M : Type 1} → statement M
+nanpuwiq-solve-kit-spec =
+    tie.close
+    (tie.spec
+    solve-kit-requires
+    solve-result-requires
+    same-length
+    same-length-2
+    same-length-3
+    same-length-4
+    returns)
