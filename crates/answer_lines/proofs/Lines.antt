@@ -1,10 +1,10 @@
 -- The pieces of an answer's lines, and their lengths.
-use Prim.Native.Nat.{ℕ, zero, suc, _+_, _*_, _/_, _%_, _^_, _≤_, _<_, max}
+use Prim.Native.Nat.{ℕ, zero, suc, _+_, _*_, _/_, _%_, _≤_, _<_, max}
 use native.Mathlib.Omega.{arith}
 use native.Mathlib.Nat.{div-le-self, mod-le, le-trans, lt-of-le-of-lt}
 use mathlib.Core.Bool.{Bool, true, false}
 use mathlib.Core.List.{List, [], _∷_, _++_, append-assoc, append-nil}
-use mathlib.Core.Path.{_≡_, refl, sym, _∙_, ap, subst}
+use mathlib.Core.Path.{_≡_, refl, sym, _∙_, ap}
 use lib.Dec.{ltb, eqb}
 use lib.ListN.{length, length-append}
 use borrow.Author.Tests.{ltb-true, ltb-false, eq-eqb, ne-eqb}
@@ -17,7 +17,7 @@ use Rattle.shape.proofs.Opening.{opening-length}
 use Rattle.shape.proofs.WordTable.{word-short}
 use Rattle.put.specs.Put.{overlay, Puts}
 use Rattle.put.proofs.Buffer.{puts-as}
-use Rattle.answer_lines.specs.Line.{none, unlessNone, winnerWord, winsLine, startLine, environmentStart, rowLine, stepLine, refusedLine, misshapenLine}
+use Rattle.answer_lines.specs.Line.{unlessNone, winnerWord, winsLine, startLine, environmentStart, rowLine, stepLine, refusedLine, misshapenLine}
 
 -- a number of 64 bits has at most 20 digits
 tens : ℕ → ℕ

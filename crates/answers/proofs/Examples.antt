@@ -1,6 +1,5 @@
 -- Whole prints of document 01, byte for byte, by computing.
-use Prim.Native.Nat.{ℕ}
-use mathlib.Core.List.{List, [], _∷_}
+use mathlib.Core.List.{[], _∷_}
 use mathlib.Core.Path.{_≡_, refl}
 use Rattle.grammar.specs.Number.{digits, decimal}
 use Rattle.shape.specs.Text.{words, word, gapText, items, bracket, line}

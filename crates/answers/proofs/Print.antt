@@ -1,8 +1,8 @@
 -- The lines in order are the print: what has been written, and the next line, is what has been written one line on.
 use Prim.Native.Nat.{ℕ, zero, suc, _+_, _*_, _≤_, _<_}
 use native.Mathlib.Omega.{arith}
-use mathlib.Core.List.{List, [], _∷_, _++_, append-assoc, append-nil}
-use mathlib.Core.Path.{_≡_, refl, sym, _∙_, ap}
+use mathlib.Core.List.{List, _++_, append-assoc, append-nil}
+use mathlib.Core.Path.{_≡_, sym, _∙_, ap}
 use lib.ListN.{getD, length, length-append}
 use Rattle.grammar.proofs.Place.{same-default}
 use Rattle.put.specs.Put.{Puts}

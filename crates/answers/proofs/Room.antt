@@ -1,10 +1,10 @@
 -- A buffer of 1 MiB holds the print of 32,768 entries, a line having at most 28 bytes, and every line of a refusal.
 use Prim.Native.Nat.{ℕ, zero, suc, _+_, _*_, _/_, _%_, _≤_, _<_, max}
 use native.Mathlib.Omega.{arith}
-use native.Mathlib.Nat.{div-le-self, mod-lt, le-trans, lt-of-le-of-lt, lt-of-lt-of-le}
+use native.Mathlib.Nat.{div-le-self, mod-lt, le-trans, lt-of-le-of-lt}
 use mathlib.Core.Bool.{Bool, true, false}
 use mathlib.Core.List.{List, [], _∷_, _++_}
-use mathlib.Core.Path.{_≡_, refl, sym, _∙_, ap}
+use mathlib.Core.Path.{_≡_, ap}
 use lib.Dec.{ltb}
 use lib.ListN.{length, getD, take, length-append, length-take, List·getD-eq-default}
 use lib.Seq.{getD-take}
@@ -17,7 +17,7 @@ use Rattle.shape.specs.Shape.{opening}
 use Rattle.answer_lines.specs.Line.{none, winsLine, startLine, environmentStart, rowLine, stepLine, refusedLine, misshapenLine}
 use Rattle.answers.specs.Print.{startLines, stepLines, controllerPrint, environmentPrint, controllerFits, environmentFits, onlyIf, controllerAnswer, environmentAnswer}
 use Rattle.answer_lines.proofs.Lines.{two-digits, four-digits, six-digits, unless-short, start-text, environment-text, row-pieces, refused-pieces, misshapen-pieces, number-short, opening-short, Short, then-short, ended, wins-short}
-use Rattle.answers.proofs.Fits.{range-bounds, controller-entries, environment-entries, controller-sets, environment-sets}
+use Rattle.answers.proofs.Fits.{controller-entries, environment-entries, controller-sets, environment-sets}
 
 number : (v b k : ℕ) → length (decimal v) ≤ k → Short (decimal v ++ b ∷ []) (k + 1)
 number v b k h = record { size = omega (arith, h, length-append (decimal v) (b ∷ [])) }

@@ -8,7 +8,7 @@
 --   Outcome, DemandThree A v                   == demand 3
 use Prim.Native.Nat.{ℕ, _<_}
 use mathlib.Core.Path.{_≡_}
-use mathlib.Core.Bool.{Bool, true}
+use mathlib.Core.Bool.{true}
 use Rattle.finite.specs.Lists.{allOf, anyOf}
 use Rattle.arena.specs.Arena.{Arena}
 use Rattle.arena.specs.Table.{Some, ControllerTable, EnvironmentTable}

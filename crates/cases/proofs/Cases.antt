@@ -1,8 +1,6 @@
 -- Each case is accepted and prints what its table says, by computing.
-use Prim.Native.Nat.{ℕ}
 use mathlib.Core.Path.{_≡_, refl}
-use mathlib.Core.Bool.{Bool, true}
-use mathlib.Core.List.{List, map}
+use mathlib.Core.List.{map}
 use Rattle.finite.specs.Bounded.{all, any, least, leastFrom, count, one}
 use Rattle.finite.specs.Lists.{allOf, anyOf}
 use Rattle.finite.specs.Tabulate.{tabulate, tabulateFrom}
@@ -41,7 +39,7 @@ use Rattle.game.specs.Acceptance.{
   acceptance,
 }
 use Rattle.play.specs.Play.{graphOf, requirementOf, requirementsOf, separatedOf}
-use Rattle.arena.specs.Table.{Answer, gives}
+use Rattle.arena.specs.Table.{gives}
 use Rattle.theory.specs.Region.{due, served, accepting, safe, homeFor, settles, answers, replies, rule, regionRows, region, opens, verdict}
 use Rattle.theory.specs.Tour.{goalAt, around, inside, ahead, goal, hasGoal, target, arrive, tour}
 use Rattle.theory.specs.Choice.{

@@ -5,7 +5,7 @@
 --   startLines k l     == the start lines of the controller's entries l, the first being input k's
 --   printOf S          == what is printed
 use Prim.Native.Nat.{ℕ, suc, _/_, _%_}
-use mathlib.Core.Bool.{Bool, true, false}
+use mathlib.Core.Bool.{true, false}
 use mathlib.Core.List.{List, [], _∷_}
 use lib.Dec.{eqb}
 use lib.ListN.{take, drop}

@@ -1,6 +1,5 @@
 // What the fillings of both tables share: entries written for sets of counters and of places. Nothing here knows of sides: counters, places and sets
 // are plain numbers and words.
-ghost use mathlib.Core.Path.{_≡_};
 ghost use Prim.Native.Nat.{ℕ, _+_, _<_};
 ghost use lib.ListN.{length};
 ghost use Rattle.columns.specs.Column.{Fits, Column, FrontFits, Front, Run, RowFits, Row, BlockFits, Block};

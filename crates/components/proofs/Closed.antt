@@ -4,23 +4,22 @@
 --   turns-closed        : nontrivial
 --   leaving-closed      : the states entered by a move out of a component
 use Prim.Native.Nat.{ℕ, _≤_, _<_}
-use mathlib.Core.Path.{_≡_, refl, sym, _∙_, ap, ap₂}
-use mathlib.Core.Bool.{Bool, true, false, _&&_, not}
+use mathlib.Core.Path.{_≡_, sym, _∙_, ap, ap₂}
+use mathlib.Core.Bool.{Bool, true, _&&_, not}
 use mathlib.Core.List.{List}
 use native.Mathlib.Omega.{arith}
 use lib.ListN.{getD}
-use Rattle.finite.specs.Bounded.{any}
-use Rattle.finite.proofs.Truth.{and-intro, and-left, and-right, same-test}
-use Rattle.finite.proofs.Bounded.{any-intro, any-elim, any-same}
+use Rattle.finite.proofs.Truth.{same-test}
+use Rattle.finite.proofs.Bounded.{any-same}
 use Rattle.sets.specs.Member.{has, pack, meets}
-use Rattle.sets.proofs.Membership.{ext, has-pack-below, has-pack-past, pack-ext, pack-lt, has-lt}
+use Rattle.sets.proofs.Membership.{has-pack-below, pack-ext, pack-lt, has-lt}
 use Rattle.sets.proofs.Compare.{meets-intro, meets-elim}
 use Rattle.graphs.specs.Graph.{Graph, edge}
 use Rattle.graphs.specs.Rows.{rel}
 use Rattle.graphs.specs.Closure.{reaches}
 use Rattle.graphs.specs.Component.{joined, nontrivial, leaves}
-use Rattle.graphs.proofs.Graph.{edge-intro, edge-from, edge-to, edge-moves}
-use Rattle.graphs.proofs.Component.{joined-there, joined-back, joined-to, nontrivial-intro, nontrivial-move}
+use Rattle.graphs.proofs.Graph.{edge-intro, edge-to, edge-moves}
+use Rattle.graphs.proofs.Component.{joined-back, joined-to, nontrivial-intro, nontrivial-move}
 use Rattle.game.specs.declared.Graph.{Graph as Record}
 use Rattle.game.proofs.Laws.{GraphFits}
 use Rattle.play.specs.Play.{graphOf}

@@ -12,7 +12,7 @@ use mathlib.Core.List.{List}
 use mathlib.Core.Logic.{inl, inr}
 use native.Mathlib.Omega.{arith}
 use lib.Bits.{bitAnd}
-use lib.ListN.{length, getD, set}
+use lib.ListN.{length, getD}
 use Rattle.finite.specs.Bounded.{least}
 use Rattle.finite.proofs.Truth.{clash, not-true}
 use Rattle.finite.proofs.Bounded.{below-suc}

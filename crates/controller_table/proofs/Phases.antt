@@ -8,30 +8,26 @@
 use Prim.Native.Nat.{ℕ, _+_, _≤_, _<_}
 use native.Mathlib.Nat.{max-eq-right}
 use mathlib.Core.Path.{_≡_, refl, sym, _∙_, ap}
-use mathlib.Core.Bool.{Bool, true, false, _&&_}
+use mathlib.Core.Bool.{true, false, _&&_}
 use mathlib.Core.List.{List}
 use mathlib.Core.Logic.{inl, inr, _≢_}
 use native.Mathlib.Omega.{arith}
 use native.Mathlib.Decide.{decLt}
-use native.Mathlib.Numerals.{add-one}
-use lib.Dec.{ltb}
 use lib.Bits.{bitAnd}
 use lib.ListN.{length, getD}
 use borrow.Author.Tests.{eqb-true, eq-eqb}
-use Rattle.finite.specs.Bounded.{any}
-use Rattle.finite.proofs.Truth.{clash, and-intro, and-left, and-right, same-test}
-use Rattle.finite.proofs.Bounded.{below-suc, any-intro, any-elim, any-same}
-use Rattle.sets.specs.Member.{has, pack, meets, both}
-use Rattle.sets.proofs.Membership.{ext, has-and, has-pack, has-pack-below, has-within, lt-within, pack-lt, pack-ext}
+use Rattle.finite.proofs.Truth.{clash, and-intro, and-right}
+use Rattle.finite.proofs.Bounded.{below-suc}
+use Rattle.sets.specs.Member.{has, pack}
+use Rattle.sets.proofs.Membership.{has-and, has-pack-below, has-within, lt-within, pack-lt, pack-ext}
 use Rattle.sets.proofs.Compare.{member-nonzero, nonzero-member}
 use Rattle.graphs.specs.Graph.{edge}
 use Rattle.graphs.specs.Closure.{reaches}
 use Rattle.graphs.specs.Component.{joined, nontrivial, meetsAt}
 use Rattle.graphs.specs.Way.{near, toward}
 use Rattle.graphs.proofs.Closure.{reaches-edge, reaches-trans}
-use Rattle.graphs.proofs.Component.{joined-to, nontrivial-same, meetsAt-intro, meetsAt-elim}
+use Rattle.graphs.proofs.Component.{joined-to, nontrivial-same, meetsAt-elim}
 use Rattle.graphs.proofs.Way.{toward-below}
-use Rattle.arena.specs.Arena.{Separated}
 use Rattle.game.specs.declared.Game.{Game}
 use Rattle.play.specs.Play.{graphOf, separatedOf}
 use Rattle.theory.specs.Tour.{goalAt, goal, inside, target}

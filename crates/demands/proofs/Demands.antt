@@ -1,9 +1,7 @@
 -- Demands 2 and 3 of every accepted game.
-use Prim.Native.Nat.{ℕ}
-use mathlib.Core.Path.{_≡_, refl}
-use mathlib.Core.Bool.{Bool, true, false}
-use Rattle.arena.specs.Arena.{arenaOf}
-use Rattle.arena.specs.Win.{Outcome, system, environment, DemandThree}
+use mathlib.Core.Path.{_≡_}
+use mathlib.Core.Bool.{true, false}
+use Rattle.arena.specs.Win.{system, environment, DemandThree}
 use Rattle.game.specs.declared.Game.{Game}
 use Rattle.game.specs.declared.Acceptance.the-variants.{Accepted}
 use Rattle.game.specs.Acceptance.{acceptance}

@@ -24,7 +24,7 @@ use Rattle.theory.specs.Tour.{goalAt}
 use Rattle.theory.specs.Choice.{assumptions}
 use Rattle.ways.specs.Search.{Bounds, Toward}
 use Rattle.touring.specs.declared.Stretch.{Stretch}
-use Rattle.touring.specs.Goal.{Goals, firstFrom, passed, aimedAt}
+use Rattle.touring.specs.Goal.{Goals, passed, aimedAt}
 use Rattle.touring.specs.Stretches.{Short}
 use Rattle.environment_table.specs.Table.{Roomy, Filled, Spreading, Spreads}
 use Rattle.environment_table.specs.Touring.{Aims, Ranging, Ranged, Aiming, Aimed, Headed, Facing, Faced}

@@ -17,12 +17,11 @@ use lib.Dec.{ltb}
 use lib.ListN.{length, getD}
 use lib.Bits.{bitAnd}
 use borrow.Author.Tests.{eqb-true, eq-eqb, ltb-true}
-use Rattle.finite.specs.Bounded.{any}
-use Rattle.finite.proofs.Truth.{clash, and-intro, and-left, and-right, not-true, same-test}
-use Rattle.finite.proofs.Bounded.{any-intro, any-elim, any-same, least-le}
-use Rattle.sets.specs.Member.{has, pack, meets, within}
-use Rattle.sets.proofs.Membership.{has-and, has-pack-below, within-has, pack-ext, has-within}
-use Rattle.sets.proofs.Compare.{meets-intro, meets-elim, nonzero-member}
+use Rattle.finite.proofs.Truth.{clash, and-left, and-right, not-true}
+use Rattle.finite.proofs.Bounded.{least-le}
+use Rattle.sets.specs.Member.{has, pack, within}
+use Rattle.sets.proofs.Membership.{has-and, has-pack-below, within-has, has-within}
+use Rattle.sets.proofs.Compare.{nonzero-member}
 use Rattle.graphs.specs.Component.{joined, meetsAt}
 use Rattle.graphs.specs.Way.{prefer}
 use Rattle.graphs.proofs.Component.{joined-to, joined-self}

@@ -3,10 +3,9 @@
 --   grows-none, grows-more  : nothing written, and one writing after another
 --   grows-set, right-set    : an entry written at its place
 --   grows-done              : where every place holds its entry the front is the list, and the rest is as it was
-use Prim.Native.Nat.{ℕ, zero, suc, _+_, _≤_, _<_}
+use Prim.Native.Nat.{ℕ, _+_, _≤_, _<_}
 use mathlib.Core.Path.{_≡_, refl, sym, _∙_, ap}
 use mathlib.Core.List.{List, _++_}
-use mathlib.Core.Logic.{_≢_}
 use native.Mathlib.Omega.{arith}
 use native.Mathlib.Decide.{ℕ-discrete}
 use lib.ListN.{length, getD, take, drop, set, length-set, take-append-drop}

@@ -1,15 +1,14 @@
 -- Laws of bounded search. Each definition has an introduction and an elimination lemma; nobody else unfolds it.
 use Prim.Native.Nat.{ℕ, zero, suc, _+_, _≤_, _<_}
-use mathlib.Core.Path.{_≡_, refl, sym, _∙_, ap, subst}
-use mathlib.Core.Bool.{Bool, true, false, _&&_, _||_, not}
-use mathlib.Core.Logic.{_⊎_, inl, inr, _≢_}
+use mathlib.Core.Path.{_≡_, refl, sym, _∙_}
+use mathlib.Core.Bool.{Bool, true, false}
+use mathlib.Core.Logic.{_⊎_, inl, inr}
 use native.Mathlib.Omega.{arith}
 use native.Mathlib.Decide.{ℕ-discrete, decLt}
 use Rattle.finite.specs.Bounded.{all, any, leastFrom, least, one, count}
 use Rattle.finite.proofs.Truth.{
   decide,
   clash,
-  true-of,
   false-of,
   and-intro,
   and-left,
@@ -18,10 +17,6 @@ use Rattle.finite.proofs.Truth.{
   or-left,
   or-right,
   or-cases,
-  or-false,
-  or-false-left,
-  or-false-right,
-  same-test,
 }
 
 -- k below suc n is n or below n

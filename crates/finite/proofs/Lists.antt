@@ -7,7 +7,7 @@
 --   map-same, anyOf-map          : the images of a list
 --   allOf-anyOf                  : where a test holds of every member and another of some member, they hold of one together
 use mathlib.Core.Path.{_≡_, refl, sym, _∙_, ap}
-use mathlib.Core.Bool.{Bool, true, false, _&&_, _||_}
+use mathlib.Core.Bool.{Bool, true, false, _||_}
 use mathlib.Core.List.{List, [], _∷_, map, List·Memᴰ, List·Memᴰ·head, List·Memᴰ·tail, List·Memᴰ·not-nil, List·Memᴰ·cases-cons}
 use mathlib.Core.Logic.{_⊎_, inl, inr}
 use Rattle.finite.specs.Lists.{allOf, anyOf}

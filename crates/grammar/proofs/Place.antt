@@ -2,20 +2,19 @@
 use Prim.Native.Nat.{ℕ, zero, suc, _+_, _-_, _≤_, _<_}
 use native.Mathlib.Omega.{arith}
 use native.Mathlib.Nat.{zero-add}
-use mathlib.Core.Bool.{Bool, true, false}
 use mathlib.Core.List.{List, [], _∷_, _++_, append-assoc, append-nil}
 use mathlib.Core.Path.{_≡_, refl, sym, _∙_, ap, subst}
 use lib.Dec.{eqb}
-use lib.ListN.{length, getD, take, drop, length-append, length-take, take-append-drop, List·getD-eq-default, drop-of-length-le}
-use lib.Seq.{drop-cons, take-at, take-append-le, take-length, take-take, take-append-add, length-take-le}
-use borrow.Author.Tests.{eq-eqb, ne-eqb, eqb-true, eqb-false, lt-ltb, le-ltb, ltb-true, ltb-false}
+use lib.ListN.{length, getD, take, drop, length-append, take-append-drop, List·getD-eq-default, drop-of-length-le}
+use lib.Seq.{drop-cons, take-at, take-append-add, length-take-le}
+use borrow.Author.Tests.{eq-eqb, ne-eqb, eqb-true, eqb-false, ltb-true, ltb-false}
 use lib.Dec.{ltb}
-use Rattle.grammar.specs.Format.{Format, Run, TextOf, Stands, run, Live, Bytes}
+use Rattle.grammar.specs.Format.{Format, Run, TextOf, Stands, run, Live}
 use Rattle.grammar.specs.Format.Format.{done, node}
 use Rattle.grammar.specs.Format.Run.{got, fault}
 use Rattle.grammar.specs.Place.{bytes, Begins, Longest, atEnd, reading}
 use Rattle.finite.proofs.Truth.{clash}
-use Rattle.grammar.proofs.Format.{by-cases, run-text, run-got, run-begun, run-longest, Found, Begun, not-fault, same-fault}
+use Rattle.grammar.proofs.Format.{by-cases, run-text, run-got, run-begun, run-longest, not-fault, same-fault}
 
 -- no byte of t is 256
 NoMark : List ℕ → Type 0

@@ -6,7 +6,7 @@
 --   atEnd s x          == what x found, if it ends where s ends; else a fault at its end
 --   reading f s        == s read as a text of f: its value, or the place of the fault
 use Prim.Native.Nat.{ℕ, _≤_, _<_}
-use mathlib.Core.Bool.{Bool, true, false}
+use mathlib.Core.Bool.{true, false}
 use mathlib.Core.List.{List, _++_}
 use lib.Dec.{eqb}
 use lib.ListN.{length, getD, take}

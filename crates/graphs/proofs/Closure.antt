@@ -1,7 +1,7 @@
 -- `reaches` is the reflexive and transitive closure: s reaches t exactly when a walk leads there.
-use Prim.Native.Nat.{ℕ, zero, suc, _≤_, _<_}
-use mathlib.Core.Path.{_≡_, refl, sym, _∙_, ap, subst}
-use mathlib.Core.Bool.{Bool, true, false, _&&_, _||_}
+use Prim.Native.Nat.{ℕ, zero, suc, _<_}
+use mathlib.Core.Path.{_≡_, refl, _∙_, subst}
+use mathlib.Core.Bool.{true, _&&_}
 use mathlib.Core.List.{List}
 use mathlib.Core.Logic.{_⊎_, inl, inr}
 use native.Mathlib.Omega.{arith}
@@ -11,7 +11,7 @@ use Rattle.finite.proofs.Truth.{and-intro, and-left, and-right, or-left, or-rig
 use Rattle.finite.proofs.Bounded.{below-suc}
 use Rattle.graphs.specs.Walk.{Walk, stay, step}
 use Rattle.graphs.specs.Graph.{Graph, edge}
-use Rattle.graphs.specs.Rows.{rel, rowsOf}
+use Rattle.graphs.specs.Rows.{rel}
 use Rattle.graphs.specs.Closure.{nearby, joins, via, reaches}
 use Rattle.graphs.proofs.Walk.{join}
 use Rattle.graphs.proofs.Graph.{edge-from, edge-to}

@@ -2,16 +2,15 @@
 use Prim.Native.Nat.{ℕ, _≤_, _<_}
 use mathlib.Core.Path.{_≡_, refl, sym, _∙_, ap}
 use mathlib.Core.Bool.{Bool, true, false, _&&_, not}
-use mathlib.Core.Logic.{_⊎_, inl, inr}
 use native.Mathlib.Omega.{arith}
-use Rattle.finite.specs.Bounded.{any, least, count}
-use Rattle.finite.proofs.Truth.{decide, clash, true-of, false-of, and-intro, and-left, and-right, not-true, same-test}
+use Rattle.finite.specs.Bounded.{any}
+use Rattle.finite.proofs.Truth.{clash, false-of, and-intro, and-left, and-right, not-true, same-test}
 use Rattle.finite.proofs.Bounded.{any-intro, any-elim, any-same, least-below, least-member, least-same, least-at-most, count-le, count-less, count-mono, count-pos}
 use Rattle.graphs.specs.Graph.{Graph, edge}
 use Rattle.graphs.specs.Closure.{reaches}
 use Rattle.graphs.specs.Component.{joined, number, nontrivial, leaves, meetsAt, rank}
-use Rattle.graphs.proofs.Graph.{edge-from, edge-to}
-use Rattle.graphs.specs.Walk.{Walk, stay, step}
+use Rattle.graphs.proofs.Graph.{edge-to}
+use Rattle.graphs.specs.Walk.{stay, step}
 use Rattle.graphs.proofs.Closure.{Path, reaches-path, path-reaches, reaches-from, reaches-to, reaches-self, reaches-edge, reaches-trans}
 
 module _ (G : Graph) where

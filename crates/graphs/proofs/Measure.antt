@@ -4,8 +4,8 @@
 --   lands           : such a walk enters the set, or has at most as many moves as the number it began with
 --   closed-lands    : a closed walk of one move or more enters the set
 --   finds           : what holds where the walk begins and is kept by its moves holds of whatever it passes
-use Prim.Native.Nat.{ℕ, zero, suc, _+_, _≤_, _<_}
-use mathlib.Core.Path.{_≡_, refl, sym, _∙_, ap, subst}
+use Prim.Native.Nat.{ℕ, suc, _+_, _≤_, _<_}
+use mathlib.Core.Path.{_≡_, refl, ap}
 use mathlib.Core.Bool.{Bool, true, false, _||_}
 use mathlib.Core.List.{List, [], _∷_}
 use mathlib.Core.Logic.{_⊎_, inl, inr}

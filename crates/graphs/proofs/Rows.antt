@@ -1,12 +1,9 @@
 -- Laws of relations kept as rows.
-use Prim.Native.Nat.{ℕ, _≤_, _<_}
-use mathlib.Core.Path.{_≡_, refl, sym, _∙_, ap}
-use mathlib.Core.Bool.{Bool, true, false}
-use mathlib.Core.List.{List}
+use Prim.Native.Nat.{ℕ, _<_}
+use mathlib.Core.Path.{_≡_, sym, _∙_, ap}
+use mathlib.Core.Bool.{Bool, true}
 use native.Mathlib.Omega.{arith}
 use native.Mathlib.Decide.{decLt}
-use lib.ListN.{getD}
-use Rattle.finite.specs.Tabulate.{tabulate}
 use Rattle.finite.proofs.Truth.{clash}
 use Rattle.finite.proofs.Tabulate.{getD-tabulate, getD-tabulate-past}
 use Rattle.sets.specs.Member.{has, pack}

@@ -5,17 +5,17 @@
 --   toward-falls     : and it lands in p, or leaves a shorter way
 --   approach-below   : from the best move on it has fewer moves than there are states
 --   approach-short   : and from outside p one fewer
-use Prim.Native.Nat.{ℕ, zero, suc, _+_, _≤_, _<_}
-use mathlib.Core.Path.{_≡_, refl, sym, _∙_, ap}
-use mathlib.Core.Bool.{Bool, true, false, _&&_, _||_}
+use Prim.Native.Nat.{ℕ, zero, suc, _≤_, _<_}
+use mathlib.Core.Path.{_≡_, refl, sym, _∙_}
+use mathlib.Core.Bool.{Bool, true, false, _&&_}
 use mathlib.Core.Logic.{_⊎_, inl, inr}
 use native.Mathlib.Omega.{arith}
 use native.Mathlib.Decide.{decLt}
 use Rattle.finite.specs.Bounded.{any, least, count}
-use Rattle.finite.proofs.Truth.{decide, clash, true-of, false-of, and-intro, and-left, and-right, or-left, or-right, or-cases}
-use Rattle.finite.proofs.Bounded.{any-intro, any-elim, any-same, least-below, least-found, least-member, least-before, least-same, least-at-most, count-le, count-less, count-pos}
-use Rattle.sets.specs.Member.{has, pack}
-use Rattle.sets.proofs.Membership.{has-pack-below, has-pack-past, pack-ext}
+use Rattle.finite.proofs.Truth.{clash, false-of, and-intro, and-left, and-right, or-left, or-right, or-cases}
+use Rattle.finite.proofs.Bounded.{any-intro, any-elim, least-below, least-member, least-before, least-at-most, count-le, count-less, count-pos}
+use Rattle.sets.specs.Member.{has}
+use Rattle.sets.proofs.Membership.{has-pack-below, has-pack-past}
 use Rattle.graphs.specs.Walk.{Walk, stay, step}
 use Rattle.graphs.specs.Way.{widens, layer, near, approach, shortest, prefer, toward}
 

@@ -3,23 +3,20 @@
 --   kit-faulty, kit-scratch-short, kit-controller-short, kit-room-short    : the refusals that are told before the solver begins
 --   system-length          : the solver hands over the whole table
 --   kit-system, kit-environment, kit-refused    : its answers
-use Prim.Native.Nat.{ℕ, _+_, _*_, _≤_, _<_}
+use Prim.Native.Nat.{ℕ, _+_, _≤_, _<_}
 use mathlib.Core.Path.{_≡_, refl, sym, _∙_, ap, subst}
 use mathlib.Core.Bool.{Bool, true, false, _&&_}
 use mathlib.Core.List.{List, _++_}
-use mathlib.Core.Logic.{_⊎_, inl, inr}
 use native.Mathlib.Omega.{arith}
 use lib.Dec.{leb}
 use lib.ListN.{length, take, drop}
 use lib.Seq.{take-append-seam}
 use borrow.Author.Tests.{le-leb, lt-leb}
-use Rattle.finite.proofs.Truth.{decide, and-intro}
+use Rattle.finite.proofs.Truth.{and-intro}
 use Rattle.arena.specs.Win.{ControllerWins, DemandThree, system}
 use Rattle.arena.proofs.Demand.{system-holds}
-use Rattle.game.specs.declared.Game.{Game}
 use Rattle.game.specs.declared.Acceptance.{Acceptance}
 use Rattle.game.specs.declared.Acceptance.the-variants.{Accepted, Refused as Faulty}
-use Rattle.game.specs.Acceptance.{acceptance}
 use Rattle.play.specs.Play.{separatedOf}
 use Rattle.theory.specs.Region.{verdict}
 use Rattle.theory.specs.Entries.{controllerEntries}
@@ -31,7 +28,7 @@ use Rattle.solver.proofs.Verdicts.{controller-long}
 use Rattle.drives.specs.declared.Kit.{Kit}
 use Rattle.drives.specs.Drive.{graphFrom, gameFrom}
 use Rattle.drives.specs.Acceptance.{kitAcceptance}
-use Rattle.drives.proofs.Acceptance.{Fitting, kit-fitting}
+use Rattle.drives.proofs.Acceptance.{kit-fitting}
 use Rattle.kit_rows.specs.Rows.{kitLength, kitEntries}
 use Rattle.kit_rows.proofs.Kits.{entries-long}
 use Rattle.kit_runs.specs.Exchange.{Exchanged}

@@ -4,7 +4,7 @@
 --   outputs-few, rows-few, entries-few    : the products, one after the other
 --   table-length            : the length, from the counters
 --   kit-ready               : what the writing of the table asks
-use Prim.Native.Nat.{ℕ, _+_, _*_, _≤_, _<_}
+use Prim.Native.Nat.{ℕ, _+_, _*_, _≤_}
 use native.Mathlib.Nat.{mul-le-mul}
 use mathlib.Core.Path.{_≡_, sym, _∙_, ap}
 use native.Mathlib.Omega.{arith}

@@ -3,21 +3,18 @@
 --   allowed-below, allowed-next    : what an allowed command has
 --   made-edge, edge-made           : a move, by a command
 --   command-below, command-leads   : the lowest command of a move
-use Prim.Native.Nat.{ℕ, _≤_, _<_}
-use mathlib.Core.Path.{_≡_, refl, sym, _∙_, ap}
-use mathlib.Core.Bool.{Bool, true, false, not, _&&_}
+use Prim.Native.Nat.{ℕ, _<_}
+use mathlib.Core.Path.{_≡_, _∙_, ap}
+use mathlib.Core.Bool.{true, not}
 use mathlib.Core.Logic.{_≢_}
 use native.Mathlib.Omega.{arith}
 use lib.Dec.{eqb, ltb}
-use lib.ListN.{getD}
 use borrow.Author.Tests.{lt-ltb, ltb-true, eq-eqb, ne-eqb, eqb-true, eqb-false}
-use Rattle.finite.specs.Bounded.{any, least}
 use Rattle.finite.proofs.Truth.{and-intro, and-left, and-right, not-true}
 use Rattle.finite.proofs.Bounded.{any-intro, any-elim, least-below, least-member}
-use Rattle.sets.specs.Member.{has}
 use Rattle.graphs.specs.Graph.{edge}
-use Rattle.graphs.specs.Rows.{rel, rowsOf}
-use Rattle.graphs.proofs.Graph.{edge-from, edge-to, edge-moves, edge-intro}
+use Rattle.graphs.specs.Rows.{rel}
+use Rattle.graphs.proofs.Graph.{edge-to, edge-moves, edge-intro}
 use Rattle.graphs.proofs.Rows.{rel-rows, rel-holds}
 use Rattle.play.specs.Play.{graphOf}
 use Rattle.drives.specs.declared.Drive.{Drive}

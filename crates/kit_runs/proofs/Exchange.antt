@@ -7,12 +7,12 @@
 --   kit-exchanged      : the theorem
 use Prim.Native.Nat.{ℕ, zero, suc, _+_}
 use native.Mathlib.Numerals.{add-one}
-use mathlib.Core.Path.{_≡_, refl, sym, _∙_, ap, subst}
+use mathlib.Core.Path.{_≡_, _∙_, ap, subst}
 use mathlib.Core.Bool.{true}
 use mathlib.Core.List.{List, List·Memᴰ}
 use Rattle.graphs.specs.Walk.{Walk, stay, step}
 use Rattle.arena.specs.Arena.{Requirement, arenaOf}
-use Rattle.arena.specs.Play.{Configuration, ControllerFirst, ControllerTurn, Reachable}
+use Rattle.arena.specs.Play.{Configuration, Reachable}
 use Rattle.arena.specs.Win.{ControllerWins}
 use Rattle.arena.proofs.Bounds.{bounded-arenaOf}
 use Rattle.play.specs.Play.{requirementsOf, separatedOf}
@@ -23,7 +23,7 @@ use Rattle.drives.specs.declared.Kit.{Kit}
 use Rattle.drives.specs.Drive.{nextMode, allows, gameFrom}
 use Rattle.drives.proofs.Acceptance.{Fitting}
 use Rattle.kit_runs.specs.Exchange.{startsIn, KitFirst, KitTurn, KitMove, modeAt, Played, Exchanged}
-use Rattle.kit_runs.proofs.Turns.{Reads, Come, StepAt, step-at, turn-kit, turn-controller, onward, first-controller, first-kit}
+use Rattle.kit_runs.proofs.Turns.{Reads, Come, step-at, turn-kit, turn-controller, onward, first-controller, first-kit}
 
 module _ (k : Kit) (F : Fitting k) (l t : List ℕ) (R : Reads k l t) (W : ControllerWins (playOf (gameFrom k)) (controllerOf (gameFrom k) l)) where
   begun : (x : Configuration) → KitFirst k t x → Come k F l t R W x

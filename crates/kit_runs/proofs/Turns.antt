@@ -5,10 +5,10 @@
 --   reply-read         : a command and a counter in range are read back from their entry
 --   step-at            : the row of an allowed command in a configuration that the controller comes to
 --   first-kit, first-controller, turn-kit, turn-controller    : first configurations and turns of one are those of the other
-use Prim.Native.Nat.{ℕ, _+_, _*_, _/_, _%_, _≤_, _<_}
+use Prim.Native.Nat.{ℕ, _+_, _*_, _≤_, _<_}
 use native.Mathlib.Nat.{zero-add, add-mul-div-left, add-mul-mod-self-left, div-eq-of-lt, mod-eq-of-lt}
 use mathlib.Core.Path.{_≡_, refl, sym, _∙_, ap, ap₂, subst}
-use mathlib.Core.Bool.{Bool, true, false}
+use mathlib.Core.Bool.{true}
 use mathlib.Core.List.{List}
 use mathlib.Core.Logic.{_≢_}
 use native.Mathlib.Omega.{arith}
@@ -18,20 +18,20 @@ use borrow.Author.Tests.{ne-eqb, ltb-true}
 use Rattle.sets.specs.Member.{has}
 use Rattle.graphs.specs.Graph.{begins}
 use Rattle.graphs.proofs.Walk.{extend}
-use Rattle.arena.specs.Arena.{Arena, arenaOf}
-use Rattle.arena.specs.Table.{Answer, none, gives, Names, Some, ControllerTable}
+use Rattle.arena.specs.Arena.{arenaOf}
+use Rattle.arena.specs.Table.{gives, Names, ControllerTable}
 use Rattle.arena.specs.Play.{Configuration, ControllerFirst, ControllerTurn, Reachable}
 use Rattle.arena.specs.Win.{ControllerWins}
-use Rattle.arena.proofs.Bounds.{bounded-arenaOf, Inside, inside-controller}
+use Rattle.arena.proofs.Bounds.{bounded-arenaOf, inside-controller}
 use Rattle.game.proofs.Laws.{accepted-fits}
 use Rattle.play.specs.Play.{graphOf, separatedOf}
-use Rattle.theory.specs.Entries.{answer, controllerCounters, controllerTable}
+use Rattle.theory.specs.Entries.{answer, controllerTable}
 use Rattle.demands.specs.Demands.{playOf, controllerOf}
 use Rattle.demands.proofs.Sizes.{controller-few}
 use Rattle.drives.specs.declared.Drive.{Drive}
 use Rattle.drives.specs.declared.Kit.{Kit}
 use Rattle.drives.specs.Drive.{nextMode, allows, graphFrom, gameFrom, commandFor, Small}
-use Rattle.drives.specs.Acceptance.{modesFit, commandsFit, entriesFit}
+use Rattle.drives.specs.Acceptance.{entriesFit}
 use Rattle.drives.proofs.Acceptance.{Fitting, kit-small, drive-named}
 use Rattle.finite.proofs.Truth.{and-left}
 use Rattle.kit_rows.specs.Rows.{counters, commanded, kitRow, kitPlace, kitEntries}

@@ -8,7 +8,7 @@
 --   modeAt d i us n        == the mode of a drive that begins in mode i, after the first n commands of us
 --   Played k l i us f      == f is what the drives do where the old one begins in mode i and gets the commands us
 --   Exchanged k l          == what the kit's table l is for
-use Prim.Native.Nat.{ℕ, zero, suc, _+_, _*_, _/_, _%_, _<_}
+use Prim.Native.Nat.{ℕ, zero, suc, _+_, _/_, _%_}
 use mathlib.Core.Path.{_≡_}
 use mathlib.Core.Bool.{Bool, true, false, _&&_}
 use mathlib.Core.List.{List, List·Memᴰ}

@@ -1,19 +1,16 @@
 -- One line of the reader against the format, piece by piece.
-use Prim.Native.Nat.{ℕ, zero, suc, _+_, _-_, _≤_, _<_}
-use native.Mathlib.Omega.{arith}
+use Prim.Native.Nat.{ℕ, suc, _+_, _≤_, _<_}
 use native.Mathlib.Numerals.{add-one}
-use mathlib.Core.List.{List, [], _∷_, _++_}
-use mathlib.Core.Path.{_≡_, refl, sym, _∙_, ap, subst}
-use lib.ListN.{length, getD, drop, length-append, List·getD-append, drop-of-length-le}
-use lib.Seq.{drop-cons, getD-append-add}
-use Rattle.grammar.specs.Format.{Format, Run, run, lit, bind, chars}
+use mathlib.Core.List.{List, [], _∷_}
+use mathlib.Core.Path.{_≡_, sym, _∙_, ap}
+use lib.ListN.{length, getD, drop, drop-of-length-le}
+use lib.Seq.{drop-cons}
+use Rattle.grammar.specs.Format.{Format, Run, run, chars}
 use Rattle.grammar.specs.Format.Format.{done}
 use Rattle.grammar.specs.Format.Run.{got, fault}
 use Rattle.grammar.proofs.Format.{run-done, run-lit-fault}
-use Rattle.shape.specs.Text.{word}
 use Rattle.shape.specs.Shape.{setFormat, opening, numThen, Header, outputsFormat, headerFormat, StateRow, rowFormat, stateFormat}
 use Rattle.lines.specs.Lines.{headerOf, stateOf}
-use Rattle.lines.specs.declared.Header.{Header as HeaderScan}
 use Rattle.lines.specs.declared.Header.the-variants.{Counts, Fault as NoHeader}
 use Rattle.lines.specs.declared.Row.{Row}
 use Rattle.lines.specs.declared.Row.the-variants.{Moves, Fault as NoRow}

@@ -2,7 +2,6 @@
 --
 --   headerOf x         == the answer to the header
 --   stateOf x          == the answer to a state's line
-use Prim.Native.Nat.{ℕ}
 use Rattle.grammar.specs.Format.{Run}
 use Rattle.grammar.specs.Format.Run.{got, fault}
 use Rattle.shape.specs.Shape.{Header, StateRow}

@@ -1,7 +1,7 @@
 -- What the entries answer, case by case.
 use Prim.Native.Nat.{ℕ, _+_, _-_, _≤_, _<_}
-use mathlib.Core.Path.{_≡_, refl, sym, _∙_, ap, subst}
-use mathlib.Core.Bool.{Bool, true, false, _&&_}
+use mathlib.Core.Path.{_≡_, refl, sym, _∙_, ap}
+use mathlib.Core.Bool.{Bool, true, false}
 use mathlib.Core.List.{List, _++_}
 use mathlib.Core.Logic.{_↔_}
 use native.Mathlib.Omega.{arith}
@@ -13,7 +13,6 @@ use Rattle.finite.specs.Tabulate.{tabulate}
 use Rattle.finite.proofs.Truth.{and-intro, and-false-left, and-false-right}
 use Rattle.sets.specs.Member.{has, pack}
 use Rattle.sets.proofs.Membership.{has-pack-below}
-use Rattle.graphs.specs.Component.{nontrivial}
 use Rattle.closure.proofs.Front.{front-at}
 use Rattle.components.specs.Component.{turns}
 use Rattle.components.proofs.Closed.{cores-closed}
@@ -22,7 +21,7 @@ use Rattle.game.specs.declared.Game.{Game}
 use Rattle.game.specs.declared.Acceptance.the-variants.{Accepted, Refused as Faulty}
 use Rattle.game.specs.Acceptance.{acceptance}
 use Rattle.game.proofs.Laws.{Fits}
-use Rattle.play.specs.Play.{graphOf, separatedOf}
+use Rattle.play.specs.Play.{separatedOf}
 use Rattle.demands.specs.Demands.{playOf}
 use Rattle.demands.proofs.Demands.{demand-two}
 use Rattle.theory.specs.Region.{region}

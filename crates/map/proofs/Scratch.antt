@@ -1,23 +1,17 @@
 -- What is read from scratch, and the verdict.
 use Prim.Native.Nat.{ℕ, _+_, _≤_, _<_}
-use mathlib.Core.Path.{_≡_, refl, sym, _∙_, ap, ap₂}
-use mathlib.Core.Bool.{Bool, true, false, _&&_, _||_, not}
+use mathlib.Core.Path.{_≡_, refl, _∙_, ap}
+use mathlib.Core.Bool.{Bool}
 use mathlib.Core.List.{List, _++_}
 use native.Mathlib.Omega.{arith}
-use lib.Dec.{ltb}
 use lib.ListN.{length, drop, set}
 use Rattle.finite.specs.Tabulate.{tabulate}
 use Rattle.closure.proofs.Front.{front-none, front-length, front-next}
-use borrow.Author.Tests.{lt-ltb}
-use Rattle.finite.specs.Bounded.{all, any}
-use Rattle.finite.proofs.Bounded.{all-same, any-same, any-intro}
-use Rattle.finite.proofs.Loops.{any-end, all-end, all-stop}
-use Rattle.sets.specs.Member.{has, pack}
+use Rattle.sets.specs.Member.{pack}
 use Rattle.sets.proofs.Membership.{pack-ext}
-use Rattle.graphs.specs.Graph.{begins}
 use Rattle.game.specs.declared.Game.{Game}
-use Rattle.play.specs.Play.{graphOf, separatedOf}
-use Rattle.theory.specs.Region.{region, opens, verdict}
+use Rattle.play.specs.Play.{separatedOf}
+use Rattle.theory.specs.Region.{region}
 use Rattle.stored.specs.Stored.{wonAt}
 use Rattle.stored.proofs.Read.{won-region}
 use Rattle.map.specs.Map.{cleared}

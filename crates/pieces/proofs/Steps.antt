@@ -2,22 +2,21 @@
 use Prim.Native.Nat.{ℕ, zero, suc, _+_, _-_, _≤_, _<_}
 use native.Mathlib.Omega.{arith}
 use native.Mathlib.Numerals.{add-one}
-use mathlib.Core.Bool.{Bool, true, false, _||_}
-use mathlib.Core.List.{List, [], _∷_}
-use mathlib.Core.Path.{_≡_, refl, sym, _∙_, ap, subst}
+use mathlib.Core.Bool.{_||_}
+use mathlib.Core.Path.{_≡_, sym, _∙_, ap}
 use lib.Dec.{eqb}
 use mathlib.Core.Logic.{_⊎_, inl, inr}
 use borrow.Author.Tests.{eq-eqb, ne-eqb, eqb-true, eqb-false}
 use Rattle.sets.specs.Member.{has}
 use Rattle.sets.proofs.Membership.{ext}
-use Rattle.grammar.specs.Format.{Format, Run, run, lit, alt, bind, chars, follow, IsNode}
+use Rattle.grammar.specs.Format.{Format, Run, run, lit, alt, bind, IsNode}
 use Rattle.grammar.specs.Format.Format.{done}
 use Rattle.grammar.specs.Format.Run.{got, fault}
 use Rattle.grammar.specs.Number.{num, numberAt}
 use Rattle.grammar.proofs.Format.{by-cases, run-bind, run-done, run-lit, run-lit-fault, run-alt-left, run-alt-right, follow-got, follow-fault, lit-node}
-use Rattle.grammar.proofs.Number.{Ends, run-num, num-node, number-range}
+use Rattle.grammar.proofs.Number.{run-num, num-node, number-range}
 use Rattle.shape.specs.Shape.{insert, moreMembers, membersFormat, setFormat, numThen}
-use Rattle.pieces.specs.Pieces.{nextMember, memberOf, setOf}
+use Rattle.pieces.specs.Pieces.{nextMember, memberOf}
 use Rattle.pieces.specs.declared.Next.{Next}
 use Rattle.pieces.specs.declared.Next.the-variants.{Closed, Member, Fault as NoNext}
 use Rattle.shape.proofs.Members.{has-insert, more-on, more-off, more-ends}

@@ -6,7 +6,7 @@
 --   memberOf x         == the answer to a further member
 --   nextMember lo w i  == what stands behind a member, at place i: the closing bracket, or a blank and a member in lo..63
 use Prim.Native.Nat.{ℕ, suc}
-use mathlib.Core.Bool.{Bool, true, false}
+use mathlib.Core.Bool.{true, false}
 use lib.Dec.{eqb}
 use Rattle.grammar.specs.Format.{Run}
 use Rattle.grammar.specs.Format.Run.{got, fault}

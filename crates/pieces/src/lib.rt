@@ -1,13 +1,12 @@
 // Pieces of a text, read from a place on: what stands there and the place behind it, or the place of the fault.
 ghost use mathlib.Core.Path.{_≡_};
-ghost use mathlib.Core.List.{[], _∷_};
 ghost use Prim.Native.Nat.{_+_, _<_, _≤_};
-ghost use Rattle.grammar.specs.Format.{run, lit, alt, chars};
+ghost use Rattle.grammar.specs.Format.{run, lit};
 ghost use Rattle.grammar.specs.Format.Format.{done};
 ghost use Rattle.grammar.specs.Number.{digit, inside as within, meets as overlap, begins as fore, extends as further, starts as first, numberEnd, digitsAt, numberAt};
 ghost use Rattle.grammar.specs.Place.{bytes};
 ghost use Rattle.shape.specs.Shape.{moreMembers, membersFormat, setFormat, numThen};
-ghost use Rattle.pieces.specs.Pieces.{stepOf, numberOf, setOf, nextMember};
+ghost use Rattle.pieces.specs.Pieces.{numberOf, setOf, nextMember};
 
 // Fixed bytes.
 pub enum Step {

@@ -4,8 +4,6 @@
 --   requirementOf q    == the sets in use
 --   requirementsOf g   == the k requirements
 --   separatedOf g      == the two graphs and the requirements
-use Prim.Native.Nat.{ℕ}
-use mathlib.Core.Bool.{Bool}
 use mathlib.Core.List.{List}
 use lib.ListN.{getD}
 use Rattle.finite.specs.Tabulate.{tabulate}

@@ -3,7 +3,7 @@ use Prim.Native.Nat.{ℕ, zero, suc, _+_, _*_, _-_, _/_, _%_, _≤_, _<_}
 use native.Mathlib.Omega.{arith}
 use mathlib.Core.Bool.{Bool, true, false}
 use mathlib.Core.List.{List, [], _∷_, _++_, map}
-use mathlib.Core.Path.{_≡_, refl, sym, _∙_, ap, subst}
+use mathlib.Core.Path.{_≡_, ap}
 use lib.Dec.{ltb}
 use lib.ListN.{length, getD, length-append}
 use borrow.Author.Tests.{ltb-true, ltb-false}
@@ -12,11 +12,11 @@ use Rattle.sets.specs.Member.{has}
 use Rattle.grammar.specs.Number.{decimal}
 use Rattle.grammar.proofs.Format.{by-cases}
 use Rattle.grammar.proofs.Number.{decimal-one, decimal-step}
-use Rattle.game.specs.Access.{requirementAt, noRequirement}
+use Rattle.game.specs.Access.{noRequirement}
 use Rattle.game.specs.declared.Graph.{Graph}
 use Rattle.game.specs.declared.Requirement.{Requirement}
 use Rattle.game.specs.declared.Game.{Game}
-use Rattle.shape.specs.Text.{gapText, items, members, setText, cells, setsText, headerLine, stateLine, stateLines, inWords, outWords, requirementLine, requirementLines, gameText, emptyRequirement}
+use Rattle.shape.specs.Text.{gapText, items, members, setText, cells, setsText, stateLine, stateLines, inWords, outWords, requirementLine, requirementLines, gameText, emptyRequirement}
 use Rattle.shape.specs.Shape.{opening}
 use Rattle.shape.proofs.Members.{members-take, members-skip}
 use Rattle.shape.proofs.Opening.{opening-length}

@@ -5,7 +5,7 @@ use native.Mathlib.Numerals.{add-one}
 use mathlib.Core.Bool.{Bool, true, false}
 use mathlib.Core.List.{List, [], _∷_, _++_, map, append-assoc, append-nil}
 use mathlib.Core.Path.{_≡_, refl, sym, _∙_, ap, subst}
-use lib.ListN.{length, getD, take, drop, length-append, drop-of-length-le}
+use lib.ListN.{length, getD, drop, length-append, drop-of-length-le}
 use lib.Seq.{drop-cons}
 use Rattle.finite.specs.Bounded.{one}
 use Rattle.finite.proofs.Truth.{clash}
@@ -17,11 +17,11 @@ use Rattle.game.specs.declared.OutSet.{OutSet}
 use Rattle.game.specs.declared.Graph.{Graph}
 use Rattle.game.specs.declared.Requirement.{Requirement}
 use Rattle.game.specs.declared.Game.{Game}
-use Rattle.shape.specs.Text.{gapText, items, bracket, line, members, word, setText, cells, setsText, headerLine, stateLine, stateLines, inWords, outWords, requirementLine, requirementLines, gameText, emptyRequirement}
+use Rattle.shape.specs.Text.{gapText, items, bracket, line, members, setText, cells, setsText, headerLine, stateLine, stateLines, inWords, outWords, requirementLine, requirementLines, gameText, emptyRequirement}
 use Rattle.shape.specs.Shape.{opening}
 use Rattle.shape.proofs.Members.{members-take, members-skip}
 use Rattle.shape.proofs.SetLists.{part-cons, item-text}
-use Rattle.put.specs.Put.{overlay, Puts}
+use Rattle.put.specs.Put.{Puts}
 use Rattle.put.proofs.Buffer.{Remains, remains-step, remains-none, remains-room}
 
 -- fixed bytes, one at a time

@@ -1,19 +1,18 @@
 -- Lists of sets and requirements, piece by piece.
-use Prim.Native.Nat.{ℕ, zero, suc, _+_, _-_, _≤_, _<_}
+use Prim.Native.Nat.{ℕ, zero, suc, _+_, _-_, _<_}
 use native.Mathlib.Omega.{arith}
 use native.Mathlib.Numerals.{add-one}
 use mathlib.Core.List.{List, [], _∷_}
-use mathlib.Core.Path.{_≡_, refl, sym, _∙_, ap, subst}
-use lib.ListN.{length, getD, set, replicate}
-use Rattle.grammar.specs.Format.{Format, Run, run, lit, alt, bind, chars, IsNode}
+use mathlib.Core.Path.{_≡_, refl, sym, _∙_, ap}
+use lib.ListN.{length, getD, set}
+use Rattle.grammar.specs.Format.{Format, Run, run, alt, bind, chars}
 use Rattle.grammar.specs.Format.Format.{done}
 use Rattle.grammar.specs.Format.Run.{got, fault}
 use Rattle.shape.proofs.SetLists.{list-sound}
-use Rattle.grammar.proofs.Format.{Found, run-got, run-done, run-lit-fault, run-alt-left, run-alt-right, lit-node, bind-node}
+use Rattle.grammar.proofs.Format.{run-got, run-done, run-lit-fault, run-alt-left, run-alt-right, lit-node, bind-node}
 use Rattle.game.specs.declared.InSet.{InSet}
 use Rattle.game.specs.declared.OutSet.{OutSet}
 use Rattle.game.specs.declared.Requirement.{Requirement}
-use Rattle.shape.specs.Text.{emptyRequirement}
 use Rattle.shape.specs.Shape.{setFormat, Sets, noSets, push, moreSets, setsFormat, inSets, outSets, opening, requirement, guaranteesFormat, requirementFormat}
 use Rattle.scan.specs.Scan.{setsOf, requirementOf}
 use Rattle.pieces.specs.declared.Step.{Step}

@@ -2,17 +2,16 @@
 use Prim.Native.Nat.{ℕ, zero, suc, _+_, _-_, _≤_, _<_}
 use native.Mathlib.Omega.{arith}
 use native.Mathlib.Numerals.{add-one}
-use mathlib.Core.List.{List, [], _∷_}
-use mathlib.Core.Path.{_≡_, refl, sym, _∙_, ap, subst}
-use lib.ListN.{length, getD, set, replicate}
+use mathlib.Core.List.{List}
+use mathlib.Core.Path.{_≡_, sym, _∙_, ap}
+use lib.ListN.{set, replicate}
 use Rattle.grammar.specs.Format.{Format, Run, run, bind}
-use Rattle.grammar.specs.Format.Format.{done}
 use Rattle.grammar.specs.Format.Run.{got, fault}
-use Rattle.grammar.proofs.Format.{Found, run-got, run-done}
+use Rattle.grammar.proofs.Format.{run-got, run-done}
 use Rattle.game.specs.declared.Graph.{Graph}
 use Rattle.game.specs.declared.Requirement.{Requirement}
 use Rattle.game.specs.declared.Game.{Game}
-use Rattle.shape.specs.Text.{emptyRequirement, emptyGame}
+use Rattle.shape.specs.Text.{emptyRequirement}
 use Rattle.shape.specs.Shape.{mark, store, Header, headerFormat, StateRow, stateFormat, statesFormat, emptyGraph, requirementFormat, requirementsFormat, outputFormat, gameFormat}
 use Rattle.lines.specs.Lines.{headerOf, stateOf}
 use Rattle.scan.specs.Scan.{graphOf, requirementsOf, gameOf}
@@ -24,7 +23,7 @@ use Rattle.scan.specs.declared.whole.GraphScan.{GraphScan}
 use Rattle.scan.specs.declared.whole.RequirementsScan.{RequirementsScan}
 use Rattle.scan.specs.declared.whole.GameScan.{GameScan}
 use Rattle.pieces.proofs.Steps.{bind-got, bind-fault}
-use Rattle.shape.proofs.LineTexts.{HeaderParts, header-sound}
+use Rattle.shape.proofs.LineTexts.{header-sound}
 
 -- the answers
 pub moves-state : (x : Run StateRow) {f m j : ℕ} → Moves f m j ≡ stateOf x → x ≡ got (record { initial = f; moves = m }) j

@@ -5,7 +5,6 @@
 --   graphOf x          == the answer to a graph's lines
 --   requirementsOf x   == the answer to the requirements' lines
 --   gameOf x           == the answer to the whole text
-use Prim.Native.Nat.{ℕ}
 use mathlib.Core.List.{List}
 use lib.ListN.{replicate}
 use Rattle.grammar.specs.Format.{Run}

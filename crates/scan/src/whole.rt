@@ -8,7 +8,7 @@ use lines::Row;
 use pieces::Step;
 ghost use mathlib.Core.Path.{_≡_};
 ghost use Prim.Native.Nat.{_+_, _<_, _≤_};
-ghost use lib.ListN.{replicate, length};
+ghost use lib.ListN.{replicate};
 ghost use Rattle.grammar.specs.Format.{run};
 ghost use Rattle.grammar.specs.Format.Run.{fault};
 ghost use Rattle.grammar.specs.Place.{bytes};

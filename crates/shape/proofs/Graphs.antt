@@ -1,8 +1,8 @@
 -- The lines of a graph's states, and those of the requirements.
 use Prim.Native.Nat.{ℕ, zero, suc, _+_, _≤_, _<_}
 use native.Mathlib.Omega.{arith}
-use mathlib.Core.Bool.{Bool, true, false, _||_}
-use mathlib.Core.List.{List, [], _∷_, _++_}
+use mathlib.Core.Bool.{Bool, true, false}
+use mathlib.Core.List.{List, [], _++_}
 use mathlib.Core.Path.{_≡_, refl, sym, _∙_, ap, subst}
 use lib.Arith.{lt-of-le-ne}
 use lib.Dec.{eqb, leb}
@@ -12,14 +12,14 @@ use Rattle.finite.specs.Bounded.{one}
 use Rattle.finite.proofs.Truth.{false-of, clash}
 use Rattle.sets.specs.Member.{has, within}
 use Rattle.sets.proofs.Membership.{has-zero, ext, zero-within, within-has, has-within}
-use Rattle.grammar.specs.Format.{Format, TextOf, Live, bind, Bytes}
+use Rattle.grammar.specs.Format.{Format, TextOf, Live, Bytes}
 use Rattle.grammar.specs.Format.Format.{done}
-use Rattle.grammar.proofs.Format.{by-cases, bind-text, bind-parts, bind-live, done-text, done-parts, done-live, Parts}
+use Rattle.grammar.proofs.Format.{by-cases, bind-text, bind-parts, bind-live, done-text, done-parts, done-live}
 use Rattle.game.specs.declared.Graph.{Graph}
 use Rattle.game.specs.declared.Requirement.{Requirement}
 use Rattle.shape.specs.Text.{stateLine, stateLines, requirementLine, requirementLines, ShapedGraph, ShapedSets, ShapedRequirement, emptyRequirement}
 use Rattle.shape.specs.Shape.{opening, insert, StateRow, stateFormat, mark, store, statesFormat, emptyGraph, requirementFormat, requirementsFormat}
-use Rattle.shape.proofs.Members.{has-insert, insert-same, insert-other}
+use Rattle.shape.proofs.Members.{insert-same, insert-other}
 use Rattle.shape.proofs.Fill.{Upto, Blank, blank-replicate, blank-step, fill-none, fill-step, fill-back, fill-end}
 use Rattle.shape.proofs.LineTexts.{StateParts, state-sound, state-complete, state-live, requirement-sound, requirement-complete, requirement-live}
 

@@ -1,26 +1,21 @@
 -- The lines of a game's text.
-use Prim.Native.Nat.{ℕ, zero, suc, _+_, _-_, _≤_, _<_}
+use Prim.Native.Nat.{ℕ, _+_, _≤_, _<_}
 use native.Mathlib.Omega.{arith}
-use mathlib.Core.Bool.{Bool, true, false, _||_}
+use mathlib.Core.Bool.{true, false}
 use mathlib.Core.List.{List, [], _∷_, _++_, map, append-assoc, append-nil}
-use mathlib.Core.Logic.{_⊎_, inl, inr}
 use mathlib.Core.Path.{_≡_, refl, sym, _∙_, ap, subst}
-use lib.Dec.{eqb, lit<}
-use lib.ListN.{length, getD, take, drop, set, length-set, replicate}
-use borrow.Author.Tests.{eqb-true, eqb-false, eq-eqb, ne-eqb}
-use Rattle.finite.specs.Bounded.{one}
-use Rattle.sets.specs.Member.{has, within}
-use Rattle.grammar.specs.Format.{Format, TextOf, Live, lit, bind, chars, IsNode, Bytes}
+use Rattle.sets.specs.Member.{within}
+use Rattle.grammar.specs.Format.{Format, TextOf, Live, lit, bind, chars, Bytes}
 use Rattle.grammar.specs.Format.Format.{done}
-use Rattle.grammar.specs.Number.{decimal, num, digit}
-use Rattle.grammar.proofs.Format.{by-cases, lit-text, lit-parts, lit-live, lit-node, bind-text, bind-parts, bind-live, bind-node, chars-text, chars-only, chars-live, done-text, done-parts, done-live, Parts}
-use Rattle.grammar.proofs.Number.{num-text, num-parts, num-live, num-node, Ends, ends-lit, NumberParts}
+use Rattle.grammar.specs.Number.{decimal, digit}
+use Rattle.grammar.proofs.Format.{lit-text, lit-parts, lit-live, lit-node, bind-text, bind-parts, bind-live, chars-text, chars-only, chars-live, done-text, done-parts, done-live}
+use Rattle.grammar.proofs.Number.{num-text, num-parts, num-live, ends-lit}
 use Rattle.game.specs.declared.InSet.{InSet}
 use Rattle.game.specs.declared.OutSet.{OutSet}
 use Rattle.game.specs.declared.Requirement.{Requirement}
 use Rattle.shape.specs.Text.{words, word, items, gapText, bracket, line, setText, setsText, headerLine, stateLine, inWords, outWords, requirementLine, ShapedSets, ShapedRequirement}
 use Rattle.shape.specs.Shape.{setFormat, Sets, setsFormat, opening, numThen, Header, outputsFormat, headerFormat, StateRow, rowFormat, stateFormat, requirement, guaranteesFormat, requirementFormat}
-use Rattle.shape.proofs.Members.{set-sound, set-complete, set-live, set-node}
+use Rattle.shape.proofs.Members.{set-sound, set-complete, set-live}
 use Rattle.shape.proofs.SetLists.{list-sound, list-complete, sets-live}
 
 -- fixed bytes, and then a format

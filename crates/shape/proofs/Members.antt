@@ -8,14 +8,14 @@ use mathlib.Core.Path.{_≡_, refl, sym, _∙_, ap, subst}
 use lib.Arith.{lt-of-le-ne}
 use lib.Dec.{eqb, leb}
 use borrow.Author.Tests.{eq-eqb, ne-eqb, eqb-true, eqb-false, leb-false, le-leb, lt-leb, leb-true}
-use Rattle.finite.proofs.Truth.{clash, or-cases, or-left, or-right, false-of}
+use Rattle.finite.proofs.Truth.{clash, or-right, false-of}
 use Rattle.sets.specs.Member.{has, within}
 use Rattle.sets.proofs.Membership.{has-or, has-single, has-zero, ext, has-within, within-has, zero-within}
-use Rattle.grammar.specs.Format.{Format, TextOf, Live, lit, alt, opens, IsNode}
+use Rattle.grammar.specs.Format.{Format, TextOf, Live, lit, alt, IsNode}
 use Rattle.grammar.specs.Format.Format.{done}
 use Rattle.grammar.specs.Number.{decimal, num, digit}
-use Rattle.grammar.proofs.Format.{by-cases, lit-text, lit-parts, lit-live, lit-node, alt-left, alt-right, alt-parts, alt-live, alt-node, done-text, done-parts, done-live, opens-lit}
-use Rattle.grammar.proofs.Number.{num-text, num-parts, num-live, num-node, Ends, ends-lit, ends-alt, NumberParts, opens-num}
+use Rattle.grammar.proofs.Format.{by-cases, lit-text, lit-parts, lit-live, lit-node, alt-left, alt-right, alt-parts, alt-live, done-text, done-parts, done-live, opens-lit}
+use Rattle.grammar.proofs.Number.{num-text, num-parts, num-live, num-node, Ends, ends-lit, ends-alt, opens-num}
 use Rattle.shape.specs.Text.{items, gapText, bracket, members, setText}
 use Rattle.shape.specs.Shape.{insert, moreMembers, membersFormat, setFormat}
 

@@ -1,19 +1,19 @@
 -- The text of a list of sets.
-use Prim.Native.Nat.{ℕ, zero, suc, _+_, _-_, _≤_, _<_}
+use Prim.Native.Nat.{ℕ, zero, suc, _+_, _≤_}
 use native.Mathlib.Omega.{arith}
 use mathlib.Core.Bool.{Bool, true, false}
 use mathlib.Core.List.{List, [], _∷_, _++_, map, append-assoc}
-use mathlib.Core.Logic.{_⊎_, inl, inr}
+use mathlib.Core.Logic.{inl, inr}
 use mathlib.Core.Path.{_≡_, refl, sym, _∙_, ap, subst}
-use lib.ListN.{length, getD, set, length-set, replicate}
+use lib.ListN.{length, getD, length-set}
 use lib.Arith.{lt-of-le-ne}
 use lib.Dec.{eqb}
 use borrow.Author.Tests.{eqb-true, eqb-false}
 use Rattle.sets.proofs.Membership.{zero-within}
-use Rattle.sets.specs.Member.{has, within}
+use Rattle.sets.specs.Member.{within}
 use Rattle.grammar.specs.Format.{Format, TextOf, Live, lit, alt, bind, opens, IsNode}
 use Rattle.grammar.specs.Format.Format.{done}
-use Rattle.grammar.proofs.Format.{by-cases, lit-text, lit-parts, lit-live, lit-node, alt-left, alt-right, alt-parts, alt-live, alt-node, bind-text, bind-parts, bind-live, bind-node, done-text, done-parts, done-live, opens-lit, opens-bind, Parts}
+use Rattle.grammar.proofs.Format.{by-cases, lit-text, lit-parts, lit-live, lit-node, alt-left, alt-right, alt-parts, alt-live, alt-node, bind-text, bind-parts, bind-live, bind-node, done-text, done-parts, done-live, opens-lit, opens-bind}
 use Rattle.shape.specs.Text.{items, gapText, bracket, setText, cells, setsText, ShapedSets}
 use Rattle.shape.specs.Shape.{setFormat, Sets, noSets, push, moreSets, setsFormat}
 use Rattle.shape.proofs.Members.{set-sound, set-complete, set-live, set-node}

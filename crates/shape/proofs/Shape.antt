@@ -1,19 +1,19 @@
 -- The texts of the game format are the texts of the games within the shape's limits.
-use Prim.Native.Nat.{ℕ, zero, suc, _+_, _≤_, _<_}
+use Prim.Native.Nat.{ℕ, _+_}
 use native.Mathlib.Omega.{arith}
-use mathlib.Core.List.{List, [], _∷_, _++_, append-nil}
+use mathlib.Core.List.{List, [], _++_, append-nil}
 use mathlib.Core.Path.{_≡_, refl, sym, _∙_, ap, subst}
-use lib.ListN.{length, getD, replicate}
+use lib.ListN.{replicate}
 use Rattle.grammar.specs.Format.{Format, TextOf, Live, bind}
 use Rattle.grammar.specs.Format.Format.{done}
-use Rattle.grammar.proofs.Format.{bind-text, bind-parts, bind-live, done-text, done-parts, done-live, Parts}
+use Rattle.grammar.proofs.Format.{bind-text, bind-parts, bind-live, done-text, done-parts, done-live}
 use Rattle.game.specs.declared.Graph.{Graph}
 use Rattle.game.specs.declared.Requirement.{Requirement}
 use Rattle.game.specs.declared.Game.{Game}
-use Rattle.shape.specs.Text.{headerLine, stateLines, requirementLines, gameText, ShapedGraph, Shaped, emptyRequirement}
+use Rattle.shape.specs.Text.{headerLine, stateLines, requirementLines, gameText, Shaped, emptyRequirement}
 use Rattle.shape.specs.Shape.{Header, headerFormat, statesFormat, emptyGraph, requirementsFormat, outputFormat, gameFormat}
-use Rattle.shape.proofs.LineTexts.{HeaderParts, header-sound, header-complete, header-live, in-bytes, out-bytes}
-use Rattle.shape.proofs.Graphs.{graph-sound, graph-complete, states-live, RequirementsParts, requirements-sound, requirements-complete, requirements-live}
+use Rattle.shape.proofs.LineTexts.{header-sound, header-complete, header-live, in-bytes, out-bytes}
+use Rattle.shape.proofs.Graphs.{graph-sound, graph-complete, states-live, requirements-sound, requirements-complete, requirements-live}
 
 whole : Graph → Graph → ℕ → List Requirement → Game
 whole a b k qs = record { input = a; output = b; k = k; requirements = qs }

@@ -24,7 +24,7 @@
 --   outputFormat a o k      == the text behind the input graph a
 --   gameFormat              == the whole text
 use Prim.Native.Nat.{ℕ, zero, suc, _^_}
-use mathlib.Core.Bool.{Bool, true, false}
+use mathlib.Core.Bool.{true, false}
 use mathlib.Core.List.{List, [], _∷_, _++_, map}
 use lib.Bits.{bitOr}
 use lib.Dec.{eqb, leb}

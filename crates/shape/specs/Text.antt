@@ -20,7 +20,7 @@
 --   emptyRequirement        == a requirement with no sets
 --   emptyGame               == a game without states
 --   Shaped g                == g is within them: the games that have a text
-use Prim.Native.Nat.{ℕ, zero, suc, _≤_, _<_}
+use Prim.Native.Nat.{ℕ, zero, suc, _≤_}
 use mathlib.Core.Bool.{Bool, true, false}
 use mathlib.Core.List.{List, [], _∷_, _++_, map}
 use mathlib.Core.Path.{_≡_}

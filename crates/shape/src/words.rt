@@ -1,6 +1,6 @@
 // The fixed words, in one table that the reader and the writer share.
 ghost use mathlib.Core.Path.{_≡_};
-ghost use Prim.Native.Nat.{_<_, _+_};
+ghost use Prim.Native.Nat.{_<_};
 ghost use lib.ListN.{length, getD};
 ghost use Rattle.shape.specs.Text.{word};
 ghost use Rattle.shape.specs.Shape.{opening};

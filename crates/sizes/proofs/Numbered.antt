@@ -4,13 +4,12 @@
 --   upto-none, upto-next, upto-all  : how many sets there are
 --   stretch-short, stretch-set      : the sets of the next requirement, by number
 --   met-further, met-all            : those among them that have a state in x
-use Prim.Native.Nat.{ℕ, zero, suc, _+_, _*_, _≤_, _<_}
+use Prim.Native.Nat.{ℕ, zero, suc, _+_, _≤_, _<_}
 use mathlib.Core.Path.{_≡_, refl, sym, _∙_, ap}
 use mathlib.Core.Bool.{Bool, _&&_}
 use mathlib.Core.List.{_∷_, []}
 use native.Mathlib.Omega.{arith}
 use lib.ListN.{length, getD}
-use Rattle.finite.specs.Bounded.{any}
 use Rattle.finite.proofs.Bounded.{any-same}
 use Rattle.sets.specs.Member.{has, pack, meets, both}
 use Rattle.game.specs.declared.Requirement.{Requirement}
@@ -19,7 +18,7 @@ use Rattle.game.specs.Access.{requirementAt}
 use Rattle.theory.specs.Tour.{goalAt}
 use Rattle.touring.specs.declared.Stretch.{Stretch}
 use Rattle.touring.specs.Stretches.{metIn, Short, MetMore}
-use Rattle.sizes.specs.Below.{Side, setsBelow, setsIn}
+use Rattle.sizes.specs.Below.{Side, setsIn}
 use Rattle.sizes.specs.Numbered.{SetsOf, Upto}
 use Rattle.sizes.proofs.Below.{Listed, below-none, below-more, below-all, set-found}
 

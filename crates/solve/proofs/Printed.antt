@@ -1,10 +1,9 @@
 -- The print of the table that the solver hands over is the game's print.
-use Prim.Native.Nat.{ℕ, _+_, _*_, _≤_, _<_, max, min}
+use Prim.Native.Nat.{ℕ, _≤_, _<_, max}
 use native.Mathlib.Omega.{arith}
-use mathlib.Core.Bool.{Bool, true, false, _&&_}
-use mathlib.Core.List.{List, [], _∷_}
-use mathlib.Core.Path.{_≡_, refl, sym, _∙_, ap, subst}
-use lib.Dec.{eqb, leb}
+use mathlib.Core.Bool.{Bool, true}
+use mathlib.Core.List.{List}
+use mathlib.Core.Path.{_≡_, refl, sym, _∙_, ap}
 use lib.ListN.{length, getD, take, length-take}
 use borrow.Author.Tests.{le-leb, eq-eqb}
 use Rattle.finite.proofs.Truth.{and-intro}

@@ -5,15 +5,12 @@
 --   verdictAnswer g s c e     == the answer of the solver, scratch being of s words and the buffers of c and e entries
 --   Decided g r c e           == demand 3 for the answer r, the buffers then being c and e
 --   Solved g s s′ c c′ e e′ r == the solver answers r and leaves scratch s as s′, the controller's buffer c as c′ and the environment's e as e′
-use Prim.Native.Nat.{ℕ, _+_, _*_, _<_}
+use Prim.Native.Nat.{ℕ, _+_, _*_}
 use mathlib.Core.Path.{_≡_}
-use mathlib.Core.Bool.{Bool, true, false, _&&_}
+use mathlib.Core.Bool.{true, false}
 use mathlib.Core.List.{List, _++_}
-use mathlib.Core.Logic.{_↔_}
 use lib.Dec.{leb}
-use lib.ListN.{length, getD, take, drop}
-use Rattle.finite.specs.Tabulate.{tabulate}
-use Rattle.sets.specs.Member.{has}
+use lib.ListN.{length, take, drop}
 use Rattle.arena.specs.Win.{system, environment, DemandThree}
 use Rattle.game.specs.declared.Game.{Game}
 use Rattle.game.specs.declared.Acceptance.{Acceptance}

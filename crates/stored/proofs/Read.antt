@@ -4,7 +4,7 @@
 --   won-region        : where the rows of j and o are right, `wonAt` is the region
 use Prim.Native.Nat.{ℕ, _+_, _≤_, _<_}
 use mathlib.Core.Path.{_≡_, refl, sym, _∙_, ap, ap₂}
-use mathlib.Core.Bool.{Bool, true, false, _&&_, and-comm}
+use mathlib.Core.Bool.{Bool, true, false, _&&_}
 use mathlib.Core.List.{List}
 use mathlib.Core.Logic.{_⊎_, inl, inr}
 use native.Mathlib.Omega.{arith}
@@ -17,12 +17,11 @@ use Rattle.sets.proofs.Membership.{has-pack-below, has-lt, pack-lt, pack-ext}
 use Rattle.sets.proofs.Compare.{meets-intro, meets-elim}
 use Rattle.graphs.specs.Closure.{reaches}
 use Rattle.graphs.specs.Component.{nontrivial}
-use Rattle.graphs.proofs.Closure.{reaches-to}
 use Rattle.arena.specs.Arena.{Separated}
 use Rattle.game.specs.declared.Game.{Game}
 use Rattle.play.specs.Play.{graphOf, separatedOf}
 use Rattle.theory.specs.Region.{homeFor, settles, region}
-use Rattle.theory.proofs.Region.{settles-intro, settles-elim, region-settles}
+use Rattle.theory.proofs.Region.{region-settles}
 use Rattle.stored.specs.Stored.{storedAt, storedRow, wonAt}
 
 pub won-in : (l : List ℕ) (n cores j o : ℕ) {r : Bool} → has cores j ≡ true → r ≡ meets 64 (getD l (n + j) 0) (getD l (n + n + o) 0) → r ≡ wonAt l n cores j o

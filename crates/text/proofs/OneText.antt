@@ -1,16 +1,16 @@
 -- One text for each game: what is written is read back, and only what would be written is read.
-use Prim.Native.Nat.{ℕ, zero, suc, _+_, _≤_, _<_}
+use Prim.Native.Nat.{ℕ, _≤_, _<_}
 use native.Mathlib.Omega.{arith}
-use mathlib.Core.Bool.{Bool, true, false}
-use mathlib.Core.List.{List, [], _∷_}
+use mathlib.Core.Bool.{true}
+use mathlib.Core.List.{List}
 use mathlib.Core.Path.{_≡_, refl, sym, _∙_, ap, subst}
 use lib.Dec.{ltb, leb}
-use lib.ListN.{length, getD, replicate, length-map, length-replicate, List·getD-eq-default}
+use lib.ListN.{length, getD, replicate, length-map, List·getD-eq-default}
 use lib.Seq.{ext-getD}
 use borrow.Author.Tests.{ltb-true, ltb-false, leb-true, leb-false}
 use Rattle.sets.specs.Member.{has, within}
 use Rattle.sets.proofs.Membership.{has-within, zero-within}
-use Rattle.grammar.specs.Format.{Run, TextOf}
+use Rattle.grammar.specs.Format.{Run}
 use Rattle.grammar.specs.Format.Run.{got, fault}
 use Rattle.grammar.specs.Place.{reading}
 use Rattle.grammar.proofs.Format.{by-cases}
@@ -24,7 +24,7 @@ use Rattle.game.specs.declared.Requirement.{Requirement}
 use Rattle.game.specs.declared.Game.{Game}
 use Rattle.game.specs.declared.Acceptance.{Acceptance}
 use Rattle.game.specs.declared.Acceptance.the-variants.{Accepted, Refused}
-use Rattle.game.proofs.Laws.{Fits, GraphFits, RequirementFits, accepted-fits}
+use Rattle.game.proofs.Laws.{GraphFits, RequirementFits, accepted-fits}
 use Rattle.shape.specs.Text.{gameText, inWords, outWords, ShapedGraph, ShapedSets, ShapedRequirement, Shaped, emptyRequirement}
 use Rattle.shape.specs.Shape.{gameFormat}
 use Rattle.shape.proofs.Graphs.{empty-shaped}

@@ -2,12 +2,12 @@
 use Prim.Native.Nat.{ℕ, _+_, _≤_, _<_}
 use native.Mathlib.Omega.{arith}
 use mathlib.Core.List.{List, _++_}
-use mathlib.Core.Path.{_≡_, refl, sym, _∙_, ap, subst}
+use mathlib.Core.Path.{_≡_, sym, _∙_, ap, subst}
 use lib.ListN.{length, take}
 use Rattle.grammar.specs.Format.{Format, Run, TextOf, run}
 use Rattle.grammar.specs.Format.Run.{got, fault}
 use Rattle.grammar.specs.Place.{bytes, Begins, Longest, atEnd, reading}
-use Rattle.grammar.proofs.Place.{read-text, one-value, read-got, read-fault, read-fault-none, end-here, end-before}
+use Rattle.grammar.proofs.Place.{one-value, read-got, read-fault, read-fault-none, end-here, end-before}
 use Rattle.game.specs.declared.Game.{Game}
 use Rattle.shape.specs.Text.{gameText, Shaped}
 use Rattle.shape.specs.Shape.{gameFormat}

@@ -1,17 +1,17 @@
 -- Writing a game, and what it promises.
 use Prim.Native.Nat.{ℕ, _+_, _≤_, _<_}
 use native.Mathlib.Omega.{arith}
-use mathlib.Core.List.{List, _++_}
-use mathlib.Core.Path.{_≡_, refl, sym, _∙_, ap, subst}
-use lib.ListN.{length, drop}
+use mathlib.Core.List.{List}
+use mathlib.Core.Path.{_≡_, sym, _∙_, ap}
+use lib.ListN.{length}
 use borrow.Author.Tests.{lt-ltb, le-ltb}
 use Rattle.game.specs.Acceptance.{acceptance}
 use Rattle.game.specs.declared.Game.{Game}
 use Rattle.game.specs.declared.Acceptance.{Acceptance}
 use Rattle.game.specs.declared.Acceptance.the-variants.{Accepted, Refused}
-use Rattle.game.proofs.Laws.{Fits, GraphFits, RequirementFits, accepted-fits}
+use Rattle.game.proofs.Laws.{accepted-fits}
 use Rattle.shape.specs.Text.{gameText}
-use Rattle.put.specs.Put.{overlay, Puts, Few, Writable}
+use Rattle.put.specs.Put.{overlay, Writable}
 use Rattle.put.proofs.Buffer.{overlay-front}
 use Rattle.put.proofs.Bounds.{game-short}
 use Rattle.text.specs.Write.{answerBy, bufferBy, writeAnswer, writeBuffer, Writes}

@@ -5,7 +5,7 @@
 --   Writes g d r e     == r is the answer, and e the buffer afterwards
 --   numberOf a         == document 01's number of the answer a, 0 for a text that is written
 use Prim.Native.Nat.{ℕ}
-use mathlib.Core.Bool.{Bool, true, false}
+use mathlib.Core.Bool.{true, false}
 use mathlib.Core.List.{List, _++_}
 use mathlib.Core.Path.{_≡_}
 use lib.Dec.{ltb}

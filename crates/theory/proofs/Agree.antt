@@ -1,8 +1,8 @@
 -- Rows agree inside an input component.
 use Prim.Native.Nat.{ℕ, _<_}
-use mathlib.Core.Path.{_≡_, refl, sym, _∙_, ap, ap₂}
+use mathlib.Core.Path.{_≡_, _∙_, ap, ap₂}
 use mathlib.Core.Bool.{Bool, true, false, _&&_}
-use Rattle.finite.specs.Bounded.{any, least}
+use Rattle.finite.specs.Bounded.{least}
 use Rattle.finite.proofs.Bounded.{any-same, least-same}
 use Rattle.graphs.specs.Graph.{edge}
 use Rattle.graphs.specs.Component.{joined, nontrivial}

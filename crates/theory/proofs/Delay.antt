@@ -6,18 +6,18 @@
 --   region-same   : the region depends on the two components only
 --   reply         : at a won position every next input has a reply that makes a won position
 use Prim.Native.Nat.{ℕ, zero, suc, _≤_, _<_}
-use mathlib.Core.Path.{_≡_, refl, sym, _∙_, ap}
-use mathlib.Core.Bool.{Bool, true, false}
+use mathlib.Core.Path.{_≡_, sym, _∙_}
+use mathlib.Core.Bool.{true, false}
 use mathlib.Core.Logic.{_⊎_, inl, inr}
 use native.Mathlib.Omega.{arith}
-use Rattle.finite.proofs.Truth.{decide, clash, same-test}
-use Rattle.graphs.specs.Walk.{Walk, stay, step}
+use Rattle.finite.proofs.Truth.{decide, same-test}
+use Rattle.graphs.specs.Walk.{stay, step}
 use Rattle.graphs.specs.Graph.{Graph, edge}
 use Rattle.graphs.specs.Closure.{reaches}
-use Rattle.graphs.specs.Component.{joined, nontrivial, leaves, rank}
+use Rattle.graphs.specs.Component.{joined, nontrivial, rank}
 use Rattle.graphs.proofs.Graph.{edge-from, edge-to}
-use Rattle.graphs.proofs.Closure.{Path, reaches-from, reaches-to, reaches-self, reaches-edge, reaches-trans, reaches-path, path-reaches}
-use Rattle.graphs.proofs.Component.{rank-trivial, rank-le, rank-pos, joined-self, joined-there, joined-back, joined-sym, leaves-intro, nontrivial-same, nontrivial-move}
+use Rattle.graphs.proofs.Closure.{Path, reaches-to, reaches-edge, reaches-trans, reaches-path, path-reaches}
+use Rattle.graphs.proofs.Component.{rank-trivial, rank-le, rank-pos, joined-self, joined-there, joined-back, leaves-intro, nontrivial-same, nontrivial-move}
 use Rattle.arena.specs.Arena.{Separated}
 use Rattle.theory.specs.Region.{homeFor, settles, answers, replies, region}
 use Rattle.theory.proofs.Region.{

@@ -5,22 +5,21 @@
 --   controller-wins       : then the controller's table, read from its list of entries, wins
 --   environment-wins      : otherwise the environment's does
 --   demand-three          : exactly one side holds a winning table, the verdict names it, and the table read from its list of entries wins
-use Prim.Native.Nat.{ℕ, zero, _≤_, _<_, max}
+use Prim.Native.Nat.{ℕ, _<_}
 use native.Mathlib.Nat.{le-max-left}
-use mathlib.Core.Path.{_≡_, refl, sym, _∙_, ap, subst, subst⁻¹}
+use mathlib.Core.Path.{_≡_, refl, sym, _∙_, subst, subst⁻¹}
 use mathlib.Core.Bool.{Bool, true, false, _&&_, not}
 use mathlib.Core.Logic.{_⊎_, inl, inr, _↔_}
-use native.Mathlib.Omega.{arith}
-use Rattle.finite.specs.Bounded.{any, least}
-use Rattle.finite.proofs.Truth.{decide, clash, true-of, false-of, and-intro, and-left, and-right, not-true}
-use Rattle.finite.proofs.Bounded.{any-intro, least-below, least-found, least-member, all-false}
+use Rattle.finite.specs.Bounded.{least}
+use Rattle.finite.proofs.Truth.{decide, true-of, and-intro, and-left, and-right, not-true}
+use Rattle.finite.proofs.Bounded.{least-below, least-found, least-member}
 use Rattle.graphs.specs.Graph.{edge, begins}
 use Rattle.graphs.proofs.Walk.{keep}
 use Rattle.graphs.proofs.Graph.{edge-to, begins-below}
-use Rattle.arena.specs.Arena.{Arena, Separated, arenaOf}
-use Rattle.arena.specs.Table.{Answer, none, gives, Names, Some, ControllerTable, EnvironmentTable}
-use Rattle.arena.specs.Play.{Configuration, ControllerFirst, ControllerTurn, EnvironmentFirst, EnvironmentTurn, Reachable, Cycle}
-use Rattle.arena.specs.Win.{ControllerWins, EnvironmentWins, Controller, Keeps, Won, Opening, SystemWins, Outcome, system, environment, DemandThree}
+use Rattle.arena.specs.Arena.{Separated, arenaOf}
+use Rattle.arena.specs.Table.{Answer, none, gives, Some, ControllerTable, EnvironmentTable}
+use Rattle.arena.specs.Play.{Configuration, ControllerFirst, ControllerTurn, EnvironmentFirst, EnvironmentTurn, Reachable}
+use Rattle.arena.specs.Win.{ControllerWins, EnvironmentWins, Controller, Keeps, Won, Opening, SystemWins, system, environment, DemandThree}
 use Rattle.arena.proofs.Bounds.{bounded-arenaOf}
 use Rattle.duel.specs.Beats.{Beats}
 use Rattle.duel.proofs.Duel.{not-won, demand-system, demand-environment}
@@ -35,8 +34,8 @@ use Rattle.theory.specs.Entries.{
   environmentTable,
   outcome,
 }
-use Rattle.theory.proofs.Region.{opens-intro, opens-elim, opens-false, verdict-intro, verdict-elim, some-refused, region-in, region-out, answers-intro}
-use Rattle.theory.proofs.ControllerRow.{same-counter, same-state, Replied, replied}
+use Rattle.theory.proofs.Region.{opens-intro, opens-elim, opens-false, verdict-intro, verdict-elim, some-refused}
+use Rattle.theory.proofs.ControllerRow.{same-counter, same-state, replied}
 use Rattle.theory.proofs.Controller.{Follows, Kept, turn-kept, step-some, cycle-meets}
 use Rattle.theory.proofs.Environment as E
 use Rattle.theory.proofs.Environment.{Presses, Lost, turn-lost, cycle-breaks}

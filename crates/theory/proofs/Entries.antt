@@ -4,28 +4,27 @@
 --   answer-entry       : an answer in range is read back from its entry
 --   controller-start, controller-step, environment-start, environment-step : what is read is the choice
 --   read-follows, read-presses : so the theorems about such tables hold of what is read
-use Prim.Native.Nat.{ℕ, zero, suc, _+_, _*_, _/_, _%_, _≤_, _<_, max}
+use Prim.Native.Nat.{ℕ, _+_, _*_, _≤_, _<_}
 use native.Mathlib.Nat.{zero-add, add-mul-div-left, add-mul-mod-self-left, div-eq-of-lt, mod-eq-of-lt}
 use mathlib.Core.Path.{_≡_, refl, sym, _∙_, ap, ap₂, subst, subst⁻¹}
-use mathlib.Core.Bool.{Bool, true, false, _&&_, not}
+use mathlib.Core.Bool.{Bool, true, false, _&&_}
 use mathlib.Core.List.{List, _∷_, _++_}
 use mathlib.Core.Logic.{_⊎_, inl, inr}
 use native.Mathlib.Numerals.{one-add}
 use native.Mathlib.Omega.{arith}
-use lib.Dec.{eqb}
 use lib.Arith.{digits-lt, digits-div, digits-mod}
-use lib.ListN.{length, getD, length-append, List·getD-append}
+use lib.ListN.{length, getD, List·getD-append}
 use lib.Seq.{getD-append-add}
 use borrow.Author.Tests.{ne-eqb}
 use Rattle.finite.specs.Bounded.{any, least}
 use Rattle.finite.specs.Tabulate.{tabulate}
-use Rattle.finite.proofs.Truth.{decide, clash, false-of, and-left, and-right}
-use Rattle.finite.proofs.Bounded.{least-found, least-member}
+use Rattle.finite.proofs.Truth.{decide, and-right}
+use Rattle.finite.proofs.Bounded.{least-found}
 use Rattle.finite.proofs.Tabulate.{length-tabulate, getD-tabulate}
-use Rattle.graphs.specs.Graph.{edge, begins}
-use Rattle.graphs.proofs.Graph.{edge-to, begins-below}
+use Rattle.graphs.specs.Graph.{begins}
+use Rattle.graphs.proofs.Graph.{edge-to}
 use Rattle.arena.specs.Arena.{Separated}
-use Rattle.arena.specs.Table.{Answer, none, gives, ControllerTable, EnvironmentTable}
+use Rattle.arena.specs.Table.{Answer, none, gives}
 use Rattle.theory.specs.Region.{answers, region, opens}
 use Rattle.theory.specs.Choice.{controllerRow, controllerStart, environmentRow, environmentStart, refused}
 use Rattle.theory.specs.Entries.{
@@ -39,9 +38,9 @@ use Rattle.theory.specs.Entries.{
   controllerTable,
   environmentTable,
 }
-use Rattle.theory.proofs.ControllerRow.{Replied, replied}
+use Rattle.theory.proofs.ControllerRow.{replied}
 use Rattle.theory.proofs.Controller.{Follows}
-use Rattle.theory.proofs.EnvironmentRow.{Pushed, pushed}
+use Rattle.theory.proofs.EnvironmentRow.{pushed}
 use Rattle.theory.proofs.Environment.{Presses}
 
 -- What acceptance gives: 64 states a graph, and counters such that no entry is none's.

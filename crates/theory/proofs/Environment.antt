@@ -3,33 +3,32 @@
 --   Presses S P    == the table does what the rows say
 --   Lost S c       == what every reachable configuration keeps: it is not won, and its counter is in range
 --   cycle-breaks   : every round of such a table breaks a requirement
-use Prim.Native.Nat.{ℕ, zero, suc, _≤_, _<_, max}
-use mathlib.Core.Path.{_≡_, refl, sym, _∙_, ap, subst, subst⁻¹}
-use mathlib.Core.Bool.{Bool, true, false, _&&_, _||_, not}
-use mathlib.Core.List.{List, List·Memᴰ}
+use Prim.Native.Nat.{ℕ, _<_}
+use mathlib.Core.Path.{_≡_, sym, _∙_, ap, subst, subst⁻¹}
+use mathlib.Core.Bool.{Bool, true, false, _||_, not}
 use mathlib.Core.Logic.{_⊎_, inl, inr}
 use lib.ListN.{length}
 use Rattle.finite.specs.Bounded.{least}
-use Rattle.finite.specs.Lists.{allOf, anyOf}
-use Rattle.finite.proofs.Truth.{decide, clash, true-of, false-of, or-false-left, or-false-right, not-false}
-use Rattle.finite.proofs.Lists.{allOf-intro, allOf-elim, allOf-false, anyOf-intro}
+use Rattle.finite.specs.Lists.{anyOf}
+use Rattle.finite.proofs.Truth.{clash, false-of, or-false-left, or-false-right, not-false}
+use Rattle.finite.proofs.Lists.{allOf-elim, allOf-false, anyOf-intro}
 use Rattle.graphs.specs.Walk.{Walk}
 use Rattle.graphs.specs.Graph.{Graph, edge}
-use Rattle.graphs.specs.Component.{joined, number, nontrivial, leaves, meetsAt}
+use Rattle.graphs.specs.Component.{joined, number, meetsAt}
 use Rattle.graphs.specs.Way.{approach, toward}
-use Rattle.graphs.proofs.Graph.{edge-from, edge-to}
+use Rattle.graphs.proofs.Graph.{edge-to}
 use Rattle.graphs.proofs.Closure.{reaches-self}
-use Rattle.graphs.proofs.Component.{joined-self, joined-there, joined-back, joined-sym, joined-trans, joined-same, joined-from, joined-to, number-joined, number-same, leaves-elim, leaves-apart, meetsAt-intro, meetsAt-same}
+use Rattle.graphs.proofs.Component.{joined-back, joined-sym, joined-trans, joined-same, number-joined, number-same, leaves-elim, leaves-apart, meetsAt-intro, meetsAt-same}
 use Rattle.graphs.proofs.Measure.{first-step}
 use Rattle.graphs.proofs.Way.{Leads, toward-falls}
-use Rattle.arena.specs.Arena.{Requirement, Arena, Separated, arenaOf}
-use Rattle.arena.specs.Table.{Answer, gives, Names, Some, EnvironmentTable}
+use Rattle.arena.specs.Arena.{Separated, arenaOf}
+use Rattle.arena.specs.Table.{gives, Some, EnvironmentTable}
 use Rattle.arena.specs.Play.{Configuration, EnvironmentTurn, Cycle, configurations, visitsInput, visitsOutput, breaks}
-use Rattle.theory.specs.Region.{due, served, accepting, safe, homeFor, settles, region}
+use Rattle.theory.specs.Region.{due, served, accepting, safe, region}
 use Rattle.theory.specs.Tour.{goalAt, inside, tour}
-use Rattle.theory.specs.Choice.{assumptions, lost, wayOut, gate, outward, escapes, pressing, environmentRow}
+use Rattle.theory.specs.Choice.{assumptions, lost, wayOut, gate, escapes, pressing, environmentRow}
 use Rattle.theory.specs.Entries.{environmentCounters}
-use Rattle.theory.proofs.Region.{safe-intro, homeFor-intro, settles-intro, region-in, region-settles}
+use Rattle.theory.proofs.Region.{safe-intro, homeFor-intro, settles-intro, region-settles}
 use Rattle.theory.proofs.Delay.{output-delay}
 use Rattle.theory.proofs.Tour.{Toured, toured, toGo}
 use Rattle.theory.proofs.Sets.{assumption-at, breaks-when}

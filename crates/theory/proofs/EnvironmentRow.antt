@@ -2,24 +2,22 @@
 --
 --   Pushed         == what a row of the environment does
 --   pushed         : every row at a position that is not won does that
-use Prim.Native.Nat.{ℕ, zero, suc, _≤_, _<_, max}
+use Prim.Native.Nat.{ℕ, _<_}
 use mathlib.Core.Path.{_≡_, refl, sym, _∙_, ap, fun-ext}
 use mathlib.Core.Bool.{Bool, true, false, _&&_, not}
-use mathlib.Core.Logic.{_⊎_, inl, inr}
+use mathlib.Core.Logic.{inl, inr}
 use Rattle.finite.specs.Bounded.{any, least}
-use Rattle.finite.proofs.Truth.{decide, clash, true-of, false-of, and-intro, and-left, and-right, not-true, not-false, same-test}
+use Rattle.finite.proofs.Truth.{decide, clash, true-of, false-of, and-intro, and-left, and-right, not-true, same-test}
 use Rattle.finite.proofs.Bounded.{any-intro, any-elim, any-false, any-same, least-below, least-member, least-found}
 use Rattle.graphs.specs.Graph.{Graph, edge}
-use Rattle.graphs.specs.Closure.{reaches}
 use Rattle.graphs.specs.Component.{joined, number, nontrivial}
-use Rattle.graphs.specs.Way.{approach, toward}
+use Rattle.graphs.specs.Way.{toward}
 use Rattle.graphs.proofs.Graph.{edge-to}
-use Rattle.graphs.proofs.Closure.{reaches-edge}
-use Rattle.graphs.proofs.Component.{joined-there, joined-back, joined-sym, joined-trans, joined-to, number-joined, number-same, nontrivial-same}
+use Rattle.graphs.proofs.Component.{joined-there, joined-back, joined-sym, joined-trans, joined-to, number-joined, number-same}
 use Rattle.graphs.proofs.Way.{Leads, toward-move}
 use Rattle.arena.specs.Arena.{Separated}
-use Rattle.arena.specs.Table.{Answer, none, gives}
-use Rattle.theory.specs.Region.{answers, replies, region}
+use Rattle.arena.specs.Table.{gives}
+use Rattle.theory.specs.Region.{answers, region}
 use Rattle.theory.specs.Tour.{inside, tour}
 use Rattle.theory.specs.Choice.{assumptions, lost, wayOut, gate, outward, escapes, pressing, pushing, environmentRow}
 use Rattle.theory.specs.Entries.{environmentCounters}

@@ -3,21 +3,20 @@
 --   Along S x c      == c's input and output lie in the components of x's
 use Prim.Native.Nat.{ℕ, _<_}
 use mathlib.Core.Path.{_≡_, refl, sym, _∙_, ap, subst}
-use mathlib.Core.Bool.{Bool, true, false, _||_}
+use mathlib.Core.Bool.{Bool, true, false}
 use mathlib.Core.Logic.{_⊎_, inl, inr}
 use native.Mathlib.Omega.{arith}
-use lib.ListN.{length}
 use Rattle.finite.specs.Lists.{anyOf}
 use mathlib.Core.List.{List}
 use Rattle.finite.proofs.Truth.{clash, or-right}
 use Rattle.finite.proofs.Lists.{anyOf-elim}
-use Rattle.graphs.specs.Walk.{Walk, stay, step, passed}
+use Rattle.graphs.specs.Walk.{Walk, step, passed}
 use Rattle.graphs.specs.Graph.{Graph, edge}
 use Rattle.graphs.specs.Component.{joined, nontrivial}
 use Rattle.graphs.proofs.Walk.{image}
 use Rattle.graphs.proofs.Graph.{edge-from, edge-to}
 use Rattle.graphs.proofs.Closure.{Path, reaches-edge, reaches-trans, path-reaches}
-use Rattle.graphs.proofs.Component.{joined-intro, joined-there, joined-back, joined-self, joined-sym, joined-trans, nontrivial-intro, nontrivial-same}
+use Rattle.graphs.proofs.Component.{joined-intro, joined-there, joined-back, joined-self, nontrivial-intro, nontrivial-same}
 use Rattle.graphs.proofs.Measure.{targets, passed-targets, lands, finds}
 use Rattle.arena.specs.Arena.{Separated}
 use Rattle.arena.specs.Play.{Configuration, Cycle, configurations}

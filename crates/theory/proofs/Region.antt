@@ -2,24 +2,22 @@
 use Prim.Native.Nat.{ℕ, zero, suc, _≤_, _<_}
 use mathlib.Core.Path.{_≡_, refl, sym, _∙_, ap}
 use mathlib.Core.Bool.{Bool, true, false, _&&_, _||_, not}
-use mathlib.Core.List.{List}
-use mathlib.Core.Logic.{_⊎_, inl, inr}
+use mathlib.Core.Logic.{inl, inr}
 use native.Mathlib.Omega.{arith}
 use Rattle.finite.specs.Bounded.{all, any}
-use Rattle.finite.proofs.Truth.{decide, clash, true-of, false-of, and-intro, and-left, and-right, or-left, or-right, or-cases, not-true}
-use Rattle.finite.proofs.Bounded.{all-intro, all-elim, all-same, all-false, any-intro, any-elim, any-same, any-none, any-false}
-use Rattle.finite.specs.Lists.{allOf}
+use Rattle.finite.proofs.Truth.{decide, clash, false-of, and-intro, and-left, and-right}
+use Rattle.finite.proofs.Bounded.{all-intro, all-elim, all-same, all-false, any-intro, any-elim, any-same}
 use Rattle.finite.proofs.Lists.{allOf-same}
 use Rattle.sets.proofs.Membership.{has-zero}
 use Rattle.graphs.specs.Graph.{Graph, edge, begins}
-use Rattle.graphs.specs.Rows.{rel, rowsOf}
+use Rattle.graphs.specs.Rows.{rel}
 use Rattle.graphs.specs.Closure.{reaches}
 use Rattle.graphs.specs.Component.{joined, nontrivial, leaves, meetsAt, rank}
 use Rattle.graphs.proofs.Graph.{edge-to, begins-below}
 use Rattle.graphs.proofs.Rows.{rel-rows, rel-from, rel-to}
 use Rattle.graphs.proofs.Closure.{reaches-to}
-use Rattle.graphs.proofs.Component.{rank-le, rank-pos, rank-leaves, rank-trivial, joined-to, joined-sym, joined-same, meetsAt-same, leaves-same, leaves-elim, nontrivial-same}
-use Rattle.arena.specs.Arena.{Requirement, Separated}
+use Rattle.graphs.proofs.Component.{rank-le, rank-pos, rank-leaves, rank-trivial, joined-to, meetsAt-same, leaves-same, leaves-elim}
+use Rattle.arena.specs.Arena.{Separated}
 use Rattle.theory.specs.Choice.{refused}
 use Rattle.theory.specs.Region.{due, served, accepting, safe, homeFor, settles, answers, replies, rule, regionRows, region, opens, verdict}
 

@@ -3,7 +3,7 @@
 --   Toured                 == what a move of the tour does
 --   toured                 : every move of a tour in a nontrivial component does that
 --   toGo q s g             == the number that falls until set q is entered; at most sets × states
-use Prim.Native.Nat.{ℕ, zero, suc, _+_, _*_, _≤_, _<_, max}
+use Prim.Native.Nat.{ℕ, suc, _+_, _*_, _≤_, _<_, max}
 use native.Mathlib.Nat.{mul-le-mul-right, suc-mul, max-eq-right, le-max-right}
 use mathlib.Core.Path.{_≡_, refl, sym, _∙_, ap, subst, subst⁻¹}
 use mathlib.Core.Bool.{Bool, true, false, _&&_}
@@ -12,19 +12,17 @@ use mathlib.Core.Logic.{_⊎_, inl, inr}
 use native.Mathlib.Omega.{arith}
 use native.Mathlib.Decide.{decLt}
 use lib.ListN.{length}
-use Rattle.finite.specs.Bounded.{any, least}
-use Rattle.finite.proofs.Truth.{decide, clash, and-intro, and-left, and-right, and-false-left}
-use Rattle.finite.proofs.Bounded.{any-intro, any-elim, least-member, least-below, least-at-most, least-le}
+use Rattle.finite.proofs.Truth.{decide, clash, and-intro, and-left, and-right}
+use Rattle.finite.proofs.Bounded.{any-intro, any-elim, least-member, least-at-most}
 use Rattle.graphs.specs.Walk.{Walk, stay, step}
 use Rattle.graphs.specs.Graph.{Graph, edge}
-use Rattle.graphs.specs.Closure.{reaches}
 use Rattle.graphs.specs.Component.{joined, nontrivial, meetsAt}
-use Rattle.graphs.specs.Way.{near, approach, prefer, toward}
+use Rattle.graphs.specs.Way.{approach, prefer, toward}
 use Rattle.graphs.proofs.Graph.{edge-from, edge-to}
 use Rattle.graphs.proofs.Closure.{Path, reaches-edge, reaches-trans, reaches-path, path-reaches}
-use Rattle.graphs.proofs.Component.{joined-intro, joined-there, joined-back, joined-sym, joined-trans, joined-to, nontrivial-move, nontrivial-same, meetsAt-elim, meetsAt-intro}
+use Rattle.graphs.proofs.Component.{joined-intro, joined-there, joined-back, joined-sym, joined-trans, joined-to, nontrivial-move, nontrivial-same, meetsAt-elim}
 use Rattle.graphs.proofs.Way.{Leads, near-some, prefer-member, approach-below, toward-move, toward-falls}
-use Rattle.arena.specs.Table.{Answer, gives}
+use Rattle.arena.specs.Table.{gives}
 use Rattle.theory.specs.Tour.{goalAt, around, inside, ahead, goal, hasGoal, target, arrive, tour}
 use Rattle.theory.proofs.Around.{
   around-below,

@@ -7,11 +7,11 @@
 --   wayOut S o i                            == i has such a move
 --   escapes S i o                           == some state of the component of i has one
 --   environmentRow S i h o, environmentStart
-use Prim.Native.Nat.{ℕ, suc}
+use Prim.Native.Nat.{ℕ}
 use mathlib.Core.Bool.{Bool, true, false, _&&_, not}
 use mathlib.Core.List.{List, [], _∷_, _++_}
 use Rattle.finite.specs.Bounded.{any, least}
-use Rattle.graphs.specs.Graph.{Graph, edge, begins}
+use Rattle.graphs.specs.Graph.{edge, begins}
 use Rattle.graphs.specs.Closure.{reaches}
 use Rattle.graphs.specs.Component.{joined, number, nontrivial}
 use Rattle.graphs.specs.Way.{toward}

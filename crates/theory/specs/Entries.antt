@@ -8,7 +8,7 @@
 --   environmentTable O M l        == the same as an environment's table for O outputs
 --   outcome S                     == the side that the verdict names, with its table
 use Prim.Native.Nat.{ℕ, _+_, _*_, _/_, _%_, max}
-use mathlib.Core.Bool.{Bool, true, false}
+use mathlib.Core.Bool.{true, false}
 use mathlib.Core.List.{List, _∷_, _++_}
 use lib.Dec.{eqb}
 use lib.ListN.{length, getD}

@@ -14,7 +14,7 @@ use mathlib.Core.Bool.{Bool, true, false, _&&_, _||_, not}
 use mathlib.Core.List.{List, []}
 use Rattle.finite.specs.Bounded.{all, any}
 use Rattle.finite.specs.Lists.{allOf}
-use Rattle.graphs.specs.Graph.{Graph, edge, begins}
+use Rattle.graphs.specs.Graph.{edge, begins}
 use Rattle.graphs.specs.Rows.{rel, rowsOf}
 use Rattle.graphs.specs.Closure.{reaches}
 use Rattle.graphs.specs.Component.{joined, nontrivial, leaves, meetsAt}

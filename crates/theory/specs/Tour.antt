@@ -18,7 +18,7 @@ use Rattle.finite.specs.Bounded.{any, least}
 use Rattle.graphs.specs.Graph.{Graph, edge}
 use Rattle.graphs.specs.Component.{joined, meetsAt}
 use Rattle.graphs.specs.Way.{prefer, toward}
-use Rattle.arena.specs.Table.{Answer, none, gives}
+use Rattle.arena.specs.Table.{Answer, gives}
 
 unfoldable pub goalAt : List (ℕ → Bool) → ℕ → ℕ → Bool
 goalAt l k = getD l k (λ s. false)

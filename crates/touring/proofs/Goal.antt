@@ -3,7 +3,7 @@
 --   first-is                   : how to tell the first member from g on
 --   first-member, first-below  : it is a member, and below m
 --   passed-*                   : the counter after a move
-use Prim.Native.Nat.{ℕ, _+_, _-_, _≤_, _<_}
+use Prim.Native.Nat.{ℕ, _+_, _≤_, _<_}
 use mathlib.Core.Path.{_≡_, refl, _∙_, ap}
 use mathlib.Core.Bool.{Bool, true, false}
 use mathlib.Core.Logic.{inl, inr}

@@ -8,10 +8,9 @@ use Prim.Native.Nat.{ℕ, suc, _-_, _*_, _≤_, _<_, max}
 use native.Mathlib.Nat.{max-eq-right}
 use native.Mathlib.Omega.{arith}
 use mathlib.Core.Path.{_≡_, refl, sym, _∙_, ap, subst}
-use mathlib.Core.Bool.{Bool, true, false, _&&_}
+use mathlib.Core.Bool.{true, false, _&&_}
 use mathlib.Core.Logic.{_⊎_, inl, inr}
 use lib.ListN.{length}
-use Rattle.finite.specs.Bounded.{least}
 use Rattle.finite.specs.Lists.{anyOf}
 use Rattle.finite.proofs.Truth.{decide, clash, true-of, false-of, and-intro, and-left, and-right}
 use Rattle.finite.proofs.Bounded.{least-at-most, least-unique}
@@ -19,7 +18,7 @@ use Rattle.graphs.specs.Walk.{Walk, stay, step}
 use Rattle.graphs.specs.Graph.{Graph, edge}
 use Rattle.graphs.specs.Closure.{reaches}
 use Rattle.graphs.specs.Component.{joined, nontrivial, meetsAt}
-use Rattle.graphs.specs.Way.{approach, toward}
+use Rattle.graphs.specs.Way.{approach}
 use Rattle.graphs.proofs.Walk.{keep}
 use Rattle.graphs.proofs.Graph.{edge-to}
 use Rattle.graphs.proofs.Closure.{reaches-to, reaches-edge, reaches-trans}
@@ -27,11 +26,11 @@ use Rattle.graphs.proofs.Component.{joined-self, joined-back, joined-sym, joine
 use Rattle.graphs.proofs.Measure.{targets, lands}
 use Rattle.graphs.proofs.Way.{Leads, toward-falls, approach-short}
 use Rattle.arena.specs.Arena.{Separated, arenaOf}
-use Rattle.arena.specs.Table.{Answer, gives, ControllerTable}
+use Rattle.arena.specs.Table.{gives, ControllerTable}
 use Rattle.arena.specs.Play.{Configuration, ControllerTurn}
 use Rattle.theory.specs.Region.{homeFor, settles, answers, region}
-use Rattle.theory.specs.Tour.{goalAt, tour}
-use Rattle.theory.specs.Choice.{guarantees, home, homeward, controllerRow}
+use Rattle.theory.specs.Tour.{goalAt}
+use Rattle.theory.specs.Choice.{guarantees, home, homeward}
 use Rattle.theory.specs.Entries.{controllerCounters}
 use Rattle.theory.proofs.Region.{homeFor-same, homeFor-nontrivial, region-in, region-out, region-settles}
 use Rattle.theory.proofs.Delay.{reply}

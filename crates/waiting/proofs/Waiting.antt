@@ -1,11 +1,11 @@
 -- The right to wait of every accepted game.
 use Prim.Native.Nat.{ℕ, _-_, _*_, _≤_, _<_, max}
-use mathlib.Core.Path.{_≡_, refl, sym, _∙_, ap, subst}
-use mathlib.Core.Bool.{Bool, true}
+use mathlib.Core.Path.{_≡_, refl, sym, ap, subst}
+use mathlib.Core.Bool.{true}
 use mathlib.Core.List.{List, _∷_}
 use lib.ListN.{length}
 use Rattle.graphs.specs.Walk.{Walk, stay, step}
-use Rattle.graphs.specs.Graph.{Graph, edge}
+use Rattle.graphs.specs.Graph.{Graph}
 use Rattle.graphs.specs.Component.{nontrivial, meetsAt}
 use Rattle.graphs.proofs.Graph.{edge-from, edge-to}
 use Rattle.graphs.proofs.Closure.{path-reaches}
@@ -20,7 +20,7 @@ use Rattle.theory.specs.Choice.{guarantees, home}
 use Rattle.theory.proofs.Delay.{delay}
 use Rattle.theory.proofs.Entries.{read-follows}
 use Rattle.theory.proofs.Controller.{Follows, Kept}
-use Rattle.demands.specs.Demands.{playOf, controllerOf, DemandTwo}
+use Rattle.demands.specs.Demands.{playOf, controllerOf}
 use Rattle.demands.proofs.Demands.{demand-two}
 use Rattle.demands.proofs.Sizes.{accepted-sized}
 use Rattle.waiting.specs.Waiting.{Moves, ours, Begins, StaysIn, entered, AtHome, RightToWait}

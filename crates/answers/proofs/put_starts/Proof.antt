@@ -1,7 +1,6 @@
 -- `put_starts` meets its contract. The invariant: the starts so far are written.
-use Prim.Native.Nat.{_+_, _*_, _-_, _≤_, _^_}
+use Prim.Native.Nat.{_-_, _≤_}
 use lib.ListN.{length}
-use mathlib.Core.Path.{_≡_}
 use native.Mathlib.Omega.{arith}
 use Rattle.put.specs.Put.{Puts}
 use Rattle.put.proofs.Buffer.{puts-length}

@@ -1,7 +1,6 @@
 -- `component` collects the states that are mutually reached. Invariant: the states below t that are, are collected.
 use mathlib.Core.Path.{_≡_}
 use Prim.Native.Nat.{_≤_, _-_}
-use borrow.Author.Needs.{needs}
 use native.Mathlib.Omega.{arith}
 use Rattle.sets.specs.Member.{pack}
 use Rattle.sets.proofs.Collect.{collect-none, collect-next, collect-end}

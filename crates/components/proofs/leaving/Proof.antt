@@ -1,5 +1,5 @@
 -- `leaving` takes the set itself away from what its moves enter.
-use mathlib.Core.Path.{_≡_, _∙_, ap}
+use mathlib.Core.Path.{_∙_, ap}
 use mathlib.Core.Bool.{Bool, _&&_, not}
 use borrow.Author.Needs.{needs}
 use Rattle.sets.specs.Member.{has}

@@ -1,7 +1,7 @@
 -- `moves_from` goes through the commands.
 use Prim.Native.Nat.{_≤_, _-_}
 use native.Mathlib.Omega.{arith}
-use mathlib.Core.Path.{_≡_, sym, _∙_}
+use mathlib.Core.Path.{_≡_, _∙_}
 use mathlib.Core.Logic.{⊎-elim}
 use Rattle.sets.specs.Member.{pack}
 use Rattle.drives.specs.Drive.{madeBy}

@@ -1,7 +1,5 @@
 -- `solve`.
-use native.Mathlib.Omega.{arith}
 use Rattle.handover.proofs.Handing.{system-count, environment-count, hands-system, hands-environment, hands-nothing}
-use mathlib.Core.Path.{_≡_, refl, sym, _∙_, ap}
 use borrow.Author.Needs.{needs}
 use Rattle.handover.proofs.solve.Statement.{statement}
 use Rattle.handover.proofs.solve.Tie as tie

@@ -3,7 +3,6 @@ use native.Mathlib.Omega.{arith}
 use Rattle.kit.proofs.Answers.{kit-scratch-short, kit-controller-short, kit-room-short}
 use Rattle.kit.proofs.Lengths.{both-small}
 use Rattle.kit.proofs.Handing.{game-accepted, length-of, counters-of}
-use borrow.Author.Needs.{needs}
 use Rattle.kit.proofs.solve_accepted.Statement.{statement}
 use Rattle.kit.proofs.solve_accepted.Tie as tie
 
@@ -41,19 +40,19 @@ solve-fitting-requires c κs = record {
 }
 
 same-length : tie.Need-same-length
-same-length c = search needs
+same-length c = c .before .before .before .before .before .before .before .before .solve-fitting .kept .1 .1 .1 .0
 
 same-length-2 : tie.Need-same-length-2
-same-length-2 c = search needs
+same-length-2 c = c .before .before .before .before .before .before .before .before .solve-fitting .kept .1 .1 .1 .1 .0
 
 same-length-3 : tie.Need-same-length-3
-same-length-3 c = search needs
+same-length-3 c = c .before .before .before .before .before .before .before .before .solve-fitting .kept .1 .1 .1 .1 .1 .0
 
 same-length-4 : tie.Need-same-length-4
-same-length-4 c = search needs
+same-length-4 c = c .before .before .before .before .before .before .before .before .solve-fitting .kept .1 .1 .1 .1 .1 .1 .0
 
 returns-4 : tie.Need-returns-4
-returns-4 c = search needs
+returns-4 c = c .before .before .before .before .before .before .before .before .solve-fitting .ensures
 
 pub solve-accepted-spec : {M : Type 1} → statement M
 solve-accepted-spec =

@@ -2,9 +2,7 @@
 use native.Mathlib.Omega.{arith}
 use lib.ListN.{length}
 use Rattle.map.proofs.Scratch.{Zeroed, zeroed-none, zeroed-length, zeroed-more, zeroed-end}
-use borrow.Author.Needs.{needs}
-use mathlib.Core.Path.{_≡_, refl, sym, _∙_, ap}
-use Prim.Native.Nat.{ℕ, _+_, _-_, _≤_, _<_}
+use Prim.Native.Nat.{_-_, _≤_}
 use Rattle.map.proofs.clear.Statement.{statement}
 use Rattle.map.proofs.clear.Tie as tie
 

@@ -1,14 +1,13 @@
 -- `fill_map`.
 use native.Mathlib.Omega.{arith}
 use mathlib.Core.List.{_++_}
-use lib.ListN.{length, drop}
+use lib.ListN.{drop}
 use Rattle.finite.specs.Tabulate.{tabulate}
 use Rattle.closure.proofs.Front.{front-none}
 use Rattle.map.proofs.Scratch.{filled-length, filled-more, filled-end}
 use Rattle.map.specs.Read.{mapRow}
-use borrow.Author.Needs.{needs}
-use mathlib.Core.Path.{_≡_, refl, sym, _∙_, ap}
-use Prim.Native.Nat.{ℕ, _+_, _-_, _≤_, _<_}
+use mathlib.Core.Path.{_≡_}
+use Prim.Native.Nat.{_+_, _-_, _≤_}
 use Rattle.map.proofs.fill_map.Statement.{statement}
 use Rattle.map.proofs.fill_map.Tie as tie
 

@@ -1,7 +1,6 @@
 -- `make_map`.
-use native.Mathlib.Omega.{arith}
 use Rattle.map.proofs.Made.{reading-made, cleared-kept}
-use mathlib.Core.Path.{_≡_, refl, sym, _∙_, ap}
+use mathlib.Core.Path.{_∙_}
 use borrow.Author.Needs.{needs}
 use Rattle.map.proofs.make_map.Statement.{statement}
 use Rattle.map.proofs.make_map.Tie as tie

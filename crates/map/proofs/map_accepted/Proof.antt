@@ -2,7 +2,6 @@
 use native.Mathlib.Omega.{arith}
 use Rattle.game.proofs.Laws.{accepted-fits}
 use Rattle.map.proofs.Made.{map-scratch-short, map-short, map-done}
-use mathlib.Core.Path.{_≡_, refl, sym, _∙_, ap}
 use borrow.Author.Needs.{needs}
 use Rattle.map.proofs.map_accepted.Statement.{statement}
 use Rattle.map.proofs.map_accepted.Tie as tie

@@ -1,7 +1,6 @@
 -- `won_map`.
-use native.Mathlib.Omega.{arith}
 use Rattle.map.proofs.Made.{map-faulty}
-use mathlib.Core.Path.{_≡_, refl, sym, _∙_, ap}
+use mathlib.Core.Path.{sym, _∙_}
 use borrow.Author.Needs.{needs}
 use Rattle.map.proofs.won_map.Statement.{statement}
 use Rattle.map.proofs.won_map.Tie as tie

@@ -11,10 +11,10 @@ map-code-requires : tie.Need-map-code-requires
 map-code-requires c κs = search needs
 
 same-length : tie.Need-same-length
-same-length c = search needs
+same-length c = c .before .before .before .before .before .won-map .kept .1 .0
 
 same-length-2 : tie.Need-same-length-2
-same-length-2 c = search needs
+same-length-2 c = c .before .before .before .before .before .won-map .kept .1 .1 .0
 
 returns : tie.Need-returns
 returns c = map-called (c .before .before .before .before .before .won-map .ensures) (c .map-code .ensures)

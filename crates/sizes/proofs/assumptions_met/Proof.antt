@@ -10,7 +10,7 @@ use Rattle.touring.specs.Stretches.{metIn}
 use Rattle.sizes.specs.Below.{assumptionSide, setsIn}
 use Rattle.sizes.specs.Numbered.{Upto}
 use Rattle.sizes.proofs.Below.{assumptions-listed, few, assumed-few}
-use Rattle.sizes.proofs.Numbered.{upto-none, upto-next, upto-all, stretch-short, met-further, met-all}
+use Rattle.sizes.proofs.Numbered.{upto-none, upto-next, stretch-short, met-further, met-all}
 use Rattle.sizes.proofs.assumptions_met.Statement.{statement}
 use Rattle.sizes.proofs.assumptions_met.Tie as tie
 

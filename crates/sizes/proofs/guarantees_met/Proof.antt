@@ -10,7 +10,7 @@ use Rattle.touring.specs.Stretches.{metIn}
 use Rattle.sizes.specs.Below.{guaranteeSide, setsIn}
 use Rattle.sizes.specs.Numbered.{Upto}
 use Rattle.sizes.proofs.Below.{guarantees-listed, few, guaranteed-few}
-use Rattle.sizes.proofs.Numbered.{upto-none, upto-next, upto-all, stretch-short, met-further, met-all}
+use Rattle.sizes.proofs.Numbered.{upto-none, upto-next, stretch-short, met-further, met-all}
 use Rattle.sizes.proofs.guarantees_met.Statement.{statement}
 use Rattle.sizes.proofs.guarantees_met.Tie as tie
 

@@ -1,7 +1,6 @@
 -- `solve_accepted`.
 use native.Mathlib.Omega.{arith}
 use Rattle.solver.proofs.Verdicts.{controller-long, environment-long, solve-scratch-short, solve-controller-short, solve-environment-short, written-system, written-environment}
-use mathlib.Core.Path.{_≡_, refl, sym, _∙_, ap}
 use borrow.Author.Needs.{needs}
 use Rattle.solver.proofs.solve_accepted.Statement.{statement}
 use Rattle.solver.proofs.solve_accepted.Tie as tie

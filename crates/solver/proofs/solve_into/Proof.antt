@@ -1,7 +1,6 @@
 -- `solve_into`.
-use native.Mathlib.Omega.{arith}
 use Rattle.solver.proofs.Verdicts.{solve-faulty}
-use mathlib.Core.Path.{_≡_, refl, sym, _∙_, ap}
+use mathlib.Core.Path.{sym, _∙_}
 use borrow.Author.Needs.{needs}
 use Rattle.solver.proofs.solve_into.Statement.{statement}
 use Rattle.solver.proofs.solve_into.Tie as tie

@@ -5,9 +5,8 @@ use Rattle.finite.specs.Bounded.{any}
 use Rattle.finite.proofs.Loops.{any-start, any-turn}
 use Rattle.verdict.specs.Opens.{opensWith}
 use Rattle.verdict.proofs.Begin.{opens-found, opens-none}
-use borrow.Author.Needs.{needs}
-use mathlib.Core.Path.{_≡_, refl, sym, _∙_, ap}
-use Prim.Native.Nat.{ℕ, _+_, _-_, _≤_, _<_}
+use mathlib.Core.Path.{_≡_, sym, _∙_}
+use Prim.Native.Nat.{_-_, _≤_}
 use Rattle.verdict.proofs.opens.Statement.{statement}
 use Rattle.verdict.proofs.opens.Tie as tie
 

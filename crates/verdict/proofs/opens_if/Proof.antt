@@ -1,8 +1,6 @@
 -- `opens_if`.
-use native.Mathlib.Omega.{arith}
 use Rattle.finite.proofs.Loops.{failed, passed}
 use Rattle.verdict.proofs.Begin.{if-not, if-initial}
-use mathlib.Core.Path.{_≡_, refl, sym, _∙_, ap}
 use borrow.Author.Needs.{needs}
 use Rattle.verdict.proofs.opens_if.Statement.{statement}
 use Rattle.verdict.proofs.opens_if.Tie as tie

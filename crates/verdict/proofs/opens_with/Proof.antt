@@ -1,9 +1,7 @@
 -- `opens_with`.
-use native.Mathlib.Omega.{arith}
 use Rattle.finite.proofs.Loops.{failed, passed}
 use Rattle.verdict.proofs.Begin.{with-none, with-initial}
 use Rattle.map.proofs.Scratch.{reading-won}
-use mathlib.Core.Path.{_≡_, refl, sym, _∙_, ap}
 use borrow.Author.Needs.{needs}
 use Rattle.verdict.proofs.opens_with.Statement.{statement}
 use Rattle.verdict.proofs.opens_with.Tie as tie

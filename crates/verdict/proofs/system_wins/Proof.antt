@@ -5,9 +5,8 @@ use Rattle.finite.specs.Bounded.{all}
 use Rattle.finite.proofs.Loops.{all-start, all-turn, failed, passed}
 use Rattle.verdict.specs.Opens.{opensIf}
 use Rattle.verdict.proofs.Begin.{verdict-no, verdict-yes}
-use borrow.Author.Needs.{needs}
-use mathlib.Core.Path.{_≡_, refl, sym, _∙_, ap}
-use Prim.Native.Nat.{ℕ, _+_, _-_, _≤_, _<_}
+use mathlib.Core.Path.{_≡_}
+use Prim.Native.Nat.{_-_, _≤_}
 use Rattle.verdict.proofs.system_wins.Statement.{statement}
 use Rattle.verdict.proofs.system_wins.Tie as tie
 

@@ -2,7 +2,7 @@
 use native.Mathlib.Omega.{arith}
 use Rattle.game.proofs.Laws.{accepted-fits}
 use Rattle.map.proofs.Made.{reading-made, cleared-kept}
-use mathlib.Core.Path.{_≡_, refl, sym, _∙_, ap}
+use mathlib.Core.Path.{refl, sym, _∙_}
 use borrow.Author.Needs.{needs}
 use Rattle.winner.proofs.write_winner.Statement.{statement}
 use Rattle.winner.proofs.write_winner.Tie as tie
