@@ -9,19 +9,21 @@
  *    6  a length over 4, all eight places counted
  *    7  a state past its count in a set, an unused set not empty, or an unused requirement with a length not 0
  *    8  scratch under 512 words, or, for the map, a map under one word an input
- *    9  the controller's buffer too short      10  the panel's too short      both tried whoever wins
+ *    9  the controller's buffer too short, or the kit's      10  the panel's too short      all tried whoever wins
  *   11  bytes that are no game's text, with a place      12  over 40,960 bytes      13  a text buffer under the text's length
  *   14  an input that the panel cannot pick now
  *   15  an entry that is none, or names a counter out of range or an output that is no move (at the start, not initial)
  *   16  a table of another length, or a position that the game does not have
- * The lowest number whose condition holds is given; the reader tries 12, 11, then 1 to 7; the player 1 to 7, 16, 14, 15.
+ *   17  a command count not 1 to 16
+ *   18  a next mode that is neither barred nor a mode of the drive, or one past the counts that is not barred
+ * The lowest number whose condition holds is given; the reader tries 12, 11, then 1 to 7; the player 1 to 7, 16, 14, 15; a kit 1, 17, 18, then 2 to 10.
  *
  * Every value of every parameter has an answer, and on a refusal every buffer holds what it held before. What each entry promises is proved
  * in crates/nanpuwiq (specs/Calls.antt) and crates/results (specs/Results.antt), on the following, which C cannot check and a caller keeps to:
  *  - a pointer is not null, also where its length is 0, and is aligned for its type;
  *  - a length counts elements, not bytes, and that many elements can be read (written, where the pointer is not const);
  *  - buffers and positions that are written overlap no other buffer of the same call, and no other thread uses them during it.
- * Games, results and other positions go by value. No entry keeps a pointer, allocates, or has state of its own.
+ * Games, kits, results and other positions go by value. No entry keeps a pointer, allocates, or has state of its own.
  */
 #ifndef NANPUWIQ_H
 #define NANPUWIQ_H
@@ -37,10 +39,13 @@ extern "C" {
 #define NANPUWIQ_STATES 64          /* states of a graph at most */
 #define NANPUWIQ_REQUIREMENTS 8     /* places for requirements */
 #define NANPUWIQ_SETS 4             /* places for sets on each side of a requirement */
-#define NANPUWIQ_SCRATCH 512        /* words of scratch that solve and won_map ask for */
+#define NANPUWIQ_SCRATCH 512        /* words of scratch that solve, solve_kit and won_map ask for */
 #define NANPUWIQ_NONE 65535         /* the entry of a table that is none */
 #define NANPUWIQ_TABLE_MOST 131136  /* entries of the longest controller's table; the longest panel's has 131073 */
 #define NANPUWIQ_TEXT_MOST 40960    /* bytes of the longest text that is read */
+#define NANPUWIQ_COMMANDS 16        /* commands of a drive at most */
+#define NANPUWIQ_BARRED 255         /* the next mode where a command is barred */
+#define NANPUWIQ_KIT_MOST 2097216   /* entries of the longest kit's table */
 
 /* State numbers, from 0. Those of inputs (the old drive, moved by the panel) and of outputs (the new drive) are types of their own. */
 typedef struct { size_t number; } nanpuwiq_in_state;
@@ -73,6 +78,23 @@ typedef struct {
     nanpuwiq_requirement requirements[NANPUWIQ_REQUIREMENTS];
 } nanpuwiq_game;
 
+/* Place 16 * mode + command of next is the mode that the command leads to, or NANPUWIQ_BARRED; places past the counts are barred. */
+typedef struct {
+    size_t modes;
+    uint64_t initial;
+    size_t commands;
+    uint8_t next[NANPUWIQ_STATES * NANPUWIQ_COMMANDS];
+} nanpuwiq_drive;
+
+/* A new drive for a panel that gives the old one's commands. The first k requirements are in use, the others 0.
+ * The kit's game has the old drive's modes as inputs and the new drive's as outputs; a move is there where some command makes it. */
+typedef struct {
+    nanpuwiq_drive old_drive;
+    nanpuwiq_drive new_drive;
+    size_t k;
+    nanpuwiq_requirement requirements[NANPUWIQ_REQUIREMENTS];
+} nanpuwiq_kit;
+
 /* Input, output and counter after the controller's answer. */
 typedef struct {
     nanpuwiq_in_state input;
@@ -84,7 +106,7 @@ typedef struct {
 typedef struct {
     uint8_t code;
     bool system;     /* whether the system wins; else the environment does */
-    size_t entries;  /* how many entries of the winner's buffer are filled */
+    size_t entries;  /* how many entries of the winner's buffer are filled; of the kit's, where the system wins a kit */
 } nanpuwiq_solved;
 
 /* The reader's answer. Place is 0 but for code 11; the game is all zero on a refusal. */
@@ -122,6 +144,20 @@ uint8_t nanpuwiq_won_map(nanpuwiq_game game, uint64_t *scratch, size_t scratch_w
  * Code 0, 1 to 7, 8, 9 or 10. */
 nanpuwiq_solved nanpuwiq_solve(nanpuwiq_game game, uint64_t *scratch, size_t scratch_words, uint16_t *controller, size_t controller_entries,
                                uint16_t *panel, size_t panel_entries);
+
+/* Whether the kit is accepted: 0, or 1, 17, 18, 2 to 7. */
+uint8_t nanpuwiq_accept_kit(nanpuwiq_kit kit);
+
+/* Names the side that wins the kit's game. The controller's buffer, the panel's and scratch become what nanpuwiq_solve makes of them for that game.
+ * Where the system wins, the front of room becomes the kit's table; the rest of room, and all of it where the panel wins, stays as it was.
+ * The kit's table: old modes + new modes * max(1, G) * old modes * old commands entries, G guarantees in all. First the controller's start for each
+ * old mode, then rows by new mode, counter, old mode, old command, the last fastest: the lowest new command that makes the controller's move
+ * + 16 * next counter, or NANPUWIQ_NONE where the old command is barred or the controller's row is none.
+ * Every sequence of commands that the old drive allows from an initial mode is answered by commands that the new drive allows; where it never ends,
+ * the modes that recur meet every requirement.
+ * Code 0, 1, 17, 18, 2 to 7, 8, 9 or 10. */
+nanpuwiq_solved nanpuwiq_solve_kit(nanpuwiq_kit kit, uint64_t *scratch, size_t scratch_words, uint16_t *controller, size_t controller_entries,
+                                   uint16_t *panel, size_t panel_entries, uint16_t *room, size_t room_entries);
 
 /* The game that the bytes describe. Code 0, 12, 11 (with its place), or 1 to 7. */
 nanpuwiq_reading nanpuwiq_read(const uint8_t *text, size_t bytes);

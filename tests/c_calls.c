@@ -1,4 +1,4 @@
-/* Every entry called from C with the example game. From the root, after `rt staticlib nanpuwiq`:
+/* Every entry called from C, with the example game and with a kit of two pump drives. From the root, after `rt staticlib nanpuwiq`:
  *     gcc -Wall -Wextra -Werror -O2 -Iinclude tests/c_calls.c target/staticlib/libnanpuwiq.a -o target/c_calls && target/c_calls
  * Prints 'N passed, M failed'; exits 1 on a failure. */
 #include "nanpuwiq.h"
@@ -227,6 +227,340 @@ static void long_run(void)
     same("long run: moves", moved > 7000 && moved < 8000, true);
 }
 
+/* A drive with initial mode 0; rows has what each command does in each mode. */
+static nanpuwiq_drive drive(size_t modes, size_t commands, const uint8_t *rows)
+{
+    nanpuwiq_drive d;
+    d.modes = modes;
+    d.initial = 1;
+    d.commands = commands;
+    memset(d.next, NANPUWIQ_BARRED, sizeof d.next);
+    for (size_t m = 0; m < modes; m++)
+        memcpy(d.next + 16 * m, rows + commands * m, commands);
+    return d;
+}
+
+static void require(nanpuwiq_kit *kit, uint64_t assumed, uint64_t guaranteed)
+{
+    nanpuwiq_requirement *q = &kit->requirements[kit->k++];
+    q->assumptions[q->assumed++].states = assumed;
+    q->guarantees[q->guaranteed++].states = guaranteed;
+}
+
+/* Old modes: stop, low, high, service; commands: off, slow, fast, service. New modes: stop, ramp, low, high, flush, park; commands: hold, halt, up,
+ * down, flush, park. Low, high and stop with a flush are to be found again and again where they are asked for again and again. Service is never left,
+ * nor is park: the new drive is to go there then, and not before. */
+static nanpuwiq_kit pump(void)
+{
+    static const uint8_t old_rows[4][4] = {{0, 1, 255, 3}, {0, 1, 2, 255}, {255, 1, 2, 255}, {255, 255, 255, 3}};
+    static const uint8_t new_rows[6][6] = {{0, 0, 1, 255, 4, 5}, {255, 0, 2, 255, 255, 5}, {2, 0, 3, 2, 255, 5}, {3, 255, 255, 2, 255, 255},
+                                           {4, 0, 255, 255, 4, 255}, {5, 5, 255, 255, 255, 5}};
+    nanpuwiq_kit kit;
+    memset(&kit, 0, sizeof kit);
+    kit.old_drive = drive(4, 4, old_rows[0]);
+    kit.new_drive = drive(6, 6, new_rows[0]);
+    require(&kit, 1 << 1, 1 << 2);
+    require(&kit, 1 << 2, 1 << 3);
+    require(&kit, 1 << 0, 1 << 0);
+    kit.requirements[2].guarantees[1].states = 1 << 4;
+    kit.requirements[2].guaranteed = 2;
+    require(&kit, 1 << 3, 1 << 5);
+    return kit;
+}
+
+enum {
+    IN = 4,
+    OUT = 6,
+    COUNTERS = 5,
+    CONTROLLER = IN + OUT * COUNTERS * IN,
+    PANEL = 1 + IN * 4 * OUT,
+    KIT = IN + OUT * COUNTERS * IN * 4
+};
+
+static nanpuwiq_graph graph_of(const nanpuwiq_drive *d)
+{
+    nanpuwiq_graph g;
+    memset(&g, 0, sizeof g);
+    g.states = d->modes;
+    g.initial = d->initial;
+    for (size_t m = 0; m < d->modes; m++)
+        for (size_t u = 0; u < d->commands; u++)
+            if (d->next[16 * m + u] != NANPUWIQ_BARRED)
+                g.moves[m] |= (uint64_t)1 << d->next[16 * m + u];
+    return g;
+}
+
+static nanpuwiq_game game_of(const nanpuwiq_kit *kit)
+{
+    nanpuwiq_game g;
+    g.input = graph_of(&kit->old_drive);
+    g.output = graph_of(&kit->new_drive);
+    g.k = kit->k;
+    memcpy(g.requirements, kit->requirements, sizeof g.requirements);
+    return g;
+}
+
+typedef struct {
+    uint64_t scratch[NANPUWIQ_SCRATCH + 8];
+    uint16_t controller[CONTROLLER + 5], panel[PANEL + 5], room[KIT + 5];
+} rooms;
+
+static const uint16_t untouched = 0x5a5a;
+
+static void clear(rooms *r)
+{
+    memset(r, 0x5a, sizeof *r);
+}
+
+/* How many of the entries from..to are not as they were. */
+static int touched(const uint16_t *entries, size_t from, size_t to)
+{
+    int n = 0;
+    for (size_t k = from; k < to; k++)
+        n += entries[k] != untouched;
+    return n;
+}
+
+/* How many entries of the kit's table are not what its definition makes of the controller's. */
+static int wrong_entries(const nanpuwiq_kit *kit, const uint16_t *controller, const uint16_t *room)
+{
+    const nanpuwiq_drive *of = &kit->old_drive, *to = &kit->new_drive;
+    int wrong = 0;
+    const uint16_t *entry = room;
+    for (size_t i = 0; i < of->modes; i++)
+        wrong += *entry++ != controller[i];
+    for (size_t o = 0; o < to->modes; o++)
+        for (size_t c = 0; c < COUNTERS; c++)
+            for (size_t i = 0; i < of->modes; i++)
+                for (size_t u = 0; u < of->commands; u++) {
+                    uint8_t next = of->next[16 * i + u];
+                    unsigned wanted = NANPUWIQ_NONE;
+                    if (next != NANPUWIQ_BARRED && controller[of->modes + (o * COUNTERS + c) * of->modes + next] != NANPUWIQ_NONE) {
+                        unsigned row = controller[of->modes + (o * COUNTERS + c) * of->modes + next], command = 0;
+                        while (command < to->commands && to->next[16 * o + command] != row % 64)
+                            command++;
+                        wanted = command + 16 * (row / 64);
+                    }
+                    wrong += *entry++ != wanted;
+                }
+    return wrong + (entry != room + KIT);
+}
+
+static void kit_solving(void)
+{
+    nanpuwiq_kit kit = pump();
+    nanpuwiq_game g = game_of(&kit);
+    rooms r, by_game;
+    clear(&r);
+    clear(&by_game);
+    same("kit: accept", nanpuwiq_accept_kit(kit), 0);
+    nanpuwiq_solved game_won = nanpuwiq_solve(g, by_game.scratch, 520, by_game.controller, CONTROLLER + 5, by_game.panel, PANEL + 5);
+    same("kit: its game", game_won.code, 0);
+    same("kit: its game: system", game_won.system, true);
+    same("kit: its game: entries", game_won.entries, CONTROLLER);
+    nanpuwiq_solved won = nanpuwiq_solve_kit(kit, r.scratch, 520, r.controller, CONTROLLER + 5, r.panel, PANEL + 5, r.room, KIT + 5);
+    same("kit: solve", won.code, 0);
+    same("kit: system", won.system, true);
+    same("kit: entries", won.entries, KIT);
+    same("kit: entries that are not as defined", wrong_entries(&kit, r.controller, r.room), 0);
+    same("kit: entries after the table", touched(r.room, KIT, KIT + 5), 0);
+    same("kit: controller", memcmp(r.controller, by_game.controller, sizeof r.controller), 0);
+    same("kit: panel", touched(r.panel, 0, PANEL + 5), 0);
+    same("kit: scratch", memcmp(r.scratch, by_game.scratch, sizeof r.scratch), 0);
+    same("kit: scratch 511", r.scratch[511], 0);
+    same("kit: scratch 512", r.scratch[512], 0x5a5a5a5a5a5a5a5au);
+    /* from stop, fast is barred; in park all is lost but service, in which hold is the lowest command that stays there */
+    same("kit: barred", r.room[IN + 2], NANPUWIQ_NONE);
+    same("kit: off in park", r.room[IN + 5 * COUNTERS * IN * 4], NANPUWIQ_NONE);
+    same("kit: service in park", r.room[IN + 5 * COUNTERS * IN * 4 + 3] % 16, 0);
+    int none = 0;
+    for (size_t k = 0; k < KIT; k++)
+        none += r.room[k] == NANPUWIQ_NONE;
+    same("kit: some entries are none, some are not", none > 0 && none < KIT, true);
+    /* rooms of the exact length */
+    clear(&r);
+    won = nanpuwiq_solve_kit(kit, r.scratch, 512, r.controller, CONTROLLER, r.panel, PANEL, r.room, KIT);
+    same("kit, exact rooms", won.code, 0);
+    same("kit, exact rooms: system", won.system, true);
+    same("kit, exact rooms: wrong entries", wrong_entries(&kit, r.controller, r.room), 0);
+}
+
+/* 500 commands that the old drive allows, service among the last of them, each answered from the kit's table; the new drive goes where the controller's table says. */
+static void kit_playing(void)
+{
+    nanpuwiq_kit kit = pump();
+    nanpuwiq_game g = game_of(&kit);
+    rooms r;
+    clear(&r);
+    nanpuwiq_solved won = nanpuwiq_solve_kit(kit, r.scratch, 512, r.controller, CONTROLLER, r.panel, PANEL, r.room, KIT);
+    same("kit run: solve", won.code, 0);
+    size_t in = 0, out = r.room[in] % 64, counter = r.room[in] / 64;
+    nanpuwiq_in_state next = {in};
+    nanpuwiq_moved m = nanpuwiq_begin(g, r.controller, CONTROLLER, next);
+    same("kit run: begin", m.code, 0);
+    same_position("kit run: start", m.at, in, out, counter);
+    uint64_t seed = 1, been_in = 0, been_out = 0;
+    int turns = 0, barred = 0, unanswered = 0, not_allowed = 0, apart = 0;
+    while (turns < 500) {
+        seed = seed * 6364136223846793005u + 1442695040888963407u;
+        size_t u = (seed >> 33) % (turns < 450 ? 3 : 4);
+        if (kit.old_drive.next[16 * in + u] == NANPUWIQ_BARRED) {
+            barred++;
+            continue;
+        }
+        turns++;
+        uint16_t entry = r.room[IN + ((out * COUNTERS + counter) * IN + in) * kit.old_drive.commands + u];
+        if (entry == NANPUWIQ_NONE) {
+            unanswered++;
+            break;
+        }
+        if (entry % 16 >= kit.new_drive.commands || kit.new_drive.next[16 * out + entry % 16] == NANPUWIQ_BARRED || entry / 16 >= COUNTERS) {
+            not_allowed++;
+            break;
+        }
+        in = kit.old_drive.next[16 * in + u];
+        out = kit.new_drive.next[16 * out + entry % 16];
+        counter = entry / 16;
+        next.number = in;
+        m = nanpuwiq_step(g, r.controller, CONTROLLER, m.at, next);
+        apart += m.code != 0 || m.at.input.number != in || m.at.output.number != out || m.at.counter != counter;
+        been_in |= (uint64_t)1 << in;
+        been_out |= (uint64_t)1 << out;
+    }
+    same("kit run: turns", turns, 500);
+    same("kit run: commands without an answer", unanswered, 0);
+    same("kit run: answers that are not allowed", not_allowed, 0);
+    same("kit run: modes that are not the controller's", apart, 0);
+    same("kit run: some commands are barred", barred > 50, true);
+    same("kit run: old modes", been_in, 15);
+    same("kit run: new modes", been_out, 63);
+    same("kit run: in service at last", in, 3);
+    same("kit run: in park at last", out, 5);
+}
+
+static void kit_no_adapter(void)
+{
+    nanpuwiq_kit kit = pump();
+    kit.requirements[0].guarantees[0].states = 1 << 5;
+    nanpuwiq_game g = game_of(&kit);
+    rooms r, by_game;
+    clear(&r);
+    clear(&by_game);
+    nanpuwiq_solve(g, by_game.scratch, 520, by_game.controller, CONTROLLER + 5, by_game.panel, PANEL + 5);
+    nanpuwiq_solved won = nanpuwiq_solve_kit(kit, r.scratch, 520, r.controller, CONTROLLER + 5, r.panel, PANEL + 5, r.room, KIT + 5);
+    same("kit, no adapter", won.code, 0);
+    same("kit, no adapter: system", won.system, false);
+    same("kit, no adapter: entries", won.entries, PANEL);
+    same("kit, no adapter: room", touched(r.room, 0, KIT + 5), 0);
+    same("kit, no adapter: controller", touched(r.controller, 0, CONTROLLER + 5), 0);
+    same("kit, no adapter: panel", memcmp(r.panel, by_game.panel, sizeof r.panel), 0);
+    same("kit, no adapter: panel's table", touched(r.panel, 0, PANEL), PANEL);
+    same("kit, no adapter: entries after it", touched(r.panel, PANEL, PANEL + 5), 0);
+    same("kit, no adapter: scratch 511", r.scratch[511], 0);
+    same("kit, no adapter: scratch 512", r.scratch[512], 0x5a5a5a5a5a5a5a5au);
+    /* the kit's room is tried whoever wins */
+    won = nanpuwiq_solve_kit(kit, r.scratch, 512, r.controller, CONTROLLER, r.panel, PANEL, r.room, KIT - 1);
+    same("kit, no adapter, room short", won.code, 9);
+}
+
+/* The kit is refused with this number, and every room stays as it was. */
+static void refused(const char *what, nanpuwiq_kit kit, size_t words, size_t controller, size_t panel, size_t room, uint8_t number)
+{
+    rooms before, after;
+    clear(&before);
+    clear(&after);
+    nanpuwiq_solved r = nanpuwiq_solve_kit(kit, after.scratch, words, after.controller, controller, after.panel, panel, after.room, room);
+    same(what, r.code, number);
+    same(what, r.system, false);
+    same(what, r.entries, 0);
+    same(what, memcmp(&after, &before, sizeof after), 0);
+    same(what, nanpuwiq_accept_kit(kit), number >= 8 && number <= 10 ? 0 : number);
+}
+
+static void faulty(const char *what, nanpuwiq_kit kit, uint8_t number)
+{
+    refused(what, kit, 512, CONTROLLER, PANEL, KIT, number);
+}
+
+static void kit_refusals(void)
+{
+    nanpuwiq_kit right = pump(), kit = right;
+    kit.old_drive.modes = 0;
+    faulty("kit, no modes", kit, 1);
+    kit = right, kit.new_drive.modes = 65;
+    faulty("kit, 65 modes", kit, 1);
+    kit = right, kit.new_drive.commands = 0;
+    faulty("kit, no commands", kit, 17);
+    kit = right, kit.old_drive.commands = 17;
+    faulty("kit, 17 commands", kit, 17);
+    kit = right, kit.old_drive.next[16 * 2 + 0] = 4;
+    faulty("kit, an entry that is no mode", kit, 18);
+    kit = right, kit.new_drive.next[16 * 5 + 4] = 254;
+    faulty("kit, an entry of 254", kit, 18);
+    kit = right, kit.old_drive.next[16 * 0 + 4] = 0;
+    faulty("kit, an entry past the commands", kit, 18);
+    kit = right, kit.new_drive.next[16 * 63 + 15] = 0;
+    faulty("kit, an entry past the modes", kit, 18);
+    kit = right, kit.old_drive.initial = 1 | 1 << 4;
+    faulty("kit, an initial mode past the count", kit, 2);
+    kit = right, kit.new_drive.initial = 0;
+    faulty("kit, no initial mode", kit, 3);
+    kit = right, memset(kit.new_drive.next + 16 * 5, NANPUWIQ_BARRED, 16);
+    faulty("kit, a mode in which every command is barred", kit, 4);
+    kit = right, kit.k = 9;
+    faulty("kit, nine requirements", kit, 5);
+    kit = right, kit.requirements[7].guaranteed = 5;
+    faulty("kit, five sets in the last place", kit, 6);
+    kit = right, kit.requirements[0].guarantees[0].states = 1 << 6;
+    faulty("kit, a set with a mode past the count", kit, 7);
+    refused("kit, scratch short", right, 511, CONTROLLER, PANEL, KIT, 8);
+    refused("kit, controller's room short", right, 512, CONTROLLER - 1, PANEL, KIT, 9);
+    refused("kit, kit's room short", right, 512, CONTROLLER, PANEL, KIT - 1, 9);
+    refused("kit, panel's room short", right, 512, CONTROLLER, PANEL - 1, KIT, 10);
+    refused("kit, no rooms", right, 0, 0, 0, 0, 8);
+}
+
+/* A kit with every fault, mended one by one. */
+static void kit_refusals_in_order(void)
+{
+    nanpuwiq_kit right = pump(), kit = right;
+    kit.new_drive.modes = 65;
+    kit.old_drive.commands = 17;
+    kit.old_drive.next[16 * 2 + 0] = 4;
+    kit.new_drive.next[16 * 63 + 15] = 0;
+    kit.old_drive.initial = 1 | 1 << 4;
+    kit.new_drive.initial = 0;
+    memset(kit.new_drive.next + 16 * 5, NANPUWIQ_BARRED, 16);
+    kit.k = 9;
+    kit.requirements[7].guaranteed = 5;
+    kit.requirements[0].guarantees[0].states = 1 << 6;
+    refused("kit in order: 1", kit, 511, CONTROLLER - 1, PANEL - 1, KIT - 1, 1);
+    kit.new_drive.modes = 6;
+    refused("kit in order: 17", kit, 511, CONTROLLER - 1, PANEL - 1, KIT - 1, 17);
+    kit.old_drive.commands = 4;
+    refused("kit in order: 18", kit, 511, CONTROLLER - 1, PANEL - 1, KIT - 1, 18);
+    kit.old_drive.next[16 * 2 + 0] = NANPUWIQ_BARRED;
+    refused("kit in order: 18, past the counts", kit, 511, CONTROLLER - 1, PANEL - 1, KIT - 1, 18);
+    kit.new_drive.next[16 * 63 + 15] = NANPUWIQ_BARRED;
+    refused("kit in order: 2", kit, 511, CONTROLLER - 1, PANEL - 1, KIT - 1, 2);
+    kit.old_drive.initial = 1;
+    refused("kit in order: 3", kit, 511, CONTROLLER - 1, PANEL - 1, KIT - 1, 3);
+    kit.new_drive.initial = 1;
+    refused("kit in order: 4", kit, 511, CONTROLLER - 1, PANEL - 1, KIT - 1, 4);
+    memcpy(kit.new_drive.next, right.new_drive.next, sizeof kit.new_drive.next);
+    refused("kit in order: 5", kit, 511, CONTROLLER - 1, PANEL - 1, KIT - 1, 5);
+    kit.k = 4;
+    refused("kit in order: 6", kit, 511, CONTROLLER - 1, PANEL - 1, KIT - 1, 6);
+    kit.requirements[7].guaranteed = 0;
+    refused("kit in order: 7", kit, 511, CONTROLLER - 1, PANEL - 1, KIT - 1, 7);
+    kit.requirements[0].guarantees[0].states = 1 << 2;
+    refused("kit in order: 8", kit, 511, CONTROLLER - 1, PANEL - 1, KIT - 1, 8);
+    refused("kit in order: 9", kit, 512, CONTROLLER - 1, PANEL - 1, KIT - 1, 9);
+    refused("kit in order: 9, the kit's", kit, 512, CONTROLLER, PANEL - 1, KIT - 1, 9);
+    refused("kit in order: 10", kit, 512, CONTROLLER, PANEL - 1, KIT, 10);
+    same("kit in order: mended", memcmp(&kit, &right, sizeof kit), 0);
+}
+
 int main(void)
 {
     acceptance();
@@ -236,6 +570,11 @@ int main(void)
     playing();
     advancing();
     long_run();
+    kit_solving();
+    kit_playing();
+    kit_no_adapter();
+    kit_refusals();
+    kit_refusals_in_order();
     printf("%d passed, %d failed\n", passed, failed);
     return failed != 0;
 }
