@@ -1,5 +1,5 @@
 //! The entries of the static library, each in a safe function. A slice passes as its pointer and its length, a record by value.
-use crate::{Game, InState, Position};
+use crate::{Game, InState, Kit, Position};
 
 #[repr(C)]
 pub struct SolveResult {
@@ -39,6 +39,18 @@ extern "C" {
         panel: *mut u16,
         panel_entries: usize,
     ) -> SolveResult;
+    fn nanpuwiq_accept_kit(kit: Kit) -> u8;
+    fn nanpuwiq_solve_kit(
+        kit: Kit,
+        scratch: *mut u64,
+        scratch_words: usize,
+        controller: *mut u16,
+        controller_entries: usize,
+        panel: *mut u16,
+        panel_entries: usize,
+        room: *mut u16,
+        room_entries: usize,
+    ) -> SolveResult;
     fn nanpuwiq_read(text: *const u8, bytes: usize) -> ReadResult;
     fn nanpuwiq_write(game: Game, buffer: *mut u8, bytes: usize) -> WriteResult;
     fn nanpuwiq_begin(game: Game, table: *const u16, entries: usize, first: InState) -> Moved;
@@ -67,6 +79,26 @@ pub fn solve(game: Game, scratch: &mut [u64], controller: &mut [u16], panel: &mu
             controller.len(),
             panel.as_mut_ptr(),
             panel.len(),
+        )
+    }
+}
+
+pub fn accept_kit(kit: Kit) -> u8 {
+    unsafe { nanpuwiq_accept_kit(kit) }
+}
+
+pub fn solve_kit(kit: Kit, scratch: &mut [u64], controller: &mut [u16], panel: &mut [u16], room: &mut [u16]) -> SolveResult {
+    unsafe {
+        nanpuwiq_solve_kit(
+            kit,
+            scratch.as_mut_ptr(),
+            scratch.len(),
+            controller.as_mut_ptr(),
+            controller.len(),
+            panel.as_mut_ptr(),
+            panel.len(),
+            room.as_mut_ptr(),
+            room.len(),
         )
     }
 }

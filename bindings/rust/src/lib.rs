@@ -22,6 +22,13 @@ pub const CONTROLLER_MOST: usize = STATES + STATES * REQUIREMENTS * SETS * STATE
 /// Entries of the longest environment's table.
 pub const ENVIRONMENT_MOST: usize = 1 + STATES * REQUIREMENTS * SETS * STATES;
 
+/// Commands of a drive at most.
+pub const COMMANDS: usize = 16;
+/// The next mode where a command is barred.
+pub const BARRED: u8 = 255;
+/// Entries of the longest kit's table.
+pub const KIT_MOST: usize = STATES + STATES * REQUIREMENTS * SETS * STATES * COMMANDS;
+
 /// The number of an input state.
 #[repr(C)]
 #[derive(Clone, Copy, Debug, PartialEq, Eq)]
@@ -71,6 +78,28 @@ pub struct Game {
     pub requirements: [Requirement; REQUIREMENTS],
 }
 
+/// Place 16 × mode + command of `next` is the mode that the command leads to, or `BARRED`; places past the counts are barred.
+#[repr(C)]
+#[derive(Clone, Copy, Debug, PartialEq, Eq)]
+pub struct Drive {
+    pub modes: usize,
+    pub initial: u64,
+    pub commands: usize,
+    pub next: [u8; STATES * COMMANDS],
+}
+
+/// A new drive for a panel that gives the old one's commands, and the requirements on their modes, of which k are in use.
+///
+/// The kit's game has the old drive's modes as inputs and the new drive's as outputs; a move is there where some command makes it.
+#[repr(C)]
+#[derive(Clone, Copy, Debug, PartialEq, Eq, Default)]
+pub struct Kit {
+    pub old: Drive,
+    pub new: Drive,
+    pub k: usize,
+    pub requirements: [Requirement; REQUIREMENTS],
+}
+
 /// Input, output and counter after the controller's answer.
 #[repr(C)]
 #[derive(Clone, Copy, Debug, PartialEq, Eq)]
@@ -80,7 +109,7 @@ pub struct Position {
     pub counter: usize,
 }
 
-/// A refusal: its number, 1 to 16, and for 11 how far the bytes could be a game's text (else 0).
+/// A refusal: its number, 1 to 18, and for 11 how far the bytes could be a game's text (else 0).
 #[derive(Clone, Copy, Debug, PartialEq, Eq)]
 pub struct Error {
     pub number: u8,
@@ -134,6 +163,27 @@ impl Graph {
             *row = set(to);
         }
         g
+    }
+}
+
+impl Default for Drive {
+    fn default() -> Drive {
+        Drive { modes: 0, initial: 0, commands: 0, next: [BARRED; STATES * COMMANDS] }
+    }
+}
+
+impl Drive {
+    /// A drive with a row for each mode; a row lists the modes that its commands lead to, or `BARRED`, and what it does not list is barred.
+    /// The longest row has all commands. Rows past 64 and commands past 16 are left out.
+    pub fn new(initial: &[usize], next: &[&[u8]]) -> Drive {
+        let commands = next.iter().map(|row| row.len()).max().unwrap_or(0);
+        let mut d = Drive { modes: next.len(), initial: set(initial), commands, ..Drive::default() };
+        for (places, row) in d.next.chunks_mut(COMMANDS).zip(next) {
+            for (place, to) in places.iter_mut().zip(*row) {
+                *place = *to;
+            }
+        }
+        d
     }
 }
 
@@ -244,5 +294,56 @@ impl Game {
     /// The same by the entry that moves a lent position on in place.
     pub fn advance(&self, table: &[u16], at: &mut Position, next: InState) -> Result<(), Error> {
         refusal(entries::advance(*self, table, at, next))
+    }
+}
+
+impl Kit {
+    /// A kit; requirements past the eighth are left out.
+    pub fn new(old: Drive, new: Drive, requirements: &[Requirement]) -> Kit {
+        let mut kit = Kit { old, new, k: requirements.len(), ..Kit::default() };
+        for (place, q) in kit.requirements.iter_mut().zip(requirements) {
+            *place = *q;
+        }
+        kit
+    }
+
+    /// Whether the kit is accepted: 1, 17, 18, 2 to 7.
+    pub fn accept(&self) -> Result<(), Error> {
+        refusal(entries::accept_kit(*self))
+    }
+
+    /// The side that wins the kit's game, and how many entries are filled: of `room` with the kit's table where the system wins, of the environment's
+    /// buffer with its table where that does. The other buffers become what `Game::solve_into` makes of them: 1, 17, 18, 2 to 7, 8, 9, 10.
+    ///
+    /// The kit's table has the controller's start for each old mode, then rows by new mode, counter, old mode and old command, the last fastest:
+    /// the lowest new command that makes the controller's move + 16 × next counter, or `NONE` where the old command is barred or the controller's
+    /// row is none.
+    pub fn solve_into(
+        &self,
+        scratch: &mut [u64],
+        controller: &mut [u16],
+        environment: &mut [u16],
+        room: &mut [u16],
+    ) -> Result<(Winner, usize), Error> {
+        let r = entries::solve_kit(*self, scratch, controller, environment, room);
+        refusal(r.code)?;
+        Ok((if r.system { Winner::System } else { Winner::Environment }, r.entries))
+    }
+
+    /// The side that wins, and its table: the kit's, or the environment's.
+    ///
+    /// With the kit's table every sequence of commands that the old drive allows from an initial mode is answered by commands that the new drive allows;
+    /// where it never ends, the modes that recur meet every requirement.
+    pub fn solve(&self) -> Result<Verdict, Error> {
+        let mut controller = vec![0; CONTROLLER_MOST];
+        let mut environment = vec![0; ENVIRONMENT_MOST];
+        let mut room = vec![0; KIT_MOST];
+        let (winner, entries) = self.solve_into(&mut [0; SCRATCH], &mut controller, &mut environment, &mut room)?;
+        let mut table = match winner {
+            Winner::System => room,
+            Winner::Environment => environment,
+        };
+        table.truncate(entries);
+        Ok(Verdict { winner, table })
     }
 }
