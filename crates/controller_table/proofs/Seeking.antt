@@ -49,15 +49,15 @@ module _ (r : List ℕ) (z : Size) (w : Home) (q x a : ℕ) where
       along n p = subst (λ (k : List ℕ). Searched k (z .outputs) (w .component .0) y next) (p .moves) found
 
       pub seeking-states : (n : ℕ) → Seeking r z w q x a n → States z (w .component .0) next
-      seeking-states n p = seek-states (p .game) z (p .sized) w (p .home) q (p .goals) a (p .goal) x y next (p .set) f (along n p)
+      seeking-states n p = seek-states (p .game) z (p .sized) w (p .home) q (p .goals) a (p .goal) x y next (p .members) f (along n p)
 
       module _ (which : ℕ) (k : which ≡ pack (z .counters) (aimedAt (z .counters) q a)) where
         pub seeking-aims : (n : ℕ) → Seeking r z w q x a n → Aims z which a
-        seeking-aims n p = seek-aims (p .game) z (p .sized) w (p .home) q (p .goals) a (p .goal) x y next (p .set) f (along n p) which k
+        seeking-aims n p = seek-aims (p .game) z (p .sized) w (p .home) q (p .goals) a (p .goal) x y next (p .members) f (along n p) which k
 
         pub seeking-done : (l m : List ℕ) → Aim z x a (w .component .0) (w .inputs .0) which next (z .outputs) l m → Sought r z w q x a l m
         seeking-done l m d = record {
-          fills = λ p. sought (p .game) z (p .sized) w (p .home) q (p .goals) a (p .goal) x y next (p .set) f (along (length l) p) which k l m (p .room) d;
+          fills = λ p. sought (p .game) z (p .sized) w (p .home) q (p .goals) a (p .goal) x y next (p .members) f (along (length l) p) which k l m (p .room) d;
         }
 
 module _ (r : List ℕ) (t : Stretch) (z : Size) (w : Home) (q : ℕ) where
@@ -69,7 +69,7 @@ module _ (r : List ℕ) (t : Stretch) (z : Size) (w : Home) (q : ℕ) where
     home = p .home;
     goals = p .goals;
     goal = i;
-    set = p .sets j b;
+    members = p .sets j b;
     room = omega (arith, p .room);
   }
 

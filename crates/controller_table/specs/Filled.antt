@@ -109,7 +109,7 @@ pub record Seeking (r : List ℕ) (z : Size) (w : Home) (q x a n : ℕ) : Type 0
   pub home : HomeOf (separatedOf game) w
   pub goals : Goals (separatedOf game) w q
   pub goal : has q a ≡ true
-  pub set : has x ≡ goalAt (guarantees (separatedOf game)) a
+  pub members : has x ≡ goalAt (guarantees (separatedOf game)) a
   pub room : length (controllerEntries (separatedOf game)) ≤ n
 
 pub record Sought (r : List ℕ) (z : Size) (w : Home) (q x a : ℕ) (l m : List ℕ) : Type 0 where

@@ -84,7 +84,7 @@ module _ (r : List ℕ) (N O M c q x a over : ℕ) where
 
   module _ (y which : ℕ) (f : (t : ℕ) → has y t ≡ (has x t && has c t)) (w : which ≡ pack M (aimedAt M q a)) where
     pub aiming-bounds : (n : ℕ) → Aiming r N O M c q x a over n → Bounds N y
-    aiming-bounds n p = rw (p .inputs) (target-within (p .game) c q over M (p .aims) a x y which (p .goal) (p .set) f w)
+    aiming-bounds n p = rw (p .inputs) (target-within (p .game) c q over M (p .aims) a x y which (p .goal) (p .members) f w)
 
     module _ (next : List ℕ) (found : Toward r N c y next) where
       pub aiming-rows : (n : ℕ) → Aiming r N O M c q x a over n → Ranging N O M c x a over which next n
@@ -94,7 +94,7 @@ module _ (r : List ℕ) (N O M c q x a over : ℕ) where
         outputs = p .outputs;
         roomy = p .roomy;
         tours =
-            aims-rows (p .game) c q over M (p .aims) a x y which (p .goal) (p .set) f w next
+            aims-rows (p .game) c q over M (p .aims) a x y which (p .goal) (p .members) f w next
             (subst (λ (k : List ℕ). Toward k (p .game .input .states) c y next) (p .moves) (subst (λ (k : ℕ). Toward r k c y next) (p .inputs) found));
       }
 
@@ -105,7 +105,7 @@ module _ (r : List ℕ) (N O M c q x a over : ℕ) where
             filled-same (p .game) (D .fills (aiming-rows (length l) p))
             (λ k h o i j z d. (
               omega (arith, i, p .inputs),
-              (d .1, into-aimed (p .game) c q over M (p .aims) a x y which (p .goal) (p .set) f w h (aims-counter (p .game) c q over M (p .aims) h j (p .roomy .counters)) (d .0), d .2),
+              (d .1, into-aimed (p .game) c q over M (p .aims) a x y which (p .goal) (p .members) f w h (aims-counter (p .game) c q over M (p .aims) h j (p .roomy .counters)) (d .0), d .2),
             ));
       }
 
@@ -120,7 +120,7 @@ module _ (r : List ℕ) (t : Stretch) (N O M c q over : ℕ) where
     roomy = subst (Roomy (p .game) M) (sym e) (p .roomy);
     aims = p .aims;
     goal = i;
-    set = p .sets j b;
+    members = p .sets j b;
   }
 
   pub faced-long : (j : ℕ) {l m : List ℕ} → Facing r t N O M c q over (length l) → Faced r t N O M c q over j l m → length m ≡ length l

@@ -84,7 +84,7 @@ pub record Aiming (r : List ℕ) (N O M c q x a over n : ℕ) : Type 0 where
   pub roomy : Roomy game M n
   pub aims : Aims game c q over M
   pub goal : has q a ≡ true
-  pub set : has x ≡ goalAt (assumptions (separatedOf game)) a
+  pub members : has x ≡ goalAt (assumptions (separatedOf game)) a
 
 pub record Aimed (r : List ℕ) (N O M c q x a over : ℕ) (l m : List ℕ) : Type 0 where
   pub fills : (p : Aiming r N O M c q x a over (length l))
