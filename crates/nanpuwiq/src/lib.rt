@@ -3,7 +3,8 @@
 ghost use mathlib.Core.Path.{_≡_};
 ghost use Rattle.game.specs.Acceptance.{acceptance};
 ghost use Rattle.player.specs.Player.{movedOf, beginning, stepping, Advanced};
-ghost use Rattle.results.specs.Results.{acceptCode, nowhere};
+ghost use Rattle.recorder.specs.Recorded.{compared};
+ghost use Rattle.results.specs.Results.{acceptCode, compareResult, nowhere};
 ghost use Rattle.drives.specs.Acceptance.{kitAcceptance};
 ghost use Rattle.nanpuwiq.specs.Calls.{MapCalled, SolveCalled, KitCalled, ReadCalled, WriteCalled};
 use drives::Kit;
@@ -11,6 +12,7 @@ use game::Game;
 use game::InState;
 use place::Position;
 use player::Moved;
+use results::CompareResult;
 use results::ReadResult;
 use results::SolveResult;
 use results::WriteResult;
@@ -104,4 +106,17 @@ pub extern "C" fn nanpuwiq_advance(g: Game, table: &[u16], at: &mut Position, ne
     ensures { λ r. ⌜ Advanced (now (at .entry)) (stepping g (now (table .entry)) (now (at .entry)) next) (now (at .exit)) r ⌝ }
 {
     player::advance(g, table, at, next)
+}
+
+// Whether the recorded outputs are those that the table gives for the recorded inputs; else the first step that shows it.
+#[no_mangle]
+pub extern "C" fn nanpuwiq_compare(
+    g: Game,
+    table: &[u16],
+    inputs: &[u8],
+    outputs: &[u8],
+) -> CompareResult
+    ensures { λ r. ⌜ r ≡ compareResult (compared g (now (table .entry)) (now (inputs .entry)) (now (outputs .entry))) ⌝ }
+{
+    results::compare_result(recorder::compare(g, table, inputs, outputs))
 }

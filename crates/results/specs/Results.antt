@@ -5,6 +5,7 @@
 --   solveResult v      == the solver's answer: code, whether the system wins, how many entries are filled
 --   readResult x       == the reader's answer: code, the place of 11, the game
 --   writeResult a      == the writer's answer: code, how many bytes are filled
+--   compareResult c    == the recorder's answer: code, whether the recordings agree, whether one has ended, the step
 --   nowhere            == the position of zeros, which stands beside a refusal to begin
 use Prim.Native.Nat.{ℕ}
 use mathlib.Core.Bool.{true, false}
@@ -21,7 +22,10 @@ use Rattle.text.specs.declared.WriteAnswer.{WriteAnswer}
 use Rattle.text.specs.declared.WriteAnswer.the-variants as write·
 use Rattle.place.specs.declared.Position.{Position}
 use Rattle.game.specs.declared.Game.{Game}
+use Rattle.recorder.specs.declared.Compared.{Compared}
+use Rattle.recorder.specs.declared.Compared.the-variants as compared·
 use Rattle.results.specs.declared.SolveResult.{SolveResult}
+use Rattle.results.specs.declared.CompareResult.{CompareResult}
 use Rattle.results.specs.declared.ReadResult.{ReadResult}
 use Rattle.results.specs.declared.WriteResult.{WriteResult}
 
@@ -49,6 +53,13 @@ readResult x = readBy (x .answer) (x .game)
 unfoldable pub writeResult : WriteAnswer → WriteResult
 writeResult (write·.Written n) = record { code = 0; bytes = n }
 writeResult (write·.Refused n) = record { code = n; bytes = 0 }
+
+unfoldable pub compareResult : Compared → CompareResult
+compareResult compared·.Agree = record { code = 0; agree = true; ended = false; step = 0 }
+compareResult (compared·.Differ n) = record { code = 0; agree = false; ended = false; step = n }
+compareResult (compared·.Ended n) = record { code = 0; agree = false; ended = true; step = n }
+compareResult (compared·.Fault n c) = record { code = c; agree = false; ended = false; step = n }
+compareResult (compared·.Refused c) = record { code = c; agree = false; ended = false; step = 0 }
 
 unfoldable pub nowhere : Position
 nowhere = record { input = record { 0 = 0 }; output = record { 0 = 0 }; counter = 0 }

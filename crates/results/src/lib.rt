@@ -1,7 +1,7 @@
 // The answers of the public entries as records for callers in other languages. A code is document 01's number of a refusal, 0 for none.
 ghost use mathlib.Core.Path.{_≡_};
 ghost use Rattle.player.specs.Player.{movedOf};
-ghost use Rattle.results.specs.Results.{acceptCode, mapCode, solveResult, readResult, writeResult, nowhere};
+ghost use Rattle.results.specs.Results.{acceptCode, mapCode, solveResult, readResult, writeResult, compareResult, nowhere};
 use game::Acceptance;
 use game::Game;
 use game::InState;
@@ -10,6 +10,7 @@ use map::Mapped;
 use place::Played;
 use place::Position;
 use player::Moved;
+use recorder::Compared;
 use solver::Verdict;
 use text::Answer;
 use text::Reading;
@@ -36,6 +37,15 @@ pub struct ReadResult {
 pub struct WriteResult {
     pub code: u8,
     pub bytes: usize,
+}
+
+// The recorder's answer: the code; whether the recordings agree; whether one has ended before the other; the step. Beside a refusal the step is 0.
+#[repr(C)]
+pub struct CompareResult {
+    pub code: u8,
+    pub agree: bool,
+    pub ended: bool,
+    pub step: usize,
 }
 
 pub fn accept_code(a: Acceptance) -> u8
@@ -108,6 +118,43 @@ pub fn write_result(a: WriteAnswer) -> WriteResult
     match a {
         WriteAnswer::Written(n) => WriteResult { code: 0, bytes: n },
         WriteAnswer::Refused(n) => WriteResult { code: n, bytes: 0 },
+    }
+}
+
+pub fn compare_result(a: Compared) -> CompareResult
+    ensures { λ r. ⌜ r ≡ compareResult a ⌝ }
+{
+    match a {
+        Compared::Agree => CompareResult {
+            code: 0,
+            agree: true,
+            ended: false,
+            step: 0,
+        },
+        Compared::Differ(n) => CompareResult {
+            code: 0,
+            agree: false,
+            ended: false,
+            step: n,
+        },
+        Compared::Ended(n) => CompareResult {
+            code: 0,
+            agree: false,
+            ended: true,
+            step: n,
+        },
+        Compared::Fault(n, c) => CompareResult {
+            code: c,
+            agree: false,
+            ended: false,
+            step: n,
+        },
+        Compared::Refused(c) => CompareResult {
+            code: c,
+            agree: false,
+            ended: false,
+            step: 0,
+        },
     }
 }
 

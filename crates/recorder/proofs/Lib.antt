@@ -1,0 +1,2 @@
+-- Laws of two recordings.
+pub mod Steps

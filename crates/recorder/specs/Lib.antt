@@ -1,0 +1,2 @@
+-- What two recordings show.
+pub mod Recorded

@@ -1,0 +1,95 @@
+// Panel recorder against drive recorder: whether the outputs of a run are those that a controller's table gives for its inputs.
+use game::Acceptance;
+use game::Game;
+use game::InState;
+use game::OutState;
+use place::Played;
+use place::Position;
+ghost use mathlib.Core.Path.{_≡_};
+ghost use Prim.Native.Nat.{_≤_, _<_};
+ghost use lib.ListN.{length, getD, drop};
+ghost use Rattle.recorder.specs.Recorded.{ended, answerAt, recorded, nowhere, compared};
+
+// The reply. Steps count from 0, the start. A fault holds its step and the player's number.
+pub enum Compared {
+    Agree,
+    Differ(usize),
+    Ended(usize),
+    Fault(usize, u8),
+    Refused(u8),
+}
+
+// Entry n of a recording.
+fn state_at(recording: &[u8], n: usize) -> usize
+    requires { ⌜ n < length (now recording) ⌝ }
+    ensures { λ r. ⌜ r ≡ getD (now (recording .entry)) n 0 ⌝ }
+{
+    recording[n] as usize
+}
+
+// The player's answer to the input of step n: at the start it begins.
+fn answer_at(g: Game, table: &[u16], n: usize, at: Position, next: InState) -> Played
+    ensures { λ r. ⌜ r ≡ answerAt g (now (table .entry)) n at next ⌝ }
+{
+    if n == 0 {
+        return player::begin(g, table, next);
+    }
+    player::step(g, table, at, next)
+}
+
+// Where the inputs have ended at step n.
+fn at_end(outputs: &[u8], n: usize) -> Compared
+    requires { ⌜ n ≤ length (now outputs) ⌝ }
+    ensures { λ r. ⌜ r ≡ ended (drop n (now (outputs .entry))) n ⌝ }
+{
+    if n < outputs.len() {
+        return Compared::Ended(n);
+    }
+    Compared::Agree
+}
+
+// Plays the recorded inputs, and looks at each step whether the output is the recorded one.
+fn follow(g: Game, table: &[u16], inputs: &[u8], outputs: &[u8]) -> Compared
+    ensures { λ r. ⌜ r ≡ recorded g (now (table .entry)) (now (inputs .entry)) (now (outputs .entry)) 0 nowhere ⌝ }
+{
+    let mut at = Position {
+        input: InState(0),
+        output: OutState(0),
+        counter: 0,
+    };
+    let mut n: usize = 0;
+    while n < inputs.len() {
+        let answer = answer_at(g, table, n, at, InState(state_at(inputs, n)));
+        match answer {
+            Played::Refused(c) => {
+                return Compared::Fault(n, c);
+            }
+            Played::At(p) => {
+                if n >= outputs.len() {
+                    return Compared::Ended(n);
+                }
+                if p.output.0 != state_at(outputs, n) {
+                    return Compared::Differ(n);
+                }
+                at = p;
+                n += 1;
+            }
+        }
+    }
+    at_end(outputs, n)
+}
+
+// Whether the outputs are those that the table gives for the inputs; else the first step that shows it.
+pub fn compare(g: Game, table: &[u16], inputs: &[u8], outputs: &[u8]) -> Compared
+    ensures { λ r. ⌜ r ≡ compared g (now (table .entry)) (now (inputs .entry)) (now (outputs .entry)) ⌝ }
+{
+    match acceptance::accept(g) {
+        Acceptance::Refused(n) => Compared::Refused(n),
+        Acceptance::Accepted => {
+            if table.len() != sizes::controller_length(g) {
+                return Compared::Refused(16);
+            }
+            follow(g, table, inputs, outputs)
+        }
+    }
+}
