@@ -11,12 +11,13 @@
  *    8  scratch under 512 words, or, for the map, a map under one word an input
  *    9  the controller's buffer too short, or the kit's      10  the panel's too short      all tried whoever wins
  *   11  bytes that are no game's text, with a place      12  over 40,960 bytes      13  a text buffer under the text's length
- *   14  an input that the panel cannot pick now
+ *   14  an input that the panel cannot pick now, or at that step of a recording
  *   15  an entry that is none, or names a counter out of range or an output that is no move (at the start, not initial)
  *   16  a table of another length, or a position that the game does not have
  *   17  a command count not 1 to 16
  *   18  a next mode that is neither barred nor a mode of the drive, or one past the counts that is not barred
- * The lowest number whose condition holds is given; the reader tries 12, 11, then 1 to 7; the player 1 to 7, 16, 14, 15; a kit 1, 17, 18, then 2 to 10.
+ * The lowest number whose condition holds is given; the reader tries 12, 11, then 1 to 7; the player 1 to 7, 16, 14, 15; the comparison of recordings
+ * 1 to 7, 16, then 14, 15 step by step; a kit 1, 17, 18, then 2 to 10.
  *
  * Every value of every parameter has an answer, and on a refusal every buffer holds what it held before. What each entry promises is proved
  * in crates/nanpuwiq (specs/Calls.antt) and crates/results (specs/Results.antt), on the following, which C cannot check and a caller keeps to:
@@ -128,6 +129,14 @@ typedef struct {
     uint8_t code;
 } nanpuwiq_moved;
 
+/* The answer to two recordings. */
+typedef struct {
+    uint8_t code;
+    bool agree;      /* whether the outputs are those that the table gives for the inputs; false unless code is 0 */
+    bool ended;      /* whether at that step one recording has ended and the other has not; false unless code is 0 */
+    size_t step;     /* the first step that shows a fault, a difference or an ending; 0 where they agree and for 1 to 7 and 16 */
+} nanpuwiq_compared;
+
 /* Whether the game is accepted: 0, or 1 to 7. */
 uint8_t nanpuwiq_accept(nanpuwiq_game game);
 
@@ -176,6 +185,17 @@ nanpuwiq_moved nanpuwiq_step(nanpuwiq_game game, const uint16_t *table, size_t e
 
 /* Moves the position on by the next input, as nanpuwiq_step does; a refusal leaves it as it was. Code 0, 1 to 7, 16, 14 or 15. */
 uint8_t nanpuwiq_advance(nanpuwiq_game game, const uint16_t *table, size_t entries, nanpuwiq_position *at, nanpuwiq_in_state next);
+
+/* Whether of two recordings of one run, the panel's inputs and the drive's outputs, a state number a byte, the outputs are those that a controller's
+ * table gives for the inputs. Step 0 is the first input with the table's start, every later step the table's row. The first step is told that shows
+ *  - a fault, that of nanpuwiq_begin or nanpuwiq_step for the input recorded there: code 14 or 15, agree and ended false;
+ *  - a difference, an output recorded that is not the table's: code 0, agree and ended false;
+ *  - an ending, one recording there and the other at its end: code 0, agree false, ended true.
+ * A fault goes before a difference or an ending at its step; where an output is recorded and no input any more it is an ending, whatever the table has.
+ * Recordings that end together with none of these agree, two empty ones too: code 0, agree true, ended false.
+ * Code 0, 1 to 7, 16, or 14 or 15 with its step. */
+nanpuwiq_compared nanpuwiq_compare(nanpuwiq_game game, const uint16_t *table, size_t entries, const uint8_t *inputs, size_t input_bytes,
+                                   const uint8_t *outputs, size_t output_bytes);
 
 #ifdef __cplusplus
 }
