@@ -27,6 +27,14 @@ pub struct Moved {
     pub code: u8,
 }
 
+#[repr(C)]
+pub struct CompareResult {
+    pub code: u8,
+    pub agree: bool,
+    pub ended: bool,
+    pub step: usize,
+}
+
 extern "C" {
     fn nanpuwiq_accept(game: Game) -> u8;
     fn nanpuwiq_won_map(game: Game, scratch: *mut u64, scratch_words: usize, map: *mut u64, map_words: usize) -> u8;
@@ -56,6 +64,15 @@ extern "C" {
     fn nanpuwiq_begin(game: Game, table: *const u16, entries: usize, first: InState) -> Moved;
     fn nanpuwiq_step(game: Game, table: *const u16, entries: usize, at: Position, next: InState) -> Moved;
     fn nanpuwiq_advance(game: Game, table: *const u16, entries: usize, at: *mut Position, next: InState) -> u8;
+    fn nanpuwiq_compare(
+        game: Game,
+        table: *const u16,
+        entries: usize,
+        inputs: *const u8,
+        input_bytes: usize,
+        outputs: *const u8,
+        output_bytes: usize,
+    ) -> CompareResult;
 }
 
 // SAFETY, for every call below: a slice's pointer is not null, is aligned and has as many elements as its length says, a reference is as a slice
@@ -121,4 +138,8 @@ pub fn step(game: Game, table: &[u16], at: Position, next: InState) -> Moved {
 
 pub fn advance(game: Game, table: &[u16], at: &mut Position, next: InState) -> u8 {
     unsafe { nanpuwiq_advance(game, table.as_ptr(), table.len(), at, next) }
+}
+
+pub fn compare(game: Game, table: &[u16], inputs: &[u8], outputs: &[u8]) -> CompareResult {
+    unsafe { nanpuwiq_compare(game, table.as_ptr(), table.len(), inputs.as_ptr(), inputs.len(), outputs.as_ptr(), outputs.len()) }
 }

@@ -141,6 +141,19 @@ pub struct Verdict {
     pub table: Vec<u16>,
 }
 
+/// What two recordings of one run show, and the first step that shows it. Steps count from 0, the start.
+#[derive(Clone, Copy, Debug, PartialEq, Eq)]
+pub enum Comparison {
+    /// The outputs are those that the table gives for the inputs, and both recordings end together.
+    Agree,
+    /// The output recorded is not the table's.
+    Differ { step: usize },
+    /// One recording has ended and the other has not.
+    Ended { step: usize },
+    /// The player's number for the input recorded there: 14, 15. It goes before a difference or an ending at its step.
+    Fault { step: usize, number: u8 },
+}
+
 /// Ok for 0, else the refusal.
 fn refusal(code: u8) -> Result<(), Error> {
     match code {
@@ -294,6 +307,19 @@ impl Game {
     /// The same by the entry that moves a lent position on in place.
     pub fn advance(&self, table: &[u16], at: &mut Position, next: InState) -> Result<(), Error> {
         refusal(entries::advance(*self, table, at, next))
+    }
+
+    /// Whether the outputs recorded by the drive are those that a controller's table gives for the inputs recorded by the panel, a state number a byte.
+    /// The first input has the table's start, every later one its row: 1 to 7, 16.
+    pub fn compare(&self, table: &[u16], inputs: &[u8], outputs: &[u8]) -> Result<Comparison, Error> {
+        let r = entries::compare(*self, table, inputs, outputs);
+        match r.code {
+            0 if r.agree => Ok(Comparison::Agree),
+            0 if r.ended => Ok(Comparison::Ended { step: r.step }),
+            0 => Ok(Comparison::Differ { step: r.step }),
+            14 | 15 => Ok(Comparison::Fault { step: r.step, number: r.code }),
+            number => Err(Error { number, place: 0 }),
+        }
     }
 }
 
