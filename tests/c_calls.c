@@ -732,10 +732,10 @@ static void recordings_of_all_states(void)
         }
 }
 
-/* 200 modes of the pump, the outputs by the player; then something wrong at each step in turn. */
+/* 300 modes of the pump, the outputs by the player; then something wrong at each step in turn. */
 static void recordings_of_the_pump(void)
 {
-    enum { STEPS = 200 };
+    enum { STEPS = 300 };
     nanpuwiq_kit kit = pump();
     nanpuwiq_game g = game_of(&kit);
     rooms r;
@@ -752,7 +752,7 @@ static void recordings_of_the_pump(void)
     uint64_t seed = 5;
     for (size_t n = 1; n < STEPS;) {
         seed = seed * 6364136223846793005u + 1442695040888963407u;
-        next.number = (seed >> 33) % (n < 180 ? 3 : 4);
+        next.number = (seed >> 33) % (n < STEPS - 20 ? 3 : 4);
         places[n] = IN + (m.at.output.number * COUNTERS + m.at.counter) * IN + next.number;
         m = nanpuwiq_step(g, r.controller, CONTROLLER, m.at, next);
         if (m.code == 0) {
@@ -819,10 +819,12 @@ static void recordings_refused(void)
     static const uint16_t longer[7] = {0, NANPUWIQ_NONE, 1, 1, 1, 1, 1};
     compared("recordings refused: 16, short", nanpuwiq_compare(right, table, 5, ins, 6, outs, 6), 16, false, false, 0);
     compared("recordings refused: 16, long", nanpuwiq_compare(right, longer, 7, ins, 6, outs, 6), 16, false, false, 0);
-    compared("recordings refused: 16, none", nanpuwiq_compare(right, table, 0, ins, 6, outs, 6), 16, false, false, 0);
+    compared("recordings refused: 16, no entries", nanpuwiq_compare(right, table, 0, ins, 6, outs, 6), 16, false, false, 0);
     compared("recordings refused: 16, then 14", nanpuwiq_compare(right, table, 5, wrong, 3, wrong, 3), 16, false, false, 0);
     compared("recordings refused: 16, both empty", nanpuwiq_compare(right, table, 5, ins, 0, outs, 0), 16, false, false, 0);
-    compared("recordings refused: 16, one empty", nanpuwiq_compare(right, table, 5, ins, 6, outs, 0), 16, false, false, 0);
+    compared("recordings refused: 16, long, both empty", nanpuwiq_compare(right, longer, 7, ins, 0, outs, 0), 16, false, false, 0);
+    compared("recordings refused: 16, no outputs", nanpuwiq_compare(right, table, 5, ins, 6, outs, 0), 16, false, false, 0);
+    compared("recordings refused: 16, long, no inputs", nanpuwiq_compare(right, longer, 7, ins, 0, outs, 6), 16, false, false, 0);
 }
 
 int main(void)
