@@ -97,7 +97,7 @@ fn answer(buffer: &mut [u8], file: &[u8]) -> usize
 
 // The same, in the program's buffer.
 fn put_answer(buffer: &mut [u8; 1048576], file: &[u8]) -> usize
-    ensures { λ r. ⌜ r ≤ 1048576 ⌝ }
+    ensures { λ r. ⌜ Printed (now (file .entry)) (now (buffer .entry)) r (now (buffer .exit)) ⌝ }
 {
     answer(buffer, file)
 }
