@@ -6,8 +6,7 @@ use mathlib.Core.Bool.{Bool, true, false}
 use mathlib.Core.List.{List, [], _∷_, _++_}
 use mathlib.Core.Path.{_≡_, ap}
 use lib.Dec.{ltb}
-use lib.ListN.{length, getD, take, length-append, length-take, List·getD-eq-default}
-use lib.Seq.{getD-take}
+use lib.ListN.{length, getD, length-append, List·getD-eq-default}
 use borrow.Author.Tests.{ltb-true, ltb-false}
 use Rattle.grammar.specs.Number.{decimal}
 use Rattle.grammar.proofs.Format.{by-cases}
@@ -150,11 +149,8 @@ misshapen-room p h =
     )
 
 -- what a slice of 16-bit entries holds, and none past its end
-pub taken-entries : (n : ℕ) (l : List ℕ) → ((j : ℕ) → getD l j 0 < 65536) → (j : ℕ) → getD (take n l) j none < 65536
-taken-entries n l h j =
-    by-cases (ltb j (length (take n l)))
-    (λ b.
-    let in-take = ltb-true j (length (take n l)) b in
-    let in-front : j < n = omega (arith, in-take, length-take n l) in
-    omega (arith, same-default (take n l) j none 0 in-take, getD-take n l j 0 in-front, h j))
-    (λ b. omega (arith, List·getD-eq-default (take n l) none (ltb-false j (length (take n l)) b)))
+pub entries-small : (l : List ℕ) → ((j : ℕ) → getD l j 0 < 65536) → (j : ℕ) → getD l j none < 65536
+entries-small l h j =
+    by-cases (ltb j (length l))
+    (λ b. omega (arith, same-default l j none 0 (ltb-true j (length l) b), h j))
+    (λ b. omega (arith, List·getD-eq-default l none (ltb-false j (length l) b)))

@@ -1,15 +1,18 @@
 -- The table handed over as a part of its buffer.
-use Prim.Native.Nat.{ℕ}
+use Prim.Native.Nat.{ℕ, _≤_}
+use native.Mathlib.Omega.{arith}
 use mathlib.Core.Path.{_≡_, refl, sym, _∙_, ap, subst}
 use mathlib.Core.Bool.{Bool, true, false}
 use mathlib.Core.List.{List, _++_}
 use lib.Dec.{leb}
 use lib.ListN.{length, take, drop}
 use lib.Seq.{take-append-seam}
+use borrow.Author.Tests.{leb-true}
 use Rattle.game.specs.declared.Game.{Game}
 use Rattle.game.specs.declared.Acceptance.{Acceptance}
 use Rattle.game.specs.declared.Acceptance.the-variants.{Accepted, Refused as Faulty}
 use Rattle.game.specs.Acceptance.{acceptance}
+use Rattle.game.proofs.Refusals.{refused-code}
 use Rattle.play.specs.Play.{separatedOf}
 use Rattle.theory.specs.Region.{verdict}
 use Rattle.theory.specs.Entries.{controllerEntries, environmentEntries}
@@ -31,49 +34,51 @@ use Rattle.solver.specs.Promise.{
 use Rattle.handover.specs.Handed.{number, side, chosen, front, Beaten, Handed}
 use Rattle.solver.proofs.Verdicts.{controller-long, environment-long}
 
--- ---- a verdict's length is its table's
+-- ---- a verdict's length is its table's and at most its buffer's; a refusal's number is 1 to 10
 
-Told : Game → Verdict → Type 0
-Told g (System n) = n ≡ controllerLength g
-Told g (Environment n) = n ≡ environmentLength g
-Told g (NotSolved n) = Unit {0}
+unfoldable pub Told : Game → ℕ → ℕ → Verdict → Type 0
+Told g c e (System n) = (n ≡ controllerLength g) × (n ≤ c)
+Told g c e (Environment n) = (n ≡ environmentLength g) × (n ≤ e)
+Told g c e (NotSolved n) = (1 ≤ n) × (n ≤ 10)
 
 module _ (g : Game) (s c e : ℕ) where
-  told-named : (b : Bool) → Told g (elim b as (λ x. Verdict) [ true ↦ System (controllerLength g) | false ↦ Environment (environmentLength g) ])
+  told-named : controllerLength g ≤ c → environmentLength g ≤ e → (b : Bool)
+      → Told g c e (elim b as (λ x. Verdict) [ true ↦ System (controllerLength g) | false ↦ Environment (environmentLength g) ])
   unfolding Told
-  told-named true = refl
-  told-named false = refl
+  told-named k l true = (refl, k)
+  told-named k l false = (refl, l)
 
-  told-tenth : (b : Bool) → Told g (elim b as (λ x. Verdict) [ true ↦ named g | false ↦ NotSolved 10 ])
+  told-tenth : controllerLength g ≤ c → (b : Bool) → leb (environmentLength g) e ≡ b
+      → Told g c e (elim b as (λ x. Verdict) [ true ↦ named g | false ↦ NotSolved 10 ])
   unfolding Told named
-  told-tenth true = told-named (verdict (separatedOf g))
-  told-tenth false = tt
+  told-tenth k true h = told-named k (leb-true (environmentLength g) e h) (verdict (separatedOf g))
+  told-tenth k false h = (omega arith, omega arith)
 
-  told-ninth : (b : Bool) → Told g (elim b as (λ x. Verdict) [ true ↦ tenth g e | false ↦ NotSolved 9 ])
+  told-ninth : (b : Bool) → leb (controllerLength g) c ≡ b → Told g c e (elim b as (λ x. Verdict) [ true ↦ tenth g e | false ↦ NotSolved 9 ])
   unfolding Told tenth
-  told-ninth true = told-tenth (leb (environmentLength g) e)
-  told-ninth false = tt
+  told-ninth true h = told-tenth (leb-true (controllerLength g) c h) (leb (environmentLength g) e) refl
+  told-ninth false h = (omega arith, omega arith)
 
-  told-eighth : (b : Bool) → Told g (elim b as (λ x. Verdict) [ true ↦ ninth g c e | false ↦ NotSolved 8 ])
+  told-eighth : (b : Bool) → Told g c e (elim b as (λ x. Verdict) [ true ↦ ninth g c e | false ↦ NotSolved 8 ])
   unfolding Told ninth
-  told-eighth true = told-ninth (leb (controllerLength g) c)
-  told-eighth false = tt
+  told-eighth true = told-ninth (leb (controllerLength g) c) refl
+  told-eighth false = (omega arith, omega arith)
 
-  told-acceptance : (a : Acceptance) → Told g (elim a as (λ x. Verdict) [ Accepted ↦ eighth g s c e | Faulty n ↦ NotSolved n ])
+  told-acceptance : (a : Acceptance) → acceptance g ≡ a → Told g c e (elim a as (λ x. Verdict) [ Accepted ↦ eighth g s c e | Faulty n ↦ NotSolved n ])
   unfolding Told eighth
-  told-acceptance Accepted = told-eighth (leb 512 s)
-  told-acceptance (Faulty n) = tt
+  told-acceptance Accepted h = told-eighth (leb 512 s)
+  told-acceptance (Faulty n) h = let r = refused-code g n h in (r .0, omega (arith, r .1))
 
-  told-answer : Told g (verdictAnswer g s c e)
+  pub told-answer : Told g c e (verdictAnswer g s c e)
   unfolding verdictAnswer
-  told-answer = told-acceptance (acceptance g)
+  told-answer = told-acceptance (acceptance g) refl
 
 -- ---- what is handed over
 
 module _ (g : Game) (s s′ c c′ e e′ : List ℕ) where
   -- the filled front of a buffer is as long as the table
-  told : {v : Verdict} → Solved g s s′ c c′ e e′ v → Told g v
-  told S = subst (Told g) (sym (S .answer)) (told-answer g (length s) (length c) (length e))
+  told : {v : Verdict} → Solved g s s′ c c′ e e′ v → Told g (length c) (length e) v
+  told S = subst (Told g (length c) (length e)) (sym (S .answer)) (told-answer g (length s) (length c) (length e))
 
   as-told : {v w : Verdict} → Solved g s s′ c c′ e e′ v → v ≡ w → Solved g s s′ c c′ e e′ w
   as-told S q = subst (Solved g s s′ c c′ e e′) q S
@@ -81,22 +86,22 @@ module _ (g : Game) (s s′ c c′ e e′ : List ℕ) where
   system-part : {n : ℕ} → Solved g s s′ c c′ e e′ (System n) → take n c′ ≡ controllerEntries (separatedOf g)
   unfolding Told controllerAfter
   system-part {n} S =
-      ap (take n) (S .controller) ∙ ap (λ (k : ℕ). take k (controllerEntries (separatedOf g) ++ drop n c)) (told S ∙ sym (controller-long g))
+      ap (take n) (S .controller) ∙ ap (λ (k : ℕ). take k (controllerEntries (separatedOf g) ++ drop n c)) (told S .0 ∙ sym (controller-long g))
       ∙ take-append-seam (controllerEntries (separatedOf g)) (drop n c)
 
   environment-part : {n : ℕ} → Solved g s s′ c c′ e e′ (Environment n) → take n e′ ≡ environmentEntries (separatedOf g)
   unfolding Told environmentAfter
   environment-part {n} S =
-      ap (take n) (S .environment) ∙ ap (λ (k : ℕ). take k (environmentEntries (separatedOf g) ++ drop n e)) (told S ∙ sym (environment-long g))
+      ap (take n) (S .environment) ∙ ap (λ (k : ℕ). take k (environmentEntries (separatedOf g) ++ drop n e)) (told S .0 ∙ sym (environment-long g))
       ∙ take-append-seam (environmentEntries (separatedOf g)) (drop n e)
 
   pub system-count : {v : Verdict} {n : ℕ} → Solved g s s′ c c′ e e′ v → v ≡ System n → n ≡ length (take n c′)
   unfolding Told
-  system-count S q = let T = as-told S q in told T ∙ sym (controller-long g) ∙ sym (ap length (system-part T))
+  system-count S q = let T = as-told S q in told T .0 ∙ sym (controller-long g) ∙ sym (ap length (system-part T))
 
   pub environment-count : {v : Verdict} {n : ℕ} → Solved g s s′ c c′ e e′ v → v ≡ Environment n → n ≡ length (take n e′)
   unfolding Told
-  environment-count S q = let T = as-told S q in told T ∙ sym (environment-long g) ∙ sym (ap length (environment-part T))
+  environment-count S q = let T = as-told S q in told T .0 ∙ sym (environment-long g) ∙ sym (ap length (environment-part T))
 
   module _ (b : Bool) (p q : ℕ × ℕ) where
     abbrev Hands : Verdict → ℕ → Bool → ℕ × ℕ → List ℕ → Type 0

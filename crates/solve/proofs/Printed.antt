@@ -1,12 +1,13 @@
 -- The print of the table that the solver hands over is the game's print.
 use Prim.Native.Nat.{ℕ, _≤_, _<_, max}
 use native.Mathlib.Omega.{arith}
-use mathlib.Core.Bool.{Bool, true}
+use mathlib.Core.Bool.{Bool, true, false}
+use mathlib.Core.Logic.{_≢_}
 use mathlib.Core.List.{List}
 use mathlib.Core.Path.{_≡_, refl, sym, _∙_, ap}
-use lib.ListN.{length, getD, take, length-take}
+use lib.ListN.{length, getD}
 use borrow.Author.Tests.{le-leb, eq-eqb}
-use Rattle.finite.proofs.Truth.{and-intro}
+use Rattle.finite.proofs.Truth.{and-intro, clash}
 use Rattle.game.specs.declared.Game.{Game}
 use Rattle.game.specs.declared.Acceptance.the-variants.{Accepted}
 use Rattle.game.specs.Acceptance.{acceptance}
@@ -18,9 +19,10 @@ use Rattle.demands.proofs.Sizes.{controller-few, environment-few}
 use Rattle.sizes.proofs.Lengths.{controller-length, environment-length, inputs-most, outputs-most}
 use Rattle.solver.specs.declared.Verdict.{Verdict}
 use Rattle.solver.specs.declared.Verdict.the-variants.{System, Environment, Refused as NotSolved}
-use Rattle.solver.specs.Promise.{Solved, verdictAnswer}
-use Rattle.handover.specs.Handed.{front}
-use Rattle.handover.proofs.Handing.{system-count, environment-count, hands-system, hands-environment}
+use Rattle.solver.specs.Promise.{verdictAnswer}
+use Rattle.solver.proofs.Verdicts.{controller-long, environment-long}
+use Rattle.handover.specs.Handed.{number, side, front, Handed}
+use Rattle.handover.proofs.Handing.{Told, told-answer}
 use Rattle.text.specs.declared.Answer.{Answer}
 use Rattle.text.specs.declared.Answer.the-variants.{Read, Misshapen, Refused as NotRead}
 use Rattle.text.specs.declared.Reading.{Reading}
@@ -29,7 +31,7 @@ use Rattle.put.specs.Put.{Puts}
 use Rattle.put.proofs.Buffer.{puts-as}
 use Rattle.answers.specs.Print.{inRange, controllerFits, environmentFits, onlyIf, controllerPrint, environmentPrint, controllerAnswer, environmentAnswer}
 use Rattle.answer_lines.specs.Line.{refusedLine, misshapenLine}
-use Rattle.answers.proofs.Room.{controller-room, environment-room, refused-room, misshapen-room, taken-entries}
+use Rattle.answers.proofs.Room.{controller-room, environment-room, refused-room, misshapen-room, entries-small}
 use Rattle.solve.specs.Printed.{tablePrint, gamePrint, answerPrint, readingPrint, Made, Printed}
 
 -- the dimensions of an accepted game are in range
@@ -55,17 +57,17 @@ made-as h M = record { puts = puts-as h (M .puts); fits = M .fits }
 
 -- the sets that were counted, and the entries that were lent
 module _ {d : List ℕ} {r : ℕ} {f : List ℕ} where
-  pub makes-controller : (i o : ℕ) {m k : ℕ} (n : ℕ) (l : List ℕ) → ((j : ℕ) → getD l j 0 < 65536) → length l ≤ 32768 → m ≡ k
-      → Puts d 0 (controllerAnswer i o m (take n l)) r f → Made d (controllerAnswer i o k (take n l)) r f
-  makes-controller i o {m} n l b h e P =
-      made-as (ap (λ (j : ℕ). controllerAnswer i o j (take n l)) e)
-      record { puts = P; fits = omega (arith, P .next, controller-room (take n l) (taken-entries n l b) i o m (omega (arith, h, length-take n l))) }
+  pub makes-controller : (i o : ℕ) {m k : ℕ} (l : List ℕ) → ((j : ℕ) → getD l j 0 < 65536) → length l ≤ 32768 → m ≡ k
+      → Puts d 0 (controllerAnswer i o m l) r f → Made d (controllerAnswer i o k l) r f
+  makes-controller i o {m} l b h e P =
+      made-as (ap (λ (j : ℕ). controllerAnswer i o j l) e)
+      record { puts = P; fits = omega (arith, P .next, controller-room l (entries-small l b) i o m h) }
 
-  pub makes-environment : (i o : ℕ) {m k : ℕ} (n : ℕ) (l : List ℕ) → ((j : ℕ) → getD l j 0 < 65536) → length l ≤ 32768 → m ≡ k
-      → Puts d 0 (environmentAnswer i o m (take n l)) r f → Made d (environmentAnswer i o k (take n l)) r f
-  makes-environment i o {m} n l b h e P =
-      made-as (ap (λ (j : ℕ). environmentAnswer i o j (take n l)) e)
-      record { puts = P; fits = omega (arith, P .next, environment-room (take n l) (taken-entries n l b) i o m (omega (arith, h, length-take n l))) }
+  pub makes-environment : (i o : ℕ) {m k : ℕ} (l : List ℕ) → ((j : ℕ) → getD l j 0 < 65536) → length l ≤ 32768 → m ≡ k
+      → Puts d 0 (environmentAnswer i o m l) r f → Made d (environmentAnswer i o k l) r f
+  makes-environment i o {m} l b h e P =
+      made-as (ap (λ (j : ℕ). environmentAnswer i o j l) e)
+      record { puts = P; fits = omega (arith, P .next, environment-room l (entries-small l b) i o m h) }
 
   makes-refused : (n : ℕ) → n < 256 → Puts d 0 (refusedLine n) r f → Made d (refusedLine n) r f
   makes-refused n h P = record { puts = P; fits = omega (arith, P .next, refused-room n h) }
@@ -73,48 +75,61 @@ module _ {d : List ℕ} {r : ℕ} {f : List ℕ} where
   makes-misshapen : (p : ℕ) → p < 18446744073709551616 → Puts d 0 (misshapenLine p) r f → Made d (misshapenLine p) r f
   makes-misshapen p h P = record { puts = P; fits = omega (arith, P .next, misshapen-room p h) }
 
-module _ {g : Game} {s s′ c c′ e e′ : List ℕ} {v : Verdict} (S : Solved g s s′ c c′ e e′ v) where
-  printed-as : length s ≡ 512 → length c ≡ 32768 → length e ≡ 32768 → tablePrint g v ≡ gamePrint g
-  unfolding gamePrint
-  printed-as p q u = ap (tablePrint g) (S .answer ∙ (λ i. verdictAnswer g (p i) (q i) (u i)))
+-- ---- what is handed over, by the answer
 
-module _ {g : Game} {s s′ c c′ e e′ : List ℕ} {v : Verdict} {n : ℕ} (S : Solved g s s′ c c′ e e′ v) where
-  -- the front lies in its buffer
-  pub system-within : v ≡ System n → n ≤ length c′
-  system-within h = omega (arith, system-count g s s′ c c′ e e′ S h, length-take n c′)
+module _ {g : Game} {s s′ : List ℕ} {n : ℕ} {b b′ : Bool} {x y p : ℕ × ℕ} {t : List ℕ} where
+  short-of : {c e m : ℕ} (v : Verdict) → Told g c e v → Handed g v s s′ n b b′ x y p t → c ≤ m → e ≤ m → length t ≤ m
+  unfolding Told front
+  short-of (System k) T H h l = omega (arith, ap length (H .part), controller-long g, T .0, T .1)
+  short-of (Environment k) T H h l = omega (arith, ap length (H .part), environment-long g, T .0, T .1)
+  short-of (NotSolved k) T H h l = omega (arith, ap length (H .part))
 
-  pub environment-within : v ≡ Environment n → n ≤ length e′
-  environment-within h = omega (arith, environment-count g s s′ c c′ e e′ S h, length-take n e′)
+  module _ {d : List ℕ} {r : ℕ} {f : List ℕ} where
+    system-of : (c e : ℕ) (v : Verdict) → Told g c e v → Handed g v s s′ n b b′ x y p t → acceptance g ≡ Accepted → n ≡ 0 → b′ ≡ true
+        → Made d (controllerAnswer (g .input .states) (g .output .states) (length (guarantees (separatedOf g))) t) r f → Made d (tablePrint g v) r f
+    unfolding Told number side front tablePrint
+    system-of c e (System k) T H a z w M =
+        made-as
+        (ap (controllerAnswer (g .input .states) (g .output .states) (length (guarantees (separatedOf g)))) (H .part) ∙ controller-printed g a) M
+    system-of c e (Environment k) T H a z w M = clash w (H .system)
+    system-of c e (NotSolved k) T H a z w M = absurd (omega (arith, H .refusal, T .0))
 
-  system-front : v ≡ System n → take n c′ ≡ controllerEntries (separatedOf g)
-  unfolding front
-  system-front h = hands-system g s s′ c c′ e e′ true (0, 0) (0, 0) S h .part ∙ ap (front g) (sym (S .answer) ∙ h)
+    environment-of : (c e : ℕ) (v : Verdict) → Told g c e v → Handed g v s s′ n b b′ x y p t → acceptance g ≡ Accepted → n ≡ 0 → b′ ≡ false
+        → Made d (environmentAnswer (g .input .states) (g .output .states) (length (assumptions (separatedOf g))) t) r f → Made d (tablePrint g v) r f
+    unfolding Told number side front tablePrint
+    environment-of c e (System k) T H a z w M = clash (H .system) w
+    environment-of c e (Environment k) T H a z w M =
+        made-as
+        (ap (environmentAnswer (g .input .states) (g .output .states) (length (assumptions (separatedOf g)))) (H .part) ∙ environment-printed g a) M
+    environment-of c e (NotSolved k) T H a z w M = absurd (omega (arith, H .refusal, T .0))
 
-  environment-front : v ≡ Environment n → take n e′ ≡ environmentEntries (separatedOf g)
-  unfolding front
-  environment-front h = hands-environment g s s′ c c′ e e′ true (0, 0) (0, 0) S h .part ∙ ap (front g) (sym (S .answer) ∙ h)
+    refused-of : (c e : ℕ) (v : Verdict) → Told g c e v → Handed g v s s′ n b b′ x y p t → n ≢ 0 → Puts d 0 (refusedLine n) r f → Made d (tablePrint g v) r f
+    unfolding Told number tablePrint
+    refused-of c e (System k) T H z P = absurd (z (H .refusal))
+    refused-of c e (Environment k) T H z P = absurd (z (H .refusal))
+    refused-of c e (NotSolved k) T H z P = made-as (ap refusedLine (H .refusal)) (makes-refused n (omega (arith, H .refusal, T .1)) P)
 
-  module _ (p : length s ≡ 512) (q : length c ≡ 32768) (u : length e ≡ 32768) where
-    module _ {d : List ℕ} {r : ℕ} {f : List ℕ} where
-      pub prints-system : acceptance g ≡ Accepted → v ≡ System n
-          → Made d (controllerAnswer (g .input .states) (g .output .states) (length (guarantees (separatedOf g))) (take n c′)) r f → Made d (gamePrint g) r f
-      unfolding tablePrint
-      prints-system a h M =
-          made-as
-          (ap (controllerAnswer (g .input .states) (g .output .states) (length (guarantees (separatedOf g)))) (system-front h)
-          ∙ controller-printed g a ∙ sym (ap (tablePrint g) h) ∙ printed-as S p q u) M
+module _ {g : Game} {s s′ : List ℕ} {n : ℕ} {b b′ : Bool} {x y p : ℕ × ℕ} {t : List ℕ} where
+  pub part-short : (k c e : ℕ) → Handed g (verdictAnswer g k c e) s s′ n b b′ x y p t → c ≤ 32768 → e ≤ 32768 → length t ≤ 32768
+  part-short k c e H h l = short-of (verdictAnswer g k c e) (told-answer g k c e) H h l
 
-      pub prints-environment : acceptance g ≡ Accepted → v ≡ Environment n
-          → Made d (environmentAnswer (g .input .states) (g .output .states) (length (assumptions (separatedOf g))) (take n e′)) r f → Made d (gamePrint g) r f
-      unfolding tablePrint
-      prints-environment a h M =
-          made-as
-          (ap (environmentAnswer (g .input .states) (g .output .states) (length (assumptions (separatedOf g)))) (environment-front h)
-          ∙ environment-printed g a ∙ sym (ap (tablePrint g) h) ∙ printed-as S p q u) M
+  -- of the lengths that the program lends
+  module _ {k c e : ℕ} (u : k ≡ 512) (v : c ≡ 32768) (w : e ≡ 32768) (H : Handed g (verdictAnswer g k c e) s s′ n b b′ x y p t)
+      {d : List ℕ} {r : ℕ} {f : List ℕ} where
+    printed-as : Made d (tablePrint g (verdictAnswer g k c e)) r f → Made d (gamePrint g) r f
+    unfolding gamePrint
+    printed-as M = made-as (λ i. tablePrint g (verdictAnswer g (u i) (v i) (w i))) M
 
-      pub prints-refused : v ≡ NotSolved n → n < 256 → Puts d 0 (refusedLine n) r f → Made d (gamePrint g) r f
-      unfolding tablePrint
-      prints-refused h b P = made-as (sym (ap (tablePrint g) h) ∙ printed-as S p q u) (makes-refused n b P)
+    pub prints-system : acceptance g ≡ Accepted → n ≡ 0 → b′ ≡ true
+        → Made d (controllerAnswer (g .input .states) (g .output .states) (length (guarantees (separatedOf g))) t) r f → Made d (gamePrint g) r f
+    prints-system a z q M = printed-as (system-of c e (verdictAnswer g k c e) (told-answer g k c e) H a z q M)
+
+    pub prints-environment : acceptance g ≡ Accepted → n ≡ 0 → b′ ≡ false
+        → Made d (environmentAnswer (g .input .states) (g .output .states) (length (assumptions (separatedOf g))) t) r f → Made d (gamePrint g) r f
+    prints-environment a z q M = printed-as (environment-of c e (verdictAnswer g k c e) (told-answer g k c e) H a z q M)
+
+    pub prints-refused : n ≢ 0 → Puts d 0 (refusedLine n) r f → Made d (gamePrint g) r f
+    prints-refused z P = printed-as (refused-of c e (verdictAnswer g k c e) (told-answer g k c e) H z P)
 
 module _ {s : List ℕ} {x : Reading} (R : Reads s x) {d : List ℕ} {r : ℕ} {f : List ℕ} where
   pub answers-game : x .answer ≡ Read → Made d (gamePrint (x .game)) r f → Printed s d r f

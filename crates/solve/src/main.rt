@@ -1,7 +1,7 @@
 // Reads a game's text from standard input and prints the side that wins and its table, or the refusal.
 ghost use mathlib.Core.Path.{_≡_};
 ghost use Prim.Native.Nat.{_≤_};
-ghost use lib.ListN.{length, take};
+ghost use lib.ListN.{length};
 ghost use Rattle.game.specs.declared.Acceptance.the-variants.{Accepted};
 ghost use Rattle.game.specs.Acceptance.{acceptance};
 ghost use Rattle.play.specs.Play.{separatedOf};
@@ -10,7 +10,6 @@ ghost use Rattle.answers.specs.Print.{controllerAnswer, environmentAnswer};
 ghost use Rattle.solve.specs.Printed.{gamePrint, Made, Printed};
 use game::Game;
 use libc::STDOUT_FILENO;
-use solver::Verdict;
 use text::Answer;
 
 // The first n bytes.
@@ -27,28 +26,22 @@ fn print_front(buffer: &[u8; 1048576], n: usize)
     print(buffer, n);
 }
 
-// The print of the controller's table, the first n entries of its room.
-fn put_system(buffer: &mut [u8], g: Game, controller: &[u16], n: usize) -> usize
-    requires { ⌜ (acceptance g ≡ Accepted) × (n ≤ length (now controller)) × (length (now controller) ≤ 32768) ⌝ }
-    ensures { λ r. ⌜ Made (now (buffer .entry)) (controllerAnswer (g .input .states) (g .output .states) (length (guarantees (separatedOf g))) (take n (now (controller .entry)))) r (now (buffer .exit)) ⌝ }
+// The print of the controller's table.
+fn put_system(buffer: &mut [u8], g: Game, table: &[u16]) -> usize
+    requires { ⌜ (acceptance g ≡ Accepted) × (length (now table) ≤ 32768) ⌝ }
+    ensures { λ r. ⌜ Made (now (buffer .entry)) (controllerAnswer (g .input .states) (g .output .states) (length (guarantees (separatedOf g))) (now (table .entry))) r (now (buffer .exit)) ⌝ }
 {
     let sets = sizes::guarantee_count(g);
-    answers::put_controller(
-        buffer,
-        g.input.states,
-        g.output.states,
-        sets,
-        &controller[..n],
-    )
+    answers::put_controller(buffer, g.input.states, g.output.states, sets, table)
 }
 
-// The print of the panel's table, the first n entries of its room.
-fn put_panel(buffer: &mut [u8], g: Game, panel: &[u16], n: usize) -> usize
-    requires { ⌜ (acceptance g ≡ Accepted) × (n ≤ length (now panel)) × (length (now panel) ≤ 32768) ⌝ }
-    ensures { λ r. ⌜ Made (now (buffer .entry)) (environmentAnswer (g .input .states) (g .output .states) (length (assumptions (separatedOf g))) (take n (now (panel .entry)))) r (now (buffer .exit)) ⌝ }
+// The print of the panel's table.
+fn put_panel(buffer: &mut [u8], g: Game, table: &[u16]) -> usize
+    requires { ⌜ (acceptance g ≡ Accepted) × (length (now table) ≤ 32768) ⌝ }
+    ensures { λ r. ⌜ Made (now (buffer .entry)) (environmentAnswer (g .input .states) (g .output .states) (length (assumptions (separatedOf g))) (now (table .entry))) r (now (buffer .exit)) ⌝ }
 {
     let sets = sizes::assumption_count(g);
-    answers::put_environment(buffer, g.input.states, g.output.states, sets, &panel[..n])
+    answers::put_environment(buffer, g.input.states, g.output.states, sets, table)
 }
 
 // A room, made by a function of its own so that no proof looks into 32,768 zeros.
@@ -69,14 +62,25 @@ fn solve(buffer: &mut [u8], g: Game) -> usize
     ensures { λ r. ⌜ Made (now (buffer .entry)) (gamePrint g) r (now (buffer .exit)) ⌝ }
 {
     let mut scratch = [0u64; 512];
+    let mut refusal: u8 = 0;
+    let mut system = false;
     let mut controller = empty_room();
     let mut panel = empty_room();
-    let v = solver::solve_into(g, &mut scratch, &mut controller, &mut panel);
-    match v {
-        Verdict::System(n) => put_system(buffer, g, &controller, n),
-        Verdict::Environment(n) => put_panel(buffer, g, &panel, n),
-        Verdict::Refused(n) => answer_lines::put_refused(buffer, n),
+    let table = handover::solve(
+        g,
+        &mut scratch,
+        &mut refusal,
+        &mut system,
+        &mut controller,
+        &mut panel,
+    );
+    if refusal != 0 {
+        return answer_lines::put_refused(buffer, refusal);
     }
+    if system {
+        return put_system(buffer, g, table);
+    }
+    put_panel(buffer, g, table)
 }
 
 // The print for a file.

@@ -1,7 +1,7 @@
--- `solve` meets its contract: the print of what the solver hands over is the game's.
+-- `solve` meets its contract: the print of the part that is handed over is the game's.
 use native.Mathlib.Omega.{arith}
 use mathlib.Core.Path.{refl, sym}
-use Rattle.solve.proofs.Printed.{system-within, environment-within, prints-system, prints-environment, prints-refused}
+use Rattle.solve.proofs.Printed.{part-short, prints-system, prints-environment, prints-refused}
 use borrow.Author.Needs.{needs}
 use Rattle.solve.proofs.solve.Statement.{statement}
 use Rattle.solve.proofs.solve.Tie as tie
@@ -12,38 +12,17 @@ empty-room-requires c κs = search needs
 empty-room-requires-2 : tie.Need-empty-room-requires-2
 empty-room-requires-2 c κs = search needs
 
-slice-aggregate-solve-into : tie.Need-slice-aggregate-solve-into
-slice-aggregate-solve-into c = search needs
+slice-aggregate-solve : tie.Need-slice-aggregate-solve
+slice-aggregate-solve c = search needs
 
-slice-aggregate-solve-into-2 : tie.Need-slice-aggregate-solve-into-2
-slice-aggregate-solve-into-2 c = search needs
+slice-aggregate-solve-2 : tie.Need-slice-aggregate-solve-2
+slice-aggregate-solve-2 c = search needs
 
-slice-aggregate-solve-into-3 : tie.Need-slice-aggregate-solve-into-3
-slice-aggregate-solve-into-3 c = search needs
+slice-aggregate-solve-3 : tie.Need-slice-aggregate-solve-3
+slice-aggregate-solve-3 c = search needs
 
-solve-into-requires : tie.Need-solve-into-requires
-solve-into-requires c κs = search needs
-
-enum-known-v : tie.Need-enum-known-v
-enum-known-v c = search needs
-
-slice-aggregate-put-system : tie.Need-slice-aggregate-put-system
-slice-aggregate-put-system c = search needs
-
-put-system-requires : tie.Need-put-system-requires
-put-system-requires c κs = (c .before .before .before .before .before .before .before .before .before .before .before .before .before .before .before .pre, system-within (c .before .before .before .before .before .before .before .before .solve-into .ensures) (c .before .before .before .v .given .1), omega (arith, c .before .before .before .before .before .before .before .before .solve-into .kept .1 .1 .0, c .before .before .before .before .before .before .before .before .before .before .before .before .before .empty-room .ensures))
-
-enum-known-v-2 : tie.Need-enum-known-v-2
-enum-known-v-2 c = search needs
-
-slice-aggregate-put-panel : tie.Need-slice-aggregate-put-panel
-slice-aggregate-put-panel c = search needs
-
-put-panel-requires : tie.Need-put-panel-requires
-put-panel-requires c κs = (c .before .before .before .before .before .before .before .before .before .before .before .before .before .before .before .pre, environment-within (c .before .before .before .before .before .before .before .before .solve-into .ensures) (c .before .before .before .v2 .given .1), omega (arith, c .before .before .before .before .before .before .before .before .solve-into .kept .1 .1 .1 .0, c .before .before .before .before .before .before .before .before .before .before .before .before .empty-room2 .ensures))
-
-enum-known-v-3 : tie.Need-enum-known-v-3
-enum-known-v-3 c = search needs
+solve-requires : tie.Need-solve-requires
+solve-requires c κs = search needs
 
 put-refused-requires : tie.Need-put-refused-requires
 put-refused-requires c κs = search needs
@@ -52,19 +31,51 @@ same-length : tie.Need-same-length
 same-length c = search needs
 
 returns : tie.Need-returns
-returns c = prints-system (c .before .before .before .before .before .before .before .before .before .before .before .solve-into .ensures) refl (sym (c .before .before .before .before .before .before .before .before .before .before .before .before .before .before .before .before .empty-room .ensures)) (sym (c .before .before .before .before .before .before .before .before .before .before .before .before .before .before .before .empty-room2 .ensures)) (c .before .before .before .before .before .before .before .before .before .before .before .before .before .before .before .before .before .before .pre) (c .before .before .before .before .before .before .v .given .1) (c .before .before .put-system .ensures)
+returns c =
+    let p = c .before .before in
+    let i = p .before .before .before .before in
+    let h = i .before .before in
+    let m = h .before .before .before in
+    let n = m .before .before .before in
+    prints-refused refl (sym (n .before .empty-room .ensures)) (sym (n .empty-room2 .ensures)) (h .solve .ensures) (i .if1 .taken) (p .put-refused .ensures)
+
+put-system-requires : tie.Need-put-system-requires
+put-system-requires c κs =
+    let h = c .before .before .before .before .before in
+    let m = h .before .before .before in
+    let n = m .before .before .before in
+    (n .before .before .before .pre, part-short _ _ _ (h .solve .ensures) (omega (arith, n .before .empty-room .ensures)) (omega (arith, n .empty-room2 .ensures)))
 
 same-length-2 : tie.Need-same-length-2
 same-length-2 c = search needs
 
 returns-2 : tie.Need-returns-2
-returns-2 c = prints-environment (c .before .before .before .before .before .before .before .before .before .before .before .solve-into .ensures) refl (sym (c .before .before .before .before .before .before .before .before .before .before .before .before .before .before .before .before .empty-room .ensures)) (sym (c .before .before .before .before .before .before .before .before .before .before .before .before .before .before .before .empty-room2 .ensures)) (c .before .before .before .before .before .before .before .before .before .before .before .before .before .before .before .before .before .before .pre) (c .before .before .before .before .before .before .v2 .given .1) (c .before .before .put-panel .ensures)
+returns-2 c =
+    let p = c .before .before .before .before in
+    let i = p .before .before .before in
+    let h = i .before .before .before in
+    let m = h .before .before .before in
+    let n = m .before .before .before in
+    prints-system refl (sym (n .before .empty-room .ensures)) (sym (n .empty-room2 .ensures)) (h .solve .ensures) (n .before .before .before .pre) (i .before .if1 .left) (i .if2 .taken) (p .put-system .ensures)
+
+put-panel-requires : tie.Need-put-panel-requires
+put-panel-requires c κs =
+    let h = c .before .before .before .before .before in
+    let m = h .before .before .before in
+    let n = m .before .before .before in
+    (n .before .before .before .pre, part-short _ _ _ (h .solve .ensures) (omega (arith, n .before .empty-room .ensures)) (omega (arith, n .empty-room2 .ensures)))
 
 same-length-3 : tie.Need-same-length-3
 same-length-3 c = search needs
 
 returns-3 : tie.Need-returns-3
-returns-3 c = prints-refused (c .before .before .before .before .before .before .before .before .before .before .solve-into .ensures) refl (sym (c .before .before .before .before .before .before .before .before .before .before .before .before .before .before .before .empty-room .ensures)) (sym (c .before .before .before .before .before .before .before .before .before .before .before .before .before .before .empty-room2 .ensures)) (c .before .before .before .before .before .v3 .given .1) (omega (arith, c .before .before .before .before .known-told3 .given)) (c .before .before .put-refused .ensures)
+returns-3 c =
+    let p = c .before .before .before .before in
+    let i = p .before .before .before in
+    let h = i .before .before .before in
+    let m = h .before .before .before in
+    let n = m .before .before .before in
+    prints-environment refl (sym (n .before .empty-room .ensures)) (sym (n .empty-room2 .ensures)) (h .solve .ensures) (n .before .before .before .pre) (i .before .if1 .left) (i .if2 .left) (p .put-panel .ensures)
 
 pub solve-spec : {M : Type 1} → statement M
 solve-spec =
@@ -72,21 +83,16 @@ solve-spec =
     (tie.spec
     empty-room-requires
     empty-room-requires-2
-    slice-aggregate-solve-into
-    slice-aggregate-solve-into-2
-    slice-aggregate-solve-into-3
-    solve-into-requires
-    enum-known-v
-    slice-aggregate-put-system
-    put-system-requires
-    enum-known-v-2
-    slice-aggregate-put-panel
-    put-panel-requires
-    enum-known-v-3
+    slice-aggregate-solve
+    slice-aggregate-solve-2
+    slice-aggregate-solve-3
+    solve-requires
     put-refused-requires
     same-length
     returns
+    put-system-requires
     same-length-2
     returns-2
+    put-panel-requires
     same-length-3
     returns-3)
