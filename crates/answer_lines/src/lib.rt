@@ -1,5 +1,5 @@
-// The lines of an answer. Each function writes a text at a place of the buffer and answers the place behind it. What lies past the buffer's
-// end is left out; 160 bytes hold every line.
+// The lines of an answer: parts of the program `solve`. Each function writes a text at a place of the buffer and answers the place behind it. What
+// lies past the buffer's end is left out; that in the program nothing is, `Made` shows (solve/specs). 160 bytes hold every line.
 use shape::words;
 ghost use mathlib.Core.Path.{_≡_};
 ghost use Prim.Native.Nat.{_+_, _<_, _≤_, _^_, max};

@@ -1,5 +1,5 @@
-// The print of an answer, whole. The lines follow one another in the buffer from its front on; a public function answers the print's length.
-// What lies past the buffer's end is left out.
+// The print of an answer, whole: parts of the program `solve`. The lines follow one another in the buffer from its front on; a public function answers
+// the print's length. What lies past the buffer's end is left out; that in the program nothing is, `Printed` shows (solve/specs).
 ghost use mathlib.Core.Path.{_≡_};
 ghost use Prim.Native.Nat.{_*_, _-_, _≤_, _^_};
 ghost use lib.ListN.{length};
@@ -75,7 +75,8 @@ fn environment_fits(inputs: usize, outputs: usize, sets: usize, n: usize) -> boo
     n == 1 + inputs * answer_lines::at_least_one(sets) * outputs
 }
 
-// The whole print of a controller's table; 0 bytes where it does not fit the dimensions. `sets` counts the guarantees.
+// The whole print of a controller's table. `sets` counts the guarantees. A table that does not fit the dimensions, which the program never has, prints
+// nothing.
 pub fn put_controller(
     buffer: &mut [u8],
     inputs: usize,
@@ -93,7 +94,8 @@ pub fn put_controller(
     put_steps(buffer, b, sets, inputs, inputs, table)
 }
 
-// The whole print of an environment's table; 0 bytes where it does not fit the dimensions. `sets` counts the assumptions.
+// The whole print of an environment's table. `sets` counts the assumptions. A table that does not fit the dimensions, which the program never has,
+// prints nothing.
 pub fn put_environment(
     buffer: &mut [u8],
     inputs: usize,

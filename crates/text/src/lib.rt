@@ -1,4 +1,4 @@
-// The text of a game: read, written, and the lines of an answer.
+// The text of a game, read and written.
 use game::Acceptance;
 use game::Game;
 use pieces::Step;
