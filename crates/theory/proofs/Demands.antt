@@ -322,6 +322,14 @@ module _ (S : Separated) where
         rounds = λ r. cycle-breaks S readEnvironment presses (EnvironmentFirst (arenaOf S) readEnvironment) r (lost-reached (r .at) (r .reachable));
       }
 
+    -- what the controller's table comes to, in a game that the system wins, is won, with a counter in range
+    pub reached-won : verdict S ≡ true → (c : Configuration)
+        → Reachable (ControllerFirst (arenaOf S) (controllerTable (S .input .states) (controllerCounters S) (controllerEntries S)))
+        (ControllerTurn (arenaOf S) (controllerTable (S .input .states) (controllerCounters S) (controllerEntries S))) c
+        → Kept S c
+    unfolding readController
+    reached-won v c r = kept-reached v c r
+
     outcome-system : verdict S ≡ true → outcome S ≡ system readController
     unfolding outcome readController
     outcome-system v = rw (v, outcome) refl

@@ -6,8 +6,8 @@
 --   StaysIn g c x y        == a turn of our controller, the panel staying in the component of c
 --   entered w              == the configurations that a walk enters, one for each reply
 --   AtHome g x y           == the output of y lies in the home of x
---   RightToWait g          == the three claims
-use Prim.Native.Nat.{ℕ, _-_, _*_, _≤_, _<_, max}
+--   RightToWait g          == the claims
+use Prim.Native.Nat.{ℕ, suc, _-_, _*_, _≤_, _<_, max}
 use mathlib.Core.Path.{_≡_}
 use mathlib.Core.Bool.{true}
 use mathlib.Core.List.{List, [], _∷_}
@@ -16,8 +16,8 @@ use Rattle.graphs.specs.Walk.{Walk, stay, step}
 use Rattle.graphs.specs.Graph.{Graph, edge}
 use Rattle.graphs.specs.Component.{joined, nontrivial, meetsAt}
 use Rattle.arena.specs.Table.{ControllerTable}
-use Rattle.arena.specs.Play.{Configuration, ControllerTurn, visitsOutput}
-use Rattle.arena.specs.Win.{Won}
+use Rattle.arena.specs.Play.{Configuration, ControllerFirst, ControllerTurn, Reachable, visitsOutput}
+use Rattle.arena.specs.Win.{Won, SystemWins}
 use Rattle.game.specs.declared.Game.{Game}
 use Rattle.play.specs.Play.{graphOf, separatedOf}
 use Rattle.theory.specs.Tour.{goalAt}
@@ -57,6 +57,9 @@ pub record RightToWait (g : Game) : Type 0 where
   -- "a play kept by our controller is at home within outputs − 1 replies"
   pub homecoming : (x y : Configuration) → Begins g x → nontrivial (graphOf (g .input)) (x .input) ≡ true
       → (w : Walk (StaysIn g (x .input)) x y) → g .output .states - 1 ≤ length (entered w) → AtHome g x y
+  -- the replies counted from the one to the input that enters the component:
+  pub arrives : (x b y : Configuration) → Begins g x → ControllerTurn (playOf g) (ours g) x b → nontrivial (graphOf (g .input)) (b .input) ≡ true
+      → (w : Walk (StaysIn g (b .input)) b y) → g .output .states - 1 ≤ suc (length (entered w)) → AtHome g b y
   -- "and from then on enters each output set that meets home within max(1, G) × outputs replies"
   pub visits : (x y z : Configuration) → Begins g x → nontrivial (graphOf (g .input)) (x .input) ≡ true
       → Walk (StaysIn g (x .input)) x y → AtHome g x y
@@ -64,3 +67,8 @@ pub record RightToWait (g : Game) : Type 0 where
       → (q : ℕ) → q < length (guarantees (separatedOf g))
       → meetsAt (graphOf (g .output)) (home (separatedOf g) (x .input) (x .output)) (goalAt (guarantees (separatedOf g)) q) ≡ true
       → visitsOutput (goalAt (guarantees (separatedOf g)) q) (entered w) ≡ true
+  -- "a play kept by our controller": what a turn makes of a configuration that the claims are about is another,
+  pub keeps : (x y : Configuration) → Begins g x → ControllerTurn (playOf g) (ours g) x y → Begins g y
+  -- and in a game that the system wins, the claims are about every configuration that our table comes to
+  pub begins : SystemWins (playOf g) → (x : Configuration) → Reachable (ControllerFirst (playOf g) (ours g)) (ControllerTurn (playOf g) (ours g)) x
+      → Begins g x
