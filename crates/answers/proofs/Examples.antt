@@ -1,4 +1,4 @@
--- Whole prints of document 01, byte for byte, by computing.
+-- What is printed where a row is none, or where a table does not fit its dimensions, by computing.
 use mathlib.Core.List.{[], _∷_}
 use mathlib.Core.Path.{_≡_, refl}
 use Rattle.grammar.specs.Number.{digits, decimal}
@@ -6,37 +6,7 @@ use Rattle.shape.specs.Text.{words, word, gapText, items, bracket, line}
 use Rattle.answer_lines.specs.Line.{none, unlessNone, winnerWord, winsLine, startLine, environmentStart, rowLine, stepLine}
 use Rattle.answers.specs.Print.{startLines, stepLines, controllerPrint, environmentPrint, inRange, controllerFits, environmentFits, onlyIf, controllerAnswer, environmentAnswer}
 
--- "The solve program prints exactly this", the start of input 1 being none:
---   (wins system)
---   (start 0 0)
---   (step 0 0 0 1 0)
---   (step 0 0 1 1 0)
---   (step 1 0 0 1 0)
---   (step 1 0 1 1 0)
-pub example-print : controllerAnswer 2 2 1 (0 ∷ none ∷ 1 ∷ 1 ∷ 1 ∷ 1 ∷ [])
-    ≡
-    40 ∷ 119 ∷ 105 ∷ 110 ∷ 115 ∷ 32 ∷ 115 ∷ 121 ∷ 115 ∷ 116 ∷ 101 ∷ 109 ∷ 41 ∷ 10 ∷
-    40 ∷ 115 ∷ 116 ∷ 97 ∷ 114 ∷ 116 ∷ 32 ∷ 48 ∷ 32 ∷ 48 ∷ 41 ∷ 10 ∷
-    40 ∷ 115 ∷ 116 ∷ 101 ∷ 112 ∷ 32 ∷ 48 ∷ 32 ∷ 48 ∷ 32 ∷ 48 ∷ 32 ∷ 49 ∷ 32 ∷ 48 ∷ 41 ∷ 10 ∷
-    40 ∷ 115 ∷ 116 ∷ 101 ∷ 112 ∷ 32 ∷ 48 ∷ 32 ∷ 48 ∷ 32 ∷ 49 ∷ 32 ∷ 49 ∷ 32 ∷ 48 ∷ 41 ∷ 10 ∷
-    40 ∷ 115 ∷ 116 ∷ 101 ∷ 112 ∷ 32 ∷ 49 ∷ 32 ∷ 48 ∷ 32 ∷ 48 ∷ 32 ∷ 49 ∷ 32 ∷ 48 ∷ 41 ∷ 10 ∷
-    40 ∷ 115 ∷ 116 ∷ 101 ∷ 112 ∷ 32 ∷ 49 ∷ 32 ∷ 48 ∷ 32 ∷ 49 ∷ 32 ∷ 49 ∷ 32 ∷ 48 ∷ 41 ∷ 10 ∷ []
-unfolding controllerAnswer onlyIf controllerFits inRange controllerPrint winsLine winnerWord startLines startLine stepLines stepLine rowLine unlessNone line bracket items gapText word words decimal digits
-example-print = refl
-
--- case 3, "environment, start 0, step 0 0 0 0 0":
---   (wins environment)
---   (start 0)
---   (step 0 0 0 0 0)
-pub case-three : environmentAnswer 1 1 1 (0 ∷ 0 ∷ [])
-    ≡
-    40 ∷ 119 ∷ 105 ∷ 110 ∷ 115 ∷ 32 ∷ 101 ∷ 110 ∷ 118 ∷ 105 ∷ 114 ∷ 111 ∷ 110 ∷ 109 ∷ 101 ∷ 110 ∷ 116 ∷ 41 ∷ 10 ∷
-    40 ∷ 115 ∷ 116 ∷ 97 ∷ 114 ∷ 116 ∷ 32 ∷ 48 ∷ 41 ∷ 10 ∷
-    40 ∷ 115 ∷ 116 ∷ 101 ∷ 112 ∷ 32 ∷ 48 ∷ 32 ∷ 48 ∷ 32 ∷ 48 ∷ 32 ∷ 48 ∷ 32 ∷ 48 ∷ 41 ∷ 10 ∷ []
-unfolding environmentAnswer onlyIf environmentFits inRange environmentPrint winsLine winnerWord environmentStart stepLines stepLine rowLine unlessNone line bracket items gapText word words decimal digits
-case-three = refl
-
--- with a second output, whose row comes last, and the row of output 0 none:
+-- one input and two outputs, the row of output 0 being none:
 --   (wins environment)
 --   (start 0)
 --   (step 0 0 1 0 0)

@@ -1,193 +1,165 @@
--- The games of document 01, "Drives to try", 1 to 8, each with what it prints.
+-- The drives to try of document 01 that are to be proved, cases 1 to 8, with their files and prints: "The cases marked (p) form one table, proved once of
+-- the definitions."
 --
---   Case        == a game and its print
---   table       == the cases
-use Prim.Native.Nat.{ℕ}
-use mathlib.Core.List.{List, [], _∷_}
-use Rattle.game.specs.declared.InSet.{InSet}
-use Rattle.game.specs.declared.OutSet.{OutSet}
+--   Case            == a name, a game, the bytes of its file and the bytes of its print
+--   padded n z l    == the list l, and z behind it up to n places
+--   graph i rows    == the graph with the set i of initial states and a row of moves for each state
+--   ifThen a b      == the requirement with the input sets a and the output sets b
+--   game a b l      == the game of the input graph a and the output graph b, with the requirements l
+--   one .. eight    == the cases
+--   table           == all of them
+--   Proved c        == what is proved of each
+use Prim.Native.Nat.{ℕ, _-_}
+use Prim.Native.String.{String}
+use mathlib.Core.Path.{_≡_}
+use mathlib.Core.List.{List, [], _∷_, _++_, map}
+use lib.ListN.{length, replicate}
 use Rattle.game.specs.declared.Graph.{Graph}
 use Rattle.game.specs.declared.Requirement.{Requirement}
 use Rattle.game.specs.declared.Game.{Game}
-use Rattle.cases.specs.Print.{system, environment, Print}
+use Rattle.game.specs.declared.Acceptance.the-variants.{Accepted}
+use Rattle.game.specs.Acceptance.{acceptance}
+use Rattle.shape.specs.Text.{gameText, emptyRequirement}
+use Rattle.text.specs.declared.Reading.{Reading}
+use Rattle.text.specs.Read.{Reads}
+use Rattle.text.specs.OneText.{Arrays}
+use Rattle.prints.specs.Prints.{gamePrint, readingPrint}
+use Rattle.cases.specs.Bytes.{bytes}
 
 pub record Case : Type 0 where
+  pub name : String
   pub game : Game
-  pub print : Print
+  pub file : List ℕ
+  pub print : List ℕ
 
--- the graph of n states with a set of initial states and rows of moves; the rows past them are empty
-unfoldable pub graph : ℕ → ℕ → List ℕ → Graph
-graph n i rows = record { states = n; initial = i; moves = rows }
+unfoldable pub padded : {A : Type 0} → ℕ → A → List A → List A
+padded n z l = l ++ replicate (n - length l) z
 
-unfoldable pub inputs : ℕ → InSet
-inputs x = record { 0 = x }
+-- "A graph is a state count, a set of initial states, and 64 rows of moves"; a set is its word
+unfoldable pub graph : ℕ → List ℕ → Graph
+graph i rows = record { states = length rows; initial = i; moves = padded 64 0 rows }
 
-unfoldable pub outputs : ℕ → OutSet
-outputs x = record { 0 = x }
+-- "requirements as arrays of four sets each"
+unfoldable pub ifThen : List ℕ → List ℕ → Requirement
+ifThen a b = record {
+  assumptions = map (λ (x : ℕ). record { 0 = x }) (padded 4 0 a);
+  assumed = length a;
+  guarantees = map (λ (x : ℕ). record { 0 = x }) (padded 4 0 b);
+  guaranteed = length b;
+}
 
--- (if ({a}) ({b})): one set on each side
-unfoldable pub ifThen : ℕ → ℕ → Requirement
-ifThen a b = record { assumptions = inputs a ∷ []; assumed = 1; guarantees = outputs b ∷ []; guaranteed = 1 }
+unfoldable pub game : Graph → Graph → List Requirement → Game
+game a b l = record { input = a; output = b; k = length l; requirements = padded 8 emptyRequirement l }
 
--- (if () ({b}))
-unfoldable pub always : ℕ → Requirement
-always b = record { assumptions = []; assumed = 0; guarantees = outputs b ∷ []; guaranteed = 1 }
-
--- one state each, a self-move
-unfoldable pub lone : ℕ → List Requirement → Game
-lone k l = record { input = graph 1 1 (1 ∷ []); output = graph 1 1 (1 ∷ []); k = k; requirements = l }
-
--- the example of "The file"
+-- The example of "The file".
 unfoldable pub one : Case
-unfolding graph inputs outputs ifThen always lone
 one = record {
-  game = record { input = graph 2 1 (3 ∷ 3 ∷ []); output = graph 2 1 (3 ∷ 3 ∷ []); k = 1; requirements = ifThen 2 2 ∷ [] };
-  print = record {
-    wins = system;
-    starts = (0 ∷ 0 ∷ []) ∷ [];
-    steps =
-        (0 ∷ 0 ∷ 0 ∷ 1 ∷ 0 ∷ []) ∷
-        (0 ∷ 0 ∷ 1 ∷ 1 ∷ 0 ∷ []) ∷
-        (1 ∷ 0 ∷ 0 ∷ 1 ∷ 0 ∷ []) ∷
-        (1 ∷ 0 ∷ 1 ∷ 1 ∷ 0 ∷ []) ∷ [];
-  };
+  name = "case_1";
+  game = game (graph 1 (3 ∷ 3 ∷ [])) (graph 1 (3 ∷ 3 ∷ [])) (ifThen (2 ∷ []) (2 ∷ []) ∷ []);
+  file = bytes (
+      "(game 2 2 1)" ∷ "(in 0 1 (0 1))" ∷ "(in 1 0 (0 1))" ∷ "(out 0 1 (0 1))" ∷ "(out 1 0 (0 1))" ∷ "(if ((1)) ((1)))" ∷ []);
+  print = bytes (
+      "(wins system)" ∷ "(start 0 0)" ∷ "(step 0 0 0 1 0)" ∷ "(step 0 0 1 1 0)" ∷ "(step 1 0 0 1 0)" ∷ "(step 1 0 1 1 0)" ∷ []);
 }
 
 -- "One state each, a self-move, k = 0: system; step 0 0 0 0 0."
 unfoldable pub two : Case
-unfolding graph inputs outputs ifThen always lone
 two = record {
-  game = lone 0 [];
-  print = record {
-    wins = system;
-    starts = (0 ∷ 0 ∷ []) ∷ [];
-    steps =
-        (0 ∷ 0 ∷ 0 ∷ 0 ∷ 0 ∷ []) ∷ [];
-  };
+  name = "case_2";
+  game = game (graph 1 (1 ∷ [])) (graph 1 (1 ∷ [])) [];
+  file = bytes (
+      "(game 1 1 0)" ∷ "(in 0 1 (0))" ∷ "(out 0 1 (0))" ∷ []);
+  print = bytes (
+      "(wins system)" ∷ "(start 0 0)" ∷ "(step 0 0 0 0 0)" ∷ []);
 }
 
 -- "As 2 with (if ((0)) (())): environment, start 0, step 0 0 0 0 0."
 unfoldable pub three : Case
-unfolding graph inputs outputs ifThen always lone
 three = record {
-  game = lone 1 (ifThen 1 0 ∷ []);
-  print = record {
-    wins = environment;
-    starts = (0 ∷ []) ∷ [];
-    steps =
-        (0 ∷ 0 ∷ 0 ∷ 0 ∷ 0 ∷ []) ∷ [];
-  };
+  name = "case_3";
+  game = game (graph 1 (1 ∷ [])) (graph 1 (1 ∷ [])) (ifThen (1 ∷ []) (0 ∷ []) ∷ []);
+  file = bytes (
+      "(game 1 1 1)" ∷ "(in 0 1 (0))" ∷ "(out 0 1 (0))" ∷ "(if ((0)) (()))" ∷ []);
+  print = bytes (
+      "(wins environment)" ∷ "(start 0)" ∷ "(step 0 0 0 0 0)" ∷ []);
 }
 
 -- "(if () (())): the same print."
 unfoldable pub four : Case
-unfolding graph inputs outputs ifThen always lone
 four = record {
-  game = lone 1 (always 0 ∷ []);
-  print = record {
-    wins = environment;
-    starts = (0 ∷ []) ∷ [];
-    steps =
-        (0 ∷ 0 ∷ 0 ∷ 0 ∷ 0 ∷ []) ∷ [];
-  };
+  name = "case_4";
+  game = game (graph 1 (1 ∷ [])) (graph 1 (1 ∷ [])) (ifThen [] (0 ∷ []) ∷ []);
+  file = bytes (
+      "(game 1 1 1)" ∷ "(in 0 1 (0))" ∷ "(out 0 1 (0))" ∷ "(if () (()))" ∷ []);
+  print = bytes (
+      "(wins environment)" ∷ "(start 0)" ∷ "(step 0 0 0 0 0)" ∷ []);
 }
 
 -- "(if (()) (())): system."
 unfoldable pub five : Case
-unfolding graph inputs outputs ifThen always lone
 five = record {
-  game = lone 1 (ifThen 0 0 ∷ []);
-  print = record {
-    wins = system;
-    starts = (0 ∷ 0 ∷ []) ∷ [];
-    steps =
-        (0 ∷ 0 ∷ 0 ∷ 0 ∷ 0 ∷ []) ∷ [];
-  };
+  name = "case_5";
+  game = game (graph 1 (1 ∷ [])) (graph 1 (1 ∷ [])) (ifThen (0 ∷ []) (0 ∷ []) ∷ []);
+  file = bytes (
+      "(game 1 1 1)" ∷ "(in 0 1 (0))" ∷ "(out 0 1 (0))" ∷ "(if (()) (()))" ∷ []);
+  print = bytes (
+      "(wins system)" ∷ "(start 0 0)" ∷ "(step 0 0 0 0 0)" ∷ []);
 }
 
--- "Inputs 0 to 1; 1 to 2 and 3; 2, 3 to themselves. Outputs 0 to 1 and 2; 1, 2 to themselves. .. environment, the output commits too early."
+-- "Inputs 0 to 1; 1 to 2 and 3; 2, 3 to themselves. Outputs 0 to 1 and 2; 1, 2 to themselves. Initial 0, 0. If {2} then {1}; if {3} then {2}:
+-- environment, the output commits too early."
 unfoldable pub six : Case
-unfolding graph inputs outputs ifThen always lone
 six = record {
-  game = record { input = graph 4 1 (2 ∷ 12 ∷ 4 ∷ 8 ∷ []); output = graph 3 1 (6 ∷ 2 ∷ 4 ∷ []); k = 2; requirements = ifThen 4 2 ∷ ifThen 8 4 ∷ [] };
-  print = record {
-    wins = environment;
-    starts = (0 ∷ []) ∷ [];
-    steps =
-        (0 ∷ 0 ∷ 0 ∷ 1 ∷ 0 ∷ []) ∷
-        (0 ∷ 0 ∷ 1 ∷ 1 ∷ 0 ∷ []) ∷
-        (0 ∷ 0 ∷ 2 ∷ 1 ∷ 0 ∷ []) ∷
-        (0 ∷ 1 ∷ 0 ∷ 1 ∷ 1 ∷ []) ∷
-        (0 ∷ 1 ∷ 1 ∷ 1 ∷ 1 ∷ []) ∷
-        (0 ∷ 1 ∷ 2 ∷ 1 ∷ 1 ∷ []) ∷
-        (1 ∷ 0 ∷ 1 ∷ 3 ∷ 0 ∷ []) ∷
-        (1 ∷ 0 ∷ 2 ∷ 2 ∷ 0 ∷ []) ∷
-        (1 ∷ 1 ∷ 1 ∷ 3 ∷ 1 ∷ []) ∷
-        (1 ∷ 1 ∷ 2 ∷ 2 ∷ 1 ∷ []) ∷
-        (2 ∷ 0 ∷ 2 ∷ 2 ∷ 1 ∷ []) ∷
-        (2 ∷ 1 ∷ 2 ∷ 2 ∷ 1 ∷ []) ∷
-        (3 ∷ 0 ∷ 1 ∷ 3 ∷ 0 ∷ []) ∷
-        (3 ∷ 1 ∷ 1 ∷ 3 ∷ 0 ∷ []) ∷ [];
-  };
+  name = "case_6";
+  game = game (graph 1 (2 ∷ 12 ∷ 4 ∷ 8 ∷ [])) (graph 1 (6 ∷ 2 ∷ 4 ∷ [])) (ifThen (4 ∷ []) (2 ∷ []) ∷ ifThen (8 ∷ []) (4 ∷ []) ∷ []);
+  file = bytes (
+      "(game 4 3 2)" ∷ "(in 0 1 (1))" ∷ "(in 1 0 (2 3))" ∷ "(in 2 0 (2))" ∷ "(in 3 0 (3))" ∷ "(out 0 1 (1 2))" ∷ "(out 1 0 (1))" ∷ "(out 2 0 (2))" ∷
+      "(if ((2)) ((1)))" ∷ "(if ((3)) ((2)))" ∷ []);
+  print = bytes (
+      "(wins environment)" ∷ "(start 0)" ∷ "(step 0 0 0 1 0)" ∷ "(step 0 0 1 1 0)" ∷ "(step 0 0 2 1 0)" ∷ "(step 0 1 0 1 1)" ∷ "(step 0 1 1 1 1)" ∷
+      "(step 0 1 2 1 1)" ∷ "(step 1 0 1 3 0)" ∷ "(step 1 0 2 2 0)" ∷ "(step 1 1 1 3 1)" ∷ "(step 1 1 2 2 1)" ∷ "(step 2 0 2 2 1)" ∷
+      "(step 2 1 2 2 1)" ∷ "(step 3 0 1 3 0)" ∷ "(step 3 1 1 3 0)" ∷ []);
 }
 
 -- "As 6, output 0 also to 0: system."
 unfoldable pub seven : Case
-unfolding graph inputs outputs ifThen always lone
 seven = record {
-  game = record { input = graph 4 1 (2 ∷ 12 ∷ 4 ∷ 8 ∷ []); output = graph 3 1 (7 ∷ 2 ∷ 4 ∷ []); k = 2; requirements = ifThen 4 2 ∷ ifThen 8 4 ∷ [] };
-  print = record {
-    wins = system;
-    starts = (0 ∷ 0 ∷ []) ∷ [];
-    steps =
-        (0 ∷ 0 ∷ 0 ∷ 0 ∷ 0 ∷ []) ∷
-        (0 ∷ 0 ∷ 1 ∷ 0 ∷ 0 ∷ []) ∷
-        (0 ∷ 0 ∷ 2 ∷ 1 ∷ 0 ∷ []) ∷
-        (0 ∷ 0 ∷ 3 ∷ 2 ∷ 0 ∷ []) ∷
-        (0 ∷ 1 ∷ 0 ∷ 0 ∷ 1 ∷ []) ∷
-        (0 ∷ 1 ∷ 1 ∷ 0 ∷ 1 ∷ []) ∷
-        (0 ∷ 1 ∷ 2 ∷ 1 ∷ 1 ∷ []) ∷
-        (0 ∷ 1 ∷ 3 ∷ 2 ∷ 1 ∷ []) ∷
-        (1 ∷ 0 ∷ 2 ∷ 1 ∷ 1 ∷ []) ∷
-        (1 ∷ 1 ∷ 2 ∷ 1 ∷ 1 ∷ []) ∷
-        (2 ∷ 0 ∷ 3 ∷ 2 ∷ 0 ∷ []) ∷
-        (2 ∷ 1 ∷ 3 ∷ 2 ∷ 0 ∷ []) ∷ [];
-  };
+  name = "case_7";
+  game = game (graph 1 (2 ∷ 12 ∷ 4 ∷ 8 ∷ [])) (graph 1 (7 ∷ 2 ∷ 4 ∷ [])) (ifThen (4 ∷ []) (2 ∷ []) ∷ ifThen (8 ∷ []) (4 ∷ []) ∷ []);
+  file = bytes (
+      "(game 4 3 2)" ∷ "(in 0 1 (1))" ∷ "(in 1 0 (2 3))" ∷ "(in 2 0 (2))" ∷ "(in 3 0 (3))" ∷ "(out 0 1 (0 1 2))" ∷ "(out 1 0 (1))" ∷
+      "(out 2 0 (2))" ∷ "(if ((2)) ((1)))" ∷ "(if ((3)) ((2)))" ∷ []);
+  print = bytes (
+      "(wins system)" ∷ "(start 0 0)" ∷ "(step 0 0 0 0 0)" ∷ "(step 0 0 1 0 0)" ∷ "(step 0 0 2 1 0)" ∷ "(step 0 0 3 2 0)" ∷ "(step 0 1 0 0 1)" ∷
+      "(step 0 1 1 0 1)" ∷ "(step 0 1 2 1 1)" ∷ "(step 0 1 3 2 1)" ∷ "(step 1 0 2 1 1)" ∷ "(step 1 1 2 1 1)" ∷ "(step 2 0 3 2 0)" ∷
+      "(step 2 1 3 2 0)" ∷ []);
 }
 
--- "Inputs 0 to 1 and 2; 1, 2 to themselves. Outputs 0 to 1 and 2; 1 to 0; 2 to itself. .. If {s} then {s}, s = 0, 1, 2: system."
+-- "Inputs 0 to 1 and 2; 1, 2 to themselves. Outputs 0 to 1 and 2; 1 to 0; 2 to itself. Initial 0, 0. If {s} then {s}, s = 0, 1, 2: system."
 unfoldable pub eight : Case
-unfolding graph inputs outputs ifThen always lone
 eight = record {
-  game = record { input = graph 3 1 (6 ∷ 2 ∷ 4 ∷ []); output = graph 3 1 (6 ∷ 1 ∷ 4 ∷ []); k = 3; requirements = ifThen 1 1 ∷ ifThen 2 2 ∷ ifThen 4 4 ∷ [] };
-  print = record {
-    wins = system;
-    starts = (0 ∷ 0 ∷ []) ∷ [];
-    steps =
-        (0 ∷ 0 ∷ 0 ∷ 1 ∷ 0 ∷ []) ∷
-        (0 ∷ 0 ∷ 1 ∷ 1 ∷ 0 ∷ []) ∷
-        (0 ∷ 0 ∷ 2 ∷ 2 ∷ 0 ∷ []) ∷
-        (0 ∷ 1 ∷ 0 ∷ 1 ∷ 1 ∷ []) ∷
-        (0 ∷ 1 ∷ 1 ∷ 1 ∷ 2 ∷ []) ∷
-        (0 ∷ 1 ∷ 2 ∷ 2 ∷ 1 ∷ []) ∷
-        (0 ∷ 2 ∷ 0 ∷ 1 ∷ 2 ∷ []) ∷
-        (0 ∷ 2 ∷ 1 ∷ 1 ∷ 0 ∷ []) ∷
-        (0 ∷ 2 ∷ 2 ∷ 2 ∷ 2 ∷ []) ∷
-        (1 ∷ 0 ∷ 0 ∷ 0 ∷ 0 ∷ []) ∷
-        (1 ∷ 0 ∷ 1 ∷ 0 ∷ 1 ∷ []) ∷
-        (1 ∷ 0 ∷ 2 ∷ 0 ∷ 0 ∷ []) ∷
-        (1 ∷ 1 ∷ 0 ∷ 0 ∷ 1 ∷ []) ∷
-        (1 ∷ 1 ∷ 1 ∷ 0 ∷ 1 ∷ []) ∷
-        (1 ∷ 1 ∷ 2 ∷ 0 ∷ 1 ∷ []) ∷
-        (1 ∷ 2 ∷ 0 ∷ 0 ∷ 2 ∷ []) ∷
-        (1 ∷ 2 ∷ 1 ∷ 0 ∷ 1 ∷ []) ∷
-        (1 ∷ 2 ∷ 2 ∷ 0 ∷ 2 ∷ []) ∷
-        (2 ∷ 0 ∷ 2 ∷ 2 ∷ 0 ∷ []) ∷
-        (2 ∷ 1 ∷ 2 ∷ 2 ∷ 0 ∷ []) ∷
-        (2 ∷ 2 ∷ 2 ∷ 2 ∷ 0 ∷ []) ∷ [];
-  };
+  name = "case_8";
+  game = game (graph 1 (6 ∷ 2 ∷ 4 ∷ [])) (graph 1 (6 ∷ 1 ∷ 4 ∷ []))
+      (ifThen (1 ∷ []) (1 ∷ []) ∷ ifThen (2 ∷ []) (2 ∷ []) ∷ ifThen (4 ∷ []) (4 ∷ []) ∷ []);
+  file = bytes (
+      "(game 3 3 3)" ∷ "(in 0 1 (1 2))" ∷ "(in 1 0 (1))" ∷ "(in 2 0 (2))" ∷ "(out 0 1 (1 2))" ∷ "(out 1 0 (0))" ∷ "(out 2 0 (2))" ∷
+      "(if ((0)) ((0)))" ∷ "(if ((1)) ((1)))" ∷ "(if ((2)) ((2)))" ∷ []);
+  print = bytes (
+      "(wins system)" ∷ "(start 0 0)" ∷ "(step 0 0 0 1 0)" ∷ "(step 0 0 1 1 0)" ∷ "(step 0 0 2 2 0)" ∷ "(step 0 1 0 1 1)" ∷ "(step 0 1 1 1 2)" ∷
+      "(step 0 1 2 2 1)" ∷ "(step 0 2 0 1 2)" ∷ "(step 0 2 1 1 0)" ∷ "(step 0 2 2 2 2)" ∷ "(step 1 0 0 0 0)" ∷ "(step 1 0 1 0 1)" ∷
+      "(step 1 0 2 0 0)" ∷ "(step 1 1 0 0 1)" ∷ "(step 1 1 1 0 1)" ∷ "(step 1 1 2 0 1)" ∷ "(step 1 2 0 0 2)" ∷ "(step 1 2 1 0 1)" ∷
+      "(step 1 2 2 0 2)" ∷ "(step 2 0 2 2 0)" ∷ "(step 2 1 2 2 0)" ∷ "(step 2 2 2 2 0)" ∷ []);
 }
 
 unfoldable pub table : List Case
 unfolding one two three four five six seven eight
 table = one ∷ two ∷ three ∷ four ∷ five ∷ six ∷ seven ∷ eight ∷ []
+
+pub record Proved (c : Case) : Type 0 where
+  -- the game is a record of a program, its text is the file, it is accepted, and its print is the print
+  pub arrays : Arrays (c .game)
+  pub file : gameText (c .game) ≡ c .file
+  pub accepted : acceptance (c .game) ≡ Accepted
+  pub print : gamePrint (c .game) ≡ c .print
+  -- so whatever answers the file as the reader promises, the print for it is the print
+  pub reads : (r : Reading) → Reads (c .file) r → readingPrint r ≡ c .print

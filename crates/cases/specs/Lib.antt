@@ -1,3 +1,3 @@
 -- The cases of document 01, "Drives to try", that are to be proved.
-pub mod Print
+pub mod Bytes
 pub mod Cases

@@ -32,7 +32,8 @@ use Rattle.put.proofs.Buffer.{puts-as}
 use Rattle.answers.specs.Print.{inRange, controllerFits, environmentFits, onlyIf, controllerPrint, environmentPrint, controllerAnswer, environmentAnswer}
 use Rattle.answer_lines.specs.Line.{refusedLine, misshapenLine}
 use Rattle.answers.proofs.Room.{controller-room, environment-room, refused-room, misshapen-room, entries-small}
-use Rattle.solve.specs.Printed.{tablePrint, gamePrint, answerPrint, readingPrint, Made, Printed}
+use Rattle.prints.specs.Prints.{tablePrint, gamePrint, answerPrint, readingPrint}
+use Rattle.solve.specs.Printed.{Made, Printed}
 
 -- the dimensions of an accepted game are in range
 range : (i o c : ℕ) → i ≤ 64 → o ≤ 64 → max 1 c ≤ 32 → inRange i o c ≡ true

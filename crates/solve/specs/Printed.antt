@@ -1,45 +1,13 @@
--- What the program prints for a file.
+-- What the program prints for a file, in its buffer.
 --
---   tablePrint g v     == the print for the game g and the solver's answer v
---   gamePrint g        == the print for the accepted game g
---   readingPrint r     == the print for what was read
 --   Made d t n e       == the buffer d has become e by writing the print t at its front, n bytes, which 1 MiB holds
 --   Printed s d n e    == the same for the print of the file s
 use Prim.Native.Nat.{ℕ, _≤_}
 use mathlib.Core.List.{List}
-use lib.ListN.{length}
-use Rattle.game.specs.declared.Game.{Game}
-use Rattle.play.specs.Play.{separatedOf}
-use Rattle.theory.specs.Choice.{guarantees, assumptions}
-use Rattle.theory.specs.Entries.{controllerEntries, environmentEntries}
-use Rattle.solver.specs.declared.Verdict.{Verdict}
-use Rattle.solver.specs.declared.Verdict.the-variants.{System, Environment, Refused as NotSolved}
-use Rattle.solver.specs.Promise.{verdictAnswer}
 use Rattle.put.specs.Put.{Puts}
-use Rattle.text.specs.declared.Answer.{Answer}
-use Rattle.text.specs.declared.Answer.the-variants.{Read, Misshapen, Refused as NotRead}
 use Rattle.text.specs.declared.Reading.{Reading}
 use Rattle.text.specs.Read.{Reads}
-use Rattle.answer_lines.specs.Line.{refusedLine, misshapenLine}
-use Rattle.answers.specs.Print.{controllerPrint, environmentPrint}
-
-unfoldable pub tablePrint : Game → Verdict → List ℕ
-tablePrint g (System n) = controllerPrint (g .input .states) (g .output .states) (length (guarantees (separatedOf g))) (controllerEntries (separatedOf g))
-tablePrint g (Environment n) = environmentPrint (g .input .states) (g .output .states) (length (assumptions (separatedOf g))) (environmentEntries (separatedOf g))
-tablePrint g (NotSolved n) = refusedLine n
-
--- "The program lends 32,768 entries a room."
-unfoldable pub gamePrint : Game → List ℕ
-gamePrint g = tablePrint g (verdictAnswer g 512 32768 32768)
-
--- "A refusal prints (refused N), for 11 (refused 11 P)."
-unfoldable pub answerPrint : Game → Answer → List ℕ
-answerPrint g Read = gamePrint g
-answerPrint g (Misshapen p) = misshapenLine p
-answerPrint g (NotRead n) = refusedLine n
-
-unfoldable pub readingPrint : Reading → List ℕ
-readingPrint r = answerPrint (r .game) (r .answer)
+use Rattle.prints.specs.Prints.{readingPrint}
 
 pub record Made (d t : List ℕ) (n : ℕ) (e : List ℕ) : Type 0 where
   pub puts : Puts d 0 t n e

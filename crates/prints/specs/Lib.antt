@@ -1,0 +1,2 @@
+-- What the solve program prints.
+pub mod Prints

@@ -1,0 +1,1 @@
+// What the solve program prints for a game and for what was read: definitions in specs/. There is no code.
