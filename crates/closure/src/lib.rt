@@ -3,7 +3,7 @@ use game::Graph;
 ghost use mathlib.Core.Path.{_≡_};
 ghost use Prim.Native.Nat.{_≤_};
 ghost use lib.ListN.{length};
-ghost use Rattle.closure.specs.Sweep.{grown, firstRows, Swept, Closed};
+ghost use Rattle.closure.specs.Sweep.{grown, firstRows, Ran, Closed};
 
 // Row s becomes s and its moves. A move past the count is none.
 fn start(h: Graph, rows: &mut [u64])
@@ -34,10 +34,10 @@ fn joined(rows: &[u64], n: usize, x: u64) -> u64
     y
 }
 
-// One sweep over the states below n, in place. Whether it added a state to a row.
-fn sweep(rows: &mut [u64], n: usize) -> bool
-    requires { ⌜ (n ≤ 64) × (n ≤ length (now rows)) ⌝ }
-    ensures { λ r. ⌜ Swept n (now (rows .entry)) n (now (rows .exit)) r ⌝ }
+// One sweep over the states below n, in place, which moves the count of sweeps on. Whether it added a state to a row.
+fn sweep(rows: &mut [u64], n: usize, sweeps: &mut usize) -> bool
+    requires { ⌜ (n ≤ 64) × (n ≤ length (now rows)) × (now sweeps ≤ 64) ⌝ }
+    ensures { λ r. ⌜ Ran n (now (rows .entry)) (now (rows .exit)) r (now (sweeps .entry)) (now (sweeps .exit)) ⌝ }
 {
     let mut added = false;
     let mut s = 0;
@@ -50,6 +50,7 @@ fn sweep(rows: &mut [u64], n: usize) -> bool
         }
         s += 1;
     }
+    *sweeps += 1;
     added
 }
 
@@ -59,9 +60,7 @@ pub fn close(h: Graph, rows: &mut [u64]) -> usize
     ensures { λ r. ⌜ Closed h (now (rows .entry)) (now (rows .exit)) r ⌝ }
 {
     start(h, rows);
-    let mut sweeps = 1;
-    while sweep(rows, h.states) {
-        sweeps += 1;
-    }
+    let mut sweeps = 0;
+    while sweep(rows, h.states, &mut sweeps) {}
     sweeps
 }

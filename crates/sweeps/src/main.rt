@@ -1,4 +1,4 @@
-// Prints how many sweeps the closure of some graphs takes.
+// Prints how many sweeps the closure of some graphs takes, and holds every graph of up to 3 states to "in no graph more sweeps than states".
 use game::Graph;
 use libc::STDOUT_FILENO;
 ghost use mathlib.Core.Path.{_≡_};
@@ -74,6 +74,61 @@ fn report(name: &[u8], shape: Shape, n: usize)
     io::write_all(STDOUT_FILENO, b"\n");
 }
 
+// The graph of n states whose rows are the digits of the code to the base of 2 to the power n, row 0 lowest.
+fn coded(n: usize, base: u64, code: u64) -> Graph
+    requires { ⌜ (n ≤ 64) × (1 ≤ base) ⌝ }
+    ensures { λ r. ⌜ r .states ≡ n ⌝ }
+{
+    let mut moves = [0u64; 64];
+    let mut rest = code;
+    let mut s = 0;
+    while s < n {
+        moves[s] = rest % base;
+        rest /= base;
+        s += 1;
+    }
+    Graph {
+        states: n,
+        initial: 1,
+        moves,
+    }
+}
+
+// Whether that graph takes no more sweeps than it has states.
+fn bounded(n: usize, base: u64, code: u64) -> bool
+    requires { ⌜ (n ≤ 64) × (1 ≤ base) ⌝ }
+{
+    let mut rows = [0u64; 64];
+    closure::close(coded(n, base, code), &mut rows) <= n
+}
+
+// How many of the graphs with codes below some number do.
+fn count_bounded(n: usize, base: u64, codes: u64) -> u64
+    requires { ⌜ (n ≤ 64) × (1 ≤ base) ⌝ }
+{
+    let mut kept = 0u64;
+    let mut code = 0u64;
+    while code < codes {
+        if bounded(n, base, code) {
+            kept += 1;
+        }
+        code += 1;
+    }
+    kept
+}
+
+// A line: how many graphs of n states there are, and how many of them take no more sweeps than states.
+fn report_all(name: &[u8], n: usize, base: u64, codes: u64)
+    requires { ⌜ (n ≤ 64) × (1 ≤ base) ⌝ }
+{
+    let kept = count_bounded(n, base, codes);
+    io::write_all(STDOUT_FILENO, name);
+    io::print_decimal(STDOUT_FILENO, codes);
+    io::write_all(STDOUT_FILENO, b", no more sweeps than states: ");
+    io::print_decimal(STDOUT_FILENO, kept);
+    io::write_all(STDOUT_FILENO, b"\n");
+}
+
 fn main() {
     report(b"one state, to itself: ", Shape::Loops, 1);
     report(b"two states, each to itself: ", Shape::Loops, 2);
@@ -84,4 +139,7 @@ fn main() {
     report(b"a cycle of 64 in strides: ", Shape::Strides, 64);
     report(b"two cycles of 32, joined: ", Shape::TwoCycles, 64);
     report(b"64 states, each to all: ", Shape::Full, 64);
+    report_all(b"graphs of 1 state: ", 1, 2, 2);
+    report_all(b"graphs of 2 states: ", 2, 4, 16);
+    report_all(b"graphs of 3 states: ", 3, 8, 512);
 }

@@ -9,10 +9,10 @@ use Rattle.closure.proofs.sweep.Statement.{statement}
 use Rattle.closure.proofs.sweep.Tie as tie
 
 abbrev Inv-loop : tie.InvT-loop
-Inv-loop rows₀ n added₀ s₀ rows added s = (s ≤ n) × Swept n rows₀ s rows added
+Inv-loop rows₀ n sweeps added₀ s₀ rows added s = (s ≤ n) × Swept n rows₀ s rows added
 
 abbrev μ-loop : tie.MeasureT-loop
-μ-loop rows₀ n added₀ s₀ rows added s = n - s
+μ-loop rows₀ n sweeps added₀ s₀ rows added s = n - s
 
 loop-holds : tie.Need-loop-holds Inv-loop μ-loop
 loop-holds c = (omega arith, swept-start _ _)
@@ -48,13 +48,17 @@ loop-again c =
           (c .if1 .came),
     )
 
+add-sweeps : tie.Need-add-sweeps Inv-loop μ-loop
+add-sweeps c = omega arith
+
 same-length : tie.Need-same-length Inv-loop μ-loop
-same-length c = swept-long (c .before .loop .inv .1)
+same-length c = swept-long (c .before .before .loop .inv .1)
 
 returns : tie.Need-returns Inv-loop μ-loop
 returns c =
-    let e : c .before .loop .s ≡ c .before .before .before .args .n = omega arith in
-    rw e at (c .before .loop .inv .1)
+    let b = c .before .before in
+    let e : b .loop .s ≡ b .before .before .args .n = omega arith in
+    record { sweep = rw e at (b .loop .inv .1); count = refl }
 
 pub sweep-spec : {M : Type 1} → statement M
 sweep-spec =
@@ -71,5 +75,6 @@ sweep-spec =
     add-s
     loop-less
     loop-again
+    add-sweeps
     same-length
     returns)
