@@ -12,3 +12,5 @@ pub mod Nones
 pub mod Left
 pub mod Demand
 pub mod From
+pub mod Rest
+pub mod Wins
