@@ -21,7 +21,7 @@ use Rattle.game.proofs.Laws.{Fits}
 use Rattle.play.specs.Play.{graphOf}
 use Rattle.closure.specs.Sweep.{Closed}
 use Rattle.closure.proofs.Laws.{closed-row, closed-rest, closed-length}
-use Rattle.closure.proofs.Front.{rows-length, rows-row, rows-rest}
+use Rattle.graphs.proofs.Front.{rows-length, rows-row, rows-rest}
 use Rattle.components.specs.Component.{turns}
 use Rattle.components.specs.Closes.{Closes}
 use Rattle.stored.specs.Stored.{Laid}

@@ -17,7 +17,7 @@ use Rattle.graphs.specs.Closure.{nearby}
 use Rattle.game.specs.declared.Graph.{Graph}
 use Rattle.play.specs.Play.{graphOf}
 use Rattle.closure.specs.Sweep.{firstRows}
-use Rattle.closure.proofs.Front.{rows-length, rows-rest}
+use Rattle.graphs.proofs.Front.{rows-length, rows-rest}
 
 -- row s: `(moves & below(n)) | (1 << s)`
 pub first-word : (h : Graph) (s below moved r : ℕ) → s < h .states → ((t : ℕ) → has below t ≡ ltb t (h .states))

@@ -1,20 +1,17 @@
 -- The places of the controller's table.
 --
---   table-length          : how many entries the table has
 --   start-at, row-entry   : what stands at a place
 --   place-in              : a row's place is one of the table
 --   cell-of               : every place past the starts is a row's
 use Prim.Native.Nat.{ℕ, zero, suc, _+_, _-_, _*_, _/_, _%_, _≤_, _<_}
 use native.Mathlib.Nat.{div-add-mod', mod-lt, div-lt-iff-lt-mul, mul-zero, le-max-left}
-use mathlib.Core.Path.{_≡_, sym, _∙_, ap, ap₂}
+use mathlib.Core.Path.{_≡_, sym, _∙_, ap}
 use native.Mathlib.Omega.{arith}
-use lib.ListN.{length, getD, length-append}
-use Rattle.finite.specs.Tabulate.{tabulate}
-use Rattle.finite.proofs.Tabulate.{length-tabulate}
+use lib.ListN.{length, getD}
 use Rattle.arena.specs.Arena.{Separated}
 use Rattle.theory.specs.Choice.{guarantees, controllerRow, controllerStart}
-use Rattle.theory.specs.Entries.{entry, controllerCounters, rowOf, controllerEntries}
-use Rattle.theory.proofs.Entries.{place-below, controller-start-at, controller-row-at}
+use Rattle.theory.specs.Entries.{entry, controllerCounters, controllerEntries}
+use Rattle.theory.proofs.Entries.{place-below, controller-long, controller-start-at, controller-row-at}
 use Rattle.controller_table.specs.Filled.{place}
 
 module _ (S : Separated) where
@@ -22,23 +19,13 @@ module _ (S : Separated) where
   unfolding controllerCounters
   some-counter = le-max-left 1 (length (guarantees S))
 
-  starts-length : length (tabulate (S .input .states) (λ i. entry (controllerStart S i))) ≡ S .input .states
-  starts-length = length-tabulate (λ i. entry (controllerStart S i)) (S .input .states)
-
-  pub table-length : length (controllerEntries S) ≡ S .input .states + S .output .states * controllerCounters S * S .input .states
-  unfolding controllerEntries
-  table-length =
-      length-append (tabulate (S .input .states) (λ i. entry (controllerStart S i)))
-      (tabulate (S .output .states * controllerCounters S * S .input .states) (rowOf (controllerCounters S) (S .input .states) (controllerRow S)))
-      ∙ ap₂ _+_ starts-length (length-tabulate (rowOf (controllerCounters S) (S .input .states) (controllerRow S)) (S .output .states * controllerCounters S * S .input .states))
-
   pub start-at : (i : ℕ) → i < S .input .states → getD (controllerEntries S) i 0 ≡ entry (controllerStart S i)
   start-at = controller-start-at S 0
 
   module _ (o c j : ℕ) (a : o < S .output .states) (b : c < controllerCounters S) (d : j < S .input .states) where
     pub place-in : place S o c j < length (controllerEntries S)
     unfolding place
-    place-in = omega (arith, table-length, place-below (S .output .states) (controllerCounters S) (S .input .states) o c j a b d)
+    place-in = omega (arith, controller-long S, place-below (S .output .states) (controllerCounters S) (S .input .states) o c j a b d)
 
     pub row-entry : getD (controllerEntries S) (place S o c j) 0 ≡ entry (controllerRow S o c j)
     unfolding place
@@ -76,7 +63,7 @@ module _ (S : Separated) where
       r = k - S .input .states
 
       below : k - S .input .states < S .output .states * controllerCounters S * S .input .states
-      below = omega (arith, table-length)
+      below = omega (arith, controller-long S)
 
       some : (x : ℕ) → k - S .input .states < S .output .states * controllerCounters S * x → 0 < x
       some zero h = absurd (omega (arith, mul-zero (S .output .states * controllerCounters S)))

@@ -36,7 +36,8 @@ use Rattle.controller_rows.specs.Each.{Each, none, hit, miss}
 use Rattle.controller_rows.specs.Writes.{Row, Rows, settlesAt, residesAt, Plain, Plains, Rest, Aimed, Aim, startOf, Start, Starts}
 use Rattle.controller_rows.specs.Writes.{Away as AwayLoop}
 use Rattle.controller_table.specs.Filled.{Resides, Away, There, Toward, HomeOf}
-use Rattle.controller_table.proofs.Cells.{table-length, start-at}
+use Rattle.theory.proofs.Entries.{controller-long}
+use Rattle.controller_table.proofs.Cells.{start-at}
 use Rattle.controller_table.proofs.Fills.{Sizes, Fills, filled-part, fills-each, fills-row, fills-rows, fills-aimed}
 use Rattle.controller_table.proofs.Told.{Told, resides-word, resides-at, resides-same, home-reached-at}
 use Rattle.controller_table.proofs.Entries.{plain-entry, away-entry, rest-entry, aim-entry}
@@ -162,7 +163,7 @@ module _ (S : Separated) (z : Size) (n : z .inputs ≡ S .input .states) (s : Li
   begun (suc k) (hit {m = m} {r = r} e t f) b long =
       let before = begun k e (omega arith) long in
       let is = value k b ∙ sym (start-at S k b) in
-      let in-table : k < length (controllerEntries S) = omega (arith, table-length S) in
+      let in-table : k < length (controllerEntries S) = omega (arith, controller-long S) in
       let in-room : k < length m = omega (arith, before .grows .long) in
       let step = grows-set (controllerEntries S) m k (startOf z s cores ins outs k) in-table in-room is in
       rw (f .written)

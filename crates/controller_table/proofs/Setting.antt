@@ -32,7 +32,8 @@ use Rattle.theory.proofs.Region.{homeFor-nontrivial, region-out}
 use Rattle.controller_rows.specs.declared.Size.{Size}
 use Rattle.controller_rows.specs.Writes.{Table}
 use Rattle.controller_table.specs.Filled.{Sized, Given}
-use Rattle.controller_table.proofs.Cells.{some-counter, table-length}
+use Rattle.theory.proofs.Entries.{controller-long}
+use Rattle.controller_table.proofs.Cells.{some-counter}
 use Rattle.controller_table.proofs.Fills.{Sizes}
 use Rattle.controller_table.proofs.Told.{Told}
 
@@ -56,7 +57,7 @@ module _ (g : Game) (z : Size) (Z : Sized g z) where
     some = rw (Z .counters) (some-counter (separatedOf g));
     counters = omega (arith, Z .counters, controller-few g fits-of);
     all = Z .all;
-    room = rw (Z .inputs, Z .outputs, Z .counters) (omega (arith, table-length (separatedOf g)));
+    room = rw (Z .inputs, Z .outputs, Z .counters) (omega (arith, controller-long (separatedOf g)));
   }
 
 module _ (S : Separated) (j : ℕ) where

@@ -14,10 +14,10 @@ use mathlib.Core.List.{List}
 use mathlib.Core.Logic.{_⊎_, inl, inr}
 use native.Mathlib.Omega.{arith}
 use native.Mathlib.Decide.{ℕ-discrete}
+use native.Mathlib.Numerals.{one-add}
 use lib.Dec.{ltb}
 use lib.ListN.{length, getD}
 use borrow.Author.Tests.{ltb-true, lt-ltb}
-use Rattle.finite.proofs.Tabulate.{length-tabulate}
 use Rattle.finite.proofs.Truth.{decide}
 use Rattle.sets.specs.Member.{has}
 use Rattle.graphs.proofs.Graph.{edge-to}
@@ -29,8 +29,8 @@ use Rattle.play.specs.Play.{graphOf, separatedOf}
 use Rattle.arena.specs.Arena.{Separated}
 use Rattle.theory.specs.Region.{region}
 use Rattle.theory.specs.Choice.{assumptions, environmentRow}
-use Rattle.theory.specs.Entries.{entry, rowOf, environmentCounters, environmentEntries}
-use Rattle.theory.proofs.Entries.{place-below, environment-row-at}
+use Rattle.theory.specs.Entries.{entry, environmentCounters}
+use Rattle.theory.proofs.Entries.{place-below, environment-long, environment-row-at}
 use Rattle.theory.proofs.EnvironmentRow.{pushed}
 use Rattle.demands.proofs.Sizes.{environment-few}
 use Rattle.filling.specs.Grows.{Right}
@@ -41,11 +41,8 @@ use Rattle.environment_table.specs.Table.{entriesOf, place, Roomy, Fille
 -- the length of the list, and what stands at the place of a row
 
 pub entries-length : (g : Game) → length (entriesOf g) ≡ suc (g .input .states * environmentCounters (separatedOf g) * g .output .states)
-unfolding entriesOf environmentEntries separatedOf graphOf
-entries-length g =
-    ap suc
-    (length-tabulate (rowOf (environmentCounters (separatedOf g)) (g .output .states) (environmentRow (separatedOf g)))
-    (g .input .states * environmentCounters (separatedOf g) * g .output .states))
+unfolding entriesOf separatedOf graphOf
+entries-length g = environment-long (separatedOf g) ∙ one-add (g .input .states * environmentCounters (separatedOf g) * g .output .states)
 
 module _ (g : Game) (i h o : ℕ) (li : i < g .input .states) (lh : h < environmentCounters (separatedOf g)) (lo : o < g .output .states) where
   pub place-in : place (environmentCounters (separatedOf g)) (g .output .states) i h o < length (entriesOf g)

@@ -3,5 +3,6 @@ pub mod Truth
 pub mod Bounded
 pub mod Lists
 pub mod Tabulate
+pub mod Front
 pub mod Pigeonhole
 pub mod Loops

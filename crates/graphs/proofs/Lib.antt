@@ -3,6 +3,7 @@ pub mod Walk
 pub mod Measure
 pub mod Graph
 pub mod Rows
+pub mod Front
 pub mod Closure
 pub mod Component
 pub mod Way

@@ -24,7 +24,6 @@ use Rattle.demands.specs.Demands.{playOf, controllerOf}
 use Rattle.solver.specs.declared.Verdict.{Verdict}
 use Rattle.solver.specs.declared.Verdict.the-variants.{System, Environment, Refused}
 use Rattle.solver.specs.Promise.{controllerLength, environmentLength, named, tenth, ninth, eighth, verdictAnswer, controllerAfter, environmentAfter, verdictScratch, Decided, Solved}
-use Rattle.solver.proofs.Verdicts.{controller-long}
 use Rattle.drives.specs.declared.Kit.{Kit}
 use Rattle.drives.specs.Drive.{graphFrom, gameFrom}
 use Rattle.drives.specs.Acceptance.{kitAcceptance}
@@ -34,6 +33,7 @@ use Rattle.kit_rows.proofs.Kits.{entries-long}
 use Rattle.kit_runs.specs.Exchange.{Exchanged}
 use Rattle.kit_runs.proofs.Turns.{kit-reads}
 use Rattle.kit_runs.proofs.Exchange.{kit-exchanged}
+use Rattle.kit.proofs.Lengths.{controller-long}
 use Rattle.kit.specs.Promise.{kitNamed, kitTenth, kitNinth, kitEighth, kitAnswer, solverAnswer, kitAfter, Kept, KitSolved}
 
 -- what an answer of the solver is for the kit
@@ -48,7 +48,7 @@ front-of l m n q = ap (λ (i : ℕ). take i (l ++ m)) q ∙ take-append-seam l m
 
 modes-in : (k : Kit) → k .old .modes ≤ length (controllerEntries (separatedOf (gameFrom k)))
 unfolding controllerLength gameFrom graphFrom
-modes-in k = omega (arith, controller-long (gameFrom k))
+modes-in k = omega (arith, controller-long k)
 
 module _ (k : Kit) (s c e t : List ℕ) where
   refused : (n : ℕ) → Refused n ≡ kitAnswer k (length s) (length c) (length e) (length t) → KitSolved k s s c c e e t t (Refused n)
@@ -135,7 +135,7 @@ module _ (k : Kit) (s c e t : List ℕ) where
       unfolding controllerAfter
       handed n s′ c′ e′ S =
           ap (take n) (S .controller)
-          ∙ front-of (controllerEntries (separatedOf (gameFrom k))) (drop n c) n (system-length n (S .answer) ∙ sym (controller-long (gameFrom k)))
+          ∙ front-of (controllerEntries (separatedOf (gameFrom k))) (drop n c) n (system-length n (S .answer) ∙ sym (controller-long k))
 
       pub kit-system : (n : ℕ) (s′ c′ e′ t′ : List ℕ) → Solved (gameFrom k) s s′ c c′ e e′ (System n) → t′ ≡ kitEntries k (take n c′) ++ drop (kitLength k) t
           → KitSolved k s s′ c c′ e e′ t t′ (System (kitLength k))

@@ -17,7 +17,6 @@ use Rattle.theory.specs.Entries.{controllerCounters, controllerEntries}
 use Rattle.solver.specs.declared.Verdict.{Verdict}
 use Rattle.solver.specs.declared.Verdict.the-variants.{System, Environment, Refused}
 use Rattle.solver.specs.Promise.{controllerLength, controllerAfter, Solved}
-use Rattle.solver.proofs.Verdicts.{controller-long}
 use Rattle.drives.specs.declared.Kit.{Kit}
 use Rattle.drives.specs.Drive.{gameFrom}
 use Rattle.drives.specs.Acceptance.{kitAcceptance}
@@ -26,13 +25,13 @@ use Rattle.kit_rows.specs.Rows.{counters, kitLength, kitEntries, KitReady}
 use Rattle.kit.specs.Promise.{KitSolved}
 use Rattle.kit.specs.Roomy.{Roomy}
 use Rattle.kit.proofs.Answers.{system-length, handed, kit-system, kit-environment, kit-refused}
-use Rattle.kit.proofs.Lengths.{kit-ready}
+use Rattle.kit.proofs.Lengths.{controller-long, kit-ready}
 
 pub game-accepted : (k : Kit) (g : Game) → kitAcceptance k ≡ Accepted → g ≡ gameFrom k → acceptance g ≡ Accepted
 game-accepted k g a q = ap acceptance q ∙ kit-fitting k a .game
 
 pub length-of : (k : Kit) (g : Game) (n : ℕ) → g ≡ gameFrom k → n ≡ length (controllerEntries (separatedOf g)) → n ≡ controllerLength (gameFrom k)
-length-of k g n q e = e ∙ ap (λ (x : Game). length (controllerEntries (separatedOf x))) q ∙ controller-long (gameFrom k)
+length-of k g n q e = e ∙ ap (λ (x : Game). length (controllerEntries (separatedOf x))) q ∙ controller-long k
 
 pub counters-of : (k : Kit) (g : Game) (m : ℕ) → g ≡ gameFrom k → m ≡ controllerCounters (separatedOf g) → m ≡ counters k
 unfolding counters
@@ -49,7 +48,7 @@ module _ (k : Kit) (g : Game) (l : ℕ) (s s′ c c′ e e′ t : List ℕ) (P :
     pub front-long : n ≡ length (take n c′)
     front-long =
         system-length k s c e t (P .accepted) (P .scratch) (P .controller) (P .room) n (of-kit (System n) q .answer)
-        ∙ sym (ap length whole ∙ controller-long (gameFrom k))
+        ∙ sym (ap length whole ∙ controller-long k)
 
     pub front-in : n ≤ length c′
     unfolding controllerAfter
@@ -64,7 +63,7 @@ module _ (k : Kit) (g : Game) (l : ℕ) (s s′ c c′ e e′ t : List ℕ) (P :
     pub ready : (m : ℕ) → m ≡ controllerCounters (separatedOf g) → KitReady k m (length (take n c′)) (length t)
     ready m h =
         kit-ready k (P .accepted) m (counters-of k g m (P .game) h) (length (take n c′)) (length t)
-        (ap length whole ∙ controller-long (gameFrom k)) (P .room)
+        (ap length whole ∙ controller-long k) (P .room)
 
     pub done-system : {t′ : List ℕ} → t′ ≡ kitEntries k (take n c′) ++ drop (kitLength k) t → KitSolved k s s′ c c′ e e′ t t′ (System l)
     done-system {t′} h =

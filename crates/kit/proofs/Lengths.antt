@@ -4,13 +4,18 @@
 --   outputs-few, rows-few, entries-few    : the products, one after the other
 --   table-length            : the length, from the counters
 --   kit-ready               : what the writing of the table asks
+--   controller-long         : the length of the controller's table, which the solver's contract names
 use Prim.Native.Nat.{ℕ, _+_, _*_, _≤_}
 use native.Mathlib.Nat.{mul-le-mul}
 use mathlib.Core.Path.{_≡_, sym, _∙_, ap}
 use native.Mathlib.Omega.{arith}
+use lib.ListN.{length}
 use Rattle.finite.proofs.Truth.{and-left}
 use Rattle.game.specs.declared.Acceptance.the-variants.{Accepted}
 use Rattle.game.proofs.Laws.{accepted-fits}
+use Rattle.play.specs.Play.{graphOf, separatedOf}
+use Rattle.theory.specs.Entries.{controllerEntries}
+use Rattle.theory.proofs.Entries as entries
 use Rattle.demands.proofs.Sizes.{controller-few}
 use Rattle.solver.specs.Promise.{controllerLength}
 use Rattle.drives.specs.declared.Kit.{Kit}
@@ -18,6 +23,10 @@ use Rattle.drives.specs.Drive.{graphFrom, gameFrom, Small}
 use Rattle.drives.specs.Acceptance.{entriesFit, kitAcceptance}
 use Rattle.drives.proofs.Acceptance.{kit-fitting, kit-small, drive-named}
 use Rattle.kit_rows.specs.Rows.{counters, kitLength, KitReady}
+
+pub controller-long : (k : Kit) → length (controllerEntries (separatedOf (gameFrom k))) ≡ controllerLength (gameFrom k)
+unfolding controllerLength separatedOf graphOf
+controller-long k = entries.controller-long (separatedOf (gameFrom k))
 
 module _ (k : Kit) (a : kitAcceptance k ≡ Accepted) where
   pub both-small : Small (k .old) × Small (k .new)

@@ -13,7 +13,7 @@ use Rattle.finite.specs.Tabulate.{tabulate}
 use Rattle.finite.proofs.Truth.{and-intro, and-false-left, and-false-right}
 use Rattle.sets.specs.Member.{has, pack}
 use Rattle.sets.proofs.Membership.{has-pack-below}
-use Rattle.closure.proofs.Front.{front-at}
+use Rattle.finite.proofs.Front.{front-at}
 use Rattle.components.specs.Component.{turns}
 use Rattle.components.proofs.Closed.{cores-closed}
 use Rattle.arena.specs.Win.{Won}

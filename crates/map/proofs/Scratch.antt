@@ -6,7 +6,7 @@ use mathlib.Core.List.{List, _++_}
 use native.Mathlib.Omega.{arith}
 use lib.ListN.{length, drop, set}
 use Rattle.finite.specs.Tabulate.{tabulate}
-use Rattle.closure.proofs.Front.{front-none, front-length, front-next}
+use Rattle.finite.proofs.Front.{front-none, front-length, front-next}
 use Rattle.sets.specs.Member.{pack}
 use Rattle.sets.proofs.Membership.{pack-ext}
 use Rattle.game.specs.declared.Game.{Game}

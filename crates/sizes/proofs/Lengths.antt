@@ -1,47 +1,29 @@
 -- The lengths of both tables: "inputs + outputs × max(1, G) × inputs entries", "1 + inputs × max(1, H) × outputs entries".
-use Prim.Native.Nat.{ℕ, suc, _+_, _*_, _≤_}
+use Prim.Native.Nat.{ℕ, _+_, _*_, _≤_}
 use native.Mathlib.Nat.{mul-le-mul}
-use mathlib.Core.Path.{_≡_, sym, _∙_, ap, ap₂}
+use mathlib.Core.Path.{_≡_, sym, _∙_, ap}
 use native.Mathlib.Omega.{arith}
-use native.Mathlib.Numerals.{one-add}
-use lib.ListN.{length, length-append}
-use Rattle.finite.specs.Tabulate.{tabulate}
-use Rattle.finite.proofs.Tabulate.{length-tabulate}
+use lib.ListN.{length}
 use Rattle.game.specs.declared.Game.{Game}
 use Rattle.game.specs.declared.Acceptance.the-variants.{Accepted}
 use Rattle.game.specs.Acceptance.{acceptance}
 use Rattle.game.proofs.Laws.{accepted-fits}
 use Rattle.play.specs.Play.{graphOf, separatedOf}
-use Rattle.theory.specs.Choice.{controllerRow, controllerStart, environmentRow}
-use Rattle.theory.specs.Entries.{entry, rowOf, controllerCounters, environmentCounters, controllerEntries, environmentEntries}
+use Rattle.theory.specs.Entries.{controllerCounters, environmentCounters, controllerEntries, environmentEntries}
+use Rattle.theory.proofs.Entries.{controller-long, environment-long}
 use Rattle.demands.proofs.Sizes.{controller-few, environment-few}
-
-controller-of : (g : Game) → g .input .states + g .output .states * controllerCounters (separatedOf g) * g .input .states ≡ length (controllerEntries (separatedOf g))
-unfolding controllerEntries separatedOf graphOf
-controller-of g =
-    sym
-    (length-append (tabulate (g .input .states) (λ i. entry (controllerStart (separatedOf g) i)))
-    (tabulate (g .output .states * controllerCounters (separatedOf g) * g .input .states) (rowOf (controllerCounters (separatedOf g)) (g .input .states) (controllerRow (separatedOf g))))
-    ∙ ap₂ _+_ (length-tabulate (λ i. entry (controllerStart (separatedOf g) i)) (g .input .states))
-    (length-tabulate (rowOf (controllerCounters (separatedOf g)) (g .input .states) (controllerRow (separatedOf g)))
-    (g .output .states * controllerCounters (separatedOf g) * g .input .states)))
-
-environment-of : (g : Game) → 1 + g .input .states * environmentCounters (separatedOf g) * g .output .states ≡ length (environmentEntries (separatedOf g))
-unfolding environmentEntries separatedOf graphOf
-environment-of g =
-    one-add (g .input .states * environmentCounters (separatedOf g) * g .output .states)
-    ∙ ap suc
-    (sym
-    (length-tabulate (rowOf (environmentCounters (separatedOf g)) (g .output .states) (environmentRow (separatedOf g)))
-    (g .input .states * environmentCounters (separatedOf g) * g .output .states)))
 
 pub controller-length : (g : Game) (m : ℕ) → m ≡ controllerCounters (separatedOf g)
     → g .input .states + g .output .states * m * g .input .states ≡ length (controllerEntries (separatedOf g))
-controller-length g m e = ap (λ (n : ℕ). g .input .states + g .output .states * n * g .input .states) e ∙ controller-of g
+unfolding separatedOf graphOf
+controller-length g m e =
+    ap (λ (n : ℕ). g .input .states + g .output .states * n * g .input .states) e ∙ sym (controller-long (separatedOf g))
 
 pub environment-length : (g : Game) (m : ℕ) → m ≡ environmentCounters (separatedOf g)
     → 1 + g .input .states * m * g .output .states ≡ length (environmentEntries (separatedOf g))
-environment-length g m e = ap (λ (n : ℕ). 1 + g .input .states * n * g .output .states) e ∙ environment-of g
+unfolding separatedOf graphOf
+environment-length g m e =
+    ap (λ (n : ℕ). 1 + g .input .states * n * g .output .states) e ∙ sym (environment-long (separatedOf g))
 
 -- so every sum and product fits a word
 module _ (g : Game) (a : acceptance g ≡ Accepted) where

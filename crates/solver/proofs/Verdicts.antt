@@ -1,22 +1,19 @@
 -- What the solver answers, case by case.
-use Prim.Native.Nat.{ℕ, suc, _+_, _*_, _≤_, _<_}
-use native.Mathlib.Numerals.{one-add}
-use mathlib.Core.Path.{_≡_, refl, sym, _∙_, ap, ap₂, subst, subst⁻¹}
+use Prim.Native.Nat.{ℕ, _≤_, _<_}
+use mathlib.Core.Path.{_≡_, refl, sym, _∙_, ap, subst, subst⁻¹}
 use mathlib.Core.Bool.{Bool, true, false}
 use mathlib.Core.List.{List, _++_}
-use lib.ListN.{length, take, drop, length-append}
+use lib.ListN.{length, take, drop}
 use lib.Seq.{take-append-seam}
 use borrow.Author.Tests.{le-leb, lt-leb}
-use Rattle.finite.specs.Tabulate.{tabulate}
-use Rattle.finite.proofs.Tabulate.{length-tabulate}
 use Rattle.arena.specs.Win.{system, environment, DemandThree}
 use Rattle.game.specs.declared.Game.{Game}
 use Rattle.game.specs.declared.Acceptance.the-variants.{Accepted, Refused as Faulty}
 use Rattle.game.specs.Acceptance.{acceptance}
 use Rattle.play.specs.Play.{graphOf, separatedOf}
 use Rattle.theory.specs.Region.{verdict}
-use Rattle.theory.specs.Choice.{controllerRow, controllerStart, environmentRow}
-use Rattle.theory.specs.Entries.{entry, rowOf, controllerCounters, environmentCounters, controllerEntries, environmentEntries}
+use Rattle.theory.specs.Entries.{controllerEntries, environmentEntries}
+use Rattle.theory.proofs.Entries as entries
 use Rattle.demands.specs.Demands.{playOf, controllerOf, environmentOf}
 use Rattle.demands.proofs.Demands.{demand-three-system, demand-three-environment}
 use Rattle.solver.specs.declared.Verdict.{Verdict}
@@ -39,18 +36,12 @@ use Rattle.solver.specs.Promise.{
 use Rattle.winner.specs.Written.{Written}
 
 pub controller-long : (g : Game) → length (controllerEntries (separatedOf g)) ≡ controllerLength g
-unfolding controllerEntries controllerLength separatedOf graphOf
-controller-long g =
-    length-append (tabulate (g .input .states) (λ i. entry (controllerStart (separatedOf g) i)))
-    (tabulate (g .output .states * controllerCounters (separatedOf g) * g .input .states) (rowOf (controllerCounters (separatedOf g)) (g .input .states) (controllerRow (separatedOf g))))
-    ∙ ap₂ _+_ (length-tabulate (λ i. entry (controllerStart (separatedOf g) i)) (g .input .states))
-    (length-tabulate (rowOf (controllerCounters (separatedOf g)) (g .input .states) (controllerRow (separatedOf g))) (g .output .states * controllerCounters (separatedOf g) * g .input .states))
+unfolding controllerLength separatedOf graphOf
+controller-long g = entries.controller-long (separatedOf g)
 
 pub environment-long : (g : Game) → length (environmentEntries (separatedOf g)) ≡ environmentLength g
-unfolding environmentEntries environmentLength separatedOf graphOf
-environment-long g =
-    ap suc (length-tabulate (rowOf (environmentCounters (separatedOf g)) (g .output .states) (environmentRow (separatedOf g))) (g .input .states * environmentCounters (separatedOf g) * g .output .states))
-    ∙ sym (one-add (g .input .states * environmentCounters (separatedOf g) * g .output .states))
+unfolding environmentLength separatedOf graphOf
+environment-long g = entries.environment-long (separatedOf g)
 
 module _ (g : Game) (s c e : List ℕ) where
   refused : (n : ℕ) → NotSolved n ≡ verdictAnswer g (length s) (length c) (length e) → Solved g s s c c e e (NotSolved n)

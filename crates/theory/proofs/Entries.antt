@@ -2,9 +2,10 @@
 --
 --   Sized S            == the game is small enough for the entries: what acceptance gives
 --   answer-entry       : an answer in range is read back from its entry
+--   controller-long, environment-long      : how many entries the lists have
 --   controller-start, controller-step, environment-start, environment-step : what is read is the choice
 --   read-follows, read-presses : so the theorems about such tables hold of what is read
-use Prim.Native.Nat.{ℕ, _+_, _*_, _≤_, _<_}
+use Prim.Native.Nat.{ℕ, suc, _+_, _*_, _≤_, _<_}
 use native.Mathlib.Nat.{zero-add, add-mul-div-left, add-mul-mod-self-left, div-eq-of-lt, mod-eq-of-lt}
 use mathlib.Core.Path.{_≡_, refl, sym, _∙_, ap, ap₂, subst, subst⁻¹}
 use mathlib.Core.Bool.{Bool, true, false, _&&_}
@@ -13,7 +14,7 @@ use mathlib.Core.Logic.{_⊎_, inl, inr}
 use native.Mathlib.Numerals.{one-add}
 use native.Mathlib.Omega.{arith}
 use lib.Arith.{digits-lt, digits-div, digits-mod}
-use lib.ListN.{length, getD, List·getD-append}
+use lib.ListN.{length, getD, length-append, List·getD-append}
 use lib.Seq.{getD-append-add}
 use borrow.Author.Tests.{ne-eqb}
 use Rattle.finite.specs.Bounded.{any, least}
@@ -80,10 +81,8 @@ module _ (A B C a b c : ℕ) (la : a < A) (lb : b < B) (lc : c < C) where
   row-at f =
       rw (digits-div (a * B + b) lc, digits-mod (a * B + b) lc, digits-div a lb, digits-mod a lb)
 
--- the controller's table
-
--- what stands at a place of a list of entries, d standing past its end
-module _ (S : Separated) (d : ℕ) where
+-- the lists of entries
+module _ (S : Separated) where
   abbrev starts : List ℕ
   starts = tabulate (S .input .states) (λ i. entry (controllerStart S i))
 
@@ -93,18 +92,36 @@ module _ (S : Separated) (d : ℕ) where
   starts-length : length starts ≡ S .input .states
   starts-length = length-tabulate (λ i. entry (controllerStart S i)) (S .input .states)
 
+  -- "inputs + outputs × max(1, G) × inputs entries"
+  pub controller-long : length (controllerEntries S) ≡ S .input .states + S .output .states * controllerCounters S * S .input .states
+  unfolding controllerEntries
+  controller-long =
+      length-append starts replies
+      ∙ ap₂ _+_ starts-length
+      (length-tabulate (rowOf (controllerCounters S) (S .input .states) (controllerRow S)) (S .output .states * controllerCounters S * S .input .states))
+
+  -- "1 + inputs × max(1, H) × outputs entries"
+  pub environment-long : length (environmentEntries S) ≡ 1 + S .input .states * environmentCounters S * S .output .states
+  unfolding environmentEntries
+  environment-long =
+      ap suc (length-tabulate (rowOf (environmentCounters S) (S .output .states) (environmentRow S))
+      (S .input .states * environmentCounters S * S .output .states))
+      ∙ sym (one-add (S .input .states * environmentCounters S * S .output .states))
+
+-- what stands at a place, d standing past the end
+module _ (S : Separated) (d : ℕ) where
   pub controller-start-at : (i : ℕ) → i < S .input .states → getD (controllerEntries S) i d ≡ entry (controllerStart S i)
   unfolding controllerEntries
   controller-start-at i b =
-      List·getD-append starts replies d i (rw starts-length b) ∙ getD-tabulate (λ k. entry (controllerStart S k)) (S .input .states) i d b
+      List·getD-append (starts S) (replies S) d i (rw (starts-length S) b) ∙ getD-tabulate (λ k. entry (controllerStart S k)) (S .input .states) i d b
 
   pub controller-row-at : (o g j : ℕ) → o < S .output .states → g < controllerCounters S → j < S .input .states
       → getD (controllerEntries S) (S .input .states + ((o * controllerCounters S + g) * S .input .states + j)) d ≡ entry (controllerRow S o g j)
   unfolding controllerEntries
   controller-row-at o g j lo lg lj =
       let r : ℕ = (o * controllerCounters S + g) * S .input .states + j in
-      ap (λ (k : ℕ). getD (starts ++ replies) (k + r) d) (sym starts-length)
-      ∙ getD-append-add starts replies r d
+      ap (λ (k : ℕ). getD (starts S ++ replies S) (k + r) d) (sym (starts-length S))
+      ∙ getD-append-add (starts S) (replies S) r d
       ∙ getD-tabulate (rowOf (controllerCounters S) (S .input .states) (controllerRow S)) (S .output .states * controllerCounters S * S .input .states) r d
       (place-below (S .output .states) (controllerCounters S) (S .input .states) o g j lo lg lj)
       ∙ row-at (S .output .states) (controllerCounters S) (S .input .states) o g j lo lg lj (controllerRow S)

@@ -9,7 +9,7 @@ use Rattle.graphs.specs.Rows.{rowsOf}
 use Rattle.graphs.specs.Closure.{nearby}
 use Rattle.play.specs.Play.{graphOf}
 use Rattle.closure.specs.Sweep.{firstRows}
-use Rattle.closure.proofs.Front.{rows-none, rows-next, rows-length}
+use Rattle.graphs.proofs.Front.{rows-none, rows-next, rows-length}
 use Rattle.closure.proofs.FirstRows.{first-word}
 use Rattle.closure.proofs.start.Statement.{statement}
 use Rattle.closure.proofs.start.Tie as tie

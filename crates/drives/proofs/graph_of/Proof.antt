@@ -5,7 +5,7 @@ use mathlib.Core.List.{_++_}
 use native.Mathlib.Omega.{arith}
 use lib.ListN.{drop}
 use Rattle.graphs.specs.Rows.{rowsOf}
-use Rattle.closure.proofs.Front.{rows-none, rows-next}
+use Rattle.graphs.proofs.Front.{rows-none, rows-next}
 use Rattle.drives.specs.Drive.{madeBy}
 use Rattle.drives.proofs.Moves.{graph-made}
 use Rattle.drives.proofs.graph_of.Statement.{statement}

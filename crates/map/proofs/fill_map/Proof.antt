@@ -3,7 +3,7 @@ use native.Mathlib.Omega.{arith}
 use mathlib.Core.List.{_++_}
 use lib.ListN.{drop}
 use Rattle.finite.specs.Tabulate.{tabulate}
-use Rattle.closure.proofs.Front.{front-none}
+use Rattle.finite.proofs.Front.{front-none}
 use Rattle.map.proofs.Scratch.{filled-length, filled-more, filled-end}
 use Rattle.map.specs.Read.{mapRow}
 use mathlib.Core.Path.{_≡_}
