@@ -3,7 +3,8 @@ use game::Acceptance;
 use game::Game;
 ghost use mathlib.Core.Path.{_≡_};
 ghost use mathlib.Core.List.{[], _∷_};
-ghost use Rattle.game.specs.Acceptance.{countsFit, statesInCount, initialsExist, movesExist, lengthsFit, setsFit, firstFailing, acceptance};
+ghost use Rattle.game.specs.Acceptance.{countsFit, statesInCount, initialsExist, movesExist, lengthsFit, setsFit, firstFailing};
+ghost use Rattle.game.specs.Numbers.{Accepts};
 
 fn counts_fit(g: Game) -> bool
     ensures { λ r. ⌜ r ≡ countsFit g ⌝ }
@@ -105,7 +106,7 @@ fn first_failing(
 
 // Whether the game is accepted; else the lowest code whose condition holds. Every test is safe on every record.
 pub fn accept(g: Game) -> Acceptance
-    ensures { λ r. ⌜ r ≡ acceptance g ⌝ }
+    ensures { λ r. ⌜ Accepts g r ⌝ }
 {
     first_failing(
         counts_fit(g),

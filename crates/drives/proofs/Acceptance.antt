@@ -4,10 +4,11 @@
 --   entry-..                                       : one place
 --   kit-fitting                                    : what holds where the kit is accepted
 --   kit-small, drive-named                         : small counts, and commands that lead to modes
+--   kit-after, kit-accepts                         : the numbers
 use Prim.Native.Nat.{ℕ, _≤_, _<_}
 use mathlib.Core.Path.{_≡_, refl, sym, _∙_, ap}
 use mathlib.Core.Bool.{Bool, true, false, _&&_, _||_}
-use mathlib.Core.List.{List}
+use mathlib.Core.List.{List, _∷_, _++_}
 use mathlib.Core.Logic.{_≢_, inl, inr}
 use native.Mathlib.Omega.{arith}
 use lib.Dec.{eqb, ltb, leb}
@@ -18,11 +19,13 @@ use Rattle.finite.proofs.Bounded.{all-elim}
 use Rattle.finite.proofs.Loops.{and-stop, and-next}
 use Rattle.game.specs.declared.Acceptance.{Acceptance}
 use Rattle.game.specs.declared.Acceptance.the-variants.{Accepted, Refused}
-use Rattle.game.specs.Acceptance.{acceptance}
+use Rattle.game.specs.Acceptance.{acceptance, numberOf}
+use Rattle.game.specs.Numbers.{firstOf, gameTests}
+use Rattle.game.proofs.Numbers.{after, game-after, number-alone}
 use Rattle.drives.specs.declared.Drive.{Drive}
 use Rattle.drives.specs.declared.Kit.{Kit}
 use Rattle.drives.specs.Drive.{nextIn, nextMode, gameFrom, Small}
-use Rattle.drives.specs.Acceptance.{modesFit, commandsFit, entryFits, entriesFit, both, inOrder, kitAcceptance}
+use Rattle.drives.specs.Acceptance.{modesFit, commandsFit, entryFits, entriesFit, both, inOrder, kitAcceptance, kitTests, KitAccepts}
 
 refused-at-1 : (b c e : Bool) (a : Acceptance) → b ≡ false → Refused 1 ≡ inOrder b c e a
 unfolding inOrder
@@ -120,3 +123,20 @@ unfolding kitAcceptance
 kit-fitting k h =
     let v = passes (both modesFit k) (both commandsFit k) (both entriesFit k) (acceptance (gameFrom k)) h in
     record { modes = v .0; commands = v .1; entries = v .2; game = v .3 }
+
+in-order-after : (b c e : Bool) (a : Acceptance) (ts rest : List (ℕ × Bool)) → firstOf (ts ++ rest) ≡ after a (firstOf rest)
+    → firstOf (((1, b) ∷ (17, c) ∷ (18, e) ∷ ts) ++ rest) ≡ after (inOrder b c e a) (firstOf rest)
+unfolding inOrder firstOf
+in-order-after false c e a ts rest h = refl
+in-order-after true false e a ts rest h = refl
+in-order-after true true false a ts rest h = refl
+in-order-after true true true a ts rest h = h
+
+pub kit-after : (k : Kit) (rest : List (ℕ × Bool)) → firstOf (kitTests k ++ rest) ≡ after (kitAcceptance k) (firstOf rest)
+unfolding kitTests kitAcceptance
+kit-after k rest =
+    in-order-after (both modesFit k) (both commandsFit k) (both entriesFit k) (acceptance (gameFrom k)) (gameTests (gameFrom k)) rest
+    (game-after (gameFrom k) rest)
+
+pub kit-accepts : (k : Kit) {a : Acceptance} → a ≡ kitAcceptance k → KitAccepts k a
+kit-accepts k h = record { answer = h; number = ap numberOf h ∙ number-alone (kitAcceptance k) (kitTests k) (kit-after k) }

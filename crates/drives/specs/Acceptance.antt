@@ -9,14 +9,18 @@
 --   both p k            == p holds of both drives of the kit
 --   inOrder m c e a     == refused where one of the three tests failed, else the answer a
 --   kitAcceptance k     == the answer to the kit
+--   kitTests k          == the tests of a kit under their numbers, in the order in which they are tried
+--   KitAccepts k a      == a is the answer to the kit, and its number is the kit's
 use Prim.Native.Nat.{ℕ}
 use mathlib.Core.Bool.{Bool, true, false, _&&_, _||_}
-use mathlib.Core.List.{List}
+use mathlib.Core.List.{List, _∷_}
+use mathlib.Core.Path.{_≡_}
 use lib.Dec.{eqb, ltb, leb}
 use Rattle.finite.specs.Bounded.{all}
 use Rattle.game.specs.declared.Acceptance.{Acceptance}
 use Rattle.game.specs.declared.Acceptance.the-variants.{Refused}
-use Rattle.game.specs.Acceptance.{acceptance}
+use Rattle.game.specs.Acceptance.{acceptance, numberOf}
+use Rattle.game.specs.Numbers.{firstOf, gameTests}
 use Rattle.drives.specs.declared.Drive.{Drive}
 use Rattle.drives.specs.declared.Kit.{Kit}
 use Rattle.drives.specs.Drive.{nextIn, gameFrom}
@@ -48,3 +52,10 @@ inOrder true true true a = a
 
 unfoldable pub kitAcceptance : Kit → Acceptance
 kitAcceptance k = inOrder (both modesFit k) (both commandsFit k) (both entriesFit k) (acceptance (gameFrom k))
+
+unfoldable pub kitTests : Kit → List (ℕ × Bool)
+kitTests k = (1, both modesFit k) ∷ (17, both commandsFit k) ∷ (18, both entriesFit k) ∷ gameTests (gameFrom k)
+
+pub record KitAccepts (k : Kit) (a : Acceptance) : Type 0 where
+  pub answer : a ≡ kitAcceptance k
+  pub number : numberOf a ≡ firstOf (kitTests k)

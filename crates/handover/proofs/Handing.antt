@@ -31,7 +31,7 @@ use Rattle.solver.specs.Promise.{
   Decided,
   Solved,
 }
-use Rattle.handover.specs.Handed.{number, side, chosen, front, Beaten, Handed}
+use Rattle.handover.specs.Handed.{side, chosen, front, Beaten, Handed}
 use Rattle.solver.proofs.Verdicts.{controller-long, environment-long}
 
 -- ---- a verdict's length is its table's and at most its buffer's; a refusal's number is 1 to 10
@@ -114,19 +114,19 @@ module _ (g : Game) (s s′ c c′ e e′ : List ℕ) where
     answers {n = n} {b′} {r} {t} S h H = subst (λ (x : Verdict). Hands x n b′ r t) (sym h ∙ S .answer) H
 
     pub hands-system : {v : Verdict} {n : ℕ} → Solved g s s′ c c′ e e′ v → v ≡ System n → Answers 0 true p (take n c′)
-    unfolding Decided number side chosen front Beaten
+    unfolding Decided side chosen front Beaten
     hands-system S h =
         let T = as-told S h in
         answers S h record { scratch = T .scratch; refusal = refl; system = refl; buffer = refl; part = system-part T; demand = T .demand }
 
     pub hands-environment : {v : Verdict} {n : ℕ} → Solved g s s′ c c′ e e′ v → v ≡ Environment n → Answers 0 false q (take n e′)
-    unfolding Decided number side chosen front Beaten
+    unfolding Decided side chosen front Beaten
     hands-environment S h =
         let T = as-told S h in
         answers S h record { scratch = T .scratch; refusal = refl; system = refl; buffer = refl; part = environment-part T; demand = T .demand }
 
     pub hands-nothing : {v : Verdict} {n : ℕ} → Solved g s s′ c c′ e e′ v → v ≡ NotSolved n → Answers n b p (take 0 c′)
-    unfolding number side chosen front Beaten
+    unfolding side chosen front Beaten
     hands-nothing S h =
         let T = as-told S h in
         answers S h record { scratch = T .scratch; refusal = refl; system = refl; buffer = refl; part = refl; demand = tt }

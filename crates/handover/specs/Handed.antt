@@ -1,6 +1,5 @@
 -- The table handed over as a part of its buffer.
 --
---   number v                            == the number of a refusal
 --   side v b                            == whether the system wins
 --   chosen v c e                        == the buffer of the side that wins
 --   front g v                           == its table
@@ -17,13 +16,7 @@ use Rattle.theory.specs.Entries.{controllerEntries, environmentEntries}
 use Rattle.demands.specs.Demands.{playOf, controllerOf, environmentOf}
 use Rattle.solver.specs.declared.Verdict.{Verdict}
 use Rattle.solver.specs.declared.Verdict.the-variants.{System, Environment, Refused as NotSolved}
-use Rattle.solver.specs.Promise.{verdictScratch}
-
--- the number of a refusal; 0 stands for none
-unfoldable pub number : Verdict → ℕ
-number (System n) = 0
-number (Environment n) = 0
-number (NotSolved n) = n
+use Rattle.solver.specs.Promise.{numberOf, verdictScratch}
 
 -- whether the system wins; a refusal leaves what was there
 unfoldable pub side : Verdict → Bool → Bool
@@ -52,7 +45,7 @@ Beaten g (NotSolved n) t = Unit {0}
 -- the answer v, handed over as the part t of the buffer p, with the refusal's number n and the side b
 pub record Handed (g : Game) (v : Verdict) (s s′ : List ℕ) (n : ℕ) (b b′ : Bool) (c e p : ℕ × ℕ) (t : List ℕ) : Type 0 where
   pub scratch : s′ ≡ verdictScratch v s
-  pub refusal : n ≡ number v
+  pub refusal : n ≡ numberOf v
   pub system : b′ ≡ side v b
   pub buffer : p ≡ chosen v c e
   pub part : t ≡ front g v

@@ -6,7 +6,7 @@
 use Prim.Native.Nat.{ℕ, _+_, _≤_, _<_}
 use mathlib.Core.Path.{_≡_, refl, sym, _∙_, ap, subst}
 use mathlib.Core.Bool.{Bool, true, false, _&&_}
-use mathlib.Core.List.{List, _++_}
+use mathlib.Core.List.{List, [], _∷_, _++_}
 use native.Mathlib.Omega.{arith}
 use lib.Dec.{leb}
 use lib.ListN.{length, take, drop}
@@ -17,24 +17,26 @@ use Rattle.arena.specs.Win.{ControllerWins, DemandThree, system}
 use Rattle.arena.proofs.Demand.{system-holds}
 use Rattle.game.specs.declared.Acceptance.{Acceptance}
 use Rattle.game.specs.declared.Acceptance.the-variants.{Accepted, Refused as Faulty}
+use Rattle.game.specs.Numbers.{firstOf}
+use Rattle.game.proofs.Numbers.{after}
 use Rattle.play.specs.Play.{separatedOf}
 use Rattle.theory.specs.Region.{verdict}
 use Rattle.theory.specs.Entries.{controllerEntries}
 use Rattle.demands.specs.Demands.{playOf, controllerOf}
 use Rattle.solver.specs.declared.Verdict.{Verdict}
 use Rattle.solver.specs.declared.Verdict.the-variants.{System, Environment, Refused}
-use Rattle.solver.specs.Promise.{controllerLength, environmentLength, named, tenth, ninth, eighth, verdictAnswer, controllerAfter, environmentAfter, verdictScratch, Decided, Solved}
+use Rattle.solver.specs.Promise.{controllerLength, environmentLength, named, tenth, ninth, eighth, verdictAnswer, numberOf, controllerAfter, environmentAfter, verdictScratch, Decided, Solved}
 use Rattle.drives.specs.declared.Kit.{Kit}
 use Rattle.drives.specs.Drive.{graphFrom, gameFrom}
-use Rattle.drives.specs.Acceptance.{kitAcceptance}
-use Rattle.drives.proofs.Acceptance.{kit-fitting}
+use Rattle.drives.specs.Acceptance.{kitAcceptance, kitTests}
+use Rattle.drives.proofs.Acceptance.{kit-fitting, kit-after}
 use Rattle.kit_rows.specs.Rows.{kitLength, kitEntries}
 use Rattle.kit_rows.proofs.Kits.{entries-long}
 use Rattle.kit_runs.specs.Exchange.{Exchanged}
 use Rattle.kit_runs.proofs.Turns.{kit-reads}
 use Rattle.kit_runs.proofs.Exchange.{kit-exchanged}
 use Rattle.kit.proofs.Lengths.{controller-long}
-use Rattle.kit.specs.Promise.{kitNamed, kitTenth, kitNinth, kitEighth, kitAnswer, solverAnswer, kitAfter, Kept, KitSolved}
+use Rattle.kit.specs.Promise.{kitNamed, kitTenth, kitNinth, kitEighth, kitAnswer, kitRooms, solverAnswer, kitAfter, Kept, KitSolved}
 
 -- what an answer of the solver is for the kit
 unfoldable lifted : Kit → Verdict → Verdict
@@ -50,10 +52,53 @@ modes-in : (k : Kit) → k .old .modes ≤ length (controllerEntries (separatedO
 unfolding controllerLength gameFrom graphFrom
 modes-in k = omega (arith, controller-long k)
 
+-- ---- the number
+
+module _ (k : Kit) (s c e t : ℕ) where
+  named-number : (b : Bool) → numberOf (elim b as (λ x. Verdict) [ true ↦ System (kitLength k) | false ↦ Environment (environmentLength (gameFrom k)) ]) ≡ 0
+  named-number true = refl
+  named-number false = refl
+
+  tenth-number : (b : Bool) → numberOf (elim b as (λ x. Verdict) [ true ↦ kitNamed k | false ↦ Refused 10 ]) ≡ firstOf ((10, b) ∷ [])
+  unfolding kitNamed firstOf
+  tenth-number true = named-number (verdict (separatedOf (gameFrom k)))
+  tenth-number false = refl
+
+  ninth-number : (b : Bool)
+      → numberOf (elim b as (λ x. Verdict) [ true ↦ kitTenth k e | false ↦ Refused 9 ]) ≡ firstOf ((9, b) ∷ (10, leb (environmentLength (gameFrom k)) e) ∷ [])
+  unfolding kitTenth firstOf
+  ninth-number true = tenth-number (leb (environmentLength (gameFrom k)) e)
+  ninth-number false = refl
+
+  abbrev enough : Bool
+  enough = leb (controllerLength (gameFrom k)) c && leb (kitLength k) t
+
+  abbrev rooms : Bool → List (ℕ × Bool)
+  rooms b = (8, b) ∷ (9, enough) ∷ (10, leb (environmentLength (gameFrom k)) e) ∷ []
+
+  eighth-number : (b : Bool) → numberOf (elim b as (λ x. Verdict) [ true ↦ kitNinth k c e t | false ↦ Refused 8 ]) ≡ firstOf (rooms b)
+  unfolding kitNinth firstOf
+  eighth-number true = ninth-number enough
+  eighth-number false = refl
+
+  acceptance-number : (a : Acceptance)
+      → numberOf (elim a as (λ x. Verdict) [ Accepted ↦ kitEighth k s c e t | Faulty n ↦ Refused n ]) ≡ after a (firstOf (rooms (leb 512 s)))
+  unfolding kitEighth
+  acceptance-number Accepted = eighth-number (leb 512 s)
+  acceptance-number (Faulty n) = refl
+
+  kit-number : numberOf (kitAnswer k s c e t) ≡ firstOf (kitRooms k s c e t)
+  unfolding kitAnswer kitRooms
+  kit-number = acceptance-number (kitAcceptance k) ∙ sym (kit-after k (rooms (leb 512 s)))
+
 module _ (k : Kit) (s c e t : List ℕ) where
+  told : {r : Verdict} → r ≡ kitAnswer k (length s) (length c) (length e) (length t)
+      → numberOf r ≡ firstOf (kitRooms k (length s) (length c) (length e) (length t))
+  told h = ap numberOf h ∙ kit-number k (length s) (length c) (length e) (length t)
+
   refused : (n : ℕ) → Refused n ≡ kitAnswer k (length s) (length c) (length e) (length t) → KitSolved k s s c c e e t t (Refused n)
   unfolding verdictScratch controllerAfter environmentAfter solverAnswer kitAfter Kept Decided
-  refused n a = record { answer = a; scratch = refl; controller = refl; environment = refl; kit = refl; demand = tt; kept = tt }
+  refused n a = record { answer = a; number = told a; scratch = refl; controller = refl; environment = refl; kit = refl; demand = tt; kept = tt }
 
   pub kit-faulty : (n : ℕ) → kitAcceptance k ≡ Faulty n → KitSolved k s s c c e e t t (Refused n)
   unfolding kitAnswer
@@ -142,6 +187,7 @@ module _ (k : Kit) (s c e t : List ℕ) where
       unfolding lifted verdictScratch controllerAfter environmentAfter solverAnswer kitAfter Kept Decided
       kit-system n s′ c′ e′ t′ S q = record {
         answer = answer-lifted (System n) (S .answer);
+        number = told (answer-lifted (System n) (S .answer));
         scratch = S .scratch;
         controller = S .controller ∙ ap (λ (m : ℕ). controllerEntries (separatedOf (gameFrom k)) ++ drop m c) (system-length n (S .answer));
         environment = S .environment;
@@ -169,6 +215,7 @@ module _ (k : Kit) (s c e t : List ℕ) where
       unfolding lifted verdictScratch controllerAfter environmentAfter solverAnswer kitAfter Kept Decided
       kit-environment n s′ c′ e′ S = record {
         answer = answer-lifted (Environment n) (S .answer);
+        number = told (answer-lifted (Environment n) (S .answer));
         scratch = S .scratch;
         controller = S .controller;
         environment = S .environment;
@@ -181,6 +228,7 @@ module _ (k : Kit) (s c e t : List ℕ) where
       unfolding lifted verdictScratch controllerAfter environmentAfter solverAnswer kitAfter Kept Decided
       kit-refused n s′ c′ e′ S = record {
         answer = answer-lifted (Refused n) (S .answer);
+        number = told (answer-lifted (Refused n) (S .answer));
         scratch = S .scratch;
         controller = S .controller;
         environment = S .environment;

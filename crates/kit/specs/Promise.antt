@@ -1,26 +1,28 @@
 -- What the kit's solver promises, for every input.
 --
 --   kitAnswer k s c e t        == its answer, scratch being of s words, the controller's room of c entries, the panel's of e and the kit's of t
+--   kitRooms k s c e t         == its tests under their numbers
 --   solverAnswer k r           == the solver's answer to the kit's game, where the kit's is r
 --   kitAfter k r t             == the kit's room, t before
 --   Kept k r t                 == what the kit's table is for, read from the front of the room t
 --   KitSolved k s s′ c c′ e e′ t t′ r    == it answers r and leaves scratch s as s′, the controller's room c as c′, the panel's e as e′, the kit's t as t′
 use Prim.Native.Nat.{ℕ}
 use mathlib.Core.Path.{_≡_}
-use mathlib.Core.Bool.{true, false, _&&_}
-use mathlib.Core.List.{List, _++_}
+use mathlib.Core.Bool.{Bool, true, false, _&&_}
+use mathlib.Core.List.{List, [], _∷_, _++_}
 use lib.Dec.{leb}
 use lib.ListN.{length, take, drop}
 use Rattle.game.specs.declared.Acceptance.the-variants.{Accepted, Refused as Faulty}
+use Rattle.game.specs.Numbers.{firstOf}
 use Rattle.play.specs.Play.{separatedOf}
 use Rattle.theory.specs.Region.{verdict}
 use Rattle.theory.specs.Entries.{controllerEntries}
 use Rattle.solver.specs.declared.Verdict.{Verdict}
 use Rattle.solver.specs.declared.Verdict.the-variants.{System, Environment, Refused}
-use Rattle.solver.specs.Promise.{controllerLength, environmentLength, controllerAfter, environmentAfter, verdictScratch, Decided}
+use Rattle.solver.specs.Promise.{controllerLength, environmentLength, numberOf, controllerAfter, environmentAfter, verdictScratch, Decided}
 use Rattle.drives.specs.declared.Kit.{Kit}
 use Rattle.drives.specs.Drive.{gameFrom}
-use Rattle.drives.specs.Acceptance.{kitAcceptance}
+use Rattle.drives.specs.Acceptance.{kitAcceptance, kitTests}
 use Rattle.kit_rows.specs.Rows.{kitLength, kitEntries}
 use Rattle.kit_runs.specs.Exchange.{Exchanged}
 
@@ -41,6 +43,10 @@ kitEighth k s c e t = elim (leb 512 s) [ true ↦ kitNinth k c e t | false ↦ R
 unfoldable pub kitAnswer : Kit → ℕ → ℕ → ℕ → ℕ → Verdict
 kitAnswer k s c e t = elim (kitAcceptance k) [ Accepted ↦ kitEighth k s c e t | Faulty n ↦ Refused n ]
 
+unfoldable pub kitRooms : Kit → ℕ → ℕ → ℕ → ℕ → List (ℕ × Bool)
+kitRooms k s c e t =
+    kitTests k ++ (8, leb 512 s) ∷ (9, leb (controllerLength (gameFrom k)) c && leb (kitLength k) t) ∷ (10, leb (environmentLength (gameFrom k)) e) ∷ []
+
 -- "the other rooms are as the solver leaves them"
 unfoldable pub solverAnswer : Kit → Verdict → Verdict
 solverAnswer k (System n) = System (controllerLength (gameFrom k))
@@ -60,6 +66,7 @@ Kept k (Refused n) t = Unit {0}
 
 pub record KitSolved (k : Kit) (s s′ c c′ e e′ t t′ : List ℕ) (r : Verdict) : Type 0 where
   pub answer : r ≡ kitAnswer k (length s) (length c) (length e) (length t)
+  pub number : numberOf r ≡ firstOf (kitRooms k (length s) (length c) (length e) (length t))
   pub scratch : s′ ≡ verdictScratch r s
   pub controller : c′ ≡ controllerAfter (gameFrom k) (solverAnswer k r) c
   pub environment : e′ ≡ environmentAfter (gameFrom k) r e

@@ -7,7 +7,7 @@ ghost use mathlib.Core.Bool.{_&&_};
 ghost use Prim.Native.Nat.{_<_};
 ghost use lib.Dec.{leb};
 ghost use Rattle.finite.specs.Bounded.{all};
-ghost use Rattle.drives.specs.Acceptance.{modesFit, commandsFit, entryFits, entriesFit, both, kitAcceptance};
+ghost use Rattle.drives.specs.Acceptance.{modesFit, commandsFit, entryFits, entriesFit, both, KitAccepts};
 
 // Whether a count is 1 to most.
 fn count_fits(n: usize, most: usize) -> bool
@@ -94,7 +94,7 @@ fn entries_fit(k: Kit) -> bool
 
 // Refused with the first number that applies.
 pub fn accept_kit(k: Kit) -> Acceptance
-    ensures { λ r. ⌜ r ≡ kitAcceptance k ⌝ }
+    ensures { λ r. ⌜ KitAccepts k r ⌝ }
 {
     if !modes_fit(k) {
         return Acceptance::Refused(1);

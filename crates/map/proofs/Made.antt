@@ -2,7 +2,7 @@
 use Prim.Native.Nat.{ℕ, _+_, _-_, _≤_, _<_}
 use mathlib.Core.Path.{_≡_, refl, sym, _∙_, ap}
 use mathlib.Core.Bool.{Bool, true, false}
-use mathlib.Core.List.{List, _++_}
+use mathlib.Core.List.{List, [], _∷_, _++_}
 use mathlib.Core.Logic.{_↔_}
 use native.Mathlib.Omega.{arith}
 use lib.Dec.{leb}
@@ -18,8 +18,11 @@ use Rattle.components.specs.Component.{turns}
 use Rattle.components.proofs.Closed.{cores-closed}
 use Rattle.arena.specs.Win.{Won}
 use Rattle.game.specs.declared.Game.{Game}
+use Rattle.game.specs.declared.Acceptance.{Acceptance}
 use Rattle.game.specs.declared.Acceptance.the-variants.{Accepted, Refused as Faulty}
 use Rattle.game.specs.Acceptance.{acceptance}
+use Rattle.game.specs.Numbers.{firstOf, gameTests}
+use Rattle.game.proofs.Numbers.{after, game-after}
 use Rattle.game.proofs.Laws.{Fits}
 use Rattle.play.specs.Play.{separatedOf}
 use Rattle.demands.specs.Demands.{playOf}
@@ -30,7 +33,7 @@ use Rattle.region.proofs.Order.{laid-closes}
 use Rattle.map.specs.declared.Mapped.{Mapped}
 use Rattle.map.specs.declared.Mapped.the-variants.{Done, Refused as NotMapped}
 use Rattle.map.specs.Read.{Reading, mapRow}
-use Rattle.map.specs.Map.{cleared, mapFits, mapRoom, mapAnswer, mapAfter, mapScratch, MapMade}
+use Rattle.map.specs.Map.{cleared, mapFits, mapRoom, mapAnswer, mapTests, numberOf, mapAfter, mapScratch, MapMade}
 
 -- ---- scratch
 
@@ -62,12 +65,27 @@ reading-made g F l m P e = record {
 
 -- ---- the map
 
+map-number : (g : Game) (s m : ℕ) → numberOf (mapAnswer g s m) ≡ firstOf (mapTests g s m)
+unfolding mapTests mapAnswer mapRoom firstOf
+map-number g s m = go (acceptance g) ∙ sym (game-after g ((8, mapFits g s m) ∷ []))
+  where
+    room : (b : Bool) → numberOf (elim b as (λ x. Mapped) [ true ↦ Done | false ↦ NotMapped 8 ]) ≡ firstOf ((8, b) ∷ [])
+    room true = refl
+    room false = refl
+
+    go : (a : Acceptance) → numberOf (elim a as (λ x. Mapped) [ Accepted ↦ mapRoom g s m | Faulty n ↦ NotMapped n ]) ≡ after a (firstOf ((8, mapFits g s m) ∷ []))
+    go Accepted = room (mapFits g s m)
+    go (Faulty n) = refl
+
+told : (g : Game) (s m : List ℕ) {r : Mapped} → r ≡ mapAnswer g (length s) (length m) → numberOf r ≡ firstOf (mapTests g (length s) (length m))
+told g s m e = ap numberOf e ∙ map-number g (length s) (length m)
+
 not-done : {n : ℕ} {A : Type 0} → NotMapped n ≡ Done → A
 not-done q = let z : _≡_ {A = ℕ} 0 1 = cc in absurd (omega arith)
 
 map-refused : (g : Game) (s m : List ℕ) (n : ℕ) → NotMapped n ≡ mapAnswer g (length s) (length m) → MapMade g s s m m (NotMapped n)
 unfolding mapAfter mapScratch
-map-refused g s m n e = record { answer = e; map = refl; scratch = refl; won = λ q. not-done q }
+map-refused g s m n e = record { answer = e; number = told g s m e; map = refl; scratch = refl; won = λ q. not-done q }
 
 pub map-faulty : (g : Game) (s m : List ℕ) (n : ℕ) → acceptance g ≡ Faulty n → MapMade g s s m m (NotMapped n)
 unfolding mapAnswer
@@ -91,12 +109,16 @@ pub map-done : (g : Game) (s s′ m m′ : List ℕ) → acceptance g ≡ Accept
     → m′ ≡ tabulate (g .input .states) (mapRow g) ++ drop (g .input .states) m → MapMade g s s′ m m′ Done
 unfolding mapAfter mapScratch mapFits
 map-done g s s′ m m′ a b c e f = record {
-  answer = map-room g (length s) (length m) true a (and-intro (le-leb 512 (length s) b) (le-leb (g .input .states) (length m) c)) refl;
+  answer = done;
+  number = told g s m done;
   map = f;
   scratch = e;
   won = λ q i o li lo. marks i o li lo;
 }
   where
+    done : Done ≡ mapAnswer g (length s) (length m)
+    done = map-room g (length s) (length m) true a (and-intro (le-leb 512 (length s) b) (le-leb (g .input .states) (length m) c)) refl
+
     bit : (i o : ℕ) → i < g .input .states → o < g .output .states → has (getD m′ i 0) o ≡ region (separatedOf g) i o
     bit i o li lo =
         ap (λ (x : List ℕ). has (getD x i 0) o) f ∙ ap (λ (x : ℕ). has x o) (front-at (mapRow g) m (g .input .states) i 0 li) ∙ row-bit g i o lo

@@ -2,11 +2,13 @@
 --
 --   cleared s                 == s with its first 512 words zero
 --   mapAnswer g s m           == the answer of the map's call, scratch being of s words and the map of m
+--   mapTests g s m            == its tests under their numbers
+--   numberOf r                == document 01's number of the answer r, 0 for a map that is made
 --   MapMade g s s′ m m′ r     == the map's call answers r and leaves scratch s as s′ and the map m as m′
 use Prim.Native.Nat.{ℕ, _<_}
 use mathlib.Core.Path.{_≡_}
 use mathlib.Core.Bool.{Bool, true, false, _&&_}
-use mathlib.Core.List.{List, _++_}
+use mathlib.Core.List.{List, [], _∷_, _++_}
 use mathlib.Core.Logic.{_↔_}
 use lib.Dec.{leb}
 use lib.ListN.{length, getD, drop}
@@ -17,6 +19,7 @@ use Rattle.game.specs.declared.Game.{Game}
 use Rattle.game.specs.declared.Acceptance.{Acceptance}
 use Rattle.game.specs.declared.Acceptance.the-variants.{Accepted, Refused as Faulty}
 use Rattle.game.specs.Acceptance.{acceptance}
+use Rattle.game.specs.Numbers.{firstOf, gameTests}
 use Rattle.demands.specs.Demands.{playOf}
 use Rattle.map.specs.declared.Mapped.{Mapped}
 use Rattle.map.specs.declared.Mapped.the-variants.{Done, Refused as NotMapped}
@@ -36,6 +39,13 @@ mapRoom g s m = elim (mapFits g s m) [ true ↦ Done | false ↦ NotMapped 8 ]
 unfoldable pub mapAnswer : Game → ℕ → ℕ → Mapped
 mapAnswer g s m = elim (acceptance g) [ Accepted ↦ mapRoom g s m | Faulty n ↦ NotMapped n ]
 
+unfoldable pub mapTests : Game → ℕ → ℕ → List (ℕ × Bool)
+mapTests g s m = gameTests g ++ (8, mapFits g s m) ∷ []
+
+abbrev pub numberOf : Mapped → ℕ
+numberOf Done = 0
+numberOf (NotMapped n) = n
+
 -- "The won map writes one 64-bit set of outputs for each input; later words of its room stay unchanged."
 unfoldable pub mapAfter : Game → Mapped → List ℕ → List ℕ
 mapAfter g Done m = tabulate (g .input .states) (mapRow g) ++ drop (g .input .states) m
@@ -47,6 +57,7 @@ mapScratch (NotMapped n) s = s
 
 pub record MapMade (g : Game) (s s′ m m′ : List ℕ) (r : Mapped) : Type 0 where
   pub answer : r ≡ mapAnswer g (length s) (length m)
+  pub number : numberOf r ≡ firstOf (mapTests g (length s) (length m))
   pub map : m′ ≡ mapAfter g r m
   pub scratch : s′ ≡ mapScratch r s
   pub won : r ≡ Done → (i o : ℕ) → i < g .input .states → o < g .output .states → (has (getD m′ i 0) o ≡ true) ↔ Won (playOf g) i o

@@ -5,7 +5,7 @@ use mathlib.Core.List.{List}
 use Rattle.game.specs.declared.Game.{Game}
 use Rattle.map.specs.declared.Mapped.{Mapped}
 use Rattle.solver.specs.declared.Verdict.{Verdict}
-use Rattle.map.specs.Map.{MapMade}
+use Rattle.map.specs.Map.{numberOf, MapMade}
 use Rattle.solver.specs.Promise.{Solved}
 use Rattle.drives.specs.declared.Kit.{Kit}
 use Rattle.kit.specs.Promise.{KitSolved}
@@ -13,11 +13,11 @@ use Rattle.text.specs.declared.WriteAnswer.{WriteAnswer}
 use Rattle.text.specs.Write.{Writes}
 use Rattle.results.specs.declared.SolveResult.{SolveResult}
 use Rattle.results.specs.declared.WriteResult.{WriteResult}
-use Rattle.results.specs.Results.{mapCode, solveResult, writeResult}
+use Rattle.results.specs.Results.{solveResult, writeResult}
 use Rattle.nanpuwiq.specs.Calls.{MapCalled, SolveCalled, KitCalled, WriteCalled}
 
-pub map-called : {g : Game} {s s′ m m′ : List ℕ} {a : Mapped} {r : ℕ} → MapMade g s s′ m m′ a → r ≡ mapCode a → MapCalled g s s′ m m′ r
-map-called {g} {s} {s′} {m} {m′} f e = record { answer = e ∙ ap mapCode (f .answer); made = subst (MapMade g s s′ m m′) (f .answer) f }
+pub map-called : {g : Game} {s s′ m m′ : List ℕ} {a : Mapped} {r : ℕ} → MapMade g s s′ m m′ a → r ≡ numberOf a → MapCalled g s s′ m m′ r
+map-called {g} {s} {s′} {m} {m′} f e = record { answer = e ∙ f .number; made = subst (MapMade g s s′ m m′) (f .answer) f }
 
 pub solve-called : {g : Game} {s s′ c c′ e e′ : List ℕ} {v : Verdict} {r : SolveResult} → Solved g s s′ c c′ e e′ v → r ≡ solveResult v
     → SolveCalled g s s′ c c′ e e′ r

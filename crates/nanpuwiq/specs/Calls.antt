@@ -10,7 +10,8 @@ use mathlib.Core.Path.{_≡_}
 use mathlib.Core.List.{List}
 use lib.ListN.{length}
 use Rattle.game.specs.declared.Game.{Game}
-use Rattle.map.specs.Map.{mapAnswer, MapMade}
+use Rattle.game.specs.Numbers.{firstOf}
+use Rattle.map.specs.Map.{mapAnswer, mapTests, MapMade}
 use Rattle.solver.specs.Promise.{verdictAnswer, Solved}
 use Rattle.drives.specs.declared.Kit.{Kit}
 use Rattle.kit.specs.Promise.{kitAnswer, KitSolved}
@@ -20,11 +21,11 @@ use Rattle.text.specs.Write.{writeAnswer, writeBuffer}
 use Rattle.results.specs.declared.SolveResult.{SolveResult}
 use Rattle.results.specs.declared.ReadResult.{ReadResult}
 use Rattle.results.specs.declared.WriteResult.{WriteResult}
-use Rattle.results.specs.Results.{mapCode, solveResult, readResult, writeResult}
+use Rattle.results.specs.Results.{solveResult, readResult, writeResult}
 
 -- `made` says what both buffers hold, and carries demand 2
 pub record MapCalled (g : Game) (s s′ m m′ : List ℕ) (r : ℕ) : Type 0 where
-  pub answer : r ≡ mapCode (mapAnswer g (length s) (length m))
+  pub answer : r ≡ firstOf (mapTests g (length s) (length m))
   pub made : MapMade g s s′ m m′ (mapAnswer g (length s) (length m))
 
 -- `solved` says what all three buffers hold, and carries demand 3

@@ -1,11 +1,11 @@
 // The public entries for callers in C and in Rust. Each is thin over the entry of the crate below it, and answers every input.
 // A code is document 01's number of a refusal, 0 for none.
 ghost use mathlib.Core.Path.{_≡_};
-ghost use Rattle.game.specs.Acceptance.{acceptance};
+ghost use Rattle.game.specs.Numbers.{firstOf, gameTests};
 ghost use Rattle.player.specs.Player.{movedOf, beginning, stepping, Advanced};
 ghost use Rattle.recorder.specs.Recorded.{compared};
-ghost use Rattle.results.specs.Results.{acceptCode, compareResult, nowhere};
-ghost use Rattle.drives.specs.Acceptance.{kitAcceptance};
+ghost use Rattle.results.specs.Results.{compareResult, nowhere};
+ghost use Rattle.drives.specs.Acceptance.{kitTests};
 ghost use Rattle.nanpuwiq.specs.Calls.{MapCalled, SolveCalled, KitCalled, ReadCalled, WriteCalled};
 use drives::Kit;
 use game::Game;
@@ -20,7 +20,7 @@ use results::WriteResult;
 // Whether the game is accepted.
 #[no_mangle]
 pub extern "C" fn nanpuwiq_accept(g: Game) -> u8
-    ensures { λ r. ⌜ r ≡ acceptCode (acceptance g) ⌝ }
+    ensures { λ r. ⌜ r ≡ firstOf (gameTests g) ⌝ }
 {
     results::accept_code(acceptance::accept(g))
 }
@@ -49,7 +49,7 @@ pub extern "C" fn nanpuwiq_solve(
 // Whether the kit is accepted.
 #[no_mangle]
 pub extern "C" fn nanpuwiq_accept_kit(k: Kit) -> u8
-    ensures { λ r. ⌜ r ≡ acceptCode (kitAcceptance k) ⌝ }
+    ensures { λ r. ⌜ r ≡ firstOf (kitTests k) ⌝ }
 {
     results::accept_code(kit_checks::accept_kit(k))
 }

@@ -2,6 +2,8 @@
 --
 --   provided b n p            == p where b holds; else the refusal n
 --   arrives M ok i a          == the position that the answer a gives after input i, if it names one of M counters and an output that is allowed
+--   names M ok a              == the answer a names one of M counters and an output that is allowed
+--   numberOf a                == document 01's number of the player's answer a, 0 for a position
 --   hasPosition g M p         == the game has the position p, there being M counters
 use Prim.Native.Nat.{ℕ}
 use mathlib.Core.Bool.{Bool, true, false, _&&_}
@@ -22,6 +24,14 @@ unfoldable pub arrives : ℕ → (ℕ → Bool) → InState → Answer → Playe
 unfolding provided
 arrives M ok i none = Refused 15
 arrives M ok i (gives c s) = provided (ltb c M && ok s) 15 (At (record { input = i; output = record { 0 = s }; counter = c }))
+
+unfoldable pub names : ℕ → (ℕ → Bool) → Answer → Bool
+names M ok none = false
+names M ok (gives c s) = ltb c M && ok s
+
+abbrev pub numberOf : Played → ℕ
+numberOf (At p) = 0
+numberOf (Refused n) = n
 
 -- "or a place the game lacks"
 unfoldable pub hasPosition : Game → ℕ → Position → Bool

@@ -2,8 +2,9 @@
 use Prim.Native.Nat.{ℕ, _+_, _*_}
 use mathlib.Core.Path.{_≡_, refl, sym, _∙_, ap}
 use mathlib.Core.Bool.{Bool, true, false, _&&_}
-use mathlib.Core.List.{List}
+use mathlib.Core.List.{List, [], _∷_}
 use native.Mathlib.Omega.{arith}
+use lib.Dec.{ltb}
 use lib.ListN.{length, getD}
 use borrow.Author.Tests.{eq-eqb, ne-eqb}
 use Rattle.finite.proofs.Truth.{and-intro, and-false-left, and-false-right}
@@ -17,6 +18,9 @@ use Rattle.game.specs.declared.Acceptance.{Acceptance}
 use Rattle.game.specs.declared.Acceptance.the-variants as acceptance·
 use Rattle.game.specs.Access.{outInitial, outMoves}
 use Rattle.game.specs.Acceptance.{acceptance}
+use Rattle.game.specs.Numbers.{firstOf}
+use Rattle.game.proofs.Numbers.{after, game-after}
+use Rattle.arena.specs.Table.{Answer, none, gives}
 use Rattle.play.specs.Play.{graphOf, separatedOf}
 use Rattle.theory.specs.Entries.{answer, controllerCounters, controllerEntries, controllerTable}
 use Rattle.demands.specs.Demands.{controllerOf}
@@ -24,10 +28,10 @@ use Rattle.sizes.proofs.Lengths.{controller-most}
 use Rattle.place.specs.declared.Position.{Position}
 use Rattle.view.specs.declared.RowIndex.{RowIndex}
 use Rattle.place.specs.declared.Played.{Played}
-use Rattle.place.specs.declared.Played.the-variants.{Refused}
+use Rattle.place.specs.declared.Played.the-variants.{At, Refused}
 use Rattle.view.specs.Rows.{rowEntry}
-use Rattle.place.specs.Place.{provided, arrives, hasPosition}
-use Rattle.player.specs.Player.{fitting, begun, stepped, afterAcceptance, beginning, stepping}
+use Rattle.place.specs.Place.{provided, arrives, names, numberOf, hasPosition}
+use Rattle.player.specs.Player.{fitting, begun, stepped, afterAcceptance, beginning, stepping, beginTests, stepTests, Plays}
 use Rattle.view.proofs.Range.{in-range, row-read}
 use Rattle.place.proofs.Tests.{held, refused, position-in}
 use Rattle.place.proofs.Moves.{inputs-most, outputs-most, initial-outputs, output-moves}
@@ -143,3 +147,52 @@ module _ (g : Game) (l : List ℕ) where
   pub stepping-accepted : (p : Position) (j : InState) (r : Played) → acceptance g ≡ acceptance·.Accepted → r ≡ stepped g l p j → r ≡ stepping g l p j
   unfolding stepping afterAcceptance
   stepping-accepted p j r e q = rw (e, afterAcceptance) q
+
+-- ---- the numbers
+
+arrives-number : (M : ℕ) (ok : ℕ → Bool) (i : InState) (a : Answer) → numberOf (arrives M ok i a) ≡ firstOf ((15, names M ok a) ∷ [])
+unfolding arrives names provided firstOf
+arrives-number M ok i none = refl
+arrives-number M ok i (gives c s) = go (ltb c M && ok s)
+  where
+    go : (b : Bool) → numberOf (provided b 15 (At (record { input = i; output = record { 0 = s }; counter = c }))) ≡ firstOf ((15, b) ∷ [])
+    go true = refl
+    go false = refl
+
+-- a test before others
+provided-number : (b : Bool) (n : ℕ) (p : Played) (ts : List (ℕ × Bool)) → numberOf p ≡ firstOf ts → numberOf (provided b n p) ≡ firstOf ((n, b) ∷ ts)
+unfolding provided firstOf
+provided-number true n p ts h = h
+provided-number false n p ts h = refl
+
+after-number : (a : Acceptance) (p : Played) (n : ℕ) → numberOf p ≡ n → numberOf (afterAcceptance a p) ≡ after a n
+unfolding afterAcceptance
+after-number acceptance·.Accepted p n h = h
+after-number (acceptance·.Refused m) p n h = refl
+
+pub plays-begin : (g : Game) (l : List ℕ) (i : InState) {r : Played} → r ≡ beginning g l i → Plays (beginTests g l i) (beginning g l i) r
+unfolding beginTests beginning begun
+plays-begin g l i h = record {
+  answer = h;
+  number =
+      ap numberOf h
+      ∙ after-number (acceptance g) (begun g l i) _
+      (provided-number (fitting g l) 16 _ _
+      (provided-number (begins (graphOf (g .input)) (i .0)) 14 _ _
+      (arrives-number (controllerCounters (separatedOf g)) (begins (graphOf (g .output))) i (controllerOf g l .start (i .0)))))
+      ∙ sym (game-after g _);
+}
+
+pub plays-step : (g : Game) (l : List ℕ) (p : Position) (j : InState) {r : Played} → r ≡ stepping g l p j → Plays (stepTests g l p j) (stepping g l p j) r
+unfolding stepTests stepping stepped
+plays-step g l p j h = record {
+  answer = h;
+  number =
+      ap numberOf h
+      ∙ after-number (acceptance g) (stepped g l p j) _
+      (provided-number (fitting g l && hasPosition g (controllerCounters (separatedOf g)) p) 16 _ _
+      (provided-number (edge (graphOf (g .input)) (p .input .0) (j .0)) 14 _ _
+      (arrives-number (controllerCounters (separatedOf g)) (edge (graphOf (g .output)) (p .output .0)) j
+      (controllerOf g l .step (p .counter) (p .output .0) (j .0)))))
+      ∙ sym (game-after g _);
+}

@@ -6,12 +6,14 @@
 --   afterAcceptance a p       == p where a is accepted; else the refusal
 --   beginning g l i           == the answer to begin
 --   stepping g l p j          == the answer to step
+--   beginTests g l i, stepTests g l p j    == their tests under their numbers, in the order in which they are tried
+--   Plays ts a r              == r is the answer a, and its number that of the tests ts
 --   movedOf p a               == the position after the answer a at position p, and the code: 0 where it moved
 --   Advanced p a q n          == q and n are that position and that code
 use Prim.Native.Nat.{ℕ}
 use mathlib.Core.Path.{_≡_}
 use mathlib.Core.Bool.{Bool, _&&_}
-use mathlib.Core.List.{List}
+use mathlib.Core.List.{List, [], _∷_, _++_}
 use lib.Dec.{eqb}
 use lib.ListN.{length}
 use Rattle.graphs.specs.Graph.{edge, begins}
@@ -20,11 +22,12 @@ use Rattle.game.specs.declared.Game.{Game}
 use Rattle.game.specs.declared.Acceptance.{Acceptance}
 use Rattle.game.specs.declared.Acceptance.the-variants as acceptance·
 use Rattle.game.specs.Acceptance.{acceptance}
+use Rattle.game.specs.Numbers.{firstOf, gameTests}
 use Rattle.play.specs.Play.{graphOf, separatedOf}
 use Rattle.theory.specs.Entries.{controllerCounters, controllerEntries}
 use Rattle.demands.specs.Demands.{controllerOf}
 use Rattle.place.specs.declared.Position.{Position}
-use Rattle.place.specs.Place.{provided, arrives, hasPosition}
+use Rattle.place.specs.Place.{provided, arrives, names, numberOf, hasPosition}
 use Rattle.player.specs.declared.Moved.{Moved}
 use Rattle.place.specs.declared.Played.{Played}
 use Rattle.place.specs.declared.Played.the-variants.{At, Refused}
@@ -60,6 +63,27 @@ beginning g l i = afterAcceptance (acceptance g) (begun g l i)
 -- "The player keeps its place (input, output, counter) itself, and each accepted input moves that place on."
 unfoldable pub stepping : Game → List ℕ → Position → InState → Played
 stepping g l p j = afterAcceptance (acceptance g) (stepped g l p j)
+
+-- "Whoever drives a player, after 1 to 7: 16 ..; 14 ..; 15 .."
+unfoldable pub beginTests : Game → List ℕ → InState → List (ℕ × Bool)
+beginTests g l i =
+    gameTests g
+    ++ (16, fitting g l)
+    ∷ (14, begins (graphOf (g .input)) (i .0))
+    ∷ (15, names (controllerCounters (separatedOf g)) (begins (graphOf (g .output))) (controllerOf g l .start (i .0)))
+    ∷ []
+
+unfoldable pub stepTests : Game → List ℕ → Position → InState → List (ℕ × Bool)
+stepTests g l p j =
+    gameTests g
+    ++ (16, fitting g l && hasPosition g (controllerCounters (separatedOf g)) p)
+    ∷ (14, edge (graphOf (g .input)) (p .input .0) (j .0))
+    ∷ (15, names (controllerCounters (separatedOf g)) (edge (graphOf (g .output)) (p .output .0)) (controllerOf g l .step (p .counter) (p .output .0) (j .0)))
+    ∷ []
+
+pub record Plays (ts : List (ℕ × Bool)) (a r : Played) : Type 0 where
+  pub answer : r ≡ a
+  pub number : numberOf r ≡ firstOf ts
 
 -- "Each returns its number only .. and changes no lent memory or player's place."
 unfoldable pub movedOf : Position → Played → Moved

@@ -7,7 +7,7 @@ use place::Position;
 ghost use mathlib.Core.Path.{_≡_};
 ghost use Rattle.game.specs.Acceptance.{acceptance};
 ghost use Rattle.game.specs.declared.Acceptance.the-variants.{Accepted};
-ghost use Rattle.player.specs.Player.{begun, stepped, beginning, stepping, movedOf, Advanced};
+ghost use Rattle.player.specs.Player.{begun, stepped, beginning, stepping, beginTests, stepTests, Plays, movedOf, Advanced};
 
 // A position, and a refusal's code or 0.
 #[repr(C)]
@@ -57,7 +57,7 @@ fn step_accepted(g: Game, table: &[u16], at: Position, next: InState) -> Played
 
 // The first position: `first` with the output and the counter that the table's start gives.
 pub fn begin(g: Game, table: &[u16], first: InState) -> Played
-    ensures { λ r. ⌜ r ≡ beginning g (now (table .entry)) first ⌝ }
+    ensures { λ r. ⌜ Plays (beginTests g (now (table .entry)) first) (beginning g (now (table .entry)) first) r ⌝ }
 {
     match acceptance::accept(g) {
         Acceptance::Refused(n) => Played::Refused(n),
@@ -67,7 +67,7 @@ pub fn begin(g: Game, table: &[u16], first: InState) -> Played
 
 // The position after the next input, with the output and the counter that the table's row gives.
 pub fn step(g: Game, table: &[u16], at: Position, next: InState) -> Played
-    ensures { λ r. ⌜ r ≡ stepping g (now (table .entry)) at next ⌝ }
+    ensures { λ r. ⌜ Plays (stepTests g (now (table .entry)) at next) (stepping g (now (table .entry)) at next) r ⌝ }
 {
     match acceptance::accept(g) {
         Acceptance::Refused(n) => Played::Refused(n),

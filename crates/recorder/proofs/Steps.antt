@@ -4,10 +4,11 @@
 --   ends-both, ends-one          : where the inputs have ended
 --   step-fault, step-ended, step-differs, step-same    : what one step shows
 --   compared-faulty, compared-misfit, compared-in      : the tests before
+--   compares                     : the number
 use Prim.Native.Nat.{ℕ, zero, suc, _+_, _≤_, _<_}
 use native.Mathlib.Numerals.{add-one}
 use mathlib.Core.Path.{_≡_, refl, sym, _∙_, ap}
-use mathlib.Core.Bool.{true, false}
+use mathlib.Core.Bool.{Bool, true, false}
 use mathlib.Core.List.{List, [], _∷_}
 use mathlib.Core.Logic.{_≢_}
 use native.Mathlib.Omega.{arith}
@@ -17,8 +18,11 @@ use lib.Dec.{eqb}
 use borrow.Author.Tests.{eq-eqb, ne-eqb}
 use Rattle.game.specs.declared.InState.{InState}
 use Rattle.game.specs.declared.Game.{Game}
+use Rattle.game.specs.declared.Acceptance.{Acceptance}
 use Rattle.game.specs.declared.Acceptance.the-variants.{Accepted, Refused as Faulty}
 use Rattle.game.specs.Acceptance.{acceptance}
+use Rattle.game.specs.Numbers.{firstOf}
+use Rattle.game.proofs.Numbers.{after, game-after}
 use Rattle.play.specs.Play.{separatedOf}
 use Rattle.theory.specs.Entries.{controllerEntries}
 use Rattle.place.specs.declared.Position.{Position}
@@ -27,7 +31,7 @@ use Rattle.place.specs.declared.Played.the-variants.{At, Refused as Stopped}
 use Rattle.player.specs.Player.{fitting, beginning, stepping}
 use Rattle.recorder.specs.declared.Compared.{Compared}
 use Rattle.recorder.specs.declared.Compared.the-variants.{Agree, Differ, Ended, Fault, Refused}
-use Rattle.recorder.specs.Recorded.{inputOf, nowhere, judged, ended, answerAt, recorded, compared}
+use Rattle.recorder.specs.Recorded.{inputOf, nowhere, judged, ended, answerAt, recorded, compared, faultBy, faultNumber, numberOf, Compares}
 
 module _ (g : Game) (l : List ℕ) (p : Position) (i : InState) where
   pub answer-start : (n : ℕ) {a : Played} → n ≡ 0 → a ≡ beginning g l i → a ≡ answerAt g l n p i
@@ -108,3 +112,49 @@ module _ (g : Game) (l is os : List ℕ) where
       → r ≡ compared g l is os
   unfolding compared fitting
   compared-in e f q = q ∙ sym (rw (e, compared) (rw (eq-eqb (length l) (length (controllerEntries (separatedOf g))) f, fitting) refl))
+
+-- ---- the number
+
+judged-number : (a : Played) (os : List ℕ) (n : ℕ) (k : Position → Compared) (f : Position → ℕ) → ((p : Position) → numberOf (k p) ≡ f p)
+    → numberOf (judged a os n k) ≡ faultBy a os f
+unfolding judged faultBy
+judged-number (Stopped c) os n k f h = refl
+judged-number (At p) [] n k f h = refl
+judged-number (At p) (o ∷ os) n k f h = go (eqb (p .output .0) o)
+  where
+    go : (b : Bool) → numberOf (elim b as (λ x. Compared) [ true ↦ k p | false ↦ Differ n ]) ≡ elim b as (λ x. ℕ) [ true ↦ f p | false ↦ 0 ]
+    go true = h p
+    go false = refl
+
+ended-number : (os : List ℕ) (n : ℕ) → numberOf (ended os n) ≡ 0
+unfolding ended
+ended-number [] n = refl
+ended-number (o ∷ os) n = refl
+
+recorded-number : (g : Game) (l is os : List ℕ) (n : ℕ) (p : Position) → numberOf (recorded g l is os n p) ≡ faultNumber g l is os n p
+unfolding recorded faultNumber
+recorded-number g l [] os n p = ended-number os n
+recorded-number g l (i ∷ is) os n p =
+    judged-number (answerAt g l n p (inputOf i)) os n (recorded g l is (drop 1 os) (suc n)) (faultNumber g l is (drop 1 os) (suc n))
+    (λ q. recorded-number g l is (drop 1 os) (suc n) q)
+
+module _ (g : Game) (l is os : List ℕ) where
+  abbrev rest : Bool → List (ℕ × Bool)
+  rest b = (16, b) ∷ (faultNumber g l is os 0 nowhere, false) ∷ []
+
+  fitting-number : (b : Bool) → numberOf (elim b as (λ x. Compared) [ true ↦ recorded g l is os 0 nowhere | false ↦ Refused 16 ]) ≡ firstOf (rest b)
+  unfolding firstOf
+  fitting-number true = recorded-number g l is os 0 nowhere
+  fitting-number false = refl
+
+  compared-number : (a : Acceptance)
+      → numberOf (elim a as (λ x. Compared) [
+        | Accepted ↦ elim (fitting g l) [ true ↦ recorded g l is os 0 nowhere | false ↦ Refused 16 ]
+        | Faulty n ↦ Refused n
+      ]) ≡ after a (firstOf (rest (fitting g l)))
+  compared-number Accepted = fitting-number (fitting g l)
+  compared-number (Faulty n) = refl
+
+  pub compares : {r : Compared} → r ≡ compared g l is os → Compares g l is os r
+  unfolding compared
+  compares h = record { answer = h; number = ap numberOf h ∙ compared-number (acceptance g) ∙ sym (game-after g (rest (fitting g l))) }

@@ -6,15 +6,20 @@
 --   answerAt g l n p i   == the player's answer to input i at step n, being at p
 --   recorded g l is os n p    == the reply from step n on, the player being at p: is and os are what is left of the recordings
 --   compared g l is os   == the reply
+--   faultNumber g l is os n p    == the player's number where the reply from step n on is a fault, 0 otherwise
+--   numberOf r           == the number of the reply r, 0 for none
+--   Compares g l is os r == r is the reply, and its number the first of 1 to 7 and 16, or else the player's
 use Prim.Native.Nat.{ℕ, zero, suc}
 use mathlib.Core.Bool.{true, false}
-use mathlib.Core.List.{List, [], _∷_}
+use mathlib.Core.List.{List, [], _∷_, _++_}
+use mathlib.Core.Path.{_≡_}
 use lib.Dec.{eqb}
 use lib.ListN.{drop}
 use Rattle.game.specs.declared.InState.{InState}
 use Rattle.game.specs.declared.Game.{Game}
 use Rattle.game.specs.declared.Acceptance.the-variants.{Accepted, Refused as Faulty}
 use Rattle.game.specs.Acceptance.{acceptance}
+use Rattle.game.specs.Numbers.{firstOf, gameTests}
 use Rattle.place.specs.declared.Position.{Position}
 use Rattle.place.specs.declared.Played.{Played}
 use Rattle.place.specs.declared.Played.the-variants.{At, Refused as Stopped}
@@ -57,3 +62,24 @@ compared g l is os =
       | Accepted ↦ elim (fitting g l) [ true ↦ recorded g l is os 0 nowhere | false ↦ Refused 16 ]
       | Faulty n ↦ Refused n
     ]
+
+-- "A bad input or row found earlier is reported by the player's number with its step."
+unfoldable pub faultBy : Played → List ℕ → (Position → ℕ) → ℕ
+faultBy (Stopped c) os k = c
+faultBy (At p) [] k = 0
+faultBy (At p) (o ∷ os) k = elim (eqb (p .output .0) o) [ true ↦ k p | false ↦ 0 ]
+
+unfoldable pub faultNumber : Game → List ℕ → List ℕ → List ℕ → ℕ → Position → ℕ
+faultNumber g l [] os n p = 0
+faultNumber g l (i ∷ is) os n p = faultBy (answerAt g l n p (inputOf i)) os (faultNumber g l is (drop 1 os) (suc n))
+
+abbrev pub numberOf : Compared → ℕ
+numberOf Agree = 0
+numberOf (Differ n) = 0
+numberOf (Ended n) = 0
+numberOf (Fault n c) = c
+numberOf (Refused c) = c
+
+pub record Compares (g : Game) (l is os : List ℕ) (r : Compared) : Type 0 where
+  pub answer : r ≡ compared g l is os
+  pub number : numberOf r ≡ firstOf (gameTests g ++ (16, fitting g l) ∷ (faultNumber g l is os 0 nowhere, false) ∷ [])

@@ -8,7 +8,7 @@ use place::Position;
 ghost use mathlib.Core.Path.{_≡_};
 ghost use Prim.Native.Nat.{_≤_, _<_};
 ghost use lib.ListN.{length, getD, drop};
-ghost use Rattle.recorder.specs.Recorded.{ended, answerAt, recorded, nowhere, compared};
+ghost use Rattle.recorder.specs.Recorded.{ended, answerAt, recorded, nowhere, Compares};
 
 // The reply. Steps count from 0, the start. A fault holds its step and the player's number.
 pub enum Compared {
@@ -81,7 +81,7 @@ fn follow(g: Game, table: &[u16], inputs: &[u8], outputs: &[u8]) -> Compared
 
 // Whether the outputs are those that the table gives for the inputs; else the first step that shows it.
 pub fn compare(g: Game, table: &[u16], inputs: &[u8], outputs: &[u8]) -> Compared
-    ensures { λ r. ⌜ r ≡ compared g (now (table .entry)) (now (inputs .entry)) (now (outputs .entry)) ⌝ }
+    ensures { λ r. ⌜ Compares g (now (table .entry)) (now (inputs .entry)) (now (outputs .entry)) r ⌝ }
 {
     match acceptance::accept(g) {
         Acceptance::Refused(n) => Compared::Refused(n),

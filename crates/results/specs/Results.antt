@@ -1,18 +1,11 @@
 -- The answers of the entries below, as records whose first part is a code: document 01's number of a refusal, 0 for none.
 --
---   acceptCode a       == the code of the answer of acceptance
---   mapCode a          == the code of the answer of the map's call
 --   solveResult v      == the solver's answer: code, whether the system wins, how many entries are filled
 --   readResult x       == the reader's answer: code, the place of 11, the game
 --   writeResult a      == the writer's answer: code, how many bytes are filled
 --   compareResult c    == the recorder's answer: code, whether the recordings agree, whether one has ended, the step
 --   nowhere            == the position of zeros, which stands beside a refusal to begin
-use Prim.Native.Nat.{ℕ}
 use mathlib.Core.Bool.{true, false}
-use Rattle.game.specs.declared.Acceptance.{Acceptance}
-use Rattle.game.specs.declared.Acceptance.the-variants as acceptance·
-use Rattle.map.specs.declared.Mapped.{Mapped}
-use Rattle.map.specs.declared.Mapped.the-variants as mapped·
 use Rattle.solver.specs.declared.Verdict.{Verdict}
 use Rattle.solver.specs.declared.Verdict.the-variants as verdict·
 use Rattle.text.specs.declared.Reading.{Reading}
@@ -28,14 +21,6 @@ use Rattle.results.specs.declared.SolveResult.{SolveResult}
 use Rattle.results.specs.declared.CompareResult.{CompareResult}
 use Rattle.results.specs.declared.ReadResult.{ReadResult}
 use Rattle.results.specs.declared.WriteResult.{WriteResult}
-
-unfoldable pub acceptCode : Acceptance → ℕ
-acceptCode acceptance·.Accepted = 0
-acceptCode (acceptance·.Refused n) = n
-
-unfoldable pub mapCode : Mapped → ℕ
-mapCode mapped·.Done = 0
-mapCode (mapped·.Refused n) = n
 
 unfoldable pub solveResult : Verdict → SolveResult
 solveResult (verdict·.System n) = record { code = 0; system = true; entries = n }

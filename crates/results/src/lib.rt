@@ -1,7 +1,9 @@
 // The answers of the public entries as records for callers in other languages. A code is document 01's number of a refusal, 0 for none.
 ghost use mathlib.Core.Path.{_≡_};
 ghost use Rattle.player.specs.Player.{movedOf};
-ghost use Rattle.results.specs.Results.{acceptCode, mapCode, solveResult, readResult, writeResult, compareResult, nowhere};
+ghost use Rattle.game.specs.Acceptance.{numberOf as acceptNumber};
+ghost use Rattle.map.specs.Map.{numberOf as mapNumber};
+ghost use Rattle.results.specs.Results.{solveResult, readResult, writeResult, compareResult, nowhere};
 use game::Acceptance;
 use game::Game;
 use game::InState;
@@ -49,7 +51,7 @@ pub struct CompareResult {
 }
 
 pub fn accept_code(a: Acceptance) -> u8
-    ensures { λ r. ⌜ r ≡ acceptCode a ⌝ }
+    ensures { λ r. ⌜ r ≡ acceptNumber a ⌝ }
 {
     match a {
         Acceptance::Accepted => 0,
@@ -58,7 +60,7 @@ pub fn accept_code(a: Acceptance) -> u8
 }
 
 pub fn map_code(a: Mapped) -> u8
-    ensures { λ r. ⌜ r ≡ mapCode a ⌝ }
+    ensures { λ r. ⌜ r ≡ mapNumber a ⌝ }
 {
     match a {
         Mapped::Done => 0,

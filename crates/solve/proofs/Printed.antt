@@ -21,7 +21,7 @@ use Rattle.solver.specs.declared.Verdict.{Verdict}
 use Rattle.solver.specs.declared.Verdict.the-variants.{System, Environment, Refused as NotSolved}
 use Rattle.solver.specs.Promise.{verdictAnswer}
 use Rattle.solver.proofs.Verdicts.{controller-long, environment-long}
-use Rattle.handover.specs.Handed.{number, side, front, Handed}
+use Rattle.handover.specs.Handed.{side, front, Handed}
 use Rattle.handover.proofs.Handing.{Told, told-answer}
 use Rattle.text.specs.declared.Answer.{Answer}
 use Rattle.text.specs.declared.Answer.the-variants.{Read, Misshapen, Refused as NotRead}
@@ -88,7 +88,7 @@ module _ {g : Game} {s s′ : List ℕ} {n : ℕ} {b b′ : Bool} {x y p : ℕ �
   module _ {d : List ℕ} {r : ℕ} {f : List ℕ} where
     system-of : (c e : ℕ) (v : Verdict) → Told g c e v → Handed g v s s′ n b b′ x y p t → acceptance g ≡ Accepted → n ≡ 0 → b′ ≡ true
         → Made d (controllerAnswer (g .input .states) (g .output .states) (length (guarantees (separatedOf g))) t) r f → Made d (tablePrint g v) r f
-    unfolding Told number side front tablePrint
+    unfolding Told side front tablePrint
     system-of c e (System k) T H a z w M =
         made-as
         (ap (controllerAnswer (g .input .states) (g .output .states) (length (guarantees (separatedOf g)))) (H .part) ∙ controller-printed g a) M
@@ -97,7 +97,7 @@ module _ {g : Game} {s s′ : List ℕ} {n : ℕ} {b b′ : Bool} {x y p : ℕ �
 
     environment-of : (c e : ℕ) (v : Verdict) → Told g c e v → Handed g v s s′ n b b′ x y p t → acceptance g ≡ Accepted → n ≡ 0 → b′ ≡ false
         → Made d (environmentAnswer (g .input .states) (g .output .states) (length (assumptions (separatedOf g))) t) r f → Made d (tablePrint g v) r f
-    unfolding Told number side front tablePrint
+    unfolding Told side front tablePrint
     environment-of c e (System k) T H a z w M = clash (H .system) w
     environment-of c e (Environment k) T H a z w M =
         made-as
@@ -105,7 +105,7 @@ module _ {g : Game} {s s′ : List ℕ} {n : ℕ} {b b′ : Bool} {x y p : ℕ �
     environment-of c e (NotSolved k) T H a z w M = absurd (omega (arith, H .refusal, T .0))
 
     refused-of : (c e : ℕ) (v : Verdict) → Told g c e v → Handed g v s s′ n b b′ x y p t → n ≢ 0 → Puts d 0 (refusedLine n) r f → Made d (tablePrint g v) r f
-    unfolding Told number tablePrint
+    unfolding Told tablePrint
     refused-of c e (System k) T H z P = absurd (z (H .refusal))
     refused-of c e (Environment k) T H z P = absurd (z (H .refusal))
     refused-of c e (NotSolved k) T H z P = made-as (ap refusedLine (H .refusal)) (makes-refused n (omega (arith, H .refusal, T .1)) P)

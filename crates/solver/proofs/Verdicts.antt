@@ -2,14 +2,18 @@
 use Prim.Native.Nat.{ℕ, _≤_, _<_}
 use mathlib.Core.Path.{_≡_, refl, sym, _∙_, ap, subst, subst⁻¹}
 use mathlib.Core.Bool.{Bool, true, false}
-use mathlib.Core.List.{List, _++_}
+use mathlib.Core.List.{List, [], _∷_, _++_}
+use lib.Dec.{leb}
 use lib.ListN.{length, take, drop}
 use lib.Seq.{take-append-seam}
 use borrow.Author.Tests.{le-leb, lt-leb}
 use Rattle.arena.specs.Win.{system, environment, DemandThree}
 use Rattle.game.specs.declared.Game.{Game}
+use Rattle.game.specs.declared.Acceptance.{Acceptance}
 use Rattle.game.specs.declared.Acceptance.the-variants.{Accepted, Refused as Faulty}
 use Rattle.game.specs.Acceptance.{acceptance}
+use Rattle.game.specs.Numbers.{firstOf, gameTests}
+use Rattle.game.proofs.Numbers.{after, game-after}
 use Rattle.play.specs.Play.{graphOf, separatedOf}
 use Rattle.theory.specs.Region.{verdict}
 use Rattle.theory.specs.Entries.{controllerEntries, environmentEntries}
@@ -27,6 +31,8 @@ use Rattle.solver.specs.Promise.{
   ninth,
   eighth,
   verdictAnswer,
+  solveTests,
+  numberOf,
   controllerAfter,
   environmentAfter,
   verdictScratch,
@@ -43,10 +49,49 @@ pub environment-long : (g : Game) → length (environmentEntries (separatedOf g)
 unfolding environmentLength separatedOf graphOf
 environment-long g = entries.environment-long (separatedOf g)
 
+-- ---- the number
+
+module _ (g : Game) (s c e : ℕ) where
+  named-number : (b : Bool) → numberOf (elim b as (λ x. Verdict) [ true ↦ System (controllerLength g) | false ↦ Environment (environmentLength g) ]) ≡ 0
+  named-number true = refl
+  named-number false = refl
+
+  tenth-number : (b : Bool) → numberOf (elim b as (λ x. Verdict) [ true ↦ named g | false ↦ NotSolved 10 ]) ≡ firstOf ((10, b) ∷ [])
+  unfolding named firstOf
+  tenth-number true = named-number (verdict (separatedOf g))
+  tenth-number false = refl
+
+  ninth-number : (b : Bool)
+      → numberOf (elim b as (λ x. Verdict) [ true ↦ tenth g e | false ↦ NotSolved 9 ]) ≡ firstOf ((9, b) ∷ (10, leb (environmentLength g) e) ∷ [])
+  unfolding tenth firstOf
+  ninth-number true = tenth-number (leb (environmentLength g) e)
+  ninth-number false = refl
+
+  abbrev rooms : Bool → List (ℕ × Bool)
+  rooms b = (8, b) ∷ (9, leb (controllerLength g) c) ∷ (10, leb (environmentLength g) e) ∷ []
+
+  eighth-number : (b : Bool) → numberOf (elim b as (λ x. Verdict) [ true ↦ ninth g c e | false ↦ NotSolved 8 ]) ≡ firstOf (rooms b)
+  unfolding ninth firstOf
+  eighth-number true = ninth-number (leb (controllerLength g) c)
+  eighth-number false = refl
+
+  acceptance-number : (a : Acceptance)
+      → numberOf (elim a as (λ x. Verdict) [ Accepted ↦ eighth g s c e | Faulty n ↦ NotSolved n ]) ≡ after a (firstOf (rooms (leb 512 s)))
+  unfolding eighth
+  acceptance-number Accepted = eighth-number (leb 512 s)
+  acceptance-number (Faulty n) = refl
+
+  pub verdict-number : numberOf (verdictAnswer g s c e) ≡ firstOf (solveTests g s c e)
+  unfolding verdictAnswer solveTests
+  verdict-number = acceptance-number (acceptance g) ∙ sym (game-after g (rooms (leb 512 s)))
+
 module _ (g : Game) (s c e : List ℕ) where
+  told : {r : Verdict} → r ≡ verdictAnswer g (length s) (length c) (length e) → numberOf r ≡ firstOf (solveTests g (length s) (length c) (length e))
+  told h = ap numberOf h ∙ verdict-number g (length s) (length c) (length e)
+
   refused : (n : ℕ) → NotSolved n ≡ verdictAnswer g (length s) (length c) (length e) → Solved g s s c c e e (NotSolved n)
   unfolding verdictScratch controllerAfter environmentAfter Decided
-  refused n h = record { answer = h; scratch = refl; controller = refl; environment = refl; demand = tt }
+  refused n h = record { answer = h; number = told h; scratch = refl; controller = refl; environment = refl; demand = tt }
 
   pub solve-faulty : (n : ℕ) → acceptance g ≡ Faulty n → Solved g s s c c e e (NotSolved n)
   unfolding verdictAnswer
@@ -86,13 +131,17 @@ module _ (g : Game) (s c e : List ℕ) where
           → c′ ≡ controllerEntries (separatedOf g) ++ drop (controllerLength g) c → Solved g s s′ c c′ e e (System (controllerLength g))
       unfolding verdictScratch controllerAfter environmentAfter Decided named
       solved-system s′ c′ v p q = record {
-        answer = sym (at-named ∙ rw (v, named) refl);
+        answer = wins;
+        number = told wins;
         scratch = p;
         controller = q;
         environment = refl;
         demand = subst⁻¹ (λ (x : List ℕ). DemandThree (playOf g) (system (controllerOf g x))) front (demand-three-system g a v);
       }
         where
+          wins : System (controllerLength g) ≡ verdictAnswer g (length s) (length c) (length e)
+          wins = sym (at-named ∙ rw (v, named) refl)
+
           front : take (controllerLength g) c′ ≡ controllerEntries (separatedOf g)
           front =
               ap (take (controllerLength g)) q
@@ -103,13 +152,17 @@ module _ (g : Game) (s c e : List ℕ) where
           → e′ ≡ environmentEntries (separatedOf g) ++ drop (environmentLength g) e → Solved g s s′ c c e e′ (Environment (environmentLength g))
       unfolding verdictScratch controllerAfter environmentAfter Decided named
       solved-environment s′ e′ v p q = record {
-        answer = sym (at-named ∙ rw (v, named) refl);
+        answer = wins;
+        number = told wins;
         scratch = p;
         controller = refl;
         environment = q;
         demand = subst⁻¹ (λ (x : List ℕ). DemandThree (playOf g) (environment (environmentOf g x))) front (demand-three-environment g a v);
       }
         where
+          wins : Environment (environmentLength g) ≡ verdictAnswer g (length s) (length c) (length e)
+          wins = sym (at-named ∙ rw (v, named) refl)
+
           front : take (environmentLength g) e′ ≡ environmentEntries (separatedOf g)
           front =
               ap (take (environmentLength g)) q

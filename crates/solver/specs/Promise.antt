@@ -1,14 +1,15 @@
 -- What the solver promises, for every input.
 --
---   byAcceptance a x          == a refusal of the game, or else x
 --   controllerLength g, environmentLength g    == how many entries the two tables have
 --   verdictAnswer g s c e     == the answer of the solver, scratch being of s words and the buffers of c and e entries
+--   solveTests g s c e        == its tests under their numbers
+--   numberOf r                == document 01's number of the answer r, 0 for a verdict
 --   Decided g r c e           == demand 3 for the answer r, the buffers then being c and e
 --   Solved g s s′ c c′ e e′ r == the solver answers r and leaves scratch s as s′, the controller's buffer c as c′ and the environment's e as e′
 use Prim.Native.Nat.{ℕ, _+_, _*_}
 use mathlib.Core.Path.{_≡_}
-use mathlib.Core.Bool.{true, false}
-use mathlib.Core.List.{List, _++_}
+use mathlib.Core.Bool.{Bool, true, false}
+use mathlib.Core.List.{List, [], _∷_, _++_}
 use lib.Dec.{leb}
 use lib.ListN.{length, take, drop}
 use Rattle.arena.specs.Win.{system, environment, DemandThree}
@@ -16,6 +17,7 @@ use Rattle.game.specs.declared.Game.{Game}
 use Rattle.game.specs.declared.Acceptance.{Acceptance}
 use Rattle.game.specs.declared.Acceptance.the-variants.{Accepted, Refused as Faulty}
 use Rattle.game.specs.Acceptance.{acceptance}
+use Rattle.game.specs.Numbers.{firstOf, gameTests}
 use Rattle.play.specs.Play.{separatedOf}
 use Rattle.theory.specs.Region.{verdict}
 use Rattle.theory.specs.Entries.{controllerCounters, environmentCounters, controllerEntries, environmentEntries}
@@ -48,6 +50,14 @@ eighth g s c e = elim (leb 512 s) [ true ↦ ninth g c e | false ↦ NotSolved 8
 unfoldable pub verdictAnswer : Game → ℕ → ℕ → ℕ → Verdict
 verdictAnswer g s c e = elim (acceptance g) [ Accepted ↦ eighth g s c e | Faulty n ↦ NotSolved n ]
 
+unfoldable pub solveTests : Game → ℕ → ℕ → ℕ → List (ℕ × Bool)
+solveTests g s c e = gameTests g ++ (8, leb 512 s) ∷ (9, leb (controllerLength g) c) ∷ (10, leb (environmentLength g) e) ∷ []
+
+abbrev pub numberOf : Verdict → ℕ
+numberOf (System n) = 0
+numberOf (Environment n) = 0
+numberOf (NotSolved n) = n
+
 -- "On a verdict the answer is the filled front of one of two lent rooms; the rest of that room and all of the other stay unchanged."
 unfoldable pub controllerAfter : Game → Verdict → List ℕ → List ℕ
 controllerAfter g (System n) c = controllerEntries (separatedOf g) ++ drop n c
@@ -72,6 +82,7 @@ Decided g (NotSolved n) c e = Unit {0}
 
 pub record Solved (g : Game) (s s′ c c′ e e′ : List ℕ) (r : Verdict) : Type 0 where
   pub answer : r ≡ verdictAnswer g (length s) (length c) (length e)
+  pub number : numberOf r ≡ firstOf (solveTests g (length s) (length c) (length e))
   pub scratch : s′ ≡ verdictScratch r s
   pub controller : c′ ≡ controllerAfter g r c
   pub environment : e′ ≡ environmentAfter g r e

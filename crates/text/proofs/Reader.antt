@@ -2,7 +2,7 @@
 use Prim.Native.Nat.{ℕ, _+_, _≤_, _<_}
 use native.Mathlib.Omega.{arith}
 use mathlib.Core.List.{List, _++_}
-use mathlib.Core.Path.{_≡_, sym, _∙_, ap, subst}
+use mathlib.Core.Path.{_≡_, refl, sym, _∙_, ap, subst}
 use lib.ListN.{length, take}
 use Rattle.grammar.specs.Format.{Format, Run, TextOf, run}
 use Rattle.grammar.specs.Format.Run.{got, fault}
@@ -11,9 +11,12 @@ use Rattle.grammar.proofs.Place.{one-value, read-got, read-fault, read-fault-no
 use Rattle.game.specs.declared.Game.{Game}
 use Rattle.shape.specs.Text.{gameText, Shaped}
 use Rattle.shape.specs.Shape.{gameFormat}
-use Rattle.game.specs.Acceptance.{acceptance}
+use Rattle.game.specs.Acceptance.{acceptance, numberOf as gameNumber}
+use Rattle.game.specs.Numbers.{firstOf, gameTests}
+use Rattle.game.proofs.Numbers.{accepts}
+use Rattle.game.specs.declared.Acceptance.{Acceptance}
 use Rattle.game.specs.declared.Acceptance.the-variants.{Accepted, Refused}
-use Rattle.text.specs.Read.{BeginsText, LongestFront, refused, misshapen, judgedBy, judged, Reads}
+use Rattle.text.specs.Read.{BeginsText, LongestFront, refused, misshapen, judgedBy, judged, numberOf, placeOf, ReadNumber, Reads}
 use Rattle.text.specs.declared.Answer.the-variants.{Read}
 use Rattle.text.specs.declared.Reading.{Reading}
 use Rattle.shape.proofs.Shape.{game-sound, game-complete, game-live}
@@ -38,15 +41,41 @@ longest-front s p L =
       longest = λ q m h B. L .longest q m h (text-begins (take q s) B);
     }
 
+-- the number and the place of an answer
+number-as : {r q : Reading} → r ≡ q → numberOf (r .answer) ≡ numberOf (q .answer)
+number-as e = ap (λ (x : Reading). numberOf (x .answer)) e
+
+judged-number : (g : Game) → numberOf (judged g .answer) ≡ firstOf (gameTests g)
+unfolding judged judgedBy refused
+judged-number g = go (acceptance g) ∙ accepts g refl .number
+  where
+    go : (a : Acceptance) → numberOf (judgedBy g a .answer) ≡ gameNumber a
+    go Accepted = refl
+    go (Refused n) = refl
+
 -- the three answers
 pub reads-long : (s : List ℕ) (r : Reading) → 40960 < length s → r ≡ refused 12 → Reads s r
-reads-long s r h e = record { long = λ _. e; place = λ l _. absurd (omega arith); text = λ l g S t. absurd (omega arith) }
+unfolding refused
+reads-long s r h e =
+    record {
+      number = record { long = λ _. number-as e; place = λ l _. absurd (omega arith); text = λ l g S t. absurd (omega arith) };
+      long = λ _. e;
+      place = λ l _. absurd (omega arith);
+      text = λ l g S t. absurd (omega arith);
+    }
 
 reads-fault : (s : List ℕ) (r : Reading) (p : ℕ) → length s ≤ 40960 → reading gameFormat s ≡ fault p → r ≡ misshapen p → Reads s r
+unfolding misshapen
 reads-fault s r p h f e =
+    let front = longest-front s p (read-fault gameFormat game-live s f) in
     record {
+      number = record {
+        long = λ l. absurd (omega arith);
+        place = λ _ _. (number-as e, subst (LongestFront s) (sym (ap (λ (x : Reading). placeOf (x .answer)) e)) front);
+        text = λ _ g S t. absurd (read-fault-none gameFormat game-live s f g (text-of s g S t));
+      };
       long = λ l. absurd (omega arith);
-      place = λ _ _. (p, longest-front s p (read-fault gameFormat game-live s f), e);
+      place = λ _ _. (p, front, e);
       text = λ _ g S t. absurd (read-fault-none gameFormat game-live s f g (text-of s g S t));
     }
 
@@ -64,6 +93,11 @@ reads-game s r g j h f n e =
     let t = read-got gameFormat game-live s (ap (atEnd s) f ∙ end-here s g j n) in
     let q = game-sound s g t in
     record {
+      number = record {
+        long = λ l. absurd (omega arith);
+        place = λ _ none. absurd (none g (q .0) (q .1));
+        text = λ _ k S u. number-as (e ∙ ap judged (one-value gameFormat s g k t (text-of s k S u))) ∙ judged-number k;
+      };
       long = λ l. absurd (omega arith);
       place = λ _ none. absurd (none g (q .0) (q .1));
       text = λ _ k S u. e ∙ ap judged (one-value gameFormat s g k t (text-of s k S u));

@@ -5,13 +5,16 @@
 --   refused n          == the refusal n, with the empty game beside it
 --   misshapen p        == the refusal 11 at place p
 --   judged g           == the answer to a file that is the text of g: g itself, or the first of 1 to 7
---   Reads s r          == r is the answer to the file s
 --   numberOf a         == document 01's number of the answer a, 0 for a game that is read
+--   placeOf a          == the place of 11, 0 for another answer
+--   ReadNumber s n p   == n is the number that the file s gets, and p the place where that is 11
+--   Reads s r          == r is the answer to the file s
 use Prim.Native.Nat.{ℕ, _≤_, _<_}
 use mathlib.Core.List.{List, _++_}
 use mathlib.Core.Path.{_≡_}
 use lib.ListN.{length, take}
 use Rattle.game.specs.Acceptance.{acceptance}
+use Rattle.game.specs.Numbers.{firstOf, gameTests}
 use Rattle.game.specs.declared.Game.{Game}
 use Rattle.game.specs.declared.Acceptance.{Acceptance}
 use Rattle.game.specs.declared.Acceptance.the-variants.{Accepted, Refused}
@@ -45,13 +48,25 @@ judgedBy g (Refused n) = refused n
 unfoldable pub judged : Game → Reading
 judged g = judgedBy g (acceptance g)
 
--- "Whoever sends a file: 12 over 40,960 bytes; then 11 not of the shape above, ..; then 1 to 7."
-pub record Reads (s : List ℕ) (r : Reading) : Type 0 where
-  pub long : 40960 < length s → r ≡ refused 12
-  pub place : length s ≤ 40960 → ((g : Game) → Shaped g → s ≡ gameText g → ⊥) → (p : ℕ) × LongestFront s p × (r ≡ misshapen p)
-  pub text : length s ≤ 40960 → (g : Game) → Shaped g → s ≡ gameText g → r ≡ judged g
-
 abbrev pub numberOf : Answer → ℕ
 numberOf Read = 0
 numberOf (Misshapen p) = 11
 numberOf (NotRead n) = n
+
+abbrev pub placeOf : Answer → ℕ
+placeOf Read = 0
+placeOf (Misshapen p) = p
+placeOf (NotRead n) = 0
+
+-- "Whoever sends a file: 12 over 40,960 bytes; then 11 not of the shape above, ..; then 1 to 7."
+pub record ReadNumber (s : List ℕ) (n p : ℕ) : Type 0 where
+  pub long : 40960 < length s → n ≡ 12
+  pub place : length s ≤ 40960 → ((g : Game) → Shaped g → s ≡ gameText g → ⊥) → (n ≡ 11) × LongestFront s p
+  pub text : length s ≤ 40960 → (g : Game) → Shaped g → s ≡ gameText g → n ≡ firstOf (gameTests g)
+
+-- the same of the whole answer
+pub record Reads (s : List ℕ) (r : Reading) : Type 0 where
+  pub number : ReadNumber s (numberOf (r .answer)) (placeOf (r .answer))
+  pub long : 40960 < length s → r ≡ refused 12
+  pub place : length s ≤ 40960 → ((g : Game) → Shaped g → s ≡ gameText g → ⊥) → (p : ℕ) × LongestFront s p × (r ≡ misshapen p)
+  pub text : length s ≤ 40960 → (g : Game) → Shaped g → s ≡ gameText g → r ≡ judged g

@@ -3,14 +3,16 @@
 --   writeAnswer g d    == the answer to writing g into the buffer d: 1 to 7, then 13, or the length of its text
 --   writeBuffer g d    == the buffer afterwards: as it was, or the text of g and then the rest as it was
 --   Writes g d r e     == r is the answer, and e the buffer afterwards
+--   writeTests g d     == its tests under their numbers
 --   numberOf a         == document 01's number of the answer a, 0 for a text that is written
 use Prim.Native.Nat.{ℕ}
-use mathlib.Core.Bool.{true, false}
-use mathlib.Core.List.{List, _++_}
+use mathlib.Core.Bool.{Bool, true, false, not}
+use mathlib.Core.List.{List, [], _∷_, _++_}
 use mathlib.Core.Path.{_≡_}
 use lib.Dec.{ltb}
 use lib.ListN.{length, drop}
 use Rattle.game.specs.Acceptance.{acceptance}
+use Rattle.game.specs.Numbers.{firstOf, gameTests}
 use Rattle.game.specs.declared.Game.{Game}
 use Rattle.game.specs.declared.Acceptance.{Acceptance}
 use Rattle.game.specs.declared.Acceptance.the-variants.{Accepted, Refused}
@@ -34,10 +36,14 @@ writeAnswer g d = answerBy (acceptance g) (gameText g) d
 unfoldable pub writeBuffer : Game → List ℕ → List ℕ
 writeBuffer g d = bufferBy (acceptance g) (gameText g) d
 
-pub record Writes (g : Game) (d : List ℕ) (r : WriteAnswer) (e : List ℕ) : Type 0 where
-  pub answer : r ≡ writeAnswer g d
-  pub buffer : e ≡ writeBuffer g d
+unfoldable pub writeTests : Game → List ℕ → List (ℕ × Bool)
+writeTests g d = gameTests g ++ (13, not (ltb (length d) (length (gameText g)))) ∷ []
 
 abbrev pub numberOf : WriteAnswer → ℕ
 numberOf (Written n) = 0
 numberOf (NotWritten n) = n
+
+pub record Writes (g : Game) (d : List ℕ) (r : WriteAnswer) (e : List ℕ) : Type 0 where
+  pub answer : r ≡ writeAnswer g d
+  pub number : numberOf r ≡ firstOf (writeTests g d)
+  pub buffer : e ≡ writeBuffer g d

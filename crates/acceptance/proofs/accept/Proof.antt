@@ -1,5 +1,6 @@
 -- `accept` from what each test ensures.
 use Rattle.game.specs.Acceptance.{fewRequirements, tests, acceptance}
+use Rattle.game.proofs.Numbers.{accepts}
 use borrow.Author.Needs.{needs}
 use Rattle.acceptance.proofs.accept.Statement.{statement}
 use Rattle.acceptance.proofs.accept.Tie as tie
@@ -27,7 +28,7 @@ first-failing-requires c κs = search needs
 
 returns : tie.Need-returns
 unfolding acceptance tests fewRequirements
-returns c = cc
+returns c = accepts _ (cc)
 
 pub accept-spec : {M : Type 1} → statement M
 accept-spec =

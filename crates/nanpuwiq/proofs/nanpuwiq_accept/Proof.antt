@@ -1,7 +1,6 @@
 -- `nanpuwiq_accept` meets its contract.
-use mathlib.Core.Path.{ap, _∙_}
+use mathlib.Core.Path.{_∙_}
 use borrow.Author.Needs.{needs}
-use Rattle.results.specs.Results.{acceptCode}
 use Rattle.nanpuwiq.proofs.nanpuwiq_accept.Statement.{statement}
 use Rattle.nanpuwiq.proofs.nanpuwiq_accept.Tie as tie
 
@@ -12,7 +11,7 @@ accept-code-requires : tie.Need-accept-code-requires
 accept-code-requires c κs = search needs
 
 returns : tie.Need-returns
-returns c = c .accept-code .ensures ∙ ap acceptCode (c .before .accept .ensures)
+returns c = c .accept-code .ensures ∙ c .before .accept .ensures .number
 
 pub nanpuwiq-accept-spec : {M : Type 1} → statement M
 nanpuwiq-accept-spec = tie.close (tie.spec accept-requires accept-code-requires returns)

@@ -13,7 +13,7 @@ first-move-requires : tie.Need-first-move-requires
 first-move-requires c κs = search needs
 
 returns : tie.Need-returns
-returns c = c .first-move .ensures ∙ ap (movedOf nowhere) (c .before .begin .ensures)
+returns c = c .first-move .ensures ∙ ap (movedOf nowhere) (c .before .begin .ensures .answer)
 
 pub nanpuwiq-begin-spec : {M : Type 1} → statement M
 nanpuwiq-begin-spec = tie.close (tie.spec begin-requires first-move-requires returns)

@@ -12,7 +12,7 @@ compare-result-requires : tie.Need-compare-result-requires
 compare-result-requires c κs = search needs
 
 returns : tie.Need-returns
-returns c = c .compare-result .ensures ∙ ap compareResult (c .before .compare .ensures)
+returns c = c .compare-result .ensures ∙ ap compareResult (c .before .compare .ensures .answer)
 
 pub nanpuwiq-compare-spec : {M : Type 1} → statement M
 nanpuwiq-compare-spec = tie.close (tie.spec compare-requires compare-result-requires returns)

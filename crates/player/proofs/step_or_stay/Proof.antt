@@ -16,11 +16,11 @@ enum-known-n c = search needs
 
 returns : tie.Need-returns
 unfolding movedOf
-returns c = ap (movedOf _) (sym (c .before .p .given .1) ∙ c .before .before .before .step .ensures)
+returns c = ap (movedOf _) (sym (c .before .p .given .1) ∙ c .before .before .before .step .ensures .answer)
 
 returns-2 : tie.Need-returns-2
 unfolding movedOf
-returns-2 c = ap (movedOf _) (sym (c .before .n .given .1) ∙ c .before .before .before .step .ensures)
+returns-2 c = ap (movedOf _) (sym (c .before .n .given .1) ∙ c .before .before .before .step .ensures .answer)
 
 pub step-or-stay-spec : {M : Type 1} → statement M
 step-or-stay-spec = tie.close (tie.spec step-requires enum-known-p enum-known-n returns returns-2)

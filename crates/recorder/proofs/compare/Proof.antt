@@ -1,6 +1,6 @@
 -- `compare` by its tests.
 use mathlib.Core.Path.{sym, _∙_}
-use Rattle.recorder.proofs.Steps.{compared-faulty, compared-misfit, compared-in}
+use Rattle.recorder.proofs.Steps.{compared-faulty, compared-misfit, compared-in, compares}
 use borrow.Author.Needs.{needs}
 use Rattle.recorder.proofs.compare.Statement.{statement}
 use Rattle.recorder.proofs.compare.Tie as tie
@@ -15,19 +15,19 @@ enum-told : tie.Need-enum-told
 enum-told c = search needs
 
 controller-length-requires : tie.Need-controller-length-requires
-controller-length-requires c κs = sym (c .before .before .accept .ensures) ∙ c .enum-told .given .1
+controller-length-requires c κs = sym (c .before .before .accept .ensures .answer) ∙ c .enum-told .given .1
 
 returns : tie.Need-returns
-returns c = compared-misfit _ _ _ _ (sym (c .before .before .before .before .accept .ensures) ∙ c .before .before .enum-told .given .1) (λ h. c .if1 .taken (h ∙ sym (c .before .controller-length .ensures)))
+returns c = compares _ _ _ _ (compared-misfit _ _ _ _ (sym (c .before .before .before .before .accept .ensures .answer) ∙ c .before .before .enum-told .given .1) (λ h. c .if1 .taken (h ∙ sym (c .before .controller-length .ensures))))
 
 follow-requires : tie.Need-follow-requires
 follow-requires c κs = search needs
 
 returns-2 : tie.Need-returns-2
-returns-2 c = compared-faulty _ _ _ _ _ (sym (c .before .before .before .accept .ensures) ∙ c .before .n .given .1)
+returns-2 c = compares _ _ _ _ (compared-faulty _ _ _ _ _ (sym (c .before .before .before .accept .ensures .answer) ∙ c .before .n .given .1))
 
 returns-3 : tie.Need-returns-3
-returns-3 c = compared-in _ _ _ _ (sym (c .before .before .before .before .before .accept .ensures) ∙ c .before .before .before .enum-told .given .1) (c .before .if1 .left ∙ c .before .before .controller-length .ensures) (c .follow .ensures)
+returns-3 c = compares _ _ _ _ (compared-in _ _ _ _ (sym (c .before .before .before .before .before .accept .ensures .answer) ∙ c .before .before .before .enum-told .given .1) (c .before .if1 .left ∙ c .before .before .controller-length .ensures) (c .follow .ensures))
 
 pub compare-spec : {M : Type 1} → statement M
 compare-spec =

@@ -19,10 +19,10 @@ enum-told : tie.Need-enum-told
 enum-told c = search needs
 
 returns : tie.Need-returns
-returns c = c .refused .ensures ∙ sym (judged-refused _ _ (sym (c .before .before .before .before .accept .ensures) ∙ c .before .before .a .given .1))
+returns c = c .refused .ensures ∙ sym (judged-refused _ _ (sym (c .before .before .before .before .accept .ensures .answer) ∙ c .before .before .a .given .1))
 
 returns-2 : tie.Need-returns-2
-returns-2 c = sym (judged-accepted _ (sym (c .before .before .accept .ensures) ∙ c .enum-told .given .1))
+returns-2 c = sym (judged-accepted _ (sym (c .before .before .accept .ensures .answer) ∙ c .enum-told .given .1))
 
 pub judge-spec : {M : Type 1} → statement M
 judge-spec =
