@@ -1,8 +1,4 @@
 -- What acceptance says of a game, for the crates above: they need none of its tests.
---
---   GraphFits g              == the states of g are as document 01 asks
---   RequirementFits q a b    == the sets of q are as document 01 asks, with a input and b output states
---   Fits g                   == the whole game is as document 01 asks
 use mathlib.Core.Path.{_≡_, sym, ap, _∙_}
 use mathlib.Core.Logic.{_≢_}
 use mathlib.Core.Bool.{Bool, true, not, _&&_, _||_}
@@ -27,30 +23,7 @@ use Rattle.game.specs.Acceptance.{limit, countFits, rowFits, statesFit, 
 use Rattle.game.proofs.Steps
 use Rattle.game.proofs.Steps.{limit-in, limit-out, move-past, move-row, counts-next, states-next, initials-next, exist-next, few-below, accept-all}
 use Rattle.game.proofs.Refusals.{accepted-tests}
-
-pub record GraphFits (g : Graph) : Type 0 where
-  pub some : 1 ≤ g .states
-  pub most : g .states ≤ 64
-  pub initial-below : (s : ℕ) → has (g .initial) s ≡ true → s < g .states
-  pub start : (s : ℕ) × (s < g .states) × (has (g .initial) s ≡ true)
-  pub row-below : (s j : ℕ) → s < g .states → has (getD (g .moves) s 0) j ≡ true → j < g .states
-  pub row-past : (s : ℕ) → g .states ≤ s → s < 64 → getD (g .moves) s 0 ≡ 0
-  pub move : (s : ℕ) → s < g .states → (j : ℕ) × (j < g .states) × (has (getD (g .moves) s 0) j ≡ true)
-
-pub record RequirementFits (q : Requirement) (a b : ℕ) : Type 0 where
-  pub few-assumed : q .assumed ≤ 4
-  pub few-guaranteed : q .guaranteed ≤ 4
-  pub assumption-below : (j s : ℕ) → j < q .assumed → has (getD (q .assumptions) j noInput .0) s ≡ true → s < a
-  pub assumption-past : (j : ℕ) → q .assumed ≤ j → j < 4 → getD (q .assumptions) j noInput .0 ≡ 0
-  pub guarantee-below : (j s : ℕ) → j < q .guaranteed → has (getD (q .guarantees) j noOutput .0) s ≡ true → s < b
-  pub guarantee-past : (j : ℕ) → q .guaranteed ≤ j → j < 4 → getD (q .guarantees) j noOutput .0 ≡ 0
-
-pub record Fits (g : Game) : Type 0 where
-  pub input : GraphFits (g .input)
-  pub output : GraphFits (g .output)
-  pub few : g .k ≤ 8
-  pub requirement : (r : ℕ) → r < 8 → RequirementFits (requirementAt g r) (g .input .states) (g .output .states)
-  pub unused : (r : ℕ) → g .k ≤ r → r < 8 → (requirementAt g r .assumed ≡ 0) × (requirementAt g r .guaranteed ≡ 0)
+pub use Rattle.game.specs.Fits.{GraphFits, RequirementFits, Fits}
 
 -- ---- a set at a place that may be unused
 

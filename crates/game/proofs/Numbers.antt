@@ -26,7 +26,8 @@ unfolding gameTests acceptance
 game-after g rest = first-after 1 (tests g) rest
 
 -- with nothing to try afterwards
-pub number-alone : (a : Acceptance) (ts : List (ℕ × Bool)) → ((rest : List (ℕ × Bool)) → firstOf (ts ++ rest) ≡ after a (firstOf rest)) → numberOf a ≡ firstOf ts
+pub number-alone : (a : Acceptance) (ts : List (ℕ × Bool)) → ((rest : List (ℕ × Bool)) → firstOf (ts ++ rest) ≡ after a (firstOf rest))
+    → numberOf a ≡ firstOf ts
 unfolding firstOf
 number-alone Accepted ts h = sym (sym (ap firstOf (append-nil ts)) ∙ h [])
 number-alone (Refused n) ts h = sym (sym (ap firstOf (append-nil ts)) ∙ h [])

@@ -25,7 +25,21 @@ use Rattle.theory.specs.Entries.{controllerEntries}
 use Rattle.demands.specs.Demands.{playOf, controllerOf}
 use Rattle.solver.specs.declared.Verdict.{Verdict}
 use Rattle.solver.specs.declared.Verdict.the-variants.{System, Environment, Refused}
-use Rattle.solver.specs.Promise.{controllerLength, environmentLength, named, tenth, ninth, eighth, verdictAnswer, numberOf, controllerAfter, environmentAfter, verdictScratch, Decided, Solved}
+use Rattle.solver.specs.Promise.{
+  controllerLength,
+  environmentLength,
+  named,
+  tenth,
+  ninth,
+  eighth,
+  verdictAnswer,
+  numberOf,
+  controllerAfter,
+  environmentAfter,
+  verdictScratch,
+  Decided,
+  Solved,
+}
 use Rattle.drives.specs.declared.Kit.{Kit}
 use Rattle.drives.specs.Drive.{graphFrom, gameFrom}
 use Rattle.drives.specs.Acceptance.{kitAcceptance, kitTests}
@@ -36,7 +50,7 @@ use Rattle.kit_runs.specs.Exchange.{Exchanged}
 use Rattle.kit_runs.proofs.Turns.{kit-reads}
 use Rattle.kit_runs.proofs.Exchange.{kit-exchanged}
 use Rattle.kit.proofs.Lengths.{controller-long}
-use Rattle.kit.specs.Promise.{kitNamed, kitTenth, kitNinth, kitEighth, kitAnswer, kitRooms, solverAnswer, kitAfter, Kept, KitSolved}
+use Rattle.kit.specs.Promise.{kitNamed, kitTenth, kitNinth, kitEighth, kitAnswer, solveKitTests, solverAnswer, kitAfter, Kept, KitSolved}
 
 -- what an answer of the solver is for the kit
 unfoldable lifted : Kit → Verdict → Verdict
@@ -87,13 +101,13 @@ module _ (k : Kit) (s c e t : ℕ) where
   acceptance-number Accepted = eighth-number (leb 512 s)
   acceptance-number (Faulty n) = refl
 
-  kit-number : numberOf (kitAnswer k s c e t) ≡ firstOf (kitRooms k s c e t)
-  unfolding kitAnswer kitRooms
+  kit-number : numberOf (kitAnswer k s c e t) ≡ firstOf (solveKitTests k s c e t)
+  unfolding kitAnswer solveKitTests
   kit-number = acceptance-number (kitAcceptance k) ∙ sym (kit-after k (rooms (leb 512 s)))
 
 module _ (k : Kit) (s c e t : List ℕ) where
   told : {r : Verdict} → r ≡ kitAnswer k (length s) (length c) (length e) (length t)
-      → numberOf r ≡ firstOf (kitRooms k (length s) (length c) (length e) (length t))
+      → numberOf r ≡ firstOf (solveKitTests k (length s) (length c) (length e) (length t))
   told h = ap numberOf h ∙ kit-number k (length s) (length c) (length e) (length t)
 
   refused : (n : ℕ) → Refused n ≡ kitAnswer k (length s) (length c) (length e) (length t) → KitSolved k s s c c e e t t (Refused n)

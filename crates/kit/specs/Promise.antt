@@ -1,7 +1,7 @@
 -- What the kit's solver promises, for every input.
 --
 --   kitAnswer k s c e t        == its answer, scratch being of s words, the controller's room of c entries, the panel's of e and the kit's of t
---   kitRooms k s c e t         == its tests under their numbers
+--   solveKitTests k s c e t    == its tests under their numbers
 --   solverAnswer k r           == the solver's answer to the kit's game, where the kit's is r
 --   kitAfter k r t             == the kit's room, t before
 --   Kept k r t                 == what the kit's table is for, read from the front of the room t
@@ -43,8 +43,8 @@ kitEighth k s c e t = elim (leb 512 s) [ true ↦ kitNinth k c e t | false ↦ R
 unfoldable pub kitAnswer : Kit → ℕ → ℕ → ℕ → ℕ → Verdict
 kitAnswer k s c e t = elim (kitAcceptance k) [ Accepted ↦ kitEighth k s c e t | Faulty n ↦ Refused n ]
 
-unfoldable pub kitRooms : Kit → ℕ → ℕ → ℕ → ℕ → List (ℕ × Bool)
-kitRooms k s c e t =
+unfoldable pub solveKitTests : Kit → ℕ → ℕ → ℕ → ℕ → List (ℕ × Bool)
+solveKitTests k s c e t =
     kitTests k ++ (8, leb 512 s) ∷ (9, leb (controllerLength (gameFrom k)) c && leb (kitLength k) t) ∷ (10, leb (environmentLength (gameFrom k)) e) ∷ []
 
 -- "the other rooms are as the solver leaves them"
@@ -66,7 +66,7 @@ Kept k (Refused n) t = Unit {0}
 
 pub record KitSolved (k : Kit) (s s′ c c′ e e′ t t′ : List ℕ) (r : Verdict) : Type 0 where
   pub answer : r ≡ kitAnswer k (length s) (length c) (length e) (length t)
-  pub number : numberOf r ≡ firstOf (kitRooms k (length s) (length c) (length e) (length t))
+  pub number : numberOf r ≡ firstOf (solveKitTests k (length s) (length c) (length e) (length t))
   pub scratch : s′ ≡ verdictScratch r s
   pub controller : c′ ≡ controllerAfter (gameFrom k) (solverAnswer k r) c
   pub environment : e′ ≡ environmentAfter (gameFrom k) r e

@@ -73,7 +73,8 @@ map-number g s m = go (acceptance g) ∙ sym (game-after g ((8, mapFits g s m) �
     room true = refl
     room false = refl
 
-    go : (a : Acceptance) → numberOf (elim a as (λ x. Mapped) [ Accepted ↦ mapRoom g s m | Faulty n ↦ NotMapped n ]) ≡ after a (firstOf ((8, mapFits g s m) ∷ []))
+    go : (a : Acceptance)
+        → numberOf (elim a as (λ x. Mapped) [ Accepted ↦ mapRoom g s m | Faulty n ↦ NotMapped n ]) ≡ after a (firstOf ((8, mapFits g s m) ∷ []))
     go Accepted = room (mapFits g s m)
     go (Faulty n) = refl
 

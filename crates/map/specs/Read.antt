@@ -8,7 +8,7 @@ use mathlib.Core.List.{List}
 use Rattle.sets.specs.Member.{pack}
 use Rattle.graphs.specs.Component.{nontrivial}
 use Rattle.game.specs.declared.Game.{Game}
-use Rattle.game.proofs.Laws.{Fits}
+use Rattle.game.specs.Fits.{Fits}
 use Rattle.play.specs.Play.{graphOf, separatedOf}
 use Rattle.theory.specs.Region.{region}
 use Rattle.stored.specs.Stored.{Ready}

@@ -6,7 +6,7 @@ ghost use lib.ListN.{length, drop};
 ghost use Rattle.finite.specs.Tabulate.{tabulate};
 ghost use Rattle.game.specs.declared.Acceptance.the-variants.{Accepted};
 ghost use Rattle.game.specs.Acceptance.{acceptance};
-ghost use Rattle.game.proofs.Laws.{Fits};
+ghost use Rattle.game.specs.Fits.{Fits};
 ghost use Rattle.map.specs.Read.{Reading, mapRow};
 ghost use Rattle.map.specs.Map.{cleared, MapMade};
 use game::Acceptance;

@@ -15,7 +15,7 @@ use Rattle.finite.specs.Bounded.{count}
 use Rattle.sets.specs.Member.{has, pack}
 use Rattle.graphs.specs.Component.{nontrivial, rank}
 use Rattle.game.specs.declared.Game.{Game}
-use Rattle.game.proofs.Laws.{Fits}
+use Rattle.game.specs.Fits.{Fits}
 use Rattle.play.specs.Play.{graphOf, separatedOf}
 use Rattle.stored.specs.Stored.{storedRow, Laid}
 

@@ -80,6 +80,7 @@ numberOf (Ended n) = 0
 numberOf (Fault n c) = c
 numberOf (Refused c) = c
 
+-- a fault comes after the tests that are tried before
 pub record Compares (g : Game) (l is os : List ℕ) (r : Compared) : Type 0 where
   pub answer : r ≡ compared g l is os
   pub number : numberOf r ≡ firstOf (gameTests g ++ (16, fitting g l) ∷ (faultNumber g l is os 0 nowhere, false) ∷ [])

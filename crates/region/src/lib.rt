@@ -1,7 +1,7 @@
 // The winning region, worked out in scratch.
 ghost use Prim.Native.Nat.{_+_, _≤_};
 ghost use lib.ListN.{length};
-ghost use Rattle.game.proofs.Laws.{Fits};
+ghost use Rattle.game.specs.Fits.{Fits};
 ghost use Rattle.dues.specs.Dues.{Serving};
 ghost use Rattle.ranks.specs.Fill.{Filling};
 ghost use Rattle.region.specs.Fill.{Prepared};

@@ -1,4 +1,4 @@
--- One text for each game: what is written is read back, and only what would be written is read.
+-- One text for each game: the laws that specs/OneText.antt states.
 use Prim.Native.Nat.{ℕ, _≤_, _<_}
 use native.Mathlib.Omega.{arith}
 use mathlib.Core.Bool.{true}
@@ -32,7 +32,7 @@ use Rattle.shape.proofs.Shape.{game-sound, game-complete, game-live}
 use Rattle.put.proofs.Bounds.{game-short}
 use Rattle.put.proofs.Pieces.{in-word, out-word}
 use Rattle.text.specs.Read.{Reads, refused, misshapen, judged}
-use Rattle.text.specs.OneText.{Arrays}
+use Rattle.text.specs.OneText.{Arrays, IsText, OneText}
 use Rattle.text.specs.declared.Answer.{Answer}
 use Rattle.text.specs.declared.Answer.the-variants.{Read, Misshapen, Refused as NotRead}
 use Rattle.text.specs.declared.Reading.{Reading}
@@ -40,8 +40,8 @@ use Rattle.text.proofs.Reader.{text-of, judged-refused, judged-accepted
 use Rattle.text.proofs.Writer.{accepted-writable}
 
 -- two games within the shape's limits with one text are one game
-pub one-text : (g h : Game) → Shaped g → Shaped h → gameText g ≡ gameText h → g ≡ h
-one-text g h S T e = one-value gameFormat (gameText g) g h (game-complete g S) (text-of (gameText g) h T e)
+one-game : (g h : Game) → Shaped g → Shaped h → gameText g ≡ gameText h → g ≡ h
+one-game g h S T e = one-value gameFormat (gameText g) g h (game-complete g S) (text-of (gameText g) h T e)
 
 -- an accepted game is within the shape's limits
 graph-shaped : (g : Graph) → GraphFits g → length (g .moves) ≡ 64 → ShapedGraph g
@@ -119,7 +119,7 @@ unused-empty q a b F m n e f =
     four-outs : (j : ℕ) → j < 4 → getD (replicate 4 noOutput) j noOutput ≡ noOutput
     four-outs j h = lib.ListN.getD-replicate 4 j noOutput noOutput h
 
-pub accepted-shaped : (g : Game) → acceptance g ≡ Accepted → Arrays g → Shaped g
+accepted-shaped : (g : Game) → acceptance g ≡ Accepted → Arrays g → Shaped g
 accepted-shaped g h A =
     let F = accepted-fits g h in
     record {
@@ -145,15 +145,10 @@ accepted-shaped g h A =
     past r l = let m = A .requirements in List·getD-eq-default (g .requirements) emptyRequirement (omega arith)
 
 -- the text of an accepted game is read as that game
-pub read-written : (g : Game) (r : Reading) → acceptance g ≡ Accepted → Arrays g → Reads (gameText g) r → r ≡ record { game = g; answer = Read }
+read-written : (g : Game) (r : Reading) → acceptance g ≡ Accepted → Arrays g → Reads (gameText g) r → r ≡ record { game = g; answer = Read }
 read-written g r h A R = R .text (game-short g (accepted-writable g h)) g (accepted-shaped g h A) refl ∙ judged-accepted g h
 
 -- what is read as a game is that game's text, byte for byte
-pub record IsText (s : List ℕ) (g : Game) : Type 0 where
-  pub accepted : acceptance g ≡ Accepted
-  pub shaped : Shaped g
-  pub text : s ≡ gameText g
-
 judged-read : (s : List ℕ) (g : Game) (r : Reading) (a : Acceptance) → acceptance g ≡ a → Shaped g → s ≡ gameText g → r ≡ judged g → r .answer ≡ Read → IsText s (r .game)
 unfolding refused
 judged-read s g r Accepted h S t e f =
@@ -184,6 +179,10 @@ written-read s r R f =
         let z : _≡_ {A = ℕ} 0 1 = cc in
         absurd (omega arith)
 
--- two texts that are read as games that are equal are one text
-pub same-game-same-text : (s t : List ℕ) (q r : Reading) → Reads s q → Reads t r → q .answer ≡ Read → r .answer ≡ Read → q .game ≡ r .game → s ≡ t
-same-game-same-text s t q r Q R e f g = written-read s q Q e .text ∙ ap gameText g ∙ sym (written-read t r R f .text)
+pub one-text-holds : OneText
+one-text-holds = record {
+  one-game = one-game;
+  read-back = read-written;
+  only-texts = written-read;
+  one-text = λ s t q r Q R e f g. written-read s q Q e .text ∙ ap gameText g ∙ sym (written-read t r R f .text);
+}

@@ -1,11 +1,20 @@
--- "One text": what the laws of proofs/OneText say of reading and writing.
+-- One text for each game: what is written is read back, and only what would be written is read.
 --
 --   Arrays g           == the lists of g have the lengths of the arrays in the record: every game of a program has them
+--   IsText s g         == s is the text of the accepted game g
+--   OneText            == the laws of reading and writing together; proofs/OneText.antt proves them
+use mathlib.Core.List.{List}
 use mathlib.Core.Path.{_≡_}
 use Prim.Native.Nat.{ℕ, _<_}
 use lib.ListN.{length}
 use Rattle.game.specs.Access.{requirementAt}
+use Rattle.game.specs.Acceptance.{acceptance}
 use Rattle.game.specs.declared.Game.{Game}
+use Rattle.game.specs.declared.Acceptance.the-variants.{Accepted}
+use Rattle.shape.specs.Text.{gameText, Shaped}
+use Rattle.text.specs.declared.Answer.the-variants.{Read}
+use Rattle.text.specs.declared.Reading.{Reading}
+use Rattle.text.specs.Read.{Reads}
 
 pub record Arrays (g : Game) : Type 0 where
   pub input : length (g .input .moves) ≡ 64
@@ -13,3 +22,18 @@ pub record Arrays (g : Game) : Type 0 where
   pub requirements : length (g .requirements) ≡ 8
   pub assumptions : (r : ℕ) → r < 8 → length (requirementAt g r .assumptions) ≡ 4
   pub guarantees : (r : ℕ) → r < 8 → length (requirementAt g r .guarantees) ≡ 4
+
+pub record IsText (s : List ℕ) (g : Game) : Type 0 where
+  pub accepted : acceptance g ≡ Accepted
+  pub shaped : Shaped g
+  pub text : s ≡ gameText g
+
+pub record OneText : Type 0 where
+  -- two games within the shape's limits with one text are one game
+  pub one-game : (g h : Game) → Shaped g → Shaped h → gameText g ≡ gameText h → g ≡ h
+  -- the text of an accepted game is read as that game
+  pub read-back : (g : Game) (r : Reading) → acceptance g ≡ Accepted → Arrays g → Reads (gameText g) r → r ≡ record { game = g; answer = Read }
+  -- what is read as a game is that game's text, byte for byte
+  pub only-texts : (s : List ℕ) (r : Reading) → Reads s r → r .answer ≡ Read → IsText s (r .game)
+  -- texts that are read as one game are one text
+  pub one-text : (s t : List ℕ) (q r : Reading) → Reads s q → Reads t r → q .answer ≡ Read → r .answer ≡ Read → q .game ≡ r .game → s ≡ t

@@ -15,7 +15,9 @@ enum-told : tie.Need-enum-told
 enum-told c = search needs
 
 solve-accepted-requires : tie.Need-solve-accepted-requires
-solve-accepted-requires c κs = sym (c .before .before .before .before .before .before .accept-kit .ensures .answer) ∙ c .before .before .before .before .enum-told .given .1
+solve-accepted-requires c κs =
+    let t = c .before .before .before .before in
+    sym (t .before .before .accept-kit .ensures .answer) ∙ t .enum-told .given .1
 
 returns : tie.Need-returns
 returns c = kit-faulty _ _ _ _ _ _ (sym (c .before .before .before .accept-kit .ensures .answer) ∙ c .before .accepted .given .1)

@@ -21,7 +21,9 @@ returns : tie.Need-returns
 returns c = plays-begin _ _ _ (beginning-refused _ _ _ _ (sym (c .before .before .before .accept .ensures .answer) ∙ c .before .n .given .1))
 
 returns-2 : tie.Need-returns-2
-returns-2 c = plays-begin _ _ _ (beginning-accepted _ _ _ _ (sym (c .before .before .before .accept .ensures .answer) ∙ c .before .enum-told .given .1) (c .begin-accepted .ensures))
+returns-2 c =
+    plays-begin _ _ _
+    (beginning-accepted _ _ _ _ (sym (c .before .before .before .accept .ensures .answer) ∙ c .before .enum-told .given .1) (c .begin-accepted .ensures))
 
 pub begin-spec : {M : Type 1} → statement M
 begin-spec =

@@ -21,7 +21,9 @@ returns : tie.Need-returns
 returns c = plays-step _ _ _ _ (stepping-refused _ _ _ _ _ (sym (c .before .before .before .accept .ensures .answer) ∙ c .before .n .given .1))
 
 returns-2 : tie.Need-returns-2
-returns-2 c = plays-step _ _ _ _ (stepping-accepted _ _ _ _ _ (sym (c .before .before .before .accept .ensures .answer) ∙ c .before .enum-told .given .1) (c .step-accepted .ensures))
+returns-2 c =
+    plays-step _ _ _ _
+    (stepping-accepted _ _ _ _ _ (sym (c .before .before .before .accept .ensures .answer) ∙ c .before .enum-told .given .1) (c .step-accepted .ensures))
 
 pub step-spec : {M : Type 1} → statement M
 step-spec =

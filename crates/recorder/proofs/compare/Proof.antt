@@ -18,7 +18,11 @@ controller-length-requires : tie.Need-controller-length-requires
 controller-length-requires c κs = sym (c .before .before .accept .ensures .answer) ∙ c .enum-told .given .1
 
 returns : tie.Need-returns
-returns c = compares _ _ _ _ (compared-misfit _ _ _ _ (sym (c .before .before .before .before .accept .ensures .answer) ∙ c .before .before .enum-told .given .1) (λ h. c .if1 .taken (h ∙ sym (c .before .controller-length .ensures))))
+returns c =
+    let t = c .before .before in
+    compares _ _ _ _
+    (compared-misfit _ _ _ _ (sym (t .before .before .accept .ensures .answer) ∙ t .enum-told .given .1)
+    (λ h. c .if1 .taken (h ∙ sym (c .before .controller-length .ensures))))
 
 follow-requires : tie.Need-follow-requires
 follow-requires c κs = search needs
@@ -27,7 +31,12 @@ returns-2 : tie.Need-returns-2
 returns-2 c = compares _ _ _ _ (compared-faulty _ _ _ _ _ (sym (c .before .before .before .accept .ensures .answer) ∙ c .before .n .given .1))
 
 returns-3 : tie.Need-returns-3
-returns-3 c = compares _ _ _ _ (compared-in _ _ _ _ (sym (c .before .before .before .before .before .accept .ensures .answer) ∙ c .before .before .before .enum-told .given .1) (c .before .if1 .left ∙ c .before .before .controller-length .ensures) (c .follow .ensures))
+returns-3 c =
+    let i = c .before in
+    let t = i .before .before in
+    compares _ _ _ _
+    (compared-in _ _ _ _ (sym (t .before .before .accept .ensures .answer) ∙ t .enum-told .given .1) (i .if1 .left ∙ i .before .controller-length .ensures)
+    (c .follow .ensures))
 
 pub compare-spec : {M : Type 1} → statement M
 compare-spec =

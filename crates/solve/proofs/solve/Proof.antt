@@ -43,8 +43,10 @@ put-system-requires : tie.Need-put-system-requires
 put-system-requires c κs =
     let h = c .before .before .before .before .before in
     let m = h .before .before .before in
-    let n = m .before .before .before in
-    (n .before .before .before .pre, part-short _ _ _ (h .solve .ensures) (omega (arith, n .before .empty-room .ensures)) (omega (arith, n .empty-room2 .ensures)))
+    let n = m .before .before .before in (
+      n .before .before .before .pre,
+      part-short _ _ _ (h .solve .ensures) (omega (arith, n .before .empty-room .ensures)) (omega (arith, n .empty-room2 .ensures)),
+    )
 
 same-length-2 : tie.Need-same-length-2
 same-length-2 c = search needs
@@ -56,14 +58,17 @@ returns-2 c =
     let h = i .before .before .before in
     let m = h .before .before .before in
     let n = m .before .before .before in
-    prints-system refl (sym (n .before .empty-room .ensures)) (sym (n .empty-room2 .ensures)) (h .solve .ensures) (n .before .before .before .pre) (i .before .if1 .left) (i .if2 .taken) (p .put-system .ensures)
+    prints-system refl (sym (n .before .empty-room .ensures)) (sym (n .empty-room2 .ensures)) (h .solve .ensures)
+    (n .before .before .before .pre) (i .before .if1 .left) (i .if2 .taken) (p .put-system .ensures)
 
 put-panel-requires : tie.Need-put-panel-requires
 put-panel-requires c κs =
     let h = c .before .before .before .before .before in
     let m = h .before .before .before in
-    let n = m .before .before .before in
-    (n .before .before .before .pre, part-short _ _ _ (h .solve .ensures) (omega (arith, n .before .empty-room .ensures)) (omega (arith, n .empty-room2 .ensures)))
+    let n = m .before .before .before in (
+      n .before .before .before .pre,
+      part-short _ _ _ (h .solve .ensures) (omega (arith, n .before .empty-room .ensures)) (omega (arith, n .empty-room2 .ensures)),
+    )
 
 same-length-3 : tie.Need-same-length-3
 same-length-3 c = search needs
@@ -75,7 +80,8 @@ returns-3 c =
     let h = i .before .before .before in
     let m = h .before .before .before in
     let n = m .before .before .before in
-    prints-environment refl (sym (n .before .empty-room .ensures)) (sym (n .empty-room2 .ensures)) (h .solve .ensures) (n .before .before .before .pre) (i .before .if1 .left) (i .if2 .left) (p .put-panel .ensures)
+    prints-environment refl (sym (n .before .empty-room .ensures)) (sym (n .empty-room2 .ensures)) (h .solve .ensures)
+    (n .before .before .before .pre) (i .before .if1 .left) (i .if2 .left) (p .put-panel .ensures)
 
 pub solve-spec : {M : Type 1} → statement M
 solve-spec =

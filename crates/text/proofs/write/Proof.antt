@@ -23,10 +23,15 @@ put-game-requires : tie.Need-put-game-requires
 put-game-requires c κs = accepted-room _ (sym (c .before .before .before .accept .ensures .answer) ∙ c .before .enum-told .given .1)
 
 returns : tie.Need-returns
-returns c = writes-short _ _ (sym (c .before .before .before .before .before .before .accept .ensures .answer) ∙ c .before .before .before .before .enum-told .given .1) (omega (arith, c .if1 .taken, c .before .before .put-game .ensures .next))
+returns c =
+    let t = c .before .before .before .before in
+    writes-short _ _ (sym (t .before .before .accept .ensures .answer) ∙ t .enum-told .given .1)
+    (omega (arith, c .if1 .taken, c .before .before .put-game .ensures .next))
 
 put-game-requires-2 : tie.Need-put-game-requires-2
-put-game-requires-2 c κs = accepted-room _ (sym (c .before .before .before .before .before .before .before .accept .ensures .answer) ∙ c .before .before .before .before .before .enum-told .given .1)
+put-game-requires-2 c κs =
+    let t = c .before .before .before .before .before in
+    accepted-room _ (sym (t .before .before .accept .ensures .answer) ∙ t .enum-told .given .1)
 
 returns-2 : tie.Need-returns-2
 returns-2 c = writes-refused _ _ _ (sym (c .before .before .before .accept .ensures .answer) ∙ c .before .a .given .1)
@@ -35,7 +40,12 @@ same-length : tie.Need-same-length
 same-length c = search needs
 
 returns-3 : tie.Need-returns-3
-returns-3 c = writes-text _ _ (sym (c .before .before .before .before .before .before .before .before .before .before .accept .ensures .answer) ∙ c .before .before .before .before .before .before .before .before .enum-told .given .1) _ _ (c .before .before .before .before .before .before .put-game .ensures .next ∙ zero-add _) (omega (arith, c .before .before .before .before .if1 .left, c .before .before .before .before .before .before .put-game .ensures .next)) (c .before .before .put-game2 .ensures .kept)
+returns-3 c =
+    let i = c .before .before .before .before in
+    let m = i .before .before in
+    let t = m .before .before in
+    writes-text _ _ (sym (t .before .before .accept .ensures .answer) ∙ t .enum-told .given .1) _ _ (m .put-game .ensures .next ∙ zero-add _)
+    (omega (arith, i .if1 .left, m .put-game .ensures .next)) (c .before .before .put-game2 .ensures .kept)
 
 pub write-spec : {M : Type 1} → statement M
 write-spec =
