@@ -103,7 +103,7 @@ use Rattle.answers.specs.Print.{startLines, stepLines, controllerPrint, environ
 use Rattle.solver.specs.Promise.{controllerLength, environmentLength, named, tenth, ninth, eighth, verdictAnswer}
 use Rattle.text.specs.Read.{Reads}
 use Rattle.text.specs.OneText.{Arrays}
-use Rattle.text.proofs.OneText.{read-written}
+use Rattle.text.proofs.OneText.{one-text-holds}
 use Rattle.prints.specs.Prints.{tablePrint, gamePrint, answerPrint, readingPrint}
 use Rattle.cases.specs.Bytes.{lineBytes, bytes}
 use Rattle.cases.specs.Cases.{Case, padded, graph, ifThen, game, eight, table, Proved}
@@ -202,7 +202,7 @@ proved c m =
       file = file;
       accepted = accepted;
       print = print;
-      reads = λ r R. ap readingPrint (read-written (c .game) r accepted arrays (subst⁻¹ (λ (s : List ℕ). Reads s r) file R)) ∙ print;
+      reads = λ r R. ap readingPrint (one-text-holds .read-back (c .game) r accepted arrays (subst⁻¹ (λ (s : List ℕ). Reads s r) file R)) ∙ print;
     }
 
 -- "Row (0, 0, 1) gives 1, counter 0; (1, 0, 1) gives 0, 1; (0, 1, 1) gives 1, 2; (1, 2, 1) gives 0, 1; (0, 0, 2) gives 2, 0."
