@@ -1,5 +1,5 @@
 -- The drives to try of document 01 that are to be proved, cases 1 to 8, with their files and prints: "The cases marked (p) form one table, proved once of
--- the definitions."
+-- the definitions." Beside them stand games of our own for request M-101.
 --
 --   Case            == a name, a game, the bytes of its file and the bytes of its print
 --   padded n z l    == the list l, and z behind it up to n places
@@ -7,6 +7,7 @@
 --   ifThen a b      == the requirement with the input sets a and the output sets b
 --   game a b l      == the game of the input graph a and the output graph b, with the requirements l
 --   one .. eight    == the cases
+--   held..          == games in which a tie goes to the present state
 --   table           == all of them
 --   Proved c        == what is proved of each
 use Prim.Native.Nat.{ℕ, _-_}
@@ -151,9 +152,56 @@ eight = record {
       "(step 1 2 2 0 2)" ∷ "(step 2 0 2 2 0)" ∷ "(step 2 1 2 2 0)" ∷ "(step 2 2 2 2 0)" ∷ []);
 }
 
+-- ---- "Wherever 01 breaks a tie between shortest ways, a move to the present state now goes first, then the lowest." (M-101) A row changes in two
+-- situations: a game for each, for both sides.
+
+-- On tour, the present output in the aim and with a self-move: one input; two outputs, every move; the aim holds both.
+unfoldable pub heldAim : Case
+heldAim = record {
+  name = "held_aim";
+  game = game (graph 1 (1 ∷ [])) (graph 1 (3 ∷ 3 ∷ [])) (ifThen [] (3 ∷ []) ∷ []);
+  file = bytes (
+      "(game 1 2 1)" ∷ "(in 0 1 (0))" ∷ "(out 0 1 (0 1))" ∷ "(out 1 0 (0 1))" ∷ "(if () ((0 1)))" ∷ []);
+  print = bytes (
+      "(wins system)" ∷ "(start 0 0)" ∷ "(step 0 0 0 0 0)" ∷ "(step 1 0 0 1 0)" ∷ []);
+}
+
+-- "The same holds for the lowest move inside home with no aim": the same drives, nothing required.
+unfoldable pub heldFree : Case
+heldFree = record {
+  name = "held_free";
+  game = game (graph 1 (1 ∷ [])) (graph 1 (3 ∷ 3 ∷ [])) [];
+  file = bytes (
+      "(game 1 2 0)" ∷ "(in 0 1 (0))" ∷ "(out 0 1 (0 1))" ∷ "(out 1 0 (0 1))" ∷ []);
+  print = bytes (
+      "(wins system)" ∷ "(start 0 0)" ∷ "(step 0 0 0 0 0)" ∷ "(step 1 0 0 1 0)" ∷ []);
+}
+
+-- "and for the panel's walks": two inputs, every move; the aim holds both; one output, which cannot do what is due.
+unfoldable pub heldPanelAim : Case
+heldPanelAim = record {
+  name = "held_panel_aim";
+  game = game (graph 1 (3 ∷ 3 ∷ [])) (graph 1 (1 ∷ [])) (ifThen (3 ∷ []) (0 ∷ []) ∷ []);
+  file = bytes (
+      "(game 2 1 1)" ∷ "(in 0 1 (0 1))" ∷ "(in 1 0 (0 1))" ∷ "(out 0 1 (0))" ∷ "(if ((0 1)) (()))" ∷ []);
+  print = bytes (
+      "(wins environment)" ∷ "(start 0)" ∷ "(step 0 0 0 0 0)" ∷ "(step 1 0 0 1 0)" ∷ []);
+}
+
+-- The same with no input set: what is due is so always, and the panel has no aim.
+unfoldable pub heldPanelFree : Case
+heldPanelFree = record {
+  name = "held_panel_free";
+  game = game (graph 1 (3 ∷ 3 ∷ [])) (graph 1 (1 ∷ [])) (ifThen [] (0 ∷ []) ∷ []);
+  file = bytes (
+      "(game 2 1 1)" ∷ "(in 0 1 (0 1))" ∷ "(in 1 0 (0 1))" ∷ "(out 0 1 (0))" ∷ "(if () (()))" ∷ []);
+  print = bytes (
+      "(wins environment)" ∷ "(start 0)" ∷ "(step 0 0 0 0 0)" ∷ "(step 1 0 0 1 0)" ∷ []);
+}
+
 unfoldable pub table : List Case
-unfolding one two three four five six seven eight
-table = one ∷ two ∷ three ∷ four ∷ five ∷ six ∷ seven ∷ eight ∷ []
+unfolding one two three four five six seven eight heldAim heldFree heldPanelAim heldPanelFree
+table = one ∷ two ∷ three ∷ four ∷ five ∷ six ∷ seven ∷ eight ∷ heldAim ∷ heldFree ∷ heldPanelAim ∷ heldPanelFree ∷ []
 
 pub record Proved (c : Case) : Type 0 where
   -- the game is a record of a program, its text is the file, it is accepted, and its print is the print

@@ -18,7 +18,6 @@ use lib.ListN.{length, getD}
 use lib.Bits.{bitAnd}
 use borrow.Author.Tests.{eqb-true, eq-eqb, ltb-true}
 use Rattle.finite.proofs.Truth.{clash, and-left, and-right, not-true}
-use Rattle.finite.proofs.Bounded.{least-le}
 use Rattle.sets.specs.Member.{has, pack, within}
 use Rattle.sets.proofs.Membership.{has-and, has-pack-below, within-has, has-within}
 use Rattle.sets.proofs.Compare.{nonzero-member}
@@ -102,10 +101,6 @@ rests-rows g c over q n L e z = record {
 
     W : Whole g c k
     W = L .whole
-
-pub prefer-most : (n s : ℕ) (p : ℕ → Bool) → prefer n s p ≤ n
-unfolding prefer
-prefer-most n s p = least-le n p
 
 pub spread-rest : (g : Game) (M c over which n k p : ℕ) → Roomy g M n → Rests g c over → k < g .input .states → has c k ≡ true
     → ((h : ℕ) → has which h ≡ ltb h M) → p ≡ prefer 64 k (has (bitAnd (getD (g .input .moves) k 0) c)) → Spread g k over which p 64

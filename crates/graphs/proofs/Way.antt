@@ -1,32 +1,106 @@
 -- Shortest ways: towards p there is always a next move, and each move that does not land in p leaves a shorter way.
 --
+--   prefer-present   : a tie goes to the present state where it is one of those tied
+--   prefer-lowest    : and to the lowest of them where it is not, or (prefer-past) where it is past the count
+--   prefer-same      : the choice depends on the members alone
+--   prefer-wider     : a wider bound that adds no member changes nothing
 --   near-some        : a walk along r from s to a member of p is a way of some length
 --   toward-move      : where some move of s has a way, `toward` is a move of s
 --   toward-falls     : and it lands in p, or leaves a shorter way
+--   toward-lowest    : from outside p the lowest move with a shortest way
 --   approach-below   : from the best move on it has fewer moves than there are states
 --   approach-short   : and from outside p one fewer
 use Prim.Native.Nat.{ℕ, zero, suc, _≤_, _<_}
-use mathlib.Core.Path.{_≡_, refl, sym, _∙_}
+use mathlib.Core.Path.{_≡_, refl, sym, _∙_, subst⁻¹}
 use mathlib.Core.Bool.{Bool, true, false, _&&_}
 use mathlib.Core.Logic.{_⊎_, inl, inr}
 use native.Mathlib.Omega.{arith}
 use native.Mathlib.Decide.{decLt}
+use lib.Dec.{ltb}
+use borrow.Author.Tests.{ltb-true, lt-ltb, le-ltb}
 use Rattle.finite.specs.Bounded.{any, least, count}
-use Rattle.finite.proofs.Truth.{clash, false-of, and-intro, and-left, and-right, or-left, or-right, or-cases}
-use Rattle.finite.proofs.Bounded.{any-intro, any-elim, least-below, least-member, least-before, least-at-most, count-le, count-less, count-pos}
+use Rattle.finite.proofs.Truth.{decide, clash, false-of, and-intro, and-left, and-right, and-false-left, or-left, or-right, or-cases}
+use Rattle.finite.proofs.Bounded.{
+  any-intro,
+  any-elim,
+  least-le,
+  least-below,
+  least-member,
+  least-before,
+  least-at-most,
+  least-same,
+  least-unique,
+  count-le,
+  count-less,
+  count-pos,
+}
 use Rattle.sets.specs.Member.{has}
 use Rattle.sets.proofs.Membership.{has-pack-below, has-pack-past}
 use Rattle.graphs.specs.Walk.{Walk, stay, step}
 use Rattle.graphs.specs.Way.{widens, layer, near, approach, shortest, prefer, toward}
 
--- All that the proofs know of the choice on ties: it is one of those it is given.
-pub prefer-member : (n s : ℕ) (p : ℕ → Bool) (k : ℕ) → k < n → p k ≡ true → p (prefer n s p) ≡ true
+-- The choice on ties: the present state where it is one of those given, else the lowest.
+pub prefer-present : (n s : ℕ) (p : ℕ → Bool) → s < n → p s ≡ true → prefer n s p ≡ s
 unfolding prefer
-prefer-member n s p k b h = least-member n p (least-below n p k b h)
+prefer-present n s p b h = rw (and-intro (lt-ltb s n b) h, prefer) refl
+
+pub prefer-lowest : (n s : ℕ) (p : ℕ → Bool) → p s ≡ false → prefer n s p ≡ least n p
+unfolding prefer
+prefer-lowest n s p h = rw (false-of (ltb s n && p s) (λ e. clash (and-right (ltb s n) (p s) e) h), prefer) refl
+
+pub prefer-past : (n s : ℕ) (p : ℕ → Bool) → n ≤ s → prefer n s p ≡ least n p
+unfolding prefer
+prefer-past n s p b = rw (and-false-left (p s) (le-ltb s n b), prefer) refl
+
+pub prefer-cases : (n s : ℕ) (p : ℕ → Bool) → ((s < n) × (p s ≡ true) × (prefer n s p ≡ s)) ⊎ (prefer n s p ≡ least n p)
+unfolding prefer
+prefer-cases n s p =
+    elim (decide (ltb s n && p s)) [
+      | inl e ↦ inl (ltb-true s n (and-left (ltb s n) (p s) e), and-right (ltb s n) (p s) e, rw (e, prefer) refl)
+      | inr e ↦ inr (rw (e, prefer) refl)
+    ]
+
+-- All that the proofs of play know of it: it is one of those it is given.
+pub prefer-member : (n s : ℕ) (p : ℕ → Bool) (k : ℕ) → k < n → p k ≡ true → p (prefer n s p) ≡ true
+prefer-member n s p k b h =
+    elim (prefer-cases n s p) [
+      | inl c ↦ subst⁻¹ (λ (t : ℕ). p t ≡ true) (c .2) (c .1)
+      | inr e ↦ subst⁻¹ (λ (t : ℕ). p t ≡ true) e (least-member n p (least-below n p k b h))
+    ]
 
 pub prefer-below : (n s : ℕ) (p : ℕ → Bool) (k : ℕ) → k < n → p k ≡ true → prefer n s p < n
-unfolding prefer
-prefer-below n s p k b h = least-below n p k b h
+prefer-below n s p k b h =
+    elim (prefer-cases n s p) [ inl c ↦ omega (arith, c .0, c .2) | inr e ↦ omega (arith, e, least-below n p k b h) ]
+
+pub prefer-most : (n s : ℕ) (p : ℕ → Bool) → prefer n s p ≤ n
+prefer-most n s p = elim (prefer-cases n s p) [ inl c ↦ omega (arith, c .0, c .2) | inr e ↦ omega (arith, e, least-le n p) ]
+
+-- it depends on the members alone
+pub prefer-same : (n s : ℕ) (p q : ℕ → Bool) → ((k : ℕ) → k < n → p k ≡ q k) → prefer n s p ≡ prefer n s q
+prefer-same n s p q h =
+    elim (prefer-cases n s p) [
+      | inl c ↦ c .2 ∙ sym (prefer-present n s q (c .0) (sym (h s (c .0)) ∙ c .1))
+      | inr e ↦
+          elim (prefer-cases n s q) [
+            | inl d ↦ prefer-present n s p (d .0) (h s (d .0) ∙ d .1) ∙ sym (d .2)
+            | inr f ↦ e ∙ least-same n p q h ∙ sym f
+          ]
+    ]
+
+-- a wider bound that adds no member changes nothing
+pub prefer-wider : (n w s : ℕ) (p : ℕ → Bool) (k : ℕ) → n ≤ w → ((j : ℕ) → p j ≡ true → j < n) → p k ≡ true → prefer w s p ≡ prefer n s p
+prefer-wider n w s p k le below h =
+    elim (prefer-cases w s p) [
+      | inl c ↦ c .2 ∙ sym (prefer-present n s p (below s (c .1)) (c .1))
+      | inr e ↦
+          elim (prefer-cases n s p) [
+            | inl d ↦ prefer-present w s p (omega (arith, le, d .0)) (d .1) ∙ sym (d .2)
+            | inr f ↦ e ∙ least-unique w p (least n p) (omega (arith, le, b)) (least-member n p b) (least-before n p) ∙ sym f
+          ]
+    ]
+  where
+    b : least n p < n
+    b = least-below n p k (below k h) h
 
 module _ (n : ℕ) (r : ℕ → ℕ → Bool) (p : ℕ → Bool) where
   widens-cases : (l s : ℕ) → widens n r l s ≡ true → (has l s ≡ true) ⊎ ((t : ℕ) × (t < n) × (r s t ≡ true) × (has l t ≡ true))
@@ -184,6 +258,14 @@ module _ (n : ℕ) (r : ℕ → ℕ → Bool) (p : ℕ → Bool) where
             | inl a ↦ clash a e
             | inr v ↦ absurd (omega (arith, approach-best s (v .0) j (v .2) (v .3)))
           ])
+
+  -- so none begins with a move to the present state, and a tie goes to the lowest
+  pub toward-lowest : (s : ℕ) → p s ≡ false → toward n r p s ≡ least n (shortest n r p s)
+  unfolding toward shortest
+  toward-lowest s f =
+      prefer-lowest n s (shortest n r p s)
+      (false-of (shortest n r p s s)
+      (λ h. clash (and-right (r s s) (near n r p (approach n r p s) s) h) (outside-near s f (approach n r p s) (omega arith))))
 
   pub approach-short : (s : ℕ) → s < n → p s ≡ false → Leads s → suc (approach n r p s) < n
   approach-short s b f w =

@@ -7,7 +7,8 @@
 --   prefer n s p        == the member of p that a tie goes to, s being the present state
 --   toward n r p s      == the move of s towards p
 use Prim.Native.Nat.{ℕ, zero, suc}
-use mathlib.Core.Bool.{Bool, _&&_, _||_}
+use mathlib.Core.Bool.{Bool, true, false, _&&_, _||_}
+use lib.Dec.{ltb}
 use Rattle.finite.specs.Bounded.{any, least}
 use Rattle.sets.specs.Member.{has, pack}
 
@@ -27,9 +28,11 @@ approach n r p s = least n (λ k. any n (λ t. r s t && near n r p k t))
 unfoldable pub shortest : ℕ → (ℕ → ℕ → Bool) → (ℕ → Bool) → ℕ → ℕ → Bool
 shortest n r p s t = r s t && near n r p (approach n r p s) t
 
--- "the lowest on ties"
+-- "Wherever 01 breaks a tie between shortest ways, a move to the present state now goes first, then the lowest." (M-101) From outside p no shortest way
+-- begins with a move to the present state (`toward-lowest`): so the present state is taken where it lies in p and has a self-move, or, where no way is
+-- asked for and p is all moves, where it has a self-move. In every other situation the lowest is.
 unfoldable pub prefer : ℕ → ℕ → (ℕ → Bool) → ℕ
-prefer n s p = least n p
+prefer n s p = elim (ltb s n && p s) [ true ↦ s | false ↦ least n p ]
 
 -- "the move with the shortest way"
 unfoldable pub toward : ℕ → (ℕ → ℕ → Bool) → (ℕ → Bool) → ℕ → ℕ

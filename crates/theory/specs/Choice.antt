@@ -37,7 +37,8 @@ assumptions S = setsOf (λ q. q .assumptions) (S .requirements)
 unfoldable pub home : Separated → ℕ → ℕ → ℕ
 home S j o = least (S .output .states) (λ d. reaches (S .output) o d && homeFor S (region S) j d)
 
--- "At home: .." and "Outside home: the move with the shortest way to home, the lowest on ties; g stays."
+-- "At home: .." and "Outside home: the move with the shortest way to home, the lowest on ties; g stays." Outside home no shortest way begins with a
+-- move to the present state, so M-101 changes no row here.
 unfoldable pub homeward : Separated → ℕ → ℕ → ℕ → Answer
 homeward S d o g =
     elim (joined (S .output) d o) [

@@ -47,7 +47,8 @@ unfoldable pub arrive : List (ℕ → Bool) → ℕ → ℕ → Answer
 arrive l a t = elim (goalAt l a t) [ true ↦ gives (around (length l) a 1) t | false ↦ gives a t ]
 
 -- "Take the move inside home with the shortest way to the aim inside home (0 if it lands there), the lowest on ties." "With no aim: the lowest move
--- inside home; g stays."
+-- inside home; g stays." "A move to the present state now goes first, then the lowest. The same holds for the lowest move inside home with no aim,
+-- and for the panel's walks." (M-101)
 unfoldable pub tour : Graph → ℕ → List (ℕ → Bool) → ℕ → ℕ → Answer
 tour G c l s g =
     elim (hasGoal G c l) [

@@ -36,7 +36,7 @@ use Rattle.theory.proofs.Tour.{inside-intro, inside-edge, inside-to, inside-mov
 use Rattle.ways.specs.Kept.{kept}
 use Rattle.ways.specs.Search.{Toward}
 use Rattle.ways.proofs.Kept.{kept-pack, members-pack, toward-along}
-use Rattle.ways.proofs.Choice.{prefer-same, prefer-wider}
+use Rattle.graphs.proofs.Way.{prefer-same, prefer-wider}
 use Rattle.touring.specs.Goal.{Goals, firstFrom, passed}
 use Rattle.touring.specs.Stretches.{metIn}
 

@@ -25,7 +25,7 @@ use Rattle.graphs.proofs.Way.{Leads, near-below, near-more, near-step, near-cas
 use Rattle.ways.specs.Kept.{kept}
 use Rattle.ways.specs.Search.{choices, settles, Settled, Bounds, Toward}
 use Rattle.ways.proofs.Kept.{kept-from, pack-below}
-use Rattle.ways.proofs.Choice.{prefer-same, prefer-wider}
+use Rattle.graphs.proofs.Way.{prefer-same, prefer-wider}
 use Rattle.ways.proofs.Round.{has-choices, settles-intro, settles-nonzero, settles-left, settles-move, length-written, written-settled, written-other}
 
 -- ---- shortest ways along any relation

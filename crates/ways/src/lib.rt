@@ -1,4 +1,4 @@
-// Shortest ways to a set of states, the lowest on ties: a breadth-first search over words that goes backward from the set.
+// Shortest ways to a set of states: a breadth-first search over words that goes backward from the set.
 ghost use mathlib.Core.Path.{_≡_};
 ghost use mathlib.Core.Bool.{true};
 ghost use Prim.Native.Nat.{_≤_, _<_};
@@ -11,10 +11,14 @@ pub struct Ways {
     pub next: [u8; 64],
 }
 
-// The choice on a tie, s being the present state: the lowest. No other code breaks a tie between shortest ways.
+// The choice on a tie, s being the present state: s where it is a member, else the lowest. No other code breaks a tie between shortest ways.
 pub fn prefer(s: usize, set: u64) -> usize
+    requires { ⌜ s < 64 ⌝ }
     ensures { λ r. ⌜ r ≡ preferred 64 s (has set) ⌝ }
 {
+    if sets::member(set, s) {
+        return s;
+    }
     sets::lowest(set)
 }
 

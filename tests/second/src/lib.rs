@@ -1,10 +1,11 @@
-//! A second solver of the adapter game, made from the words of document 01
-//! alone, so that the program's answers can be compared with it.
+//! A second solver of the adapter game, made from the words of documents 01
+//! and 02 alone, so that the program's answers can be compared with it.
 //!
 //! It works by plain means: vectors, depth-first reach, breadth-first ways.
-//! `solve` follows the section "Choices that fix both tables". `walks` judges
-//! any printed table by the definitions of walks and rounds and shares nothing
-//! with `solve` but the game record.
+//! `solve` follows the section "Choices that fix both tables" with the request
+//! "Hold the mode on a tie". `walks` judges any printed table by the
+//! definitions of walks and rounds and shares nothing with `solve` but the
+//! game record.
 
 pub mod compare;
 pub mod game;

@@ -1,5 +1,6 @@
 //! The solver: won positions, the verdict, and the winner's table by the
-//! section "Choices that fix both tables".
+//! section "Choices that fix both tables" with the request "Hold the mode on a
+//! tie".
 
 use crate::game::{Game, Graph, Refusal, Set};
 use std::collections::VecDeque;
@@ -175,10 +176,11 @@ fn shortest_ways(graph: &Graph, inside: &[bool], targets: &[bool]) -> Vec<Option
     ways
 }
 
-/// The move with the shortest way, the lowest on ties.
-fn nearest(moves: &[usize], ways: &[Option<usize>]) -> Option<usize> {
-    let measured = moves.iter().filter_map(|&next| ways[next].map(|way| (way, next)));
-    measured.min().map(|(_, next)| next)
+/// The move with the shortest way. On ties a move to the present state goes
+/// first, then the lowest.
+fn nearest(graph: &Graph, present: usize, ways: &[Option<usize>]) -> Option<usize> {
+    let moves = graph[present].moves.iter();
+    moves.copied().filter(|&next| ways[next].is_some()).min_by_key(|&next| (ways[next], next != present, next))
 }
 
 fn lowest(moves: &[usize], fits: impl Fn(usize) -> bool) -> Option<usize> {
@@ -191,7 +193,7 @@ struct Tour {
     /// The first set from the counter on, going round, that meets the component.
     aim: Option<usize>,
     /// By state: its shortest way to the aim, inside. With no aim every state
-    /// inside will do, so that the lowest move is the nearest.
+    /// inside will do, so that all moves inside tie.
     ways: Vec<Option<usize>>,
 }
 
@@ -206,8 +208,8 @@ impl Tour {
         Tour { aim, ways: shortest_ways(graph, inside, &targets) }
     }
 
-    fn step(&self, moves: &[usize], counter: usize, counters: usize) -> Option<Step> {
-        let next = nearest(moves, &self.ways)?;
+    fn step(&self, graph: &Graph, present: usize, counter: usize, counters: usize) -> Option<Step> {
+        let next = nearest(graph, present, &self.ways)?;
         // Only the state the move lands on counts, never the one it began in.
         let after = match self.aim {
             None => counter,
@@ -238,7 +240,7 @@ fn fill(
                 row[other] = match way {
                     Way::None => None,
                     Way::Pass(next) | Way::Go(next) => Some((next, counter)),
-                    Way::Tour(number) => tours[number][counter].step(&graph[state].moves, counter, counters(sets)),
+                    Way::Tour(number) => tours[number][counter].step(graph, state, counter, counters(sets)),
                 };
             }
         }
@@ -379,7 +381,7 @@ impl<'a> Solved<'a> {
     fn go_home(&self, output: usize, home: usize) -> Way {
         let graph = &self.game.outputs;
         let ways = shortest_ways(graph, &vec![true; graph.len()], &self.outputs.inside(home));
-        nearest(&graph[output].moves, &ways).map_or(Way::None, Way::Go)
+        nearest(graph, output, &ways).map_or(Way::None, Way::Go)
     }
 
     /// What the panel does at this position.
@@ -399,7 +401,7 @@ impl<'a> Solved<'a> {
         let out = self.door(component, input, output);
         let nearer = || {
             let ways = shortest_ways(&self.game.inputs, &self.inputs.inside(component), &doors);
-            nearest(&self.game.inputs[input].moves, &ways)
+            nearest(&self.game.inputs, input, &ways)
         };
         out.or_else(nearer).map_or(Way::None, Way::Go)
     }

@@ -3,7 +3,7 @@
 
 use second::compare::{panel_ways, text_of};
 use second::generate::{Family, SMALL};
-use second::{printed, text};
+use second::{printed, text, walks};
 
 const MEMBERS: u64 = 120;
 
@@ -23,6 +23,16 @@ fn both_verdicts_occur_often_in_each_family() {
         let (system, environment) = (share(&prints, "(wins system)"), share(&prints, "(wins environment)"));
         assert!(system >= 20 && environment >= 20, "{family:?}: {system}% and {environment}%");
         assert_eq!(share(&prints, "(refused"), 0, "{family:?}");
+    }
+}
+
+#[test]
+fn every_table_wins_by_walks() {
+    for (family, _) in SMALL {
+        for (bytes, print) in prints(family) {
+            let game = text::read(&bytes).expect("a well-shaped text");
+            walks::check(&game, &print).unwrap_or_else(|why| panic!("{family:?}: {why}\n{}", text::write(&game)));
+        }
     }
 }
 

@@ -11,7 +11,8 @@ use Rattle.finite.proofs.Truth.{clash}
 use Rattle.sets.specs.Member.{has}
 use Rattle.environment_table.specs.Table.{Filled}
 use Rattle.environment_table.proofs.Places.{filled-none, filled-same, roomy-more, filled-skip, filled-next, every-counter, spreading-of, spread-in}
-use Rattle.environment_table.proofs.Toured.{prefer-most, spread-rest}
+use Rattle.graphs.proofs.Way.{prefer-most}
+use Rattle.environment_table.proofs.Toured.{spread-rest}
 use Rattle.tours.proofs.rests.Statement.{statement}
 use Rattle.tours.proofs.rests.Tie as tie
 
@@ -38,7 +39,7 @@ element-copy-out-prefer : tie.Need-element-copy-out-prefer Inv-loop μ-loop
 element-copy-out-prefer c = omega arith
 
 prefer-requires : tie.Need-prefer-requires Inv-loop μ-loop
-prefer-requires c κs = search needs
+prefer-requires c κs = omega arith
 
 cast-spread : tie.Need-cast-spread Inv-loop μ-loop
 cast-spread c = omega (arith, c .prefer .ensures, prefer-most 64 (c .before .before .before .before .before .before .loop .k) (has (bitAnd (getD (c .before .before .before .before .before .before .before .before .before .before .args .g .input .moves) (c .before .before .before .before .before .before .loop .k) 0) (c .before .before .before .before .before .before .before .before .before .before .args .c .0))))

@@ -30,7 +30,7 @@ element-copy-out-prefer : tie.Need-element-copy-out-prefer Inv-loop μ-loop
 element-copy-out-prefer c = omega arith
 
 prefer-requires : tie.Need-prefer-requires Inv-loop μ-loop
-prefer-requires c κs = search needs
+prefer-requires c κs = omega arith
 
 write-rows-requires : tie.Need-write-rows-requires Inv-loop μ-loop
 write-rows-requires c κs =

@@ -35,7 +35,7 @@ choices-requires : tie.Need-choices-requires Inv-loop μ-loop
 choices-requires c κs = (small c, c .before .before .loop .inv .rests .member _ (try-in _ _ _ _ _ (c .before .before .loop .inv) (c .before .loop-test .taken) (c .lowest .ensures)))
 
 prefer-requires : tie.Need-prefer-requires Inv-loop μ-loop
-prefer-requires c κs = search needs
+prefer-requires c κs = omega (arith, small (c .before .before))
 
 cast-next : tie.Need-cast-next Inv-loop μ-loop
 cast-next c =
