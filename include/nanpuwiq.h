@@ -4,7 +4,7 @@
  *    1  a count not 1 to 64
  *    2  a move or initial state past the count, or a used row past it
  *    3  no initial state
- *    4  a state without a move
+ *    4  does not occur: a state without a move is accepted
  *    5  k over 8
  *    6  a length over 4, all eight places counted
  *    7  a state past its count in a set, an unused set not empty, or an unused requirement with a length not 0

@@ -46,6 +46,9 @@ static void acceptance(void)
     g = example();
     g.requirements[7].guaranteed = 5;
     same("five sets in the last place", nanpuwiq_accept(g), 6);
+    g = example();
+    g.input.moves[1] = g.output.moves[1] = 0;
+    same("drives that latch", nanpuwiq_accept(g), 0);
 }
 
 static void map(void)
@@ -463,6 +466,42 @@ static void kit_no_adapter(void)
     same("kit, no adapter, room short", won.code, 9);
 }
 
+/* The pump, parked, takes no command any more. Where the old drive goes on in service, park would have to recur: no adapter exists, and at every counter the
+ * panel's row for park is the lowest move. Where the old drive latches in service too, all that it allows is answered, and neither latched mode has a row. */
+static void kit_latches(void)
+{
+    nanpuwiq_kit kit = pump();
+    rooms r;
+    clear(&r);
+    memset(kit.new_drive.next + 16 * 5, NANPUWIQ_BARRED, 16);
+    same("kit latches: accept", nanpuwiq_accept_kit(kit), 0);
+    nanpuwiq_solved won = nanpuwiq_solve_kit(kit, r.scratch, 512, r.controller, CONTROLLER, r.panel, PANEL, r.room, KIT);
+    same("kit latches: solve", won.code, 0);
+    same("kit latches: system", won.system, false);
+    same("kit latches: entries", won.entries, PANEL);
+    same("kit latches: room", touched(r.room, 0, KIT + 5), 0);
+    static const unsigned lowest[IN] = {0, 0, 1, 3};
+    int wrong = 0;
+    for (size_t i = 0; i < IN; i++)
+        for (size_t h = 0; h < 4; h++)
+            wrong += r.panel[1 + (i * 4 + h) * OUT + 5] != lowest[i] + 64 * h;
+    same("kit latches: rows for park", wrong, 0);
+    memset(kit.old_drive.next + 16 * 3, NANPUWIQ_BARRED, 16);
+    clear(&r);
+    won = nanpuwiq_solve_kit(kit, r.scratch, 512, r.controller, CONTROLLER, r.panel, PANEL, r.room, KIT);
+    same("kit latches, the old drive too: solve", won.code, 0);
+    same("kit latches, the old drive too: system", won.system, true);
+    same("kit latches, the old drive too: entries", won.entries, KIT);
+    same("kit latches, the old drive too: wrong entries", wrong_entries(&kit, r.controller, r.room), 0);
+    wrong = 0;
+    for (size_t row = 0; row < OUT * COUNTERS * IN; row++)
+        for (size_t u = 0; u < 4; u++)
+            wrong += (row % IN == 3 || row / IN / COUNTERS == 5) && r.room[IN + row * 4 + u] != NANPUWIQ_NONE;
+    same("kit latches, the old drive too: rows in a latched mode", wrong, 0);
+    /* nothing comes after service, so that the lowest move will do: hold */
+    same("kit latches, the old drive too: service in stop", r.room[IN + 3], 0);
+}
+
 /* The kit is refused with this number, and every room stays as it was. */
 static void refused(const char *what, nanpuwiq_kit kit, size_t words, size_t controller, size_t panel, size_t room, uint8_t number)
 {
@@ -505,8 +544,6 @@ static void kit_refusals(void)
     faulty("kit, an initial mode past the count", kit, 2);
     kit = right, kit.new_drive.initial = 0;
     faulty("kit, no initial mode", kit, 3);
-    kit = right, memset(kit.new_drive.next + 16 * 5, NANPUWIQ_BARRED, 16);
-    faulty("kit, a mode in which every command is barred", kit, 4);
     kit = right, kit.k = 9;
     faulty("kit, nine requirements", kit, 5);
     kit = right, kit.requirements[7].guaranteed = 5;
@@ -520,7 +557,7 @@ static void kit_refusals(void)
     refused("kit, no rooms", right, 0, 0, 0, 0, 8);
 }
 
-/* A kit with every fault, mended one by one. */
+/* A kit with every fault, mended one by one; that a mode has no command left is none. */
 static void kit_refusals_in_order(void)
 {
     nanpuwiq_kit right = pump(), kit = right;
@@ -546,8 +583,6 @@ static void kit_refusals_in_order(void)
     kit.old_drive.initial = 1;
     refused("kit in order: 3", kit, 511, CONTROLLER - 1, PANEL - 1, KIT - 1, 3);
     kit.new_drive.initial = 1;
-    refused("kit in order: 4", kit, 511, CONTROLLER - 1, PANEL - 1, KIT - 1, 4);
-    memcpy(kit.new_drive.next, right.new_drive.next, sizeof kit.new_drive.next);
     refused("kit in order: 5", kit, 511, CONTROLLER - 1, PANEL - 1, KIT - 1, 5);
     kit.k = 4;
     refused("kit in order: 6", kit, 511, CONTROLLER - 1, PANEL - 1, KIT - 1, 6);
@@ -558,6 +593,7 @@ static void kit_refusals_in_order(void)
     refused("kit in order: 9", kit, 512, CONTROLLER - 1, PANEL - 1, KIT - 1, 9);
     refused("kit in order: 9, the kit's", kit, 512, CONTROLLER, PANEL - 1, KIT - 1, 9);
     refused("kit in order: 10", kit, 512, CONTROLLER, PANEL - 1, KIT, 10);
+    memcpy(kit.new_drive.next, right.new_drive.next, sizeof kit.new_drive.next);
     same("kit in order: mended", memcmp(&kit, &right, sizeof kit), 0);
 }
 
@@ -807,8 +843,9 @@ static void recordings_refused(void)
     compared("recordings refused: 2", nanpuwiq_compare(g, table, 6, ins, 6, outs, 6), 2, false, false, 0);
     g = right, g.input.initial = 0;
     compared("recordings refused: 3", nanpuwiq_compare(g, table, 6, ins, 6, outs, 6), 3, false, false, 0);
+    /* the new drive latches in 1, which is no refusal: the row that has it go on is at fault */
     g = right, g.output.moves[1] = 0;
-    compared("recordings refused: 4", nanpuwiq_compare(g, table, 6, ins, 6, outs, 6), 4, false, false, 0);
+    compared("recordings, a drive that latches", nanpuwiq_compare(g, table, 6, ins, 6, outs, 6), 15, false, false, 2);
     g = right, g.k = 9;
     compared("recordings refused: 5", nanpuwiq_compare(g, table, 6, ins, 6, outs, 6), 5, false, false, 0);
     g = right, g.requirements[7].guaranteed = 5;
@@ -839,6 +876,7 @@ int main(void)
     kit_solving();
     kit_playing();
     kit_no_adapter();
+    kit_latches();
     kit_refusals();
     kit_refusals_in_order();
     recordings();

@@ -4,8 +4,8 @@
     tests/program.py SOLVE
 
 Every NAME.game of tests/prints and examples is run and held to NAME.print. The prints of cases 1 to 8 are those of the proved
-table in crates/cases. Then come the refusals that a file can cause, and what a person may do to a program: give it nothing, a
-binary file, or an output that is full or closed. The last line says how many passed and how many failed."""
+table in crates/cases. Then come the refusals that a file can cause, drives that latch, and what a person may do to a program: give
+it nothing, a binary file, or an output that is full or closed. The last line says how many passed and how many failed."""
 
 import pathlib
 import subprocess
@@ -81,15 +81,29 @@ def refusals():
     yield "2, a move past the count", game([(1, [1])], ONE, []), "2"
     yield "2 before 3 of the other graph", game([(0, [0])], [(1, [63])], []), "2"
     yield "3, no initial state", game(ONE, [(0, [0])], []), "3"
-    yield "3 before 4 of the other graph", game([(1, [])], [(0, [0])], []), "3"
-    yield "4, a state without a move", game([(1, [0, 1]), (0, [])], ONE, []), "4"
-    yield "4 before 7", game(ONE, [(1, [])], [("(1)", "")]), "4"
+    yield "3 beside a dead end", game([(1, [])], [(0, [0])], []), "3"
+    yield "3 before 7", game(ONE, [(0, [0])], [("(1)", "")]), "3"
+    yield "2 beside a dead end", game([(1, [])], [(1, [1])], []), "2"
+    yield "7 beside dead ends", game([(1, [])], [(1, [])], [("(1)", "")]), "7"
     yield "7, an input set past the count", game(ONE, TWO, [("(1)", "")]), "7"
     yield "7, an output set past the count", game(TWO, ONE, [("", "(1)")]), "7"
     yield "9, 64 x 64 with eight output sets", counted(64, 64, 0, 8), "9"
     yield "10, 64 x 64 with eight input sets", counted(64, 64, 8, 0), "10"
     yield "9 before 10", counted(64, 64, 8, 8), "9"
     yield "9, the longest text", longest(), "9"
+
+
+def latches():
+    """Files with states that have no move, which are accepted: a name, the bytes and what is printed."""
+    broken = [("", "()")]  # every loop breaks it
+    all_stuck = [(1, [])] * 64
+    first = b"(wins system)\n(start 0 0)\n"
+    yield "stuck input", game([(1, [])], ONE, broken), first + b"(step 0 0 0 0 0)\n"
+    yield "stuck output", game(ONE, [(1, [])], []), b"(wins environment)\n(start 0)\n(step 0 0 0 0 0)\n"
+    yield "both stuck", game([(1, [])], [(1, [])], broken), first
+    yield "a way to a stuck input", game([(1, [0, 1]), (0, [])], ONE, []), first + b"(step 0 0 0 0 0)\n(step 0 0 1 0 0)\n"
+    yield "driven into a stuck output", game(ONE, [(1, [1]), (0, [])], []), b"(wins environment)\n(start 0)\n(step 0 0 0 0 0)\n(step 0 0 1 0 0)\n"
+    yield "64 x 64, every state stuck", game(all_stuck, all_stuck, []), b"(wins system)\n" + b"".join(b"(start %d 0)\n" % i for i in range(64))
 
 
 def prints():
@@ -117,6 +131,7 @@ def main():
     solve = str(pathlib.Path(sys.argv[1]).resolve())
     checks = [(name, answer(solve, text) == print_) for name, text, print_ in prints()]
     checks += [(name, answer(solve, text) == b"(refused %s)\n" % line.encode()) for name, text, line in refusals()]
+    checks += [(name, answer(solve, text) == print_) for name, text, print_ in latches()]
     checks.append(("the longest text has 36,739 bytes", len(longest()) == 36739))
     checks.append(("a room almost filled", rooms_filled(solve)))
     checks.append(("a full output", ends(solve, "> /dev/full")))

@@ -132,8 +132,6 @@ def accepted(g):
         return 2
     if any(all(f == 0 for f, _ in h) for h in graphs):
         return 3
-    if any(not x for h in graphs for _, x in h):
-        return 4
     if any(v >= len(ins) for x, _ in qs for s in x for v in s) or any(v >= len(outs) for _, y in qs for s in y for v in s):
         return 7
     return 0
@@ -169,7 +167,7 @@ def a_game(rng):
     for word, n in (("in", i), ("out", o)):
         for s in range(n):
             top = n if rng.random() < 0.9 else 64
-            xs = some(rng, top) or [rng.randrange(n)] * (rng.random() < 0.9)
+            xs = some(rng, top)
             out += "(%s %d %d %s)\n" % (word, s, 1 if s == 0 else rng.randrange(2), text(map(str, xs)))
     for _ in range(k):
         both = [text(text(map(str, some(rng, n))) for _ in range(rng.randrange(5))) for n in (i, o)]

@@ -29,7 +29,7 @@ fn refused(number: u8) -> Error {
     Error { number, place: 0 }
 }
 
-// A wrong game for each of 1 to 7.
+// A wrong game for each of 1 to 7 but 4, which does not occur.
 fn faulty() -> Vec<(u8, Game)> {
     let mut all = Vec::new();
     let mut add = |number, change: fn(&mut Game)| {
@@ -43,7 +43,6 @@ fn faulty() -> Vec<(u8, Game)> {
     add(2, |g| g.output.initial = 4);
     add(2, |g| g.output.moves[63] = 1);
     add(3, |g| g.input.initial = 0);
-    add(4, |g| g.output.moves[1] = 0);
     add(5, |g| g.k = 9);
     add(6, |g| g.requirements[7].guaranteed = 5);
     add(7, |g| g.requirements[0].assumptions[0] = InSet(4));
@@ -196,9 +195,25 @@ fn texts() {
     assert_eq!(Game::read(&vec![b'('; 40_960]), Err(Error { number: 11, place: 1 }));
     assert_eq!(Game::read(b"(game 1 1 0)\n(in 0 0 (0))\n(out 0 1 (0))\n"), Err(refused(3)));
     assert_eq!(Game::read(b"(game 1 1 0)\n(in 0 1 (1))\n(out 0 1 (0))\n"), Err(refused(2)));
-    assert_eq!(Game::read(b"(game 1 1 0)\n(in 0 1 (0))\n(out 0 1 ())\n"), Err(refused(4)));
     assert_eq!(Game::read(b"(game 1 1 1)\n(in 0 1 (0))\n(out 0 1 (0))\n(if ((1)) ())\n"), Err(refused(7)));
     assert_eq!(Game::read(b"").unwrap_err().to_string(), "refused 11 0");
+}
+
+// A state without a move is accepted, read and written; whoever has to move there loses.
+#[test]
+fn drives_that_latch() {
+    let solved = |text: &[u8]| {
+        let g = Game::read(text).unwrap();
+        assert_eq!(g.accept(), Ok(()));
+        assert_eq!(g.write().unwrap(), text);
+        g.solve().unwrap()
+    };
+    let stuck_output = solved(b"(game 1 1 0)\n(in 0 1 (0))\n(out 0 1 ())\n");
+    assert_eq!(stuck_output, Verdict { winner: Winner::Environment, table: vec![0, 0] });
+    let stuck_input = solved(b"(game 1 1 1)\n(in 0 1 ())\n(out 0 1 (0))\n(if () (()))\n");
+    assert_eq!(stuck_input, Verdict { winner: Winner::System, table: vec![0, 0] });
+    let both = solved(b"(game 1 1 1)\n(in 0 1 ())\n(out 0 1 ())\n(if () (()))\n");
+    assert_eq!(both, Verdict { winner: Winner::System, table: vec![0, NONE] });
 }
 
 #[test]

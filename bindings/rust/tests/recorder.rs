@@ -174,7 +174,6 @@ fn refusals() {
     add(1, |g| g.output.states = 65);
     add(2, |g| g.output.initial = 4);
     add(3, |g| g.input.initial = 0);
-    add(4, |g| g.output.moves[1] = 0);
     add(5, |g| g.k = 9);
     add(6, |g| g.requirements[7].guaranteed = 5);
     add(7, |g| g.requirements[0].assumptions[0] = InSet(4));
@@ -195,6 +194,10 @@ fn refusals() {
             assert_eq!(g.compare(table, ins, outs), Err(refused(16)));
         }
     }
+    // a drive that latches is none: the row that has it go on is at fault
+    let mut latched = g;
+    latched.output.moves[1] = 0;
+    assert_eq!(latched.compare(&TABLE, &INS, &OUTS), Ok(Fault { step: 2, number: 15 }));
     // a panel's table, another game's
     assert_eq!(g.compare(&[0; 5], &INS, &OUTS), Err(refused(16)));
     assert_eq!(three().compare(&TABLE, &INS, &OUTS), Err(refused(16)));

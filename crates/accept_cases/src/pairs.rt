@@ -12,7 +12,10 @@ use crate::show::show;
 pub fn graphs() {
     let g = plain(2, 2);
     show(b"1 in output and 2 in input", in_row(plain(2, 65), 0, 4));
-    show(b"1 in input and 4 in output", out_row(plain(65, 2), 1, 0));
+    show(
+        b"1 in input, no move in output",
+        out_row(plain(65, 2), 1, 0),
+    );
     show(
         b"2 in output and 3 in input",
         in_initial(out_row(g, 0, 4), 0),
@@ -22,14 +25,14 @@ pub fn graphs() {
         out_initial(in_row(g, 0, 4), 0),
     );
     show(
-        b"3 in output and 4 in input",
+        b"3 in output, no move in input",
         out_initial(in_row(g, 1, 0), 0),
     );
 }
 
 pub fn lists() {
     let g = plain(2, 2);
-    show(b"4 in output and 5", used(out_row(g, 1, 0), 9));
+    show(b"no move in output and 5", used(out_row(g, 1, 0), 9));
     show(b"5 and 6", used(lengths(g, 0, 5, 0), 9));
     show(b"5 and 7", used(guarantee(g, 0, 1), 9));
     show(b"6 and 7", lengths(guarantee(g, 0, 1), 0, 5, 0));

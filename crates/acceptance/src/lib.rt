@@ -2,8 +2,9 @@
 use game::Acceptance;
 use game::Game;
 ghost use mathlib.Core.Path.{_≡_};
+ghost use mathlib.Core.Bool.{true};
 ghost use mathlib.Core.List.{[], _∷_};
-ghost use Rattle.game.specs.Acceptance.{countsFit, statesInCount, initialsExist, movesExist, lengthsFit, setsFit, firstFailing};
+ghost use Rattle.game.specs.Acceptance.{countsFit, statesInCount, initialsExist, lengthsFit, setsFit, firstFailing};
 ghost use Rattle.game.specs.Numbers.{Accepts};
 
 fn counts_fit(g: Game) -> bool
@@ -31,15 +32,6 @@ fn initials_exist(g: Game) -> bool
         return false;
     }
     graph_checks::has_initial(g.output)
-}
-
-fn moves_exist(g: Game) -> bool
-    ensures { λ r. ⌜ r ≡ movesExist g ⌝ }
-{
-    if !graph_checks::all_move(g.input) {
-        return false;
-    }
-    graph_checks::all_move(g.output)
 }
 
 fn lengths_fit(g: Game) -> bool
@@ -73,12 +65,11 @@ fn first_failing(
     counts: bool,
     states: bool,
     initials: bool,
-    moves: bool,
     few: bool,
     lengths: bool,
     sets: bool,
 ) -> Acceptance
-    ensures { λ r. ⌜ r ≡ firstFailing 1 (counts ∷ states ∷ initials ∷ moves ∷ few ∷ lengths ∷ sets ∷ []) ⌝ }
+    ensures { λ r. ⌜ r ≡ firstFailing 1 (counts ∷ states ∷ initials ∷ true ∷ few ∷ lengths ∷ sets ∷ []) ⌝ }
 {
     if !counts {
         return Acceptance::Refused(1);
@@ -88,9 +79,6 @@ fn first_failing(
     }
     if !initials {
         return Acceptance::Refused(3);
-    }
-    if !moves {
-        return Acceptance::Refused(4);
     }
     if !few {
         return Acceptance::Refused(5);
@@ -112,7 +100,6 @@ pub fn accept(g: Game) -> Acceptance
         counts_fit(g),
         states_in_count(g),
         initials_exist(g),
-        moves_exist(g),
         g.k <= 8,
         lengths_fit(g),
         sets_fit(g),

@@ -14,3 +14,4 @@ pub mod Demand
 pub mod From
 pub mod Rest
 pub mod Wins
+pub mod Stopped

@@ -3,4 +3,5 @@ pub mod Arena
 pub mod Table
 pub mod Play
 pub mod Win
+pub mod Stopped
 pub mod Bounds

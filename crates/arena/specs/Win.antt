@@ -46,8 +46,8 @@ pub record Controller (A : Arena) (T : ControllerTable) : Type 0 where
   pub starts : (i o : ℕ) → A .inInitial i ≡ true → A .opening i o ≡ true → Some (T .memories) (A .opening i) (T .start i)
   pub steps : (m o j p : ℕ) → m < T .memories → A .reply j o p ≡ true → Some (T .memories) (A .reply j o) (T .step m o j)
 
--- The controller started at a configuration: "that position with one memory value" is the one first configuration. It is never left without a reply
--- (where every output has a move that is part of being a controller), and all reachable rounds meet all requirements.
+-- The controller started at a configuration: "that position with one memory value" is the one first configuration. All reachable rounds meet all
+-- requirements, and it is never left without a reply: "a controller must also never be stopped that way" (M-102).
 pub record Keeps (A : Arena) (T : ControllerTable) (c : Configuration) : Type 0 where
   pub memory : c .memory < T .memories
   pub steps : (d : Configuration) → Reachable (_≡_ c) (ControllerTurn A T) d → (j : ℕ) → A .inMove (d .input) j ≡ true

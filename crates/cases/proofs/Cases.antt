@@ -2,6 +2,7 @@
 --
 --   files, acceptances, prints, records     : the four facts that are computed, each of the whole table
 --   proved                                  : the table, case by case
+--   waits                                   : the right to wait of each case
 --   eight-rows                              : case 8's rows by name
 use Prim.Native.Nat.{ℕ}
 use mathlib.Core.Path.{_≡_, refl, sym, _∙_, ap, subst⁻¹}
@@ -18,7 +19,7 @@ use Rattle.finite.specs.Bounded.{all, any, least, leastFrom, count, one}
 use Rattle.finite.specs.Lists.{allOf, anyOf}
 use Rattle.finite.specs.Tabulate.{tabulate, tabulateFrom}
 use Rattle.sets.specs.Member.{has, pack, within}
-use Rattle.graphs.specs.Graph.{edge, begins}
+use Rattle.graphs.specs.Graph.{edge, begins, stuck}
 use Rattle.graphs.specs.Rows.{rel, rowsOf}
 use Rattle.graphs.specs.Closure.{nearby, joins, via, reaches}
 use Rattle.graphs.specs.Component.{joined, number, nontrivial, leaves, meetsAt}
@@ -33,8 +34,6 @@ use Rattle.game.specs.Acceptance.{
   rowFits,
   statesFit,
   hasInitial,
-  hasMove,
-  allMove,
   fewSets,
   inSetFits,
   outSetFits,
@@ -45,7 +44,6 @@ use Rattle.game.specs.Acceptance.{
   countsFit,
   statesInCount,
   initialsExist,
-  movesExist,
   fewRequirements,
   lengthsFit,
   setsFit,
@@ -73,6 +71,7 @@ use Rattle.theory.specs.Choice.{
   escapes,
   pressing,
   pushing,
+  opposing,
   environmentRow,
   refused,
   environmentStart,
@@ -104,6 +103,8 @@ use Rattle.solver.specs.Promise.{controllerLength, environmentLength, named, te
 use Rattle.text.specs.Read.{Reads}
 use Rattle.text.specs.OneText.{Arrays}
 use Rattle.text.proofs.OneText.{one-text-holds}
+use Rattle.waiting.specs.Waiting.{RightToWait}
+use Rattle.waiting.proofs.Waiting.{right-to-wait}
 use Rattle.prints.specs.Prints.{tablePrint, gamePrint, answerPrint, readingPrint}
 use Rattle.cases.specs.Bytes.{lineBytes, bytes}
 use Rattle.cases.specs.Cases.{Case, padded, graph, ifThen, game, eight, table, Proved}
@@ -119,16 +120,16 @@ unfolding one has words word gapText items bracket line members decimal digits s
 text g = gameText g
 
 answer : Game → Acceptance
-unfolding all within limit countFits rowFits statesFit hasInitial hasMove allMove fewSets inSetFits outSetFits inUse requirementFits fewSetsAt
-    requirementFitsAt countsFit statesInCount initialsExist movesExist fewRequirements lengthsFit setsFit tests firstFailing acceptance
+unfolding all within limit countFits rowFits statesFit hasInitial fewSets inSetFits outSetFits inUse requirementFits fewSetsAt
+    requirementFitsAt countsFit statesInCount initialsExist fewRequirements lengthsFit setsFit tests firstFailing acceptance
 answer g = acceptance g
 
 -- the tables, with all that document 01's choices are computed by
 chosen : Game → List ℕ
-unfolding all any least leastFrom count one allOf anyOf tabulate tabulateFrom has pack edge begins rel rowsOf nearby joins via reaches joined number
+unfolding all any least leastFrom count one allOf anyOf tabulate tabulateFrom has pack edge begins stuck rel rowsOf nearby joins via reaches joined number
     nontrivial leaves meetsAt widens layer near approach shortest prefer toward due served accepting safe homeFor settles answers replies rule
     regionRows region opens verdict goalAt around inside ahead goal hasGoal target arrive tour setsOf guarantees assumptions home homeward settled
-    controllerRow controllerStart lost wayOut gate outward escapes pressing pushing environmentRow refused environmentStart entry controllerCounters
+    controllerRow controllerStart lost wayOut gate outward escapes pressing pushing opposing environmentRow refused environmentStart entry controllerCounters
     environmentCounters rowOf controllerEntries environmentEntries graphOf requirementOf requirementsOf separatedOf
 chosen g = controllerEntries (separatedOf g) ++ environmentEntries (separatedOf g)
 
@@ -204,6 +205,10 @@ proved c m =
       print = print;
       reads = λ r R. ap readingPrint (one-text-holds .read-back (c .game) r accepted arrays (subst⁻¹ (λ (s : List ℕ). Reads s r) file R)) ∙ print;
     }
+
+-- "Shown over all accepted games", "here with dead ends" (M-110): so of each case.
+pub waits : (c : Case) → List·Memᴰ c table → RightToWait (c .game)
+waits c m = right-to-wait (c .game) (proved c m .accepted)
 
 -- "Row (0, 0, 1) gives 1, counter 0; (1, 0, 1) gives 0, 1; (0, 1, 1) gives 1, 2; (1, 2, 1) gives 0, 1; (0, 0, 2) gives 2, 0."
 abbrev row : ℕ → ℕ → ℕ → Answer

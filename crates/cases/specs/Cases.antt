@@ -1,5 +1,5 @@
 -- The drives to try of document 01 that are to be proved, cases 1 to 8, with their files and prints: "The cases marked (p) form one table, proved once of
--- the definitions." Beside them stand games of our own for request M-101.
+-- the definitions." Beside them stand games of our own for requests M-101 and M-102.
 --
 --   Case            == a name, a game, the bytes of its file and the bytes of its print
 --   padded n z l    == the list l, and z behind it up to n places
@@ -8,6 +8,7 @@
 --   game a b l      == the game of the input graph a and the output graph b, with the requirements l
 --   one .. eight    == the cases
 --   held..          == games in which a tie goes to the present state
+--   stuck.., drivenOn, latch, keptOff == games with states without a move
 --   table           == all of them
 --   Proved c        == what is proved of each
 use Prim.Native.Nat.{ℕ, _-_}
@@ -199,9 +200,84 @@ heldPanelFree = record {
       "(wins environment)" ∷ "(start 0)" ∷ "(step 0 0 0 0 0)" ∷ "(step 1 0 0 1 0)" ∷ []);
 }
 
+-- ---- "So a state without a move is accepted, and 4 no longer occurs." (M-102)
+
+-- "A play that stops for want of an input move is won": inputs and outputs 0 to 1, 1 to none.
+unfoldable pub stuckInput : Case
+stuckInput = record {
+  name = "stuck_input";
+  game = game (graph 1 (2 ∷ 0 ∷ [])) (graph 1 (2 ∷ 0 ∷ [])) (ifThen [] (0 ∷ []) ∷ []);
+  file = bytes (
+      "(game 2 2 1)" ∷ "(in 0 1 (1))" ∷ "(in 1 0 ())" ∷ "(out 0 1 (1))" ∷ "(out 1 0 ())" ∷ "(if () (()))" ∷ []);
+  print = bytes (
+      "(wins system)" ∷ "(start 0 0)" ∷ "(step 0 0 1 1 0)" ∷ []);
+}
+
+-- "and one that stops for want of an output move is lost"; "Where the output is stuck and the input is not, the panel row is the lowest move and h stays.
+-- In a position with the input stuck the panel row is none."
+unfoldable pub stuckOutput : Case
+stuckOutput = record {
+  name = "stuck_output";
+  game = game (graph 1 (6 ∷ 3 ∷ 0 ∷ [])) (graph 1 (0 ∷ [])) [];
+  file = bytes (
+      "(game 3 1 0)" ∷ "(in 0 1 (1 2))" ∷ "(in 1 0 (0 1))" ∷ "(in 2 0 ())" ∷ "(out 0 1 ())" ∷ []);
+  print = bytes (
+      "(wins environment)" ∷ "(start 0)" ∷ "(step 0 0 0 1 0)" ∷ "(step 1 0 0 0 0)" ∷ []);
+}
+
+-- One state each, without a move: the input is to move first.
+unfoldable pub stuckBoth : Case
+stuckBoth = record {
+  name = "stuck_both";
+  game = game (graph 1 (0 ∷ [])) (graph 1 (0 ∷ [])) (ifThen [] (0 ∷ []) ∷ []);
+  file = bytes (
+      "(game 1 1 1)" ∷ "(in 0 1 ())" ∷ "(out 0 1 ())" ∷ "(if () (()))" ∷ []);
+  print = bytes (
+      "(wins system)" ∷ "(start 0 0)" ∷ []);
+}
+
+-- A panel that drives into a stuck output: outputs 0 to 1, 1 to 2, 2 to none. The input 1 stays, and only then goes to 0, where it is stuck itself: the system
+-- is stopped first.
+unfoldable pub drivenOn : Case
+drivenOn = record {
+  name = "driven_on";
+  game = game (graph 2 (0 ∷ 3 ∷ [])) (graph 1 (2 ∷ 4 ∷ 0 ∷ [])) [];
+  file = bytes (
+      "(game 2 3 0)" ∷ "(in 0 0 ())" ∷ "(in 1 1 (0 1))" ∷ "(out 0 1 (1))" ∷ "(out 1 0 (2))" ∷ "(out 2 0 ())" ∷ []);
+  print = bytes (
+      "(wins environment)" ∷ "(start 1)" ∷ "(step 1 0 0 1 0)" ∷ "(step 1 0 1 1 0)" ∷ "(step 1 0 2 0 0)" ∷ []);
+}
+
+-- A latch that makes flush impossible (examples/latch.game).
+unfoldable pub latch : Case
+latch = record {
+  name = "latch";
+  game = game (graph 1 (3 ∷ 1 ∷ [])) (graph 1 (3 ∷ 4 ∷ 0 ∷ [])) (ifThen (2 ∷ []) (2 ∷ []) ∷ []);
+  file = bytes (
+      "(game 2 3 1)" ∷ "(in 0 1 (0 1))" ∷ "(in 1 0 (0))" ∷ "(out 0 1 (0 1))" ∷ "(out 1 0 (2))" ∷ "(out 2 0 ())" ∷ "(if ((1)) ((1)))" ∷ []);
+  print = bytes (
+      "(wins environment)" ∷ "(start 0)" ∷ "(step 0 0 0 1 0)" ∷ "(step 0 0 1 1 0)" ∷ "(step 0 0 2 0 0)" ∷ "(step 1 0 0 0 0)" ∷ "(step 1 0 1 0 0)" ∷
+      "(step 1 0 2 0 0)" ∷ []);
+}
+
+-- Dead ends on both sides, and an adapter that keeps off its own (examples/latch_kept_off.game).
+unfoldable pub keptOff : Case
+keptOff = record {
+  name = "latch_kept_off";
+  game = game (graph 1 (3 ∷ 5 ∷ 0 ∷ [])) (graph 1 (7 ∷ 5 ∷ 0 ∷ [])) (ifThen (2 ∷ []) (2 ∷ []) ∷ []);
+  file = bytes (
+      "(game 3 3 1)" ∷ "(in 0 1 (0 1))" ∷ "(in 1 0 (0 2))" ∷ "(in 2 0 ())" ∷ "(out 0 1 (0 1 2))" ∷ "(out 1 0 (0 2))" ∷ "(out 2 0 ())" ∷
+      "(if ((1)) ((1)))" ∷ []);
+  print = bytes (
+      "(wins system)" ∷ "(start 0 0)" ∷ "(step 0 0 0 1 0)" ∷ "(step 0 0 1 1 0)" ∷ "(step 0 0 2 0 0)" ∷ "(step 1 0 0 0 0)" ∷ "(step 1 0 1 0 0)" ∷
+      "(step 1 0 2 0 0)" ∷ []);
+}
+
 unfoldable pub table : List Case
-unfolding one two three four five six seven eight heldAim heldFree heldPanelAim heldPanelFree
-table = one ∷ two ∷ three ∷ four ∷ five ∷ six ∷ seven ∷ eight ∷ heldAim ∷ heldFree ∷ heldPanelAim ∷ heldPanelFree ∷ []
+unfolding one two three four five six seven eight heldAim heldFree heldPanelAim heldPanelFree stuckInput stuckOutput stuckBoth drivenOn latch keptOff
+table =
+    one ∷ two ∷ three ∷ four ∷ five ∷ six ∷ seven ∷ eight ∷ heldAim ∷ heldFree ∷ heldPanelAim ∷ heldPanelFree ∷ stuckInput ∷ stuckOutput ∷ stuckBoth ∷
+    drivenOn ∷ latch ∷ keptOff ∷ []
 
 pub record Proved (c : Case) : Type 0 where
   -- the game is a record of a program, its text is the file, it is accepted, and its print is the print

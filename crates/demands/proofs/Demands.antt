@@ -1,7 +1,10 @@
--- Demands 2 and 3 of every accepted game.
+-- Demands 2 and 3 of every accepted game, and that the winner's table is never the one that is stopped.
 use mathlib.Core.Path.{_≡_}
 use mathlib.Core.Bool.{true, false}
 use Rattle.arena.specs.Win.{system, environment, DemandThree}
+use Rattle.arena.specs.Stopped.{NeverStopped}
+use Rattle.arena.proofs.Bounds.{bounded-arenaOf}
+use Rattle.arena.proofs.Stopped as arena
 use Rattle.game.specs.declared.Game.{Game}
 use Rattle.game.specs.declared.Acceptance.the-variants.{Accepted}
 use Rattle.game.specs.Acceptance.{acceptance}
@@ -32,3 +35,8 @@ pub demand-three-environment : (g : Game) → acceptance g ≡ Accepted → verd
     → DemandThree (playOf g) (environment (environmentOf g (environmentEntries (separatedOf g))))
 unfolding playOf environmentOf separatedOf graphOf outcome
 demand-three-environment g a v = rw (v, outcome) at (theory.demand-three (separatedOf g) (accepted-sized g a))
+
+-- "As before the winner's table is handed over: its rounds are right and its side never gets stuck first." (M-102)
+pub never-stopped : (g : Game) → acceptance g ≡ Accepted → NeverStopped (playOf g) (outcome (separatedOf g))
+unfolding playOf
+never-stopped g a = arena.never-stopped (bounded-arenaOf (separatedOf g)) (outcome (separatedOf g)) (demand-three g a)

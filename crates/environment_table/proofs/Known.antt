@@ -4,26 +4,29 @@
 --   start-found, start-none : the start
 --   same-none, same-push   : rows that need no walk
 --   spread-won, none-filled : those of one input that are none
---   lone-of, lone-none, lone-within : the inputs in trivial components
+--   lone-of                : the inputs in trivial components
+--   pushed-all, pushed-lone, pushed-of, pushed-within : the inputs whose rows with an output need no walk: those, or all where it has no move
 --   pushes-*, plain-join   : their pushes, output after output, and all rows that need no walk
 use Prim.Native.Nat.{ℕ, _+_, _*_, _<_, _≤_}
 use native.Mathlib.Nat.{zero-mul}
 use mathlib.Core.Path.{_≡_, refl, sym, _∙_, ap, ap₂}
-use mathlib.Core.Bool.{Bool, true, false, _&&_, not}
+use mathlib.Core.Bool.{Bool, true, false, _&&_, _||_, not}
 use mathlib.Core.List.{List}
-use mathlib.Core.Logic.{_⊎_, inl, inr}
+use mathlib.Core.Logic.{_⊎_, inl, inr, _≢_}
 use native.Mathlib.Omega.{arith}
 use lib.ListN.{length, getD}
-use lib.Dec.{ltb}
-use borrow.Author.Tests.{lt-ltb, ltb-true}
+use lib.Dec.{eqb, ltb}
+use borrow.Author.Tests.{lt-ltb, ltb-true, eqb-true, eqb-false, eq-eqb, ne-eqb}
 use Rattle.finite.specs.Bounded.{any, least}
-use Rattle.finite.proofs.Truth.{decide, clash, and-intro, and-left, and-right, or-cases, not-true, false-of}
+use Rattle.finite.proofs.Truth.{decide, clash, and-intro, and-left, and-right, and-false-left, or-cases, or-right, or-none, not-true, true-of, false-of}
 use Rattle.finite.proofs.Bounded.{any-same, least-same, least-any, least-found}
 use Rattle.sets.specs.Member.{has, pack, within}
 use Rattle.sets.proofs.Membership.{has-zero, has-pack-below, has-within}
+use Rattle.sets.proofs.Compare.{nonzero-member}
 use Rattle.ways.proofs.Kept.{pack-below}
-use Rattle.graphs.specs.Graph.{edge, begins}
+use Rattle.graphs.specs.Graph.{edge, begins, stuck}
 use Rattle.graphs.specs.Component.{nontrivial}
+use Rattle.graphs.proofs.Graph.{stuck-not, stuck-moves}
 use Rattle.game.specs.declared.Game.{Game}
 use Rattle.game.specs.declared.InSet.{InSet}
 use Rattle.game.specs.declared.OutSet.{OutSet}
@@ -31,13 +34,13 @@ use Rattle.game.proofs.Laws.{accepted-fits}
 use Rattle.components.proofs.Closed.{moved-edge}
 use Rattle.play.specs.Play.{graphOf, separatedOf}
 use Rattle.theory.specs.Region.{region, answers, opens}
-use Rattle.theory.specs.Choice.{environmentRow, environmentStart, pushing, refused}
+use Rattle.theory.specs.Choice.{environmentRow, environmentStart, refused}
 use Rattle.theory.specs.Entries.{entry}
-use Rattle.theory.proofs.EnvironmentRow.{row-lost}
+use Rattle.theory.proofs.EnvironmentRow.{unanswered, row-pushed}
 use Rattle.stored.specs.Stored.{wonAt}
 use Rattle.stored.proofs.Read.{won-region}
 use Rattle.environment_table.specs.Table.{Known, Roomy, Filled, Same, Spread, Pushes}
-use Rattle.environment_table.specs.Reading.{Shaped, anyWon, refusedAt, openAt, unansweredAt, lostAt, Lone, plain}
+use Rattle.environment_table.specs.Reading.{Shaped, anyWon, refusedAt, openAt, unansweredAt, lostAt, Lone, unwalked, pushedAt, Pushed, plain}
 use Rattle.environment_table.specs.Pressing.{lostIn}
 use Rattle.environment_table.proofs.Places.{filled-none, filled-join, filled-same, below-next, every-counter}
 use Rattle.environment_table.proofs.Reading.{refused-within, unanswered-both}
@@ -133,16 +136,14 @@ module _ (g : Game) (s : List ℕ) (cores : ℕ) (K : Known g s cores) where
         (λ j. edge (separatedOf g .input) i j && not (answers (separatedOf g) (region (separatedOf g)) j o))
         (λ j c. ap₂ _&&_ (input-edge i j a) (ap not (known-answers j o c b)))
 
-    pub same-push : (M j : ℕ) → wonAt s (g .input .states) cores i o ≡ false → has cores i ≡ false
+    pub same-push : (M j : ℕ) → wonAt s (g .input .states) cores i o ≡ false → unwalked g i o ≡ true
         → j ≡ unansweredAt s (g .input .states) (g .output .states) cores (getD (g .input .moves) i 0) (getD (g .output .moves) o 0) → Same g M i o j 64
-    unfolding pushing entry separatedOf graphOf
+    unfolding unanswered unwalked entry separatedOf graphOf
     same-push M j e t f = record { input = a; output = b; entry = λ h c. ap (λ (k : ℕ). k + 64 * h) (f ∙ known-push) ∙ sym (is h) }
       where
         is : (h : ℕ) → entry (environmentRow (separatedOf g) i h o)
             ≡ least (g .input .states) (λ j. edge (separatedOf g .input) i j && not (answers (separatedOf g) (region (separatedOf g)) j o)) + 64 * h
-        is h =
-            ap entry (row-lost (separatedOf g) i h o (sym (known-won i o a b) ∙ e))
-            ∙ rw (sym (known-core i a) ∙ t, pushing) refl
+        is h = ap entry (row-pushed (separatedOf g) i h o (sym (known-won i o a b) ∙ e) t)
 
   -- the rows of an input that are none
 
@@ -164,80 +165,123 @@ module _ (g : Game) (s : List ℕ) (cores : ℕ) (K : Known g s cores) where
     none-filled M n every R e F =
         filled-same g F (λ x h o lx lh lo p. (p .0, every-counter g M n every h R e lh, won-has o lo ∙ known-won i o a lo ∙ ap (λ (y : ℕ). region (separatedOf g) y o) (sym (p .0)) ∙ p .1))
 
-  -- the rows of the inputs in trivial components that are not won
+  -- a stuck output has an empty row
 
-  module _ (lone : ℕ) (L : Lone (g .input .states) cores lone) where
-    lone-below : (i : ℕ) → has lone i ≡ true → i < g .input .states
-    lone-below i e = ltb-true i (g .input .states) (and-left (ltb i (g .input .states)) (not (has cores i)) (sym (L .each i) ∙ e))
+  pub row-stuck : (o : ℕ) → o < g .output .states → stuck (separatedOf g .output) o ≡ eqb (getD (g .output .moves) o 0) 0
+  row-stuck o b =
+      elim (decide (eqb (getD (g .output .moves) o 0) 0)) [
+        | inl e ↦ true-of (stuck (separatedOf g .output) o) (λ f. let v = stuck-moves (separatedOf g .output) o f in empty-row (v .0) (v .1) e) ∙ sym e
+        | inr e ↦
+            let v = nonzero-member (getD (g .output .moves) o 0) (eqb-false (getD (g .output .moves) o 0) 0 e) in
+            stuck-not (separatedOf g .output) o (v .0) (sym (output-edge o (v .0) b) ∙ v .1) ∙ sym e
+      ]
+    where
+      empty-row : (p : ℕ) → edge (separatedOf g .output) o p ≡ true → eqb (getD (g .output .moves) o 0) 0 ≡ true → ⊥
+      empty-row p f e =
+          clash (output-edge o p b ∙ f) (ap (λ (x : ℕ). has x p) (eqb-true (getD (g .output .moves) o 0) 0 e) ∙ has-zero p)
 
-    lone-apart : (i : ℕ) → has lone i ≡ true → has cores i ≡ false
-    lone-apart i e = not-true (has cores i) (and-right (ltb i (g .input .states)) (not (has cores i)) (sym (L .each i) ∙ e))
+  -- the inputs whose rows with o need no walk, from those in trivial components and the moves of o
+  pub pushed-of : (lone o y : ℕ) {x : ℕ} → Lone (g .input .states) cores lone → o < g .output .states → y ≡ getD (g .output .moves) o 0
+      → ((i : ℕ) → has x i ≡ pushedAt y (g .input .states) lone i) → Pushed g x o
+  unfolding unwalked pushedAt
+  pushed-of lone o y {x} L b q e = record { each = λ i. e i ∙ go i (decide (eqb y 0)) (decide (ltb i (g .input .states))) }
+    where
+      stops : stuck (separatedOf g .output) o ≡ eqb y 0
+      stops = row-stuck o b ∙ ap (λ (z : ℕ). eqb z 0) (sym q)
 
-    pub lone-within : within lone (g .input .states) ≡ true
-    lone-within = has-within lone (g .input .states) lone-below
+      go : (i : ℕ) → (eqb y 0 ≡ true) ⊎ (eqb y 0 ≡ false) → (ltb i (g .input .states) ≡ true) ⊎ (ltb i (g .input .states) ≡ false)
+          → pushedAt y (g .input .states) lone i ≡ (ltb i (g .input .states) && unwalked g i o)
+      go i (inl f) (inl m) = rw (f, pushedAt) (m ∙ sym (and-intro m (or-right (not (nontrivial (separatedOf g .input) i)) (stops ∙ f))))
+      go i (inl f) (inr m) = rw (f, pushedAt) (m ∙ sym (and-false-left (unwalked g i o) m))
+      go i (inr f) (inl m) =
+          rw (f, pushedAt)
+          (L .each i
+          ∙ ap (λ (z : Bool). ltb i (g .input .states) && z)
+          (ap not (known-core i (ltb-true i (g .input .states) m)) ∙ sym (or-none (not (nontrivial (separatedOf g .input) i)) (stops ∙ f))))
+      go i (inr f) (inr m) = rw (f, pushedAt) (L .each i ∙ and-false-left (not (has cores i)) m ∙ sym (and-false-left (unwalked g i o) m))
 
-    module _ (o : ℕ) (b : o < g .output .states) (which : ℕ) (w : which ≡ pack (g .input .states) (lostIn s (g .input .states) cores lone o)) where
+  -- those of them that are not won
+
+  module _ (x o : ℕ) (P : Pushed g x o) (b : o < g .output .states) where
+    pushed-below : (i : ℕ) → has x i ≡ true → i < g .input .states
+    pushed-below i e = ltb-true i (g .input .states) (and-left (ltb i (g .input .states)) (unwalked g i o) (sym (P .each i) ∙ e))
+
+    pushed-unwalked : (i : ℕ) → has x i ≡ true → unwalked g i o ≡ true
+    pushed-unwalked i e = and-right (ltb i (g .input .states)) (unwalked g i o) (sym (P .each i) ∙ e)
+
+    pub pushed-within : within x (g .input .states) ≡ true
+    pushed-within = has-within x (g .input .states) pushed-below
+
+    module _ (which : ℕ) (w : which ≡ pack (g .input .states) (lostIn s (g .input .states) cores x o)) where
       which-below : (i : ℕ) → has which i ≡ true → i < g .input .states
-      which-below i e = pack-below (g .input .states) (lostIn s (g .input .states) cores lone o) i (ap (λ (x : ℕ). has x i) (sym w) ∙ e)
+      which-below i e = pack-below (g .input .states) (lostIn s (g .input .states) cores x o) i (ap (λ (y : ℕ). has y i) (sym w) ∙ e)
 
-      which-has : (i : ℕ) → i < g .input .states → has which i ≡ (has lone i && not (wonAt s (g .input .states) cores i o))
+      which-has : (i : ℕ) → i < g .input .states → has which i ≡ (has x i && not (wonAt s (g .input .states) cores i o))
       unfolding lostIn lostAt
-      which-has i a = ap (λ (x : ℕ). has x i) w ∙ has-pack-below (g .input .states) (lostIn s (g .input .states) cores lone o) i a
+      which-has i a = ap (λ (y : ℕ). has y i) w ∙ has-pack-below (g .input .states) (lostIn s (g .input .states) cores x o) i a
 
-      which-lone : (i : ℕ) → has which i ≡ true → has lone i ≡ true
-      which-lone i e = and-left (has lone i) (not (wonAt s (g .input .states) cores i o)) (sym (which-has i (which-below i e)) ∙ e)
+      which-in : (i : ℕ) → has which i ≡ true → has x i ≡ true
+      which-in i e = and-left (has x i) (not (wonAt s (g .input .states) cores i o)) (sym (which-has i (which-below i e)) ∙ e)
 
       which-lost : (i : ℕ) → has which i ≡ true → wonAt s (g .input .states) cores i o ≡ false
-      which-lost i e = not-true (wonAt s (g .input .states) cores i o) (and-right (has lone i) (not (wonAt s (g .input .states) cores i o)) (sym (which-has i (which-below i e)) ∙ e))
+      which-lost i e =
+          not-true (wonAt s (g .input .states) cores i o)
+          (and-right (has x i) (not (wonAt s (g .input .states) cores i o)) (sym (which-has i (which-below i e)) ∙ e))
 
-      in-which : (i : ℕ) → has lone i ≡ true → region (separatedOf g) i o ≡ false → has which i ≡ true
-      in-which i e r = which-has i (lone-below i e) ∙ and-intro e (ap not (known-won i o (lone-below i e) b ∙ r))
+      in-which : (i : ℕ) → i < g .input .states → unwalked g i o ≡ true → region (separatedOf g) i o ≡ false → has which i ≡ true
+      in-which i a u r =
+          which-has i a ∙ and-intro (P .each i ∙ and-intro (lt-ltb i (g .input .states) a) u) (ap not (known-won i o a b ∙ r))
+
+      at-o : (i p : ℕ) → i < g .input .states → p ≡ o → unwalked g i p ≡ true → region (separatedOf g) i p ≡ false → has which i ≡ true
+      at-o i p a q u r = in-which i a (ap (unwalked g i) (sym q) ∙ u) (ap (region (separatedOf g) i) (sym q) ∙ r)
 
       -- they are pushes
-      pub pushes-of : (M : ℕ) {x : ℕ} {y : OutSet} → y ≡ record { 0 = getD (g .output .moves) o 0 } → x ≡ pack (g .input .states) (refusedAt s (g .input .states) (g .output .states) cores (y .0))
-          → Pushes g M which o x
+      pub pushes-of : (M : ℕ) {x : ℕ} {y : OutSet} → y ≡ record { 0 = getD (g .output .moves) o 0 }
+          → x ≡ pack (g .input .states) (refusedAt s (g .input .states) (g .output .states) cores (y .0)) → Pushes g M which o x
       pushes-of M {x} {y} q e = record {
         below = which-below;
         inside = refused-within (g .input .states) (refusedAt s (g .input .states) (g .output .states) cores (y .0)) e;
-        same = λ i j d f. same-push i o (which-below i d) b M j (which-lost i d) (lone-apart i (which-lone i d))
+        same = λ i j d f. same-push i o (which-below i d) b M j (which-lost i d) (pushed-unwalked i (which-in i d))
             (f ∙ unanswered-both s (g .input .states) (g .output .states) cores (getD (g .input .moves) i 0) (y .0) e
             ∙ ap (λ (z : OutSet). unansweredAt s (g .input .states) (g .output .states) cores (getD (g .input .moves) i 0) (z .0)) q);
       }
 
-      pub pushes-filled : {l m : List ℕ} → Filled g (λ x h p. (has which x ≡ true) × (p ≡ o)) l m
-          → Filled g (λ x h p. (has lone x ≡ true) × (p ≡ o) × (region (separatedOf g) x p ≡ false)) l m
-      pushes-filled F = filled-same g F (λ x h p lx lh lp q. (in-which x (q .0) (ap (λ (y : ℕ). region (separatedOf g) x y) (sym (q .1)) ∙ q .2), q .1))
+      pub pushes-filled : {l m : List ℕ} → Filled g (λ a h p. (has which a ≡ true) × (p ≡ o)) l m
+          → Filled g (λ a h p. (unwalked g a p ≡ true) × (p ≡ o) × (region (separatedOf g) a p ≡ false)) l m
+      pushes-filled F = filled-same g F (λ a h p la lh lp q. (at-o a p la (q .1) (q .0) (q .2), q .1))
 
       -- there may be none
-      pub pushes-none : (l : List ℕ) → which ≡ 0 → Filled g (λ x h p. (has lone x ≡ true) × (p ≡ o) × (region (separatedOf g) x p ≡ false)) l l
+      pub pushes-none : (l : List ℕ) → which ≡ 0 → Filled g (λ a h p. (unwalked g a p ≡ true) × (p ≡ o) × (region (separatedOf g) a p ≡ false)) l l
       pushes-none l z =
-          filled-none g l (λ x h p q. clash (in-which x (q .0) (ap (λ (y : ℕ). region (separatedOf g) x y) (sym (q .1)) ∙ q .2)) (ap (λ (y : ℕ). has y x) z ∙ has-zero x))
+          filled-same g (filled-none g {P = λ a h p. ⊥} l (λ a h p q. q))
+          (λ a h p la lh lp q. clash (at-o a p la (q .1) (q .0) (q .2)) (ap (λ (y : ℕ). has y a) z ∙ has-zero a))
 
-    -- both are the rows that need no walk
-    pub plain-join : {l m k : List ℕ} → Filled g (λ x h o. region (separatedOf g) x o ≡ true) l m
-        → Filled g (λ x h o. (has lone x ≡ true) × (region (separatedOf g) x o ≡ false)) m k → Filled g (λ x h o. plain g x o ≡ true) l k
-    unfolding plain
-    plain-join F G = filled-join g F G (λ x h o lx lh lo p. go x o lx p (decide (region (separatedOf g) x o)))
-      where
-        go : (x o : ℕ) → x < g .input .states → plain g x o ≡ true → (region (separatedOf g) x o ≡ true) ⊎ (region (separatedOf g) x o ≡ false)
-            → (region (separatedOf g) x o ≡ true) ⊎ ((has lone x ≡ true) × (region (separatedOf g) x o ≡ false))
-        go x o lx p (inl r) = inl r
-        go x o lx p (inr r) =
-            elim (or-cases (region (separatedOf g) x o) (not (nontrivial (separatedOf g .input) x)) p) [
-              | inl y ↦ clash y r
-              | inr y ↦ inr (L .each x ∙ and-intro (lt-ltb x (g .input .states) lx) (ap not (known-core x lx) ∙ y), r)
-            ]
+-- the rows of won positions and the pushes are the rows that need no walk
+pub plain-join : (g : Game) {l m k : List ℕ} → Filled g (λ i h o. region (separatedOf g) i o ≡ true) l m
+    → Filled g (λ i h o. (unwalked g i o ≡ true) × (region (separatedOf g) i o ≡ false)) m k → Filled g (λ i h o. plain g i o ≡ true) l k
+unfolding plain
+plain-join g F G =
+    filled-join g F G
+    (λ i h o li lh lo p.
+    elim (decide (region (separatedOf g) i o)) [
+      | inl r ↦ inl r
+      | inr r ↦ elim (or-cases (region (separatedOf g) i o) (unwalked g i o) p) [ inl w ↦ inl w | inr u ↦ inr (u, r) ]
+    ])
 
 -- the inputs in trivial components, from all and those in the others
 pub lone-of : (n cores b : ℕ) {x : ℕ} → ((i : ℕ) → has b i ≡ ltb i n) → ((i : ℕ) → has x i ≡ (has b i && not (has cores i))) → Lone n cores x
 lone-of n cores b f d = record { each = λ i. d i ∙ ap (λ (y : Bool). y && not (has cores i)) (f i) }
 
--- where there are none, there is nothing to push
-pub lone-none : (g : Game) (l : List ℕ) {x : ℕ} {P : ℕ → ℕ → ℕ → Type 0} → x ≡ 0 → Filled g (λ a h b. (has x a ≡ true) × P a h b) l l
-lone-none g l {x} z = filled-none g l (λ a h b p. clash (p .0) (ap (λ (y : ℕ). has y a) z ∙ has-zero a))
+pub pushed-all : (y n lone x : ℕ) → y ≡ 0 → ((i : ℕ) → has x i ≡ ltb i n) → (i : ℕ) → has x i ≡ pushedAt y n lone i
+unfolding pushedAt
+pushed-all y n lone x z e i = rw (eq-eqb y 0 z, pushedAt) (e i)
+
+pub pushed-lone : (y n lone : ℕ) → y ≢ 0 → (i : ℕ) → has lone i ≡ pushedAt y n lone i
+unfolding pushedAt
+pushed-lone y n lone z i = rw (ne-eqb y 0 z, pushedAt) refl
 
 -- the pushes, output after output
-pub pushes-next : (g : Game) (x k : ℕ) {l m n : List ℕ} → Filled g (λ a h b. (b < k) × (has x a ≡ true) × (region (separatedOf g) a b ≡ false)) l m
-    → Filled g (λ a h b. (has x a ≡ true) × (b ≡ k) × (region (separatedOf g) a b ≡ false)) m n
-    → Filled g (λ a h b. (b < k + 1) × (has x a ≡ true) × (region (separatedOf g) a b ≡ false)) l n
-pushes-next g x k F G = filled-join g F G (λ a h b la lh lb p. below-next b k (p .0) (λ q. (q, p .1, p .2)) (λ q. (p .1, q, p .2)))
+pub pushes-next : (g : Game) (k : ℕ) {l m n : List ℕ} → Filled g (λ a h b. (b < k) × (unwalked g a b ≡ true) × (region (separatedOf g) a b ≡ false)) l m
+    → Filled g (λ a h b. (unwalked g a b ≡ true) × (b ≡ k) × (region (separatedOf g) a b ≡ false)) m n
+    → Filled g (λ a h b. (b < k + 1) × (unwalked g a b ≡ true) × (region (separatedOf g) a b ≡ false)) l n
+pushes-next g k F G = filled-join g F G (λ a h b la lh lb p. below-next b k (p .0) (λ q. (q, p .1, p .2)) (λ q. (p .1, q, p .2)))

@@ -20,11 +20,13 @@ use native.Mathlib.Omega.{arith}
 use lib.ListN.{length, getD}
 use lib.Bits.{bitAnd}
 use Rattle.finite.specs.Bounded.{any, least}
+use borrow.Author.Tests.{eq-eqb, ne-eqb}
 use Rattle.finite.proofs.Truth.{decide, clash, and-intro, and-left, and-right, and-false-left, and-false-right, not-true, same-test, false-of}
 use Rattle.finite.proofs.Bounded.{any-intro, any-elim, any-none, least-member, least-before, least-found, least-unique}
 use Rattle.sets.specs.Member.{has, pack, within, meets}
 use Rattle.sets.proofs.Membership.{has-zero, has-and, has-pack-below, has-within}
 use Rattle.sets.proofs.Compare.{meets-intro, meets-elim, nonzero-member}
+use Rattle.graphs.specs.Graph.{stuck}
 use Rattle.graphs.specs.Component.{joined, number, nontrivial}
 use Rattle.graphs.specs.Way.{near, toward}
 use Rattle.graphs.proofs.Graph.{edge-to}
@@ -47,9 +49,9 @@ use Rattle.components.specs.Component.{enters}
 use Rattle.stored.specs.Stored.{wonAt}
 use Rattle.environment_table.specs.Table.{Known, Roomy, Same, Filled}
 use Rattle.environment_table.specs.Reading.{lostAt}
-use Rattle.environment_table.specs.Pressing.{Whole, Leaves, Outward, Going, Gone, Pressed, Escape, lostIn, exitsAt, wayFrom, leavingAt, touringAt}
+use Rattle.environment_table.specs.Pressing.{Whole, Leaves, Outward, Going, Gone, Pressed, Escape, lostIn, exitsAt, wayFrom, pressedAt, leavingAt, touringAt}
 use Rattle.environment_table.proofs.Places.{filled-none, filled-same}
-use Rattle.environment_table.proofs.Known.{known-won, input-edge}
+use Rattle.environment_table.proofs.Known.{known-won, input-edge, row-stuck}
 
 -- the loops and tests
 
@@ -137,7 +139,7 @@ pub record Words (g : Game) (s : List ℕ) (cores c x o out gates : ℕ) : Type 
   pub gate : gates ≡ pack 64 (exitsAt (g .input .moves) c out)
 
 module _ (g : Game) (s : List ℕ) (cores : ℕ) (K : Known g s cores) (c k : ℕ) (W : Whole g c k) (x : ℕ) (L : Leaves g c x) (o : ℕ) (lo : o < g .output .states)
-    (out gates : ℕ) (D : Words g s cores c x o out gates) where
+    (free : stuck (separatedOf g .output) o ≡ false) (out gates : ℕ) (D : Words g s cores c x o out gates) where
   out-below : (t : ℕ) → has out t ≡ true → t < g .input .states
   out-below t e =
       pack-below (g .input .states) (lostIn s (g .input .states) cores x o) t (ap (λ (y : ℕ). has y t) (sym (D .lost)) ∙ e)
@@ -291,7 +293,7 @@ module _ (g : Game) (s : List ℕ) (cores : ℕ) (K : Known g s cores) (c k : �
     row-is : environmentRow (separatedOf g) a h o ≡ outward (separatedOf g) a h o
     unfolding separatedOf graphOf
     row-is =
-        row-lost (separatedOf g) a h o (sym (region-same (separatedOf g) k a o o j (joined-self (graphOf (g .output)) o lo)) ∙ r)
+        row-lost (separatedOf g) a h o (sym (region-same (separatedOf g) k a o o j (joined-self (graphOf (g .output)) o lo)) ∙ r) free
         ∙ pushing-nontrivial (separatedOf g) a h o (whole-core g c k W a j)
         ∙ pressing-escapes (separatedOf g) a h o escaping
 
@@ -327,31 +329,41 @@ module _ (g : Game) (s : List ℕ) (cores : ℕ) (K : Known g s cores) (c k : �
   -- what the part of output o ensures
 
   pub escape-tours : {l : List ℕ} → wonAt s (g .input .states) cores k o ≡ false → gates ≡ 0 → Escape g k o l l true
-  unfolding leavingAt touringAt
+  unfolding leavingAt touringAt pressedAt
   escape-tours {l} r e = record {
-    filled = filled-none g l (λ a h b p. clash (and-right (not (region (separatedOf g) k b)) (escapes (separatedOf g) k b) (p .2)) (ap (escapes (separatedOf g) k) (p .0) ∙ no-gates e));
-    tours = sym (and-intro (ap not (sym (known-won g s cores K k o (W .below) lo) ∙ r)) (ap not (no-gates e)));
+    filled = filled-none g l (λ a h b p. clash (and-right (pressedAt g k b) (escapes (separatedOf g) k b) (p .2)) (ap (escapes (separatedOf g) k) (p .0) ∙ no-gates e));
+    tours = sym (and-intro (and-intro (ap not (sym (known-won g s cores K k o (W .below) lo) ∙ r)) (ap not free)) (ap not (no-gates e)));
   }
 
   pub escape-leaves : {l m : List ℕ} → gates ≢ 0 → Filled g (λ a h b. (has c a ≡ true) × (b ≡ o)) l m → Escape g k o l m false
   unfolding touringAt
   escape-leaves ne f = record {
     filled = filled-same g f (λ a h b x y z p. (whole-of g c k W a (p .1), p .0));
-    tours = sym (and-false-right (not (region (separatedOf g) k o)) (ap not (some-gates ne)));
+    tours = sym (and-false-right (pressedAt g k o) (ap not (some-gates ne)));
   }
 
 pub escape-won : (g : Game) (s : List ℕ) (cores : ℕ) (K : Known g s cores) (c k : ℕ) (W : Whole g c k) (o : ℕ) (lo : o < g .output .states) {l : List ℕ}
     → wonAt s (g .input .states) cores k o ≡ true → Escape g k o l l false
-unfolding leavingAt touringAt
+unfolding leavingAt touringAt pressedAt
 escape-won g s cores K c k W o lo {l} e = record {
   filled = filled-none g l (λ a h b p.
       clash (ap (region (separatedOf g) k) (p .0) ∙ won)
-      (not-true (region (separatedOf g) k b) (and-left (not (region (separatedOf g) k b)) (escapes (separatedOf g) k b) (p .2))));
-  tours = sym (and-false-left (not (escapes (separatedOf g) k o)) (ap not won));
+      (not-true (region (separatedOf g) k b) (and-left (not (region (separatedOf g) k b)) (not (stuck (separatedOf g .output) b)) (and-left (pressedAt g k b) (escapes (separatedOf g) k b) (p .2)))));
+  tours = sym (and-false-left (not (escapes (separatedOf g) k o)) (and-false-left (not (stuck (separatedOf g .output) o)) (ap not won)));
 }
   where
     won : region (separatedOf g) k o ≡ true
     won = sym (known-won g s cores K k o (W .below) lo) ∙ e
+
+pub escape-stuck : (g : Game) (k o : ℕ) {l : List ℕ} → stuck (separatedOf g .output) o ≡ true → Escape g k o l l false
+unfolding leavingAt touringAt pressedAt
+escape-stuck g k o {l} e = record {
+  filled = filled-none g l (λ a h b p.
+      clash (ap (stuck (separatedOf g .output)) (p .0) ∙ e)
+      (not-true (stuck (separatedOf g .output) b)
+      (and-right (not (region (separatedOf g) k b)) (not (stuck (separatedOf g .output) b)) (and-left (pressedAt g k b) (escapes (separatedOf g) k b) (p .2)))));
+  tours = sym (and-false-left (not (escapes (separatedOf g) k o)) (and-false-right (not (region (separatedOf g) k o)) (ap not e)));
+}
 
 -- the same of any game with these counts and rows
 
@@ -361,7 +373,7 @@ going-same O M rows c o out next n p k j e f =
     same-outward (p .game) M c o out next (p .outward) k (p .outward .below k e) e j
     (f ∙ ap (λ (x : List ℕ). wayFrom (getD x k 0) out (getD next k 0)) (p .moves))
 
-module _ (N O M : ℕ) (rows s : List ℕ) (cores c x k o n : ℕ) (p : Pressed N O M rows s cores c x k o n) where
+module _ (N O M : ℕ) (rows s : List ℕ) (cores c x k o r n : ℕ) (p : Pressed N O M rows s cores c x k o r n) where
   pub pressed-won : (N ≤ 64) × (k < N) × (o < 64) × (N + N + o < length s)
   pressed-won = (
     omega (arith, p .inputs, p .known .inputs),
@@ -379,7 +391,16 @@ module _ (N O M : ℕ) (rows s : List ℕ) (cores c x k o n : ℕ) (p : Pressed 
   pub pressed-escape-won : {l : List ℕ} → wonAt s N cores k o ≡ true → Escape (p .game) k o l l false
   pressed-escape-won e = escape-won (p .game) s cores (p .known) c k (p .whole) o (p .output) (at-game e)
 
-  module _ (out gates : ℕ) (f : out ≡ pack N (lostIn s N cores x o)) (h : gates ≡ pack 64 (exitsAt rows c out)) where
+  -- the rows of an output without a move are written elsewhere
+  pub pressed-stuck : {l : List ℕ} → r ≡ 0 → Escape (p .game) k o l l false
+  pressed-stuck e = escape-stuck (p .game) k o (row-stuck (p .game) s cores (p .known) o (p .output) ∙ eq-eqb (getD (p .game .output .moves) o 0) 0 (sym (p .replies) ∙ e))
+
+  module _ (ne : r ≢ 0) (out gates : ℕ) (f : out ≡ pack N (lostIn s N cores x o)) (h : gates ≡ pack 64 (exitsAt rows c out)) where
+    free : stuck (separatedOf (p .game) .output) o ≡ false
+    free =
+        row-stuck (p .game) s cores (p .known) o (p .output)
+        ∙ ne-eqb (getD (p .game .output .moves) o 0) 0 (λ z. ne (p .replies ∙ z))
+
     words : Words (p .game) s cores c x o out gates
     words = record {
       lost = subst (λ (y : ℕ). out ≡ pack y (lostIn s y cores x o)) (p .inputs) f;
@@ -387,10 +408,10 @@ module _ (N O M : ℕ) (rows s : List ℕ) (cores c x k o n : ℕ) (p : Pressed 
     }
 
     pub pressed-bounds : Bounds N gates
-    pressed-bounds = subst (λ (y : ℕ). Bounds y gates) (sym (p .inputs)) (gates-within (p .game) s cores (p .known) c k (p .whole) x (p .leaves) o (p .output) out gates words)
+    pressed-bounds = subst (λ (y : ℕ). Bounds y gates) (sym (p .inputs)) (gates-within (p .game) s cores (p .known) c k (p .whole) x (p .leaves) o (p .output) free out gates words)
 
     pub pressed-tours : {l : List ℕ} → wonAt s N cores k o ≡ false → gates ≡ 0 → Escape (p .game) k o l l true
-    pressed-tours e z = escape-tours (p .game) s cores (p .known) c k (p .whole) x (p .leaves) o (p .output) out gates words (at-game e) z
+    pressed-tours e z = escape-tours (p .game) s cores (p .known) c k (p .whole) x (p .leaves) o (p .output) free out gates words (at-game e) z
 
     pub pressed-going : (next : List ℕ) → wonAt s N cores k o ≡ false → gates ≢ 0 → Toward rows N c gates next → Going O M rows c o out next n
     pressed-going next e ne T = record {
@@ -398,7 +419,7 @@ module _ (N O M : ℕ) (rows s : List ℕ) (cores c x k o n : ℕ) (p : Pressed 
       outputs = p .outputs;
       moves = p .moves;
       roomy = p .roomy;
-      outward = rows-outward (p .game) s cores (p .known) c k (p .whole) x (p .leaves) o (p .output) out gates words M next (at-game e) ne
+      outward = rows-outward (p .game) s cores (p .known) c k (p .whole) x (p .leaves) o (p .output) free out gates words M next (at-game e) ne
           (subst (λ (y : List ℕ). Toward y (p .game .input .states) c gates next) (p .moves) (subst (λ (y : ℕ). Toward rows y c gates next) (p .inputs) T));
     }
 
@@ -406,7 +427,7 @@ module _ (N O M : ℕ) (rows s : List ℕ) (cores c x k o n : ℕ) (p : Pressed 
         → Gone O M rows c o out next l m → Escape (p .game) k o l m false
     unfolding pressed-going
     pressed-leaves {next} {l} e ne T q G =
-        escape-leaves (p .game) s cores (p .known) c k (p .whole) x (p .leaves) o (p .output) out gates words ne (G .fills going)
+        escape-leaves (p .game) s cores (p .known) c k (p .whole) x (p .leaves) o (p .output) free out gates words ne (G .fills going)
       where
         going : Going O M rows c o out next (length l)
         going = record {

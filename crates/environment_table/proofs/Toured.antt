@@ -21,6 +21,7 @@ use Rattle.finite.proofs.Truth.{clash, and-left, and-right, not-true}
 use Rattle.sets.specs.Member.{has, pack, within}
 use Rattle.sets.proofs.Membership.{has-and, has-pack-below, within-has, has-within}
 use Rattle.sets.proofs.Compare.{nonzero-member}
+use Rattle.graphs.specs.Graph.{stuck}
 use Rattle.graphs.specs.Component.{joined, meetsAt}
 use Rattle.graphs.specs.Way.{prefer}
 use Rattle.graphs.proofs.Component.{joined-to, joined-self}
@@ -44,7 +45,7 @@ use Rattle.touring.specs.Stretches.{metIn}
 use Rattle.touring.proofs.Goal.{first-member, first-below, passed-below}
 use Rattle.touring.proofs.Tours.{met-pack, goal-meets, goal-below, goals-none, goals-some, goals-from, goal-word, prefer-inside, toward-target, target-next, tour-rests, tour-aims}
 use Rattle.environment_table.specs.Table.{Roomy, Filled, Spread}
-use Rattle.environment_table.specs.Pressing.{Whole, touringAt}
+use Rattle.environment_table.specs.Pressing.{Whole, pressedAt, touringAt}
 use Rattle.environment_table.specs.Touring.{Count, Rests, Tours, Left, Aims, Headed}
 use Rattle.environment_table.proofs.Places.{filled-join, filled-same, below-next}
 use Rattle.environment_table.proofs.Outward.{whole-has, whole-number, whole-core, whole-in}
@@ -65,15 +66,16 @@ module _ (g : Game) (c k : ℕ) (W : Whole g c k) where
   -- a row that is left to a tour
   tour-row : (a h o : ℕ) → has c a ≡ true → o < g .output .states → touringAt g k o ≡ true
       → environmentRow (separatedOf g) a h o ≡ tour (graphOf (g .input)) k (assumptions (separatedOf g)) a h
-  unfolding touringAt separatedOf graphOf
+  unfolding touringAt pressedAt separatedOf graphOf
   tour-row a h o e b t =
       row-lost (separatedOf g) a h o
       (sym (region-same (separatedOf g) k a o o j own)
-      ∙ not-true (region (separatedOf g) k o) (and-left (not (region (separatedOf g) k o)) (not (escapes (separatedOf g) k o)) t))
+      ∙ not-true (region (separatedOf g) k o) (and-left (not (region (separatedOf g) k o)) (not (stuck (separatedOf g .output) o)) (and-left (pressedAt g k o) (not (escapes (separatedOf g) k o)) t)))
+      (not-true (stuck (separatedOf g .output) o) (and-right (not (region (separatedOf g) k o)) (not (stuck (separatedOf g .output) o)) (and-left (pressedAt g k o) (not (escapes (separatedOf g) k o)) t)))
       ∙ pushing-nontrivial (separatedOf g) a h o (whole-core g c k W a j)
       ∙ pressing-tours (separatedOf g) a h o
       (sym (escapes-same (separatedOf g) k a o o j own)
-      ∙ not-true (escapes (separatedOf g) k o) (and-right (not (region (separatedOf g) k o)) (not (escapes (separatedOf g) k o)) t))
+      ∙ not-true (escapes (separatedOf g) k o) (and-right (pressedAt g k o) (not (escapes (separatedOf g) k o)) t))
       ∙ ap (λ (n : ℕ). tour (graphOf (g .input)) n (assumptions (separatedOf g)) a h) (whole-number g c k W a j)
     where
       j : joined (graphOf (g .input)) k a ≡ true

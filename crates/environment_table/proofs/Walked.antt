@@ -17,6 +17,7 @@ use Rattle.finite.proofs.Bounded.{least-before, least-unique}
 use Rattle.sets.specs.Member.{has, pack}
 use Rattle.sets.proofs.Membership.{has-pack-below}
 use Rattle.graphs.specs.Component.{joined, number, nontrivial}
+use Rattle.graphs.specs.Graph.{stuck}
 use Rattle.graphs.proofs.Graph.{edge-from}
 use Rattle.graphs.proofs.Component.{joined-self, joined-sym, number-joined, number-below, number-same, nontrivial-same, nontrivial-move}
 use Rattle.game.specs.declared.Game.{Game}
@@ -28,8 +29,8 @@ use Rattle.theory.specs.Choice.{escapes}
 use Rattle.theory.proofs.Delay.{region-same}
 use Rattle.touring.proofs.Tours.{comp-has}
 use Rattle.environment_table.specs.Table.{Known, Filled}
-use Rattle.environment_table.specs.Reading.{plain}
-use Rattle.environment_table.specs.Pressing.{Whole, Escaped, leavingAt, touringAt}
+use Rattle.environment_table.specs.Reading.{unwalked, plain}
+use Rattle.environment_table.specs.Pressing.{Whole, Escaped, pressedAt, leavingAt, touringAt}
 use Rattle.environment_table.specs.Touring.{Left}
 use Rattle.environment_table.proofs.Places.{filled-none, filled-join}
 use Rattle.environment_table.proofs.Known.{known-core}
@@ -37,11 +38,20 @@ use Rattle.environment_table.proofs.Outward.{whole-of}
 
 plain-lost : (g : Game) (a b : ℕ) → plain g a b ≡ false → region (separatedOf g) a b ≡ false
 unfolding plain
-plain-lost g a b e = or-false-left (region (separatedOf g) a b) (not (nontrivial (separatedOf g .input) a)) e
+plain-lost g a b e = or-false-left (region (separatedOf g) a b) (unwalked g a b) e
+
+plain-free : (g : Game) (a b : ℕ) → plain g a b ≡ false → stuck (separatedOf g .output) b ≡ false
+unfolding plain unwalked
+plain-free g a b e =
+    or-false-right (not (nontrivial (separatedOf g .input) a)) (stuck (separatedOf g .output) b)
+    (or-false-right (region (separatedOf g) a b) (unwalked g a b) e)
 
 plain-core : (g : Game) (a b : ℕ) → plain g a b ≡ false → nontrivial (graphOf (g .input)) a ≡ true
-unfolding plain separatedOf
-plain-core g a b e = not-false (nontrivial (graphOf (g .input)) a) (or-false-right (region (separatedOf g) a b) (not (nontrivial (graphOf (g .input)) a)) e)
+unfolding plain unwalked separatedOf
+plain-core g a b e =
+    not-false (nontrivial (graphOf (g .input)) a)
+    (or-false-left (not (nontrivial (graphOf (g .input)) a)) (stuck (separatedOf g .output) b)
+    (or-false-right (region (separatedOf g) a b) (unwalked g a b) e))
 
 core-below : (g : Game) (a : ℕ) → nontrivial (graphOf (g .input)) a ≡ true → a < g .input .states
 unfolding graphOf
@@ -103,20 +113,20 @@ module _ (g : Game) (s : List ℕ) (cores : ℕ) (K : Known g s cores) (i : ℕ)
     -- ways out and tours
     pub walked-join : {l m n : List ℕ} {over : ℕ} → Whole g c i → Escaped g i l m over → Filled g (λ a h b. (has c a ≡ true) × (has over b ≡ true)) m n
         → Filled g (λ a h b. (number (graphOf (g .input)) a ≡ i) × (plain g a b ≡ false)) l n
-    unfolding leavingAt touringAt separatedOf graphOf
+    unfolding leavingAt touringAt pressedAt separatedOf graphOf
     walked-join {over = over} W E T =
-        filled-join g (E .filled) T (λ a h b x y z p. go a b z (number-in g a i x (p .0)) (plain-lost g a b (p .1)) (decide (escapes (separatedOf g) i b)))
+        filled-join g (E .filled) T (λ a h b x y z p. go a b z (number-in g a i x (p .0)) (plain-lost g a b (p .1)) (plain-free g a b (p .1)) (decide (escapes (separatedOf g) i b)))
       where
-        go : (a b : ℕ) → b < g .output .states → joined (graphOf (g .input)) i a ≡ true → region (separatedOf g) a b ≡ false
+        go : (a b : ℕ) → b < g .output .states → joined (graphOf (g .input)) i a ≡ true → region (separatedOf g) a b ≡ false → stuck (separatedOf g .output) b ≡ false
             → (escapes (separatedOf g) i b ≡ true) ⊎ (escapes (separatedOf g) i b ≡ false)
             → ((joined (graphOf (g .input)) i a ≡ true) × (leavingAt g i b ≡ true)) ⊎ ((has c a ≡ true) × (has over b ≡ true))
-        go a b z j r (inl e) =
-            inl (j, and-intro (ap not (region-same (separatedOf g) i a b b j (joined-self (graphOf (g .output)) b z) ∙ r)) e)
-        go a b z j r (inr e) =
+        go a b z j r f (inl e) =
+            inl (j, and-intro (and-intro (ap not (region-same (separatedOf g) i a b b j (joined-self (graphOf (g .output)) b z) ∙ r)) (ap not f)) e)
+        go a b z j r f (inr e) =
             inr (
               whole-of g c i W a j,
               ap (λ (x : ℕ). has x b) (E .tours) ∙ has-pack-below (g .output .states) (touringAt g i) b z
-                  ∙ and-intro (ap not (region-same (separatedOf g) i a b b j (joined-self (graphOf (g .output)) b z) ∙ r)) (ap not e),
+                  ∙ and-intro (and-intro (ap not (region-same (separatedOf g) i a b b j (joined-self (graphOf (g .output)) b z) ∙ r)) (ap not f)) (ap not e),
             )
 
   pub left-of : {c over : ℕ} {l m : List ℕ} → Whole g c i → Escaped g i l m over → Left g c over

@@ -8,10 +8,11 @@
 --   Outward g M c o out next        == so go the rows of the states of c and output o, for all M counters
 --   Going O M rows c o out next n   == so go those of a game with O outputs and these rows of inputs, whose table fits n entries
 --   Gone O M rows c o out next l m  == from l to m they were written, of any such game
---   Pressed N O M rows s cores c x first o n == c is the component with the number first of a game with N inputs, O outputs and these rows
---                                      of inputs, whose region s holds and whose table fits n entries; moves out of c enter x
---   leavingAt g first o             == (first, o) is not won, and the component has a way out
---   touringAt g first o             == (first, o) is not won, and the component has none
+--   Pressed N O M rows s cores c x first o r n == c is the component with the number first of a game with N inputs, O outputs and these rows
+--                                      of inputs, whose region s holds and whose table fits n entries; moves out of c enter x; o moves to the set r
+--   pressedAt g first o             == (first, o) is not won, and o has a move
+--   leavingAt g first o             == so it is, and the component has a way out
+--   touringAt g first o             == so it is, and the component has none
 --   Escape g first o l m r          == the rows of output o are written where there is a way out; r tells whether they tour
 --   Escaped g first l m r           == the same of all outputs; r is the set of those that tour
 use Prim.Native.Nat.{ℕ, _<_}
@@ -22,6 +23,7 @@ use lib.ListN.{length, getD}
 use lib.Bits.{bitAnd}
 use Rattle.finite.specs.Bounded.{least}
 use Rattle.sets.specs.Member.{has, pack, meets}
+use Rattle.graphs.specs.Graph.{stuck}
 use Rattle.graphs.specs.Component.{joined, number, nontrivial}
 use Rattle.game.specs.declared.Game.{Game}
 use Rattle.play.specs.Play.{graphOf, separatedOf}
@@ -68,7 +70,7 @@ pub record Going (O M : ℕ) (rows : List ℕ) (c o out : ℕ) (next : List ℕ)
 pub record Gone (O M : ℕ) (rows : List ℕ) (c o out : ℕ) (next l m : List ℕ) : Type 0 where
   pub fills : (p : Going O M rows c o out next (length l)) → Filled (p .game) (λ a h b. (has c a ≡ true) × (b ≡ o)) l m
 
-pub record Pressed (N O M : ℕ) (rows s : List ℕ) (cores c x k o n : ℕ) : Type 0 where
+pub record Pressed (N O M : ℕ) (rows s : List ℕ) (cores c x k o r n : ℕ) : Type 0 where
   pub game : Game
   pub inputs : N ≡ game .input .states
   pub outputs : O ≡ game .output .states
@@ -77,14 +79,19 @@ pub record Pressed (N O M : ℕ) (rows s : List ℕ) (cores c x k o n : ℕ) : T
   pub roomy : Roomy game M n
   pub whole : Whole game c k
   pub output : o < game .output .states
+  pub replies : r ≡ getD (game .output .moves) o 0
   pub leaves : Leaves game c x
+
+-- A row of an output without a move needs no walk.
+unfoldable pub pressedAt : Game → ℕ → ℕ → Bool
+pressedAt g k o = not (region (separatedOf g) k o) && not (stuck (separatedOf g .output) o)
 
 -- "Some move leaves the component to a j with (j, o) not won: .."; "Otherwise tour the input sets inside the component"
 unfoldable pub leavingAt : Game → ℕ → ℕ → Bool
-leavingAt g k o = not (region (separatedOf g) k o) && escapes (separatedOf g) k o
+leavingAt g k o = pressedAt g k o && escapes (separatedOf g) k o
 
 unfoldable pub touringAt : Game → ℕ → ℕ → Bool
-touringAt g k o = not (region (separatedOf g) k o) && not (escapes (separatedOf g) k o)
+touringAt g k o = pressedAt g k o && not (escapes (separatedOf g) k o)
 
 pub record Escape (g : Game) (k o : ℕ) (l m : List ℕ) (r : Bool) : Type 0 where
   pub filled : Filled g (λ a h b. (b ≡ o) × (joined (graphOf (g .input)) k a ≡ true) × (leavingAt g k b ≡ true)) l m

@@ -104,7 +104,8 @@ fn escape_rows(
     }
 }
 
-// The rows of a component with output o. They are left to a tour where they are not won and there is no way out.
+// The rows of a component with output o, whose moves are `replies`. They are left to a tour where they are not won and there is no way out; where o has no
+// move they need no walk.
 fn escape(
     moves: &[u64; 64],
     s: &[u64],
@@ -112,12 +113,19 @@ fn escape(
     cores: InSet,
     part: Part,
     o: OutState,
+    replies: OutSet,
     found: Found,
     room: &mut [u16],
 ) -> Turn
-    requires { ⌜ Pressed (z .inputs) (z .outputs) (z .counters) (now moves) (now s) (cores .0) (part .states .0) (part .leaving .0) (part .first .0) (o .0) (length (now room)) × Toward (now moves) (z .inputs) (part .states .0) (found .gates) (found .ways .next) ⌝ }
-    ensures { λ r. ⌜ ((p : Pressed (z .inputs) (z .outputs) (z .counters) (now (moves .entry)) (now (s .entry)) (cores .0) (part .states .0) (part .leaving .0) (part .first .0) (o .0) (length (now (room .entry)))) → Escape (p .game) (part .first .0) (o .0) (now (room .entry)) (now (room .exit)) (r .tours)) × Toward (now (moves .entry)) (z .inputs) (part .states .0) (r .found .gates) (r .found .ways .next) ⌝ }
+    requires { ⌜ Pressed (z .inputs) (z .outputs) (z .counters) (now moves) (now s) (cores .0) (part .states .0) (part .leaving .0) (part .first .0) (o .0) (replies .0) (length (now room)) × Toward (now moves) (z .inputs) (part .states .0) (found .gates) (found .ways .next) ⌝ }
+    ensures { λ r. ⌜ ((p : Pressed (z .inputs) (z .outputs) (z .counters) (now (moves .entry)) (now (s .entry)) (cores .0) (part .states .0) (part .leaving .0) (part .first .0) (o .0) (replies .0) (length (now (room .entry)))) → Escape (p .game) (part .first .0) (o .0) (now (room .entry)) (now (room .exit)) (r .tours)) × Toward (now (moves .entry)) (z .inputs) (part .states .0) (r .found .gates) (r .found .ways .next) ⌝ }
 {
+    if replies.0 == 0 {
+        return Turn {
+            tours: false,
+            found,
+        };
+    }
     let n = z.inputs;
     let first = part.first;
     if stored::won(s, n, cores.0, first.0, o.0) {
@@ -154,7 +162,8 @@ pub fn escapes(
     ensures { λ r. ⌜ Escaped g (first .0) (now (room .entry)) (now (room .exit)) (r .0) ⌝ }
 {
     let h = g.input;
-    let m = g.output.states;
+    let q = g.output;
+    let m = q.states;
     let leaving = InSet(components::leaving(h, c.0));
     let part = Part {
         states: c,
@@ -174,7 +183,17 @@ pub fn escapes(
             outputs: m,
             counters,
         };
-        let t = escape(&h.moves, s, z, cores, part, OutState(o), found, room);
+        let t = escape(
+            &h.moves,
+            s,
+            z,
+            cores,
+            part,
+            OutState(o),
+            OutSet(q.moves[o]),
+            found,
+            room,
+        );
         found = t.found;
         touring = sets::insert_if(touring, o, t.tours);
         o += 1;

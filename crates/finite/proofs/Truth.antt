@@ -58,6 +58,10 @@ or-cases false b h = inr h
 pub or-false : {a b : Bool} → a ≡ false → b ≡ false → (a || b) ≡ false
 or-false p q = rw (p, q) refl
 
+pub or-none : (a : Bool) {b : Bool} → b ≡ false → (a || b) ≡ a
+or-none true q = refl
+or-none false q = q
+
 pub or-false-left : (a b : Bool) → (a || b) ≡ false → a ≡ false
 or-false-left true b h = h
 or-false-left false b h = refl

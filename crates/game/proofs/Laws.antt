@@ -19,9 +19,29 @@ use Rattle.game.specs.declared.Requirement.{Requirement}
 use Rattle.game.specs.declared.Game.{Game}
 use Rattle.game.specs.declared.Acceptance.the-variants.{Accepted}
 use Rattle.game.specs.Access.{noInput, noOutput, requirementAt}
-use Rattle.game.specs.Acceptance.{limit, countFits, rowFits, statesFit, hasInitial, hasMove, allMove, fewSets, inSetFits, outSetFits, inUse, requirementFits, fewSetsAt, requirementFitsAt, countsFit, statesInCount, initialsExist, movesExist, fewRequirements, lengthsFit, setsFit, acceptance}
+use Rattle.game.specs.Acceptance.{
+  limit,
+  countFits,
+  rowFits,
+  statesFit,
+  hasInitial,
+  fewSets,
+  inSetFits,
+  outSetFits,
+  inUse,
+  requirementFits,
+  fewSetsAt,
+  requirementFitsAt,
+  countsFit,
+  statesInCount,
+  initialsExist,
+  fewRequirements,
+  lengthsFit,
+  setsFit,
+  acceptance,
+}
 use Rattle.game.proofs.Steps
-use Rattle.game.proofs.Steps.{limit-in, limit-out, move-past, move-row, counts-next, states-next, initials-next, exist-next, few-below, accept-all}
+use Rattle.game.proofs.Steps.{limit-in, limit-out, counts-next, states-next, initials-next, few-below, accept-all}
 use Rattle.game.proofs.Refusals.{accepted-tests}
 pub use Rattle.game.specs.Fits.{GraphFits, RequirementFits, Fits}
 
@@ -74,29 +94,14 @@ module _ (g : Graph) where
   unfolding hasInitial
   nonzero-initial n = ap not (ne-eqb (g .initial) 0 n)
 
-  row-nonzero : allMove g ≡ true → (s : ℕ) → s < g .states → s < 64 → getD (g .moves) s 0 ≢ 0
-  unfolding allMove
-  row-nonzero e s l m =
-      eqb-false (getD (g .moves) s 0) 0
-      (not-true (eqb (getD (g .moves) s 0) 0) (move-row g s l ∙ all-elim 64 (hasMove g) e s m))
-
-  nonzero-rows : ((s : ℕ) → s < g .states → getD (g .moves) s 0 ≢ 0) → allMove g ≡ true
-  unfolding allMove
-  nonzero-rows h = all-intro 64 (hasMove g) (λ s l. go s (decLt s (g .states)))
-    where
-      go : (s : ℕ) → Dec (s < g .states) → hasMove g s ≡ true
-      go s (yes l) = sym (move-row g s l) ∙ ap not (ne-eqb (getD (g .moves) s 0) 0 (h s l))
-      go s (no n) = sym (move-past g s (omega arith))
-
-  graph-fits : countFits g ≡ true → statesFit g ≡ true → hasInitial g ≡ true → allMove g ≡ true → GraphFits g
-  graph-fits c w i m = record {
+  graph-fits : countFits g ≡ true → statesFit g ≡ true → hasInitial g ≡ true → GraphFits g
+  graph-fits c w i = record {
     some = count-bounds c .0;
     most = count-bounds c .1;
     initial-below = below;
     start = (first .0, below (first .0) (first .1), first .1);
     row-below = row;
     row-past = λ s l h. unused-empty (getD (g .moves) s 0) (g .states) s (g .states) (row-within w s h) l;
-    move = λ s l. let j = nonzero-member (getD (g .moves) s 0) (row-nonzero m s l (omega (arith, count-bounds c .1))) in (j .0, row s (j .0) l (j .1), j .1);
   }
     where
       below : (s : ℕ) → has (g .initial) s ≡ true → s < g .states
@@ -121,9 +126,6 @@ module _ (g : Graph) where
 
   fits-initial : GraphFits g → hasInitial g ≡ true
   fits-initial f = nonzero-initial (member-nonzero (g .initial) (f .start .0) (f .start .2))
-
-  fits-moves : GraphFits g → allMove g ≡ true
-  fits-moves f = nonzero-rows (λ s l. member-nonzero (getD (g .moves) s 0) (f .move s l .0) (f .move s l .2))
 
 -- ---- a requirement
 
@@ -194,10 +196,6 @@ module _ (g : Game) where
   unfolding initialsExist
   both-initial e = split-and (hasInitial (g .input)) (hasInitial (g .output)) e
 
-  both-moves : movesExist g ≡ true → (allMove (g .input) ≡ true) × (allMove (g .output) ≡ true)
-  unfolding movesExist
-  both-moves e = split-and (allMove (g .input)) (allMove (g .output)) e
-
   few-of : fewRequirements g ≡ true → g .k ≤ 8
   unfolding fewRequirements
   few-of e = leb-true (g .k) 8 e
@@ -237,16 +235,16 @@ module _ (g : Game) where
 
   pub accepted-fits : acceptance g ≡ Accepted → Fits g
   accepted-fits e = record {
-    input = graph-fits (g .input) (both-counts (t .0) .0) (both-states (t .1) .0) (both-initial (t .2) .0) (both-moves (t .3) .0);
-    output = graph-fits (g .output) (both-counts (t .0) .1) (both-states (t .1) .1) (both-initial (t .2) .1) (both-moves (t .3) .1);
-    few = few-of (t .4);
+    input = graph-fits (g .input) (both-counts (t .0) .0) (both-states (t .1) .0) (both-initial (t .2) .0);
+    output = graph-fits (g .output) (both-counts (t .0) .1) (both-states (t .1) .1) (both-initial (t .2) .1);
+    few = few-of (t .3);
     requirement = λ r l.
-        let p = parts-of r (requirementAt g r) (sets-of (t .6) r l) in
-        requirement-fits (requirementAt g r) (g .input .states) (g .output .states) (lengths-of (t .5) r l) (p .1) (p .2);
-    unused = λ r k l. unused-of r (requirementAt g r) (parts-of r (requirementAt g r) (sets-of (t .6) r l) .0) k;
+        let p = parts-of r (requirementAt g r) (sets-of (t .5) r l) in
+        requirement-fits (requirementAt g r) (g .input .states) (g .output .states) (lengths-of (t .4) r l) (p .1) (p .2);
+    unused = λ r k l. unused-of r (requirementAt g r) (parts-of r (requirementAt g r) (sets-of (t .5) r l) .0) k;
   }
     where
-      t : (countsFit g ≡ true) × (statesInCount g ≡ true) × (initialsExist g ≡ true) × (movesExist g ≡ true) × (fewRequirements g ≡ true)
+      t : (countsFit g ≡ true) × (statesInCount g ≡ true) × (initialsExist g ≡ true) × (fewRequirements g ≡ true)
           × (lengthsFit g ≡ true) × (setsFit g ≡ true)
       t = accepted-tests g e
 
@@ -269,7 +267,6 @@ module _ (g : Game) where
       (sym (counts-next g true (fits-count (g .input) (f .input)) (sym (fits-count (g .output) (f .output)))))
       (sym (states-next g true (fits-states (g .input) (f .input)) (sym (fits-states (g .output) (f .output)))))
       (sym (initials-next g true (fits-initial (g .input) (f .input)) (sym (fits-initial (g .output) (f .output)))))
-      (sym (exist-next g true (fits-moves (g .input) (f .input)) (sym (fits-moves (g .output) (f .output)))))
       (few-below g (f .few))
       (of-lengths (λ r l. fits-few (requirementAt g r) (g .input .states) (g .output .states) (f .requirement r l)))
       (of-sets

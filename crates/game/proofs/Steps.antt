@@ -15,7 +15,29 @@ use Rattle.game.specs.declared.Game.{Game}
 use Rattle.game.specs.declared.Acceptance.{Acceptance}
 use Rattle.game.specs.declared.Acceptance.the-variants.{Accepted, Refused}
 use Rattle.game.specs.Access.{noInput, noOutput, requirementAt}
-use Rattle.game.specs.Acceptance.{limit, countFits, rowFits, statesFit, hasInitial, hasMove, allMove, fewSets, inSetFits, outSetFits, inUse, requirementFits, fewSetsAt, requirementFitsAt, countsFit, statesInCount, initialsExist, movesExist, fewRequirements, lengthsFit, setsFit, tests, firstFailing, acceptance}
+use Rattle.game.specs.Acceptance.{
+  limit,
+  countFits,
+  rowFits,
+  statesFit,
+  hasInitial,
+  fewSets,
+  inSetFits,
+  outSetFits,
+  inUse,
+  requirementFits,
+  fewSetsAt,
+  requirementFitsAt,
+  countsFit,
+  statesInCount,
+  initialsExist,
+  fewRequirements,
+  lengthsFit,
+  setsFit,
+  tests,
+  firstFailing,
+  acceptance,
+}
 
 -- ---- a graph
 
@@ -53,32 +75,6 @@ states-row g s i l e = and-next i (all-stop 64 s (rowFits g) l e)
 pub states-end : (g : Graph) (s : ℕ) → within (g .initial) (g .states) ≡ true → s ≤ 64 → 64 ≤ s → all s (rowFits g) ≡ true → true ≡ statesFit g
 unfolding statesFit
 states-end g s i l m e = and-next i (all-end 64 s (rowFits g) l m e)
-
-pub past : (n s : ℕ) (b : Bool) → n ≤ s → true ≡ (leb n s || b)
-past n s b l = rw (le-leb n s l)
-
-pub not-past : (n s : ℕ) (b : Bool) → s < n → b ≡ (leb n s || b)
-not-past n s b l = rw (lt-leb n s l)
-
-pub has-move : (g : Graph) (s : ℕ) (r : Bool) → r ≡ (leb (g .states) s || not (eqb (getD (g .moves) s 0) 0)) → r ≡ hasMove g s
-unfolding hasMove
-has-move g s r q = q
-
-pub move-past : (g : Graph) (s : ℕ) → g .states ≤ s → true ≡ hasMove g s
-unfolding hasMove
-move-past g s l = rw (le-leb (g .states) s l)
-
-pub move-row : (g : Graph) (s : ℕ) → s < g .states → not (eqb (getD (g .moves) s 0) 0) ≡ hasMove g s
-unfolding hasMove
-move-row g s l = rw (lt-leb (g .states) s l)
-
-pub moves-stop : (g : Graph) (s : ℕ) → s < 64 → hasMove g s ≡ false → false ≡ allMove g
-unfolding allMove
-moves-stop g s l e = all-stop 64 s (hasMove g) l e
-
-pub moves-end : (g : Graph) (s : ℕ) → s ≤ 64 → 64 ≤ s → all s (hasMove g) ≡ true → true ≡ allMove g
-unfolding allMove
-moves-end g s l m e = all-end 64 s (hasMove g) l m e
 
 -- ---- a requirement
 
@@ -150,14 +146,6 @@ module _ (g : Game) where
   unfolding initialsExist
   initials-next r e q = and-next e q
 
-  pub exist-stop : allMove (g .input) ≡ false → false ≡ movesExist g
-  unfolding movesExist
-  exist-stop e = and-stop (allMove (g .output)) e
-
-  pub exist-next : (r : Bool) → allMove (g .input) ≡ true → r ≡ allMove (g .output) → r ≡ movesExist g
-  unfolding movesExist
-  exist-next r e q = and-next e q
-
   pub few-at : (r : ℕ) → fewSets (requirementAt g r) ≡ fewSetsAt g r
   unfolding fewSetsAt
   few-at r = refl
@@ -200,8 +188,9 @@ pub first-none : (n : ℕ) → Accepted ≡ firstFailing n []
 unfolding firstFailing
 first-none n = refl
 
-pub accept-all : (g : Game) → countsFit g ≡ true → statesInCount g ≡ true → initialsExist g ≡ true → movesExist g ≡ true
+pub accept-all : (g : Game) → countsFit g ≡ true → statesInCount g ≡ true → initialsExist g ≡ true
     → fewRequirements g ≡ true → lengthsFit g ≡ true → setsFit g ≡ true → Accepted ≡ acceptance g
 unfolding acceptance tests
-accept-all g a b c d e f s =
-    first-next 1 _ _ a (first-next 2 _ _ b (first-next 3 _ _ c (first-next 4 _ _ d (first-next 5 _ _ e (first-next 6 _ _ f (first-next 7 _ _ s (first-none 8)))))))
+accept-all g a b c e f s =
+    first-next 1 _ _ a
+    (first-next 2 _ _ b (first-next 3 _ _ c (first-next 4 _ _ refl (first-next 5 _ _ e (first-next 6 _ _ f (first-next 7 _ _ s (first-none 8)))))))

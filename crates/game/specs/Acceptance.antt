@@ -7,8 +7,6 @@
 --   rowFits g s            == row s has no state past the count, and none at all where s is past it
 --   statesFit g            == the initial states and all rows fit the count
 --   hasInitial g           == g has an initial state
---   hasMove g s            == state s has a move, or is past the count
---   allMove g              == every state has a move
 --
 -- of a requirement q:
 --   fewSets q              == both lengths are at most 4
@@ -20,8 +18,8 @@
 --   requirementFitsAt g r  == requirementFits of the requirement at place r
 --
 -- of a game g, one for each refusal code, which holds of g where the test fails:
---   1 countsFit, 2 statesInCount, 3 initialsExist, 4 movesExist, 5 fewRequirements, 6 lengthsFit, 7 setsFit
---   tests g                == these seven, in order
+--   1 countsFit, 2 statesInCount, 3 initialsExist, 5 fewRequirements, 6 lengthsFit, 7 setsFit
+--   tests g                == the seven in order, in the place of 4 one that holds of every game
 --   firstFailing n ts      == refused with n where the first of ts fails, with n + 1 where the next does, ..; accepted where none does
 --   acceptance g           == the answer to g
 --   numberOf a             == document 01's number of the answer a: a refusal's code, 0 for accepted
@@ -55,12 +53,6 @@ statesFit g = within (g .initial) (g .states) && all 64 (rowFits g)
 
 unfoldable pub hasInitial : Graph → Bool
 hasInitial g = not (eqb (g .initial) 0)
-
-unfoldable pub hasMove : Graph → ℕ → Bool
-hasMove g s = leb (g .states) s || not (eqb (getD (g .moves) s 0) 0)
-
-unfoldable pub allMove : Graph → Bool
-allMove g = all 64 (hasMove g)
 
 -- ---- one requirement
 
@@ -99,10 +91,6 @@ statesInCount g = statesFit (g .input) && statesFit (g .output)
 unfoldable pub initialsExist : Game → Bool
 initialsExist g = hasInitial (g .input) && hasInitial (g .output)
 
--- fails: "4 a state without a move"
-unfoldable pub movesExist : Game → Bool
-movesExist g = allMove (g .input) && allMove (g .output)
-
 -- fails: "5 k over 8"
 unfoldable pub fewRequirements : Game → Bool
 fewRequirements g = leb (g .k) 8
@@ -115,8 +103,9 @@ lengthsFit g = all 8 (fewSetsAt g)
 unfoldable pub setsFit : Game → Bool
 setsFit g = all 8 (requirementFitsAt g)
 
+-- "So a state without a move is accepted, and 4 no longer occurs." (M-102)
 unfoldable pub tests : Game → List Bool
-tests g = countsFit g ∷ statesInCount g ∷ initialsExist g ∷ movesExist g ∷ fewRequirements g ∷ lengthsFit g ∷ setsFit g ∷ []
+tests g = countsFit g ∷ statesInCount g ∷ initialsExist g ∷ true ∷ fewRequirements g ∷ lengthsFit g ∷ setsFit g ∷ []
 
 -- "The lowest number whose condition holds is given"
 unfoldable pub firstFailing : ℕ → List Bool → Acceptance

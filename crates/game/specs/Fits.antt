@@ -20,7 +20,6 @@ pub record GraphFits (g : Graph) : Type 0 where
   pub start : (s : ℕ) × (s < g .states) × (has (g .initial) s ≡ true)
   pub row-below : (s j : ℕ) → s < g .states → has (getD (g .moves) s 0) j ≡ true → j < g .states
   pub row-past : (s : ℕ) → g .states ≤ s → s < 64 → getD (g .moves) s 0 ≡ 0
-  pub move : (s : ℕ) → s < g .states → (j : ℕ) × (j < g .states) × (has (getD (g .moves) s 0) j ≡ true)
 
 pub record RequirementFits (q : Requirement) (a b : ℕ) : Type 0 where
   pub few-assumed : q .assumed ≤ 4

@@ -4,7 +4,7 @@ ghost use mathlib.Core.Path.{_≡_};
 ghost use mathlib.Core.Bool.{not, _||_};
 ghost use lib.Dec.{eqb, leb};
 ghost use Rattle.sets.specs.Member.{within};
-ghost use Rattle.game.specs.Acceptance.{limit as limitOf, countFits, statesFit, hasInitial, allMove};
+ghost use Rattle.game.specs.Acceptance.{limit as limitOf, countFits, statesFit, hasInitial};
 
 // n where place j is below used, else 0.
 pub fn limit(used: usize, j: usize, n: usize) -> usize
@@ -53,27 +53,4 @@ pub fn has_initial(g: Graph) -> bool
     ensures { λ r. ⌜ r ≡ hasInitial g ⌝ }
 {
     g.initial != 0
-}
-
-// Whether state s of n, with this row of moves, has a move, or is past the count.
-fn has_move(row: u64, n: usize, s: usize) -> bool
-    ensures { λ r. ⌜ r ≡ (leb n s || not (eqb row 0)) ⌝ }
-{
-    if n <= s {
-        return true;
-    }
-    row != 0
-}
-
-pub fn all_move(g: Graph) -> bool
-    ensures { λ r. ⌜ r ≡ allMove g ⌝ }
-{
-    let mut s = 0;
-    while s < 64 {
-        if !has_move(g.moves[s], g.states, s) {
-            return false;
-        }
-        s += 1;
-    }
-    true
 }

@@ -2,9 +2,11 @@
 --
 --   edge G s t    == the graph moves from s to t, both being states of it
 --   begins G s    == s is an initial state
+--   stuck G s     == s has no move
 use Prim.Native.Nat.{ℕ}
-use mathlib.Core.Bool.{Bool, _&&_}
+use mathlib.Core.Bool.{Bool, _&&_, not}
 use lib.Dec.{ltb}
+use Rattle.finite.specs.Bounded.{any}
 
 -- "A graph is a state count, a set of initial states, and 64 rows of moves, one set of next states a row." A set is told by its members.
 pub record Graph : Type 0 where
@@ -18,3 +20,7 @@ edge G s t = ltb s (G .states) && (ltb t (G .states) && G .moves s t)
 
 unfoldable pub begins : Graph → ℕ → Bool
 begins G s = ltb s (G .states) && G .initial s
+
+-- "a state without a move is accepted" (M-102)
+unfoldable pub stuck : Graph → ℕ → Bool
+stuck G s = not (any (G .states) (edge G s))

@@ -2,14 +2,16 @@
 --
 --   come-kit           : what the kit comes to, the controller comes to
 --   answered           : so every allowed command is answered
+--   answered-all       : and a sequence of commands that ends is answered, command by command
 --   At, run, run-played : a sequence of commands that never ends is answered for ever
 --   kit-meets          : and along what it makes, recurring modes meet every requirement
 --   kit-exchanged      : the theorem
 use Prim.Native.Nat.{ℕ, zero, suc, _+_}
 use native.Mathlib.Numerals.{add-one}
-use mathlib.Core.Path.{_≡_, _∙_, ap, subst}
+use mathlib.Core.Path.{_≡_, _∙_, ap, subst, subst⁻¹}
 use mathlib.Core.Bool.{true}
-use mathlib.Core.List.{List, List·Memᴰ}
+use mathlib.Core.List.{List, [], _∷_, List·Memᴰ}
+use Rattle.finite.proofs.Truth.{and-left, and-right}
 use Rattle.graphs.specs.Walk.{Walk, stay, step}
 use Rattle.arena.specs.Arena.{Requirement, arenaOf}
 use Rattle.arena.specs.Play.{Configuration, Reachable}
@@ -22,7 +24,7 @@ use Rattle.endless.proofs.Endless.{endless-meets}
 use Rattle.drives.specs.declared.Kit.{Kit}
 use Rattle.drives.specs.Drive.{nextMode, allows, gameFrom}
 use Rattle.drives.proofs.Acceptance.{Fitting}
-use Rattle.kit_runs.specs.Exchange.{startsIn, KitFirst, KitTurn, KitMove, modeAt, Played, Exchanged}
+use Rattle.kit_runs.specs.Exchange.{startsIn, KitFirst, KitTurn, KitMove, allowsAll, Answered, done, on, modeAt, Played, Exchanged}
 use Rattle.kit_runs.proofs.Turns.{Reads, Come, step-at, turn-kit, turn-controller, onward, first-controller, first-kit}
 
 module _ (k : Kit) (F : Fitting k) (l t : List ℕ) (R : Reads k l t) (W : ControllerWins (playOf (gameFrom k)) (controllerOf (gameFrom k) l)) where
@@ -40,6 +42,21 @@ module _ (k : Kit) (F : Fitting k) (l t : List ℕ) (R : Reads k l t) (W : Contr
   answered x r u a =
       let s = step-at k F l t R W x r u a in
       (record { input = nextMode (k .old) (x .input) u; output = s .output; memory = s .memory }, turn-kit k F l t R W x u a s)
+
+  answered-all : (x : Configuration) → Come k F l t R W x → (us : List ℕ) → allowsAll (k .old) (x .input) us ≡ true → Answered k t x us
+  unfolding allowsAll
+  answered-all x r [] a = done
+  answered-all x r (u ∷ us) a =
+      let v = answered x r u (and-left (allows (k .old) (x .input) u) (allowsAll (k .old) (nextMode (k .old) (x .input) u) us) a) in
+      on (v .1) (answered-all (v .0) (onward k F l t R W x (v .0) u r (v .1)) us
+      (subst⁻¹ (λ (m : ℕ). allowsAll (k .old) m us ≡ true) (v .1 .input)
+      (and-right (allows (k .old) (x .input) u) (allowsAll (k .old) (nextMode (k .old) (x .input) u) us) a)))
+
+  listed : (i : ℕ) → startsIn (k .old) i ≡ true → (us : List ℕ) → allowsAll (k .old) i us ≡ true
+      → (x : Configuration) × KitFirst k t x × (x .input ≡ i) × Answered k t x us
+  listed i b us a =
+      let v = first-kit k F l t R W i b in
+      (v .0, v .1, v .2, answered-all (v .0) (begun (v .0) (v .1)) us (subst⁻¹ (λ (m : ℕ). allowsAll (k .old) m us ≡ true) (v .2) a))
 
   -- a sequence of commands that never ends, from mode i on
   module _ (i : ℕ) (b : startsIn (k .old) i ≡ true) (us : ℕ → ℕ) (a : (n : ℕ) → allows (k .old) (modeAt (k .old) i us n) (us n) ≡ true) where
@@ -95,6 +112,7 @@ module _ (k : Kit) (F : Fitting k) (l t : List ℕ) (R : Reads k l t) (W : Contr
   kit-exchanged = record {
     starts = first-kit k F l t R W;
     answers = λ x r u a. answered x (come-kit x r) u a;
+    lists = listed;
     plays = λ i b us a. (λ n. run i b us a n .here, run-played i b us a);
     meets = kit-meets;
   }

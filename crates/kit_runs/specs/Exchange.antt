@@ -5,13 +5,15 @@
 --   KitFirst k l x         == an initial old mode with what its start in the table l gives
 --   KitTurn k l u x y      == command u of the old drive, and the command with which the table l answers it, make y from x
 --   KitMove k l x y        == some command makes y from x
+--   allowsAll d m us       == the drive allows the commands us one after the other, beginning in mode m
+--   Answered k l x us      == the table l answers the commands us one after the other, beginning in x
 --   modeAt d i us n        == the mode of a drive that begins in mode i, after the first n commands of us
 --   Played k l i us f      == f is what the drives do where the old one begins in mode i and gets the commands us
 --   Exchanged k l          == what the kit's table l is for
 use Prim.Native.Nat.{ℕ, zero, suc, _+_, _/_, _%_}
 use mathlib.Core.Path.{_≡_}
 use mathlib.Core.Bool.{Bool, true, false, _&&_}
-use mathlib.Core.List.{List, List·Memᴰ}
+use mathlib.Core.List.{List, [], _∷_, List·Memᴰ}
 use lib.Dec.{eqb, ltb}
 use lib.ListN.{getD}
 use Rattle.sets.specs.Member.{has}
@@ -49,6 +51,14 @@ pub record KitMove (k : Kit) (l : List ℕ) (x y : Configuration) : Type 0 where
   pub command : ℕ
   pub turn : KitTurn k l command x y
 
+unfoldable pub allowsAll : Drive → ℕ → List ℕ → Bool
+allowsAll d m [] = true
+allowsAll d m (u ∷ us) = allows d m u && allowsAll d (nextMode d m u) us
+
+pub data Answered (k : Kit) (l : List ℕ) : Configuration → List ℕ → Type 0 where
+  done : {x : Configuration} → Answered k l x []
+  on : {x y : Configuration} {u : ℕ} {us : List ℕ} → KitTurn k l u x y → Answered k l y us → Answered k l x (u ∷ us)
+
 unfoldable pub modeAt : Drive → ℕ → (ℕ → ℕ) → ℕ → ℕ
 modeAt d i us zero = i
 modeAt d i us (suc n) = nextMode d (modeAt d i us n) (us n)
@@ -64,7 +74,10 @@ pub record Exchanged (k : Kit) (l : List ℕ) : Type 0 where
   pub starts : (i : ℕ) → startsIn (k .old) i ≡ true → (x : Configuration) × KitFirst k l x × (x .input ≡ i)
   pub answers : (x : Configuration) → Reachable (KitFirst k l) (KitMove k l) x → (u : ℕ) → allows (k .old) (x .input) u ≡ true
       → (y : Configuration) × KitTurn k l u x y
-  -- so a sequence that never ends is answered for ever,
+  -- so a sequence that ends is answered, command by command,
+  pub lists : (i : ℕ) → startsIn (k .old) i ≡ true → (us : List ℕ) → allowsAll (k .old) i us ≡ true
+      → (x : Configuration) × KitFirst k l x × (x .input ≡ i) × Answered k l x us
+  -- and one that never ends is answered for ever,
   pub plays : (i : ℕ) → startsIn (k .old) i ≡ true → (us : ℕ → ℕ) → ((n : ℕ) → allows (k .old) (modeAt (k .old) i us n) (us n) ≡ true)
       → (f : ℕ → Configuration) × Played k l i us f
   -- "and where the sequence never ends, the recurring modes meet every requirement"

@@ -1,4 +1,4 @@
-// The start, and the rows that need no walk: those of won positions and of trivial components.
+// The start, and the rows that need no walk: those of won positions, of trivial components, and of outputs without a move.
 use environment_rows::rows;
 use game::Game;
 use game::InSet;
@@ -16,7 +16,7 @@ ghost use Rattle.theory.specs.Region.{region};
 ghost use Rattle.theory.specs.Choice.{environmentStart};
 ghost use Rattle.theory.specs.Entries.{entry};
 ghost use Rattle.environment_table.specs.Table.{Known, Roomy, Filled, Pushes};
-ghost use Rattle.environment_table.specs.Reading.{Shaped, reachedAt, anyWon, refusedAt, Lone, plain};
+ghost use Rattle.environment_table.specs.Reading.{Shaped, reachedAt, anyWon, refusedAt, Lone, unwalked, pushedAt, Pushed, plain};
 
 // What the outputs of the set reach, from scratch for n inputs and m outputs.
 fn reached(s: &[u64], n: usize, m: usize, set: OutSet) -> OutSet
@@ -140,46 +140,56 @@ fn push_rows(g: Game, counters: usize, o: OutState, which: InSet, refused: InSet
     }
 }
 
-// The rows of the inputs of `lone`, whose components are trivial, that are not won with output o. What o refuses is worked out once for all of
-// them, and only where there are any.
+// The inputs whose rows with an output need no walk, `moves` being its moves: those of `lone`, and all n where there is none.
+fn pushed(n: usize, lone: InSet, moves: OutSet) -> InSet
+    requires { ⌜ n ≤ 64 ⌝ }
+    ensures { λ r. ⌜ ((i : ℕ) → has (r .0) i ≡ pushedAt (moves .0) n (lone .0) i) ⌝ }
+{
+    if moves.0 == 0 {
+        return InSet(sets::below(n));
+    }
+    lone
+}
+
+// The rows of the inputs of x, which need no walk, that are not won with output o. What o refuses is worked out once for all of them, and only where
+// there are any.
 fn push_column(
     g: Game,
     s: &[u64],
     cores: InSet,
     counters: usize,
-    lone: InSet,
+    x: InSet,
     o: OutState,
     room: &mut [u16],
 )
-    requires { ⌜ Known g (now s) (cores .0) × Roomy g counters (length (now room)) × Lone (g .input .states) (cores .0) (lone .0) × (o .0 < g .output .states) ⌝ }
-    ensures { λ r. ⌜ Filled g (λ a h b. (has (lone .0) a ≡ true) × (b ≡ o .0) × (region (separatedOf g) a b ≡ false)) (now (room .entry)) (now (room .exit)) ⌝ }
+    requires { ⌜ Known g (now s) (cores .0) × Roomy g counters (length (now room)) × Pushed g (x .0) (o .0) × (o .0 < g .output .states) ⌝ }
+    ensures { λ r. ⌜ Filled g (λ a h b. (unwalked g a b ≡ true) × (b ≡ o .0) × (region (separatedOf g) a b ≡ false)) (now (room .entry)) (now (room .exit)) ⌝ }
 {
     let n = g.input.states;
-    let which = environment_rows::lost(s, n, cores, lone, o);
+    let which = environment_rows::lost(s, n, cores, x, o);
     if which.0 == 0 {
         return;
     }
-    let x = refused(s, n, g.output.states, cores, game::out_moves(g, o));
-    push_rows(g, counters, o, which, x, room);
+    let y = refused(s, n, g.output.states, cores, game::out_moves(g, o));
+    push_rows(g, counters, o, which, y, room);
 }
 
-// The same for every output; there may be no trivial component.
+// The same for every output; `lone` are the inputs in trivial components.
 fn push_columns(g: Game, s: &[u64], cores: InSet, counters: usize, lone: InSet, room: &mut [u16])
     requires { ⌜ Known g (now s) (cores .0) × Roomy g counters (length (now room)) × Lone (g .input .states) (cores .0) (lone .0) ⌝ }
-    ensures { λ r. ⌜ Filled g (λ a h b. (has (lone .0) a ≡ true) × (region (separatedOf g) a b ≡ false)) (now (room .entry)) (now (room .exit)) ⌝ }
+    ensures { λ r. ⌜ Filled g (λ a h b. (unwalked g a b ≡ true) × (region (separatedOf g) a b ≡ false)) (now (room .entry)) (now (room .exit)) ⌝ }
 {
-    if lone.0 == 0 {
-        return;
-    }
-    let m = g.output.states;
+    let h = g.output;
+    let m = h.states;
     let mut o: usize = 0;
     while o < m {
-        push_column(g, s, cores, counters, lone, OutState(o), room);
+        let x = pushed(g.input.states, lone, OutSet(h.moves[o]));
+        push_column(g, s, cores, counters, x, OutState(o), room);
         o += 1;
     }
 }
 
-// All rows that need no walk: none where the position is won, and the pushes where the component is trivial.
+// All rows that need no walk: none where the position is won, and the pushes.
 pub fn plain_rows(g: Game, s: &[u64], cores: InSet, counters: usize, room: &mut [u16])
     requires { ⌜ Known g (now s) (cores .0) × Roomy g counters (length (now room)) ⌝ }
     ensures { λ r. ⌜ Filled g (λ a h b. plain g a b ≡ true) (now (room .entry)) (now (room .exit)) ⌝ }

@@ -51,19 +51,18 @@ pub fn eight() -> Game {
     }
 }
 
-// The input graph with the fault of refusal code n, 1 to 4.
+// The input graph with the fault of refusal code n, 1 to 3.
 fn graph_fault(mut h: Graph, n: usize) -> Graph {
     match n {
         1 => h.states = 65,
         2 => h.moves[2] = 8,
         3 => h.initial = 0,
-        4 => h.moves[1] = 0,
         _ => (),
     }
     h
 }
 
-// The game with the fault of refusal code n, 1 to 7.
+// The game with the fault of refusal code n, 1 to 7; 4 is no fault.
 pub fn fault(mut g: Game, n: usize) -> Game {
     let h = g.input;
     g.input = graph_fault(h, n);
@@ -91,5 +90,21 @@ pub fn faults(n: usize) -> Game {
         g = fault(g, k);
         k += 1;
     }
+    g
+}
+
+// The game with no move from input 1.
+pub fn stuck_input(mut g: Game) -> Game {
+    let mut h = g.input;
+    h.moves[1] = 0;
+    g.input = h;
+    g
+}
+
+// The game with no move from output 1.
+pub fn stuck_output(mut g: Game) -> Game {
+    let mut h = g.output;
+    h.moves[1] = 0;
+    g.output = h;
     g
 }

@@ -206,11 +206,43 @@ fn refused(n: usize) {
 }
 
 fn refusals() {
-    let mut n = 1;
-    while n < 8 {
-        refused(n);
-        n += 1;
-    }
+    refused(1);
+    refused(2);
+    refused(3);
+    refused(5);
+    refused(6);
+    refused(7);
+}
+
+// After a stuck input every next input gets 14; at a stuck output a row that names an output gets 15.
+fn latches() {
+    let t = EIGHT;
+    let g = games::stuck_input(games::eight());
+    let h = games::stuck_output(games::eight());
+    show(
+        b"begin in a game that latches",
+        player::begin(g, &t, InState(0)),
+    );
+    show(
+        b"step to a stuck input",
+        player::step(g, &t, position(0, 0, 0), InState(1)),
+    );
+    show(
+        b"step from a stuck input to itself",
+        player::step(g, &t, position(1, 1, 0), InState(1)),
+    );
+    show(
+        b"step from a stuck input to another",
+        player::step(g, &t, position(1, 1, 0), InState(0)),
+    );
+    show(
+        b"step to a stuck output",
+        player::step(h, &t, position(0, 0, 0), InState(1)),
+    );
+    show(
+        b"step from a stuck output",
+        player::step(h, &t, position(1, 1, 0), InState(1)),
+    );
 }
 
 // A run with one input on the table with entry k changed.
@@ -246,6 +278,7 @@ fn main() {
     rows();
     order();
     refusals();
+    latches();
     damages();
     long_runs();
 }

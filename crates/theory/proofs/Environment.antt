@@ -16,7 +16,7 @@ use Rattle.graphs.specs.Walk.{Walk}
 use Rattle.graphs.specs.Graph.{Graph, edge}
 use Rattle.graphs.specs.Component.{joined, number, meetsAt}
 use Rattle.graphs.specs.Way.{approach, toward}
-use Rattle.graphs.proofs.Graph.{edge-to}
+use Rattle.graphs.proofs.Graph.{edge-to, stuck-not}
 use Rattle.graphs.proofs.Closure.{reaches-self}
 use Rattle.graphs.proofs.Component.{joined-back, joined-sym, joined-trans, joined-same, number-joined, number-same, leaves-elim, leaves-apart, meetsAt-intro, meetsAt-same}
 use Rattle.graphs.proofs.Measure.{first-step}
@@ -152,7 +152,8 @@ module _ (S : Separated) (P : EnvironmentTable) (F : Presses S P) where
     turn-pressing : (x y : Configuration) → Round x → Turn x y → pressing S (x .input) (x .memory) (x .output) ≡ gives (y .memory) (y .input)
     turn-pressing x y a t =
         sym (pushing-nontrivial S (x .input) (x .memory) (x .output) (nontrivial-along S First Turn turn-in turn-out r x (a .along)))
-        ∙ sym (row-lost S (x .input) (x .memory) (x .output) (a .keeps .lost)) ∙ turn-row x y (a .keeps) t
+        ∙ sym (row-lost S (x .input) (x .memory) (x .output) (a .keeps .lost) (stuck-not O (x .output) (y .output) (turn-out x y t)))
+        ∙ turn-row x y (a .keeps) t
 
     -- a state with a way out is left by it, and then the round does not come back
     no-way : (x y : Configuration) → Round x → Turn x y → Round y → escapes S (x .input) (x .output) ≡ true → wayOut S (x .output) (x .input) ≡ false

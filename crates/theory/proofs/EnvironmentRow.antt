@@ -4,24 +4,24 @@
 --   pushed         : every row at a position that is not won does that
 use Prim.Native.Nat.{ℕ, _<_}
 use mathlib.Core.Path.{_≡_, refl, sym, _∙_, ap, fun-ext}
-use mathlib.Core.Bool.{Bool, true, false, _&&_, not}
+use mathlib.Core.Bool.{Bool, true, false, _&&_, _||_, not}
 use mathlib.Core.Logic.{inl, inr}
 use Rattle.finite.specs.Bounded.{any, least}
-use Rattle.finite.proofs.Truth.{decide, clash, true-of, false-of, and-intro, and-left, and-right, not-true, same-test}
-use Rattle.finite.proofs.Bounded.{any-intro, any-elim, any-false, any-same, least-below, least-member, least-found}
-use Rattle.graphs.specs.Graph.{Graph, edge}
+use Rattle.finite.proofs.Truth.{decide, clash, true-of, false-of, and-intro, and-left, and-right, or-cases, not-true, same-test}
+use Rattle.finite.proofs.Bounded.{any-intro, any-elim, any-false, any-same, least-below, least-member, least-found, least-same}
+use Rattle.graphs.specs.Graph.{Graph, edge, stuck}
 use Rattle.graphs.specs.Component.{joined, number, nontrivial}
 use Rattle.graphs.specs.Way.{toward}
-use Rattle.graphs.proofs.Graph.{edge-to}
-use Rattle.graphs.proofs.Component.{joined-there, joined-back, joined-sym, joined-trans, joined-to, number-joined, number-same}
+use Rattle.graphs.proofs.Graph.{edge-to, stuck-none}
+use Rattle.graphs.proofs.Component.{joined-there, joined-back, joined-sym, joined-trans, joined-to, number-joined, number-same, nontrivial-move}
 use Rattle.graphs.proofs.Way.{Leads, toward-move}
 use Rattle.arena.specs.Arena.{Separated}
 use Rattle.arena.specs.Table.{gives}
 use Rattle.theory.specs.Region.{answers, region}
 use Rattle.theory.specs.Tour.{inside, tour}
-use Rattle.theory.specs.Choice.{assumptions, lost, wayOut, gate, outward, escapes, pressing, pushing, environmentRow}
+use Rattle.theory.specs.Choice.{assumptions, lost, wayOut, gate, outward, escapes, pressing, pushing, opposing, environmentRow}
 use Rattle.theory.specs.Entries.{environmentCounters}
-use Rattle.theory.proofs.Region.{answers-false, replies-false, region-replies}
+use Rattle.theory.proofs.Region.{answers-false, answers-stuck, replies-false, region-replies}
 use Rattle.theory.proofs.Delay.{output-back, output-delay, input-delay}
 use Rattle.theory.proofs.Tour.{toured, inside-edge, inside-to, inside-leads}
 
@@ -119,20 +119,52 @@ module _ (S : Separated) where
 
   -- the cases of a row
 
-  pub row-lost : (i h o : ℕ) → region S i o ≡ false → environmentRow S i h o ≡ pushing S i h o
-  unfolding environmentRow
-  row-lost i h o e = rw (e, environmentRow) refl
+  pub row-stuck : (i h o : ℕ) → region S i o ≡ false → stuck (S .output) o ≡ true
+      → environmentRow S i h o ≡ gives h (least (S .input .states) (edge (S .input) i))
+  unfolding environmentRow opposing
+  row-stuck i h o e t = rw (e, environmentRow, t, opposing) refl
+
+  pub row-lost : (i h o : ℕ) → region S i o ≡ false → stuck (S .output) o ≡ false → environmentRow S i h o ≡ pushing S i h o
+  unfolding environmentRow opposing
+  row-lost i h o e t = rw (e, environmentRow, t, opposing) refl
 
   pub pushing-nontrivial : (i h o : ℕ) → nontrivial (S .input) i ≡ true → pushing S i h o ≡ pressing S i h o
   unfolding pushing
   pushing-nontrivial i h o e = rw (e, pushing) refl
 
-  unanswered : ℕ → ℕ → ℕ → Bool
+  unfoldable pub unanswered : ℕ → ℕ → ℕ → Bool
   unanswered i o j = edge (S .input) i j && not (answers S (region S) j o)
 
   pushing-trivial : (i h o : ℕ) → nontrivial (S .input) i ≡ false → pushing S i h o ≡ gives h (least (S .input .states) (unanswered i o))
   unfolding pushing unanswered
   pushing-trivial i h o e = rw (e, pushing) refl
+
+  -- a stuck output answers nothing, so in a trivial component the lowest move is the lowest that has no won reply
+  unanswered-stuck : (i o j : ℕ) → stuck (S .output) o ≡ true → edge (S .input) i j ≡ unanswered i o j
+  unfolding unanswered
+  unanswered-stuck i o j t =
+      same-test (edge (S .input) i j) (unanswered i o j) (λ e. and-intro e (ap not (answers-stuck S (region S) j o t)))
+      (λ e. and-left (edge (S .input) i j) (not (answers S (region S) j o)) e)
+
+  row-unanswered : (i h o : ℕ) → region S i o ≡ false → stuck (S .output) o ≡ true
+      → environmentRow S i h o ≡ gives h (least (S .input .states) (unanswered i o))
+  row-unanswered i h o e t =
+      row-stuck i h o e t
+      ∙ ap (λ (j : ℕ). gives h j) (least-same (S .input .states) (edge (S .input) i) (unanswered i o) (λ j b. unanswered-stuck i o j t))
+
+  row-trivial : (i h o : ℕ) → region S i o ≡ false → nontrivial (S .input) i ≡ false
+      → environmentRow S i h o ≡ gives h (least (S .input .states) (unanswered i o))
+  row-trivial i h o e n =
+      elim (decide (stuck (S .output) o)) [ inl t ↦ row-unanswered i h o e t | inr t ↦ row-lost i h o e t ∙ pushing-trivial i h o n ]
+
+  -- so is the row wherever no walk is asked for
+  pub row-pushed : (i h o : ℕ) → region S i o ≡ false → (not (nontrivial (S .input) i) || stuck (S .output) o) ≡ true
+      → environmentRow S i h o ≡ gives h (least (S .input .states) (unanswered i o))
+  row-pushed i h o e w =
+      elim (or-cases (not (nontrivial (S .input) i)) (stuck (S .output) o) w) [
+        | inl n ↦ row-trivial i h o e (not-true (nontrivial (S .input) i) n)
+        | inr t ↦ row-unanswered i h o e t
+      ]
 
   pub pressing-escapes : (i h o : ℕ) → escapes S i o ≡ true → pressing S i h o ≡ outward S i h o
   unfolding pressing
@@ -180,15 +212,29 @@ module _ (S : Separated) where
         record {
           counter = h;
           state = j;
-          is = row-lost i h o l ∙ pushing-trivial i h o t;
+          is = row-trivial i h o l t;
           move = and-left (edge (S .input) i j) (not (answers S (region S) j o)) e;
           keeps = λ p q. answers-false S (region S) j o p n q;
           range = r;
         }
 
-    module _ (t : nontrivial (S .input) i ≡ true) where
+    -- a stuck output has no reply to what it is asked
+    pushed-stuck : stuck (S .output) o ≡ true → nontrivial (S .input) i ≡ true → Pushed i h o
+    pushed-stuck s t =
+        let v = nontrivial-move (S .input) i t in
+        let n = S .input .states in
+        record {
+          counter = h;
+          state = least n (edge (S .input) i);
+          is = row-stuck i h o l s;
+          move = least-member n (edge (S .input) i) (least-below n (edge (S .input) i) (v .0) (edge-to (S .input) i (v .0) (v .1)) (v .1));
+          keeps = λ p q. clash q (stuck-none (S .output) o p s);
+          range = r;
+        }
+
+    module _ (s : stuck (S .output) o ≡ false) (t : nontrivial (S .input) i ≡ true) where
       row-is : environmentRow S i h o ≡ pressing S i h o
-      row-is = row-lost i h o l ∙ pushing-nontrivial i h o t
+      row-is = row-lost i h o l s ∙ pushing-nontrivial i h o t
 
       own : joined (S .input) (number (S .input) i) i ≡ true
       own = joined-sym (S .input) i (number (S .input) i) (number-joined (S .input) i b)
@@ -248,4 +294,8 @@ module _ (S : Separated) where
           ]
 
     pub pushed : Pushed i h o
-    pushed = elim (decide (nontrivial (S .input) i)) [ inl t ↦ pushed-nontrivial t | inr t ↦ pushed-trivial t ]
+    pushed =
+        elim (decide (nontrivial (S .input) i)) [
+          | inl t ↦ elim (decide (stuck (S .output) o)) [ inl s ↦ pushed-stuck s t | inr s ↦ pushed-nontrivial s t ]
+          | inr t ↦ pushed-trivial t
+        ]

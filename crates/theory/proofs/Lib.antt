@@ -9,6 +9,7 @@ pub mod ControllerRow
 pub mod Agree
 pub mod Controller
 pub mod EnvironmentRow
+pub mod Stuck
 pub mod Environment
 pub mod Entries
 pub mod Demands

@@ -9,11 +9,11 @@ use Rattle.finite.proofs.Truth.{decide, clash, false-of, and-intro, and-left, a
 use Rattle.finite.proofs.Bounded.{all-intro, all-elim, all-same, all-false, any-intro, any-elim, any-same}
 use Rattle.finite.proofs.Lists.{allOf-same}
 use Rattle.sets.proofs.Membership.{has-zero}
-use Rattle.graphs.specs.Graph.{Graph, edge, begins}
+use Rattle.graphs.specs.Graph.{Graph, edge, begins, stuck}
 use Rattle.graphs.specs.Rows.{rel}
 use Rattle.graphs.specs.Closure.{reaches}
 use Rattle.graphs.specs.Component.{joined, nontrivial, leaves, meetsAt, rank}
-use Rattle.graphs.proofs.Graph.{edge-to, begins-below}
+use Rattle.graphs.proofs.Graph.{edge-to, begins-below, stuck-none}
 use Rattle.graphs.proofs.Rows.{rel-rows, rel-from, rel-to}
 use Rattle.graphs.proofs.Closure.{reaches-to}
 use Rattle.graphs.proofs.Component.{rank-le, rank-pos, rank-leaves, rank-trivial, joined-to, meetsAt-same, leaves-same, leaves-elim}
@@ -50,6 +50,11 @@ module _ (S : Separated) where
 
   pub answers-false : (w : ℕ → ℕ → Bool) (j o p : ℕ) → answers S w j o ≡ false → edge (S .output) o p ≡ true → w j p ≡ false
   answers-false w j o p h e = false-of (w j p) (λ t. clash (answers-intro w j o p e t) h)
+
+  -- a stuck output answers nothing
+  pub answers-stuck : (w : ℕ → ℕ → Bool) (j o : ℕ) → stuck (S .output) o ≡ true → answers S w j o ≡ false
+  answers-stuck w j o h =
+      false-of (answers S w j o) (λ a. let v = answers-elim w j o a in clash (v .1) (stuck-none (S .output) o (v .0) h))
 
   pub replies-intro : (w : ℕ → ℕ → Bool) (i o : ℕ) → ((j : ℕ) → edge (S .input) i j ≡ true → answers S w j o ≡ true) → replies S w i o ≡ true
   unfolding replies

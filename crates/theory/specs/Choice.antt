@@ -11,7 +11,7 @@ use Prim.Native.Nat.{ℕ}
 use mathlib.Core.Bool.{Bool, true, false, _&&_, not}
 use mathlib.Core.List.{List, [], _∷_, _++_}
 use Rattle.finite.specs.Bounded.{any, least}
-use Rattle.graphs.specs.Graph.{edge, begins}
+use Rattle.graphs.specs.Graph.{edge, begins, stuck}
 use Rattle.graphs.specs.Closure.{reaches}
 use Rattle.graphs.specs.Component.{joined, number, nontrivial}
 use Rattle.graphs.specs.Way.{toward}
@@ -104,9 +104,18 @@ pushing S i h o =
       | false ↦ gives h (least (S .input .states) (λ j. edge (S .input) i j && not (answers S (region S) j o)))
     ]
 
--- "Panel row (input i, counter h, output o)." "Position won: none."
+-- "Where the output is stuck and the input is not, the panel row is the lowest move and h stays." (M-102) The input has a move wherever the position
+-- is not won. Shortest ways are not compared here, so the present state does not go first.
+unfoldable pub opposing : Separated → ℕ → ℕ → ℕ → Answer
+opposing S i h o =
+    elim (stuck (S .output) o) [
+      | true ↦ gives h (least (S .input .states) (edge (S .input) i))
+      | false ↦ pushing S i h o
+    ]
+
+-- "Panel row (input i, counter h, output o)." "Position won: none." So "in a position with the input stuck the panel row is none" (M-102): it is won.
 unfoldable pub environmentRow : Separated → ℕ → ℕ → ℕ → Answer
-environmentRow S i h o = elim (region S i o) [ true ↦ none | false ↦ pushing S i h o ]
+environmentRow S i h o = elim (region S i o) [ true ↦ none | false ↦ opposing S i h o ]
 
 -- "Start: the lowest initial input with no won reply, h = 0."
 unfoldable pub refused : Separated → ℕ → Bool

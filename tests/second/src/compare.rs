@@ -43,9 +43,12 @@ struct Tally {
     environment: usize,
     /// By number.
     refused: BTreeMap<String, usize>,
-    /// Games in which a reachable row passes, goes, or tours: by winner.
-    controller_ways: [usize; 3],
-    panel_ways: [usize; 3],
+    /// Games with stuck inputs alone, stuck outputs alone, both.
+    dead_ends: [usize; 3],
+    /// Games in which a reachable row passes, goes, or tours, or in which a
+    /// play can end for want of the other side's move: by winner.
+    controller_ways: [usize; 4],
+    panel_ways: [usize; 4],
 }
 
 #[derive(Default)]
@@ -185,10 +188,12 @@ impl Tally {
         match (first_line, text::read(text)) {
             ("(wins system)", Ok(game)) => {
                 self.system += 1;
+                add_to(&mut self.dead_ends, dead_ends(&game));
                 add_to(&mut self.controller_ways, controller_ways(&game, print));
             }
             ("(wins environment)", Ok(game)) => {
                 self.environment += 1;
+                add_to(&mut self.dead_ends, dead_ends(&game));
                 add_to(&mut self.panel_ways, panel_ways(&game, print));
             }
             _ => {
@@ -205,6 +210,7 @@ impl Tally {
         for (number, count) in other.refused {
             *self.refused.entry(number).or_default() += count;
         }
+        add_to(&mut self.dead_ends, other.dead_ends);
         add_to(&mut self.controller_ways, other.controller_ways);
         add_to(&mut self.panel_ways, other.panel_ways);
     }
@@ -212,12 +218,14 @@ impl Tally {
     fn line(&self, family: Family) -> String {
         let percent = |part: usize| 100 * part / self.texts.max(1);
         let refused: Vec<String> = self.refused.iter().map(|(number, count)| format!("{number}: {count}")).collect();
-        let [pass, go, tour] = self.controller_ways;
-        let [panel_pass, leave, panel_tour] = self.panel_ways;
+        let [inputs, outputs, both] = self.dead_ends;
+        let [pass, go, tour, end] = self.controller_ways;
+        let [panel_pass, leave, panel_tour, panel_end] = self.panel_ways;
         format!(
             "{family:?}: {} texts; system {} ({}%), environment {} ({}%), refused {} [{}]; \
-             in reach: controller passes {pass}, goes home {go}, is home {tour}; \
-             panel passes {panel_pass}, leaves {leave}, tours {panel_tour}",
+             stuck: inputs {inputs}, outputs {outputs}, both {both}; \
+             in reach: controller passes {pass}, goes home {go}, is home {tour}, sees the input stuck {end}; \
+             panel passes {panel_pass}, leaves {leave}, tours {panel_tour}, sees the output stuck {panel_end}",
             self.texts,
             self.system,
             percent(self.system),
@@ -229,35 +237,48 @@ impl Tally {
     }
 }
 
-fn add_to(sums: &mut [usize; 3], more: [usize; 3]) {
+fn add_to<const N: usize>(sums: &mut [usize; N], more: [usize; N]) {
     for (sum, one) in sums.iter_mut().zip(more) {
         *sum += one;
     }
 }
 
+/// Stuck inputs alone, stuck outputs alone, both: 1 if so.
+pub fn dead_ends(game: &Game) -> [usize; 3] {
+    match game.dead_ends() {
+        [false, false] => [0, 0, 0],
+        [true, false] => [1, 0, 0],
+        [false, true] => [0, 1, 0],
+        [true, true] => [0, 0, 1],
+    }
+}
+
 /// Which ways a play against the printed controller can meet: 1 if so.
-pub fn controller_ways(game: &Game, print: &str) -> [usize; 3] {
+pub fn controller_ways(game: &Game, print: &str) -> [usize; 4] {
     let solved = Solved::new(game);
     let reachable = walks::reachable(game, print).unwrap_or_default();
     let rows = reachable.iter().flat_map(|at| game.inputs[at.input].moves.iter().map(|&j| (at.output, j)));
-    ways(rows.map(|(output, input)| solved.controller_way(output, input)))
+    let mut seen = ways(rows.map(|(output, input)| solved.controller_way(output, input)));
+    seen[3] = usize::from(reachable.iter().any(|at| game.inputs[at.input].moves.is_empty()));
+    seen
 }
 
 /// The same for the printed panel table.
-pub fn panel_ways(game: &Game, print: &str) -> [usize; 3] {
+pub fn panel_ways(game: &Game, print: &str) -> [usize; 4] {
     let solved = Solved::new(game);
     let reachable = walks::reachable(game, print).unwrap_or_default();
     ways(reachable.iter().map(|at| solved.panel_way(at.input, at.output)))
 }
 
-fn ways(all: impl Iterator<Item = Way>) -> [usize; 3] {
-    let mut seen = [0; 3];
+fn ways(all: impl Iterator<Item = Way>) -> [usize; 4] {
+    let mut seen = [0; 4];
     for way in all {
         match way {
             Way::None => {}
             Way::Pass(_) => seen[0] = 1,
             Way::Go(_) => seen[1] = 1,
             Way::Tour(_) => seen[2] = 1,
+            Way::Unanswered(_) => seen[3] = 1,
         }
     }
     seen

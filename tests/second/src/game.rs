@@ -1,6 +1,7 @@
 //! The game as plain vectors: one record a state, one list of states a set.
 
-/// One state of a graph: whether it is initial, and its moves.
+/// One state of a graph: whether it is initial, and its moves. A state without
+/// a move is stuck: whoever has to move there loses.
 #[derive(Clone, Debug, PartialEq, Eq)]
 pub struct State {
     pub initial: bool,
@@ -37,19 +38,23 @@ pub enum Refusal {
 }
 
 impl Game {
-    /// The lowest of the numbers 1 to 7 whose condition holds.
+    /// The lowest of the numbers 1 to 7 whose condition holds; 4 has none.
     pub fn refusal(&self) -> Option<usize> {
         let graphs = [&self.inputs, &self.outputs];
         let conditions = [
-            graphs.iter().any(|graph| !(1..=64).contains(&graph.len())),
-            graphs.iter().any(|graph| moves_past_count(graph)),
-            graphs.iter().any(|graph| !graph.iter().any(|state| state.initial)),
-            graphs.iter().any(|graph| graph.iter().any(|state| state.moves.is_empty())),
-            self.requirements.len() > 8,
-            self.requirements.iter().any(|r| r.inputs.len() > 4 || r.outputs.len() > 4),
-            self.sets_past_count(),
+            (1, graphs.iter().any(|graph| !(1..=64).contains(&graph.len()))),
+            (2, graphs.iter().any(|graph| moves_past_count(graph))),
+            (3, graphs.iter().any(|graph| !graph.iter().any(|state| state.initial))),
+            (5, self.requirements.len() > 8),
+            (6, self.requirements.iter().any(|r| r.inputs.len() > 4 || r.outputs.len() > 4)),
+            (7, self.sets_past_count()),
         ];
-        conditions.iter().position(|&holds| holds).map(|n| n + 1)
+        conditions.into_iter().find(|&(_, holds)| holds).map(|(number, _)| number)
+    }
+
+    /// Is there a stuck input, and a stuck output?
+    pub fn dead_ends(&self) -> [bool; 2] {
+        [&self.inputs, &self.outputs].map(|graph| graph.iter().any(|state| state.moves.is_empty()))
     }
 
     fn sets_past_count(&self) -> bool {

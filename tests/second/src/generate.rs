@@ -1,5 +1,6 @@
 //! Seeded games and damaged texts. Each family is there because some wrong
-//! reading of document 01 stays unseen without it.
+//! reading of document 01 stays unseen without it. Drives that latch occur in
+//! every family.
 
 mod damage;
 mod draw;
@@ -8,7 +9,7 @@ mod shapes;
 use damage::damaged;
 pub use draw::Draw;
 
-use crate::game::{Game, Graph, Requirement, Set};
+use crate::game::{Game, Graph, Requirement, Set, State};
 use crate::solve::{Solved, ROOM};
 use shapes::{Shape, SHAPES};
 
@@ -30,7 +31,7 @@ pub enum Family {
     Modes,
     /// Empty sets and empty lists of sets.
     Edge,
-    /// Games refused with 2, 3, 4 or 7.
+    /// Games refused with 2, 3 or 7.
     Faulty,
     /// 64 states each, rooms sufficient.
     Large,
@@ -99,15 +100,51 @@ pub fn game(family: Family, draw: &mut Draw) -> Game {
 /// Draws until a winner chosen beforehand wins, a few times at most, so that
 /// both verdicts occur often in each family.
 fn balanced(draw: &mut Draw, make: impl Fn(&mut Draw) -> Game) -> Game {
-    let system = draw.chance(50);
+    let (system, latching) = (draw.chance(50), draw.pick(&LATCHING));
+    let make = |draw: &mut Draw| latched(make(draw), latching, draw);
     let mut game = make(draw);
-    for _ in 0..9 {
+    for _ in 0..19 {
         if Solved::new(&game).panel_start().is_none() == system {
             break;
         }
         game = make(draw);
     }
     game
+}
+
+/// Whether inputs and outputs get dead ends.
+const LATCHING: [(bool, bool); 4] = [(true, false), (false, true), (true, true), (false, false)];
+
+fn latched(mut game: Game, (inputs, outputs): (bool, bool), draw: &mut Draw) -> Game {
+    if inputs {
+        latch(&mut game.inputs, draw);
+    }
+    if outputs {
+        latch(&mut game.outputs, draw);
+    }
+    game
+}
+
+/// Takes the moves of one state, or a few. Often it is a state that a play can
+/// keep off, and often another state gets a move there.
+fn latch(graph: &mut Graph, draw: &mut Draw) {
+    for _ in 0..1 + draw.below(1 + graph.len() / 4) {
+        let avoidable: Vec<usize> = (0..graph.len()).filter(|&state| is_avoidable(graph, state)).collect();
+        let stuck =
+            if avoidable.is_empty() || draw.chance(40) { draw.below(graph.len()) } else { draw.pick(&avoidable) };
+        graph[stuck].moves.clear();
+        let before = draw.below(graph.len());
+        if draw.chance(50) && before != stuck && !graph[before].moves.contains(&stuck) {
+            graph[before].moves.push(stuck);
+            graph[before].moves.sort_unstable();
+        }
+    }
+}
+
+/// No play has to begin here, and every other state with a move here has
+/// another move.
+fn is_avoidable(graph: &Graph, state: usize) -> bool {
+    !graph[state].initial && (0..graph.len()).all(|s| s == state || graph[s].moves != [state])
 }
 
 fn small(draw: &mut Draw) -> usize {
@@ -169,7 +206,10 @@ fn small_set(count: usize, draw: &mut Draw) -> Set {
 }
 
 fn copy(draw: &mut Draw) -> Game {
-    let inputs = draw.pick(&SHAPES).graph(small(draw), draw);
+    let mut inputs = draw.pick(&SHAPES).graph(small(draw), draw);
+    if draw.chance(25) {
+        latch(&mut inputs, draw);
+    }
     let mut outputs = inputs.clone();
     match draw.below(4) {
         0 => hurry(&mut outputs),
@@ -192,27 +232,26 @@ fn hurry(graph: &mut Graph) {
     }
 }
 
-/// More states can wait: the output may commit late.
+/// More states can wait: the output may commit late. Stuck states stay stuck.
 fn dawdle(graph: &mut Graph, draw: &mut Draw) {
     for (number, state) in graph.iter_mut().enumerate() {
-        if !state.moves.contains(&number) && draw.chance(50) {
+        if !state.moves.is_empty() && !state.moves.contains(&number) && draw.chance(50) {
             state.moves.push(number);
             state.moves.sort_unstable();
         }
     }
 }
 
-/// One move more, or one less where a state keeps another.
+/// One move more, or one less.
 fn change(graph: &mut Graph, draw: &mut Draw) {
     let state = draw.below(graph.len());
     // A state's own number often, since waiting or not decides much.
     let next = if draw.chance(40) { state } else { draw.below(graph.len()) };
     let moves = &mut graph[state].moves;
     match moves.iter().position(|&m| m == next) {
-        Some(place) if moves.len() > 1 => {
+        Some(place) => {
             moves.remove(place);
         }
-        Some(_) => {}
         None => {
             moves.push(next);
             moves.sort_unstable();
@@ -221,13 +260,19 @@ fn change(graph: &mut Graph, draw: &mut Draw) {
 }
 
 /// The old drive moves from mode 0 to any mode and stays there; the new one
-/// from mode 0 to odd modes only, and up and down between 2i and 2i + 1.
+/// from mode 0 to odd modes only, and up and down between 2i and 2i + 1. Every
+/// mode is asked for, so that the new one may have another for its faults.
 fn modes(draw: &mut Draw) -> Game {
     let count = draw.pick(&[2, 4, 8]);
     let old = |mode: usize| if mode == 0 { (0..count).collect() } else { vec![mode] };
     let new = |mode: usize| if mode == 0 { (0..count).filter(|m| m % 2 == 1).collect() } else { vec![mode ^ 1] };
     let requirements = (0..count).map(|s| Requirement { inputs: vec![vec![s]], outputs: vec![vec![s]] }).collect();
     let mut game = Game { inputs: shapes::from_zero(count, old), outputs: shapes::from_zero(count, new), requirements };
+    if draw.chance(40) {
+        let from = draw.below(count);
+        game.outputs[from].moves.push(count);
+        game.outputs.push(State { initial: false, moves: vec![] });
+    }
     for _ in 0..draw.below(3) {
         change(&mut game.inputs, draw);
         change(&mut game.outputs, draw);
@@ -303,7 +348,7 @@ fn rooms(draw: &mut Draw) -> Game {
     let requirements = listed_sets(g, h, outputs, inputs, draw);
     let inputs = draw.pick(&SHAPES).graph(inputs, draw);
     let outputs = draw.pick(&SHAPES).graph(outputs, draw);
-    Game { inputs, outputs, requirements }
+    latched(Game { inputs, outputs, requirements }, draw.pick(&LATCHING), draw)
 }
 
 /// Eight requirements with g output sets and h input sets over all.
@@ -318,18 +363,17 @@ fn listed_sets(g: usize, h: usize, outputs: usize, inputs: usize, draw: &mut Dra
     requirements
 }
 
-/// An accepted game with one to three faults, each causing 2, 3, 4 or 7.
+/// An accepted game with one to three faults, each causing 2, 3 or 7.
 fn faulty(draw: &mut Draw) -> Game {
     let shape = draw.pick(&SHAPES);
-    let mut game = shaped(shape, draw);
+    let mut game = latched(shaped(shape, draw), draw.pick(&LATCHING), draw);
     let past = game.inputs.len().max(game.outputs.len()) + draw.below(64 - 12);
     for _ in 0..1 + draw.below(3) {
         let graph = if draw.chance(50) { &mut game.inputs } else { &mut game.outputs };
         let state = draw.below(graph.len());
-        match draw.below(4) {
+        match draw.below(3) {
             0 => graph[state].moves.push(past),
             1 => graph.iter_mut().for_each(|state| state.initial = false),
-            2 => graph[state].moves.clear(),
             _ => add_past(&mut game, past, draw),
         }
     }

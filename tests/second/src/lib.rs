@@ -2,10 +2,10 @@
 //! and 02 alone, so that the program's answers can be compared with it.
 //!
 //! It works by plain means: vectors, depth-first reach, breadth-first ways.
-//! `solve` follows the section "Choices that fix both tables" with the request
-//! "Hold the mode on a tie". `walks` judges any printed table by the
-//! definitions of walks and rounds and shares nothing with `solve` but the
-//! game record.
+//! `solve` follows the section "Choices that fix both tables" with the requests
+//! "Hold the mode on a tie" and "Drives that latch". `walks` judges any printed
+//! table by the definitions of walks and rounds and shares nothing with `solve`
+//! but the game record.
 
 pub mod compare;
 pub mod game;

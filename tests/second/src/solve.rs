@@ -1,6 +1,6 @@
 //! The solver: won positions, the verdict, and the winner's table by the
-//! section "Choices that fix both tables" with the request "Hold the mode on a
-//! tie".
+//! section "Choices that fix both tables" with the requests "Hold the mode on a
+//! tie" and "Drives that latch".
 
 use crate::game::{Game, Graph, Refusal, Set};
 use std::collections::VecDeque;
@@ -47,6 +47,8 @@ pub enum Way {
     Go(usize),
     /// Tour the sets inside the component of this number.
     Tour(usize),
+    /// The output is stuck, so that the panel's next input stays unanswered.
+    Unanswered(usize),
 }
 
 /// The answer to a game; the rooms are those that the program lends.
@@ -239,7 +241,7 @@ fn fill(
             for (counter, row) in rows.iter_mut().enumerate() {
                 row[other] = match way {
                     Way::None => None,
-                    Way::Pass(next) | Way::Go(next) => Some((next, counter)),
+                    Way::Pass(next) | Way::Go(next) | Way::Unanswered(next) => Some((next, counter)),
                     Way::Tour(number) => tours[number][counter].step(graph, state, counter, counters(sets)),
                 };
             }
@@ -272,7 +274,9 @@ impl<'a> Solved<'a> {
     /// that stays is good for the system exactly when the two components suit.
     /// Hence pairs of components are settled one after the other, those that
     /// play can go on to first: in a pair that suits the system may stay (the
-    /// greatest solution), in any other it must get out (the least).
+    /// greatest solution), in any other it must get out (the least). A stuck
+    /// state is a component by itself: with a stuck input there is no next
+    /// input to answer, with a stuck output there is no reply.
     fn find_won(&mut self) {
         for input in self.inputs.last_first() {
             for output in self.outputs.last_first() {
@@ -387,7 +391,11 @@ impl<'a> Solved<'a> {
     /// What the panel does at this position.
     pub fn panel_way(&self, input: usize, output: usize) -> Way {
         if self.won[input][output] {
-            return Way::None;
+            return Way::None; // so with every stuck input
+        }
+        if self.game.outputs[output].moves.is_empty() {
+            let next = lowest(&self.game.inputs[input].moves, |_| true);
+            return next.map_or(Way::None, Way::Unanswered);
         }
         let component = self.inputs.number[input];
         if !self.inputs.stayable[component] {

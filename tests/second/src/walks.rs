@@ -1,6 +1,8 @@
 //! The judge of printed tables. It takes a game and any print and decides by
-//! walks alone, that is by the sections "Controller" and "Demand 3", whether
-//! the table wins. Won positions and components have no part in it.
+//! walks alone, that is by the sections "Controller" and "Demand 3" with the
+//! request "Drives that latch", whether the table wins: its rounds are right,
+//! and its side is never stopped first. Won positions and components have no
+//! part in it.
 
 use crate::game::{Game, Requirement, Set};
 use std::collections::HashMap;
@@ -110,6 +112,8 @@ impl<'a> Table<'a> {
     }
 
     /// What one turn makes: one move by the table's step, the other any move.
+    /// An error where the table's own side is stopped. Nothing where the other
+    /// one is: no input move from a stuck input, no reply from a stuck output.
     fn turns(&self, at: Configuration) -> Result<Vec<Configuration>, String> {
         let (input_moves, output_moves) = (&self.game.inputs[at.input].moves, &self.game.outputs[at.output].moves);
         match self.side {
@@ -310,21 +314,24 @@ mod tests {
     use super::*;
     use crate::generate::{self, Draw, Family};
 
-    /// A table with any step in every row, none of them wrong in itself.
+    /// A table with any step in every row, none of them wrong in itself; the
+    /// rows of stuck states are none.
     fn any_print(game: &Game, side: Side, draw: &mut Draw) -> String {
         let (own, other, sets) = match side {
             Side::System => (&game.outputs, &game.inputs, game.output_sets().len()),
             Side::Environment => (&game.inputs, &game.outputs, game.input_sets().len()),
         };
-        let first = own.iter().position(|state| state.initial).expect("an accepted game");
+        let first = own.iter().position(|state| state.initial).expect("some state is initial");
         let mut print = match side {
             Side::System => (0..other.len()).fold("(wins system)\n".into(), |p, i| format!("{p}(start {i} {first})\n")),
             Side::Environment => format!("(wins environment)\n(start {first})\n"),
         };
         for (state, memory) in (0..own.len()).flat_map(|s| (0..sets.max(1)).map(move |m| (s, m))) {
             for seen in 0..other.len() {
-                let (next, after) = (draw.pick(&own[state].moves), draw.below(sets.max(1)));
-                print += &format!("(step {state} {memory} {seen} {next} {after})\n");
+                if !own[state].moves.is_empty() {
+                    let (next, after) = (draw.pick(&own[state].moves), draw.below(sets.max(1)));
+                    print += &format!("(step {state} {memory} {seen} {next} {after})\n");
+                }
             }
         }
         print
@@ -346,6 +353,36 @@ mod tests {
         })
     }
 
+    /// Can the table's own side be the one that has no move? Its rows are none
+    /// in stuck states only, so it is stopped where it is to move in one: the
+    /// controller at a stuck output after an input move, the panel at a stuck
+    /// input.
+    fn stopped_first(game: &Game, table: &Table, side: Side) -> bool {
+        let mut seen = table.first().expect("the starts are right");
+        let mut looked = 0;
+        while let Some(&at) = seen.get(looked) {
+            let (inputs, outputs) = (&game.inputs[at.input].moves, &game.outputs[at.output].moves);
+            match side {
+                Side::System if outputs.is_empty() && !inputs.is_empty() => return true,
+                Side::Environment if inputs.is_empty() => return true,
+                _ => {}
+            }
+            for (&input, &output) in inputs.iter().flat_map(|i| outputs.iter().map(move |o| (i, o))) {
+                let (row, next) = match side {
+                    Side::System => ([at.output, at.memory, input], output),
+                    Side::Environment => ([at.input, at.memory, at.output], input),
+                };
+                let [given, memory] = table.steps[&row];
+                let made = Configuration { input, output, memory };
+                if given == next && !seen.contains(&made) {
+                    seen.push(made);
+                }
+            }
+            looked += 1;
+        }
+        false
+    }
+
     /// Does a walk of one move or more inside lead from one to the other?
     fn leads(walks: &Walks, inside: &[bool], from: usize, to: usize) -> bool {
         let mut seen = vec![false; inside.len()];
@@ -364,20 +401,31 @@ mod tests {
     #[test]
     fn the_judgement_is_that_of_every_round() {
         let mut draw = Draw::new(1);
-        let mut judged = [[0; 2]; 2];
-        for round in 0..2_000 {
+        let (mut judged, mut stopped) = ([[0; 2]; 2], [0; 2]);
+        for round in 0..4_000 {
             let family = draw.pick(&[Family::Edge, Family::Dense, Family::Sparse, Family::Period, Family::Modes]);
             let game = generate::game(family, &mut draw);
             let side = if round % 2 == 0 { Side::System } else { Side::Environment };
             let print = any_print(&game, side, &mut draw);
             let table = Table::read(&game, &print).expect("a print");
-            let walks = Walks::new(&table).expect("no step is none");
-            if walks.configurations.len() <= 9 {
-                let wins = check(&game, &print).is_ok();
-                assert_eq!(wins, by_every_round(&game, &walks, side), "{print}");
-                judged[round % 2][usize::from(wins)] += 1;
+            let stops = stopped_first(&game, &table, side);
+            match Walks::new(&table) {
+                Err(why) => {
+                    assert!(stops, "{why}\n{print}");
+                    assert_eq!(check(&game, &print), Err(why));
+                    stopped[round % 2] += 1;
+                }
+                Ok(walks) => {
+                    assert!(!stops, "{print}");
+                    if walks.configurations.len() <= 9 {
+                        let wins = check(&game, &print).is_ok();
+                        assert_eq!(wins, by_every_round(&game, &walks, side), "{print}");
+                        judged[round % 2][usize::from(wins)] += 1;
+                    }
+                }
             }
         }
         assert!(judged.iter().flatten().all(|&count| count > 15), "{judged:?}");
+        assert!(stopped.iter().all(|&count| count > 15), "{stopped:?}");
     }
 }

@@ -1,7 +1,7 @@
 //! The families do what they are for: accepted games, both verdicts often,
-//! and panels that pass, leave and tour.
+//! dead ends often on both sides, and panels that pass, leave and tour.
 
-use second::compare::{panel_ways, text_of};
+use second::compare::{controller_ways, dead_ends, panel_ways, text_of};
 use second::generate::{Family, SMALL};
 use second::{printed, text, walks};
 
@@ -39,7 +39,7 @@ fn every_table_wins_by_walks() {
 #[test]
 fn faulty_games_are_refused_with_each_number() {
     let prints = prints(Family::Faulty);
-    for number in [2, 3, 4, 7] {
+    for number in [2, 3, 7] {
         assert!(share(&prints, &format!("(refused {number})")) >= 3, "{number}");
     }
     assert_eq!(share(&prints, "(refused"), 100);
@@ -48,13 +48,33 @@ fn faulty_games_are_refused_with_each_number() {
 #[test]
 fn panels_pass_leave_and_tour() {
     for family in [Family::Tree, Family::Lone, Family::Copy, Family::Sparse] {
-        let mut sums = [0; 3];
+        let mut sums = [0; 4];
         for (bytes, print) in prints(family).iter().filter(|(_, print)| print.starts_with("(wins environment)")) {
             let game = text::read(bytes).expect("a well-shaped text");
             let ways = panel_ways(&game, print);
-            (0..3).for_each(|n| sums[n] += ways[n]);
+            (0..4).for_each(|n| sums[n] += ways[n]);
         }
         assert!(sums.iter().all(|&sum| sum >= 3), "{family:?}: {sums:?}");
+    }
+}
+
+/// Stuck inputs alone, stuck outputs alone, both, none: each with either
+/// winner. And in many games a play comes to its end.
+#[test]
+fn both_sides_win_with_dead_ends_and_without() {
+    for (family, _) in SMALL {
+        let mut games = [[0; 4]; 2];
+        let mut ends = [0; 2];
+        for (bytes, print) in prints(family) {
+            let game = text::read(&bytes).expect("a well-shaped text");
+            let environment = usize::from(print.starts_with("(wins environment)"));
+            let [inputs, outputs, both] = dead_ends(&game);
+            games[environment][inputs + 2 * outputs + 3 * both] += 1;
+            let ways = if environment == 1 { panel_ways(&game, &print) } else { controller_ways(&game, &print) };
+            ends[environment] += ways[3];
+        }
+        assert!(games.iter().flatten().all(|&count| count >= 3), "{family:?}: {games:?}");
+        assert!(ends.iter().all(|&count| count >= 10), "{family:?}: {ends:?}");
     }
 }
 

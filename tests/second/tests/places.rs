@@ -1,5 +1,5 @@
 //! Number 11's place: the length of the longest front that begins some
-//! well-shaped file. And the order of the numbers.
+//! well-shaped file. And the order of the numbers, of which 4 does not occur.
 
 use second::printed;
 
@@ -73,8 +73,10 @@ fn the_lowest_number_is_given() {
     let number = |text: String| printed(text.as_bytes());
     assert_eq!(number(text(0, "()", "(1)", "(1)")), "(refused 2)\n");
     assert_eq!(number(text(0, "()", "(0)", "(1)")), "(refused 3)\n");
-    assert_eq!(number(text(1, "()", "(0)", "(1)")), "(refused 4)\n");
+    // Dead ends are no fault: 4 does not occur.
+    assert_eq!(number(text(1, "()", "()", "(1)")), "(refused 7)\n");
     assert_eq!(number(text(1, "(0)", "(0)", "(1)")), "(refused 7)\n");
+    assert_eq!(number(text(1, "()", "()", "(0)")), "(wins system)\n(start 0 0)\n");
 }
 
 /// 64 states each take 7 sets a side; 9 and 10 are tried whoever wins.

@@ -23,6 +23,23 @@ const PANEL: &str = "\
 (if ((1)) (()))
 ";
 
+/// The panel must keep off input 1, where it is stuck.
+const PANEL_LATCHES: &str = "\
+(game 2 1 1)
+(in 0 1 (0 1))
+(in 1 0 ())
+(out 0 1 (0))
+(if () (()))
+";
+
+/// The system must keep off output 0, where it is stuck.
+const SYSTEM_LATCHES: &str = "\
+(game 1 2 0)
+(in 0 1 (0))
+(out 0 0 ())
+(out 1 1 (0 1))
+";
+
 fn game(source: &str) -> Game {
     text::read(source.as_bytes()).expect("a well-shaped text")
 }
@@ -38,6 +55,34 @@ fn changed(source: &str, old: &str, new: &str) -> Result<Side, String> {
 fn the_right_tables_win() {
     assert_eq!(changed(SYSTEM, "", ""), Ok(Side::System));
     assert_eq!(changed(PANEL, "", ""), Ok(Side::Environment));
+    assert_eq!(changed(PANEL_LATCHES, "", ""), Ok(Side::Environment));
+    assert_eq!(changed(SYSTEM_LATCHES, "", ""), Ok(Side::System));
+}
+
+/// A side that drives itself into a dead end is stopped first, whatever its
+/// table says there.
+#[test]
+fn a_side_that_is_stopped_first_does_not_win() {
+    let panel = |step: &str| changed(PANEL_LATCHES, "(step 0 0 0 0 0)", step);
+    assert!(panel("(step 0 0 0 1 0)").is_err_and(|why| why.contains("none")));
+    assert!(panel("(step 0 0 0 1 0)\n(step 1 0 0 1 0)").is_err_and(|why| why.contains("none")));
+    let system = |step: &str| changed(SYSTEM_LATCHES, "(step 1 0 0 1 0)", step);
+    assert!(system("(step 1 0 0 0 0)").is_err_and(|why| why.contains("none")));
+    assert!(system("(step 1 0 0 0 0)\n(step 0 0 0 0 0)").is_err_and(|why| why.contains("none")));
+}
+
+/// Where the other side is stuck the play ends, and the table needs no more:
+/// the controller no step, the panel one that names a move.
+#[test]
+fn a_side_wins_where_the_other_is_stuck() {
+    let stuck_input = game("(game 1 1 1)\n(in 0 1 ())\n(out 0 1 (0))\n(if () (()))\n");
+    assert_eq!(check(&stuck_input, "(wins system)\n(start 0 0)\n"), Ok(Side::System));
+    assert!(check(&stuck_input, "(wins environment)\n(start 0)\n").is_err_and(|why| why.contains("none")));
+    let stuck_output = game("(game 1 1 0)\n(in 0 1 (0))\n(out 0 1 ())\n");
+    let panel = "(wins environment)\n(start 0)\n";
+    assert_eq!(check(&stuck_output, &format!("{panel}(step 0 0 0 0 0)\n")), Ok(Side::Environment));
+    assert!(check(&stuck_output, panel).is_err_and(|why| why.contains("none")));
+    assert!(check(&stuck_output, "(wins system)\n(start 0 0)\n").is_err_and(|why| why.contains("none")));
 }
 
 #[test]

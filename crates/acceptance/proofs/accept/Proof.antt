@@ -14,9 +14,6 @@ states-in-count-requires c κs = search needs
 initials-exist-requires : tie.Need-initials-exist-requires
 initials-exist-requires c κs = search needs
 
-moves-exist-requires : tie.Need-moves-exist-requires
-moves-exist-requires c κs = search needs
-
 lengths-fit-requires : tie.Need-lengths-fit-requires
 lengths-fit-requires c κs = search needs
 
@@ -37,7 +34,6 @@ accept-spec =
     counts-fit-requires
     states-in-count-requires
     initials-exist-requires
-    moves-exist-requires
     lengths-fit-requires
     sets-fit-requires
     first-failing-requires

@@ -1,4 +1,4 @@
--- `plain_rows`: the won positions, and then the trivial components.
+-- `plain_rows`: the won positions, and then the pushes.
 use borrow.Author.Needs.{needs}
 use Rattle.environment_table.proofs.Places.{roomy-more}
 use Rattle.environment_table.proofs.Known.{lone-of, plain-join}
@@ -26,7 +26,7 @@ returns : tie.Need-returns
 returns c =
     let d = c .before .before .before .before in
     let r = d .before .before .before .before in
-    plain-join _ _ _ (r .before .before .before .before .pre .0) _ (lone-of _ _ _ (d .before .below .ensures) (d .difference .ensures)) (r .none-rows .ensures) (c .before .before .push-columns .ensures)
+    plain-join _ (r .none-rows .ensures) (c .before .before .push-columns .ensures)
 
 pub plain-rows-spec : {M : Type 1} → statement M
 plain-rows-spec =

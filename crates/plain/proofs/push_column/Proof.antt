@@ -1,19 +1,19 @@
 -- `push_column`: the inputs that are not won with o, where there are any.
 use native.Mathlib.Omega.{arith}
 use borrow.Author.Needs.{needs}
-use Rattle.environment_table.proofs.Known.{shaped, lone-within, pushes-of, pushes-filled, pushes-none}
+use Rattle.environment_table.proofs.Known.{shaped, pushed-within, pushes-of, pushes-filled, pushes-none}
 use Rattle.plain.proofs.push_column.Statement.{statement}
 use Rattle.plain.proofs.push_column.Tie as tie
 
 lost-requires : tie.Need-lost-requires
 lost-requires c κs =
     let p = c .before .before .pre in
-    (omega arith, omega arith, omega (arith, p .0 .ready .laid .long), lone-within _ _ _ (p .0) _ (p .2))
+    (omega arith, omega arith, omega (arith, p .0 .ready .laid .long), pushed-within _ _ _ (p .0) _ _ (p .2) (p .3))
 
 returns : tie.Need-returns
 returns c =
     let p = c .before .before .before .before .before .pre in
-    pushes-none _ _ _ (p .0) _ (p .2) _ (p .3) _ (c .before .before .lost .ensures) _ (c .if1 .taken)
+    pushes-none _ _ _ (p .0) _ _ (p .2) (p .3) _ (c .before .before .lost .ensures) _ (c .if1 .taken)
 
 out-moves-requires : tie.Need-out-moves-requires
 out-moves-requires c κs = search needs
@@ -24,7 +24,7 @@ refused-requires c κs = shaped _ _ _ (c .before .before .before .before .before
 push-rows-requires : tie.Need-push-rows-requires
 push-rows-requires c κs =
     let p = c .before .before .before .before .before .before .before .before .pre in
-    (p .1, pushes-of _ _ _ (p .0) _ (p .2) _ (p .3) _ (c .before .before .before .before .before .lost .ensures) _ (c .before .before .out-moves .ensures) (c .before .refused .ensures))
+    (p .1, pushes-of _ _ _ (p .0) _ _ (p .2) (p .3) _ (c .before .before .before .before .before .lost .ensures) _ (c .before .before .out-moves .ensures) (c .before .refused .ensures))
 
 same-length : tie.Need-same-length
 same-length c = search needs
@@ -32,7 +32,7 @@ same-length c = search needs
 returns-2 : tie.Need-returns-2
 returns-2 c =
     let p = c .before .before .before .before .before .before .before .before .before .before .before .pre in
-    pushes-filled _ _ _ (p .0) _ (p .2) _ (p .3) _ (c .before .before .before .before .before .before .before .before .lost .ensures) (c .before .before .push-rows .ensures)
+    pushes-filled _ _ _ (p .0) _ _ (p .2) (p .3) _ (c .before .before .before .before .before .before .before .before .lost .ensures) (c .before .before .push-rows .ensures)
 
 pub push-column-spec : {M : Type 1} → statement M
 push-column-spec =

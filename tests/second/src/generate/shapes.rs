@@ -1,4 +1,5 @@
-//! The shapes of graphs. Every state gets a move, and some state is initial.
+//! The shapes of graphs. Every state has a move here, before some are latched,
+//! and some state is initial.
 
 use super::Draw;
 use crate::game::{Graph, State};
