@@ -34,6 +34,19 @@ fn requirement(assumptions: &[u64], guarantees: &[u64]) -> Requirement {
     q
 }
 
+/// The records of lists, which are right.
+fn listed(initial: &[usize], moves: &[&[usize]]) -> Graph {
+    Graph::new(initial, moves).expect("a right graph")
+}
+
+fn required(assumptions: &[&[usize]], guarantees: &[&[usize]]) -> Requirement {
+    Requirement::new(assumptions, guarantees).expect("a right requirement")
+}
+
+fn game(input: Graph, output: Graph, requirements: &[Requirement]) -> Game {
+    Game::new(input, output, requirements).expect("the games here are accepted")
+}
+
 /// Eight requirements of four sets each on both sides: set number a of all 32.
 fn full(assumption: impl Fn(usize) -> u64, guarantee: impl Fn(usize) -> u64) -> Vec<Requirement> {
     (0..8)
@@ -46,23 +59,23 @@ fn full(assumption: impl Fn(usize) -> u64, guarantee: impl Fn(usize) -> u64) -> 
 
 /// "Drives to try", cases 1 to 8.
 fn drives() -> Vec<Named> {
-    let two = Graph::new(&[0], &[&[0, 1], &[0, 1]]);
-    let one = Graph::new(&[0], &[&[0]]);
-    let single = |q: &[Requirement]| Game::new(one, one, q);
-    let fork = Graph::new(&[0], &[&[1], &[2, 3], &[2], &[3]]);
-    let branches = [Requirement::new(&[&[2]], &[&[1]]), Requirement::new(&[&[3]], &[&[2]])];
-    let each = |s: usize| Requirement::new(&[&[s]], &[&[s]]);
+    let two = listed(&[0], &[&[0, 1], &[0, 1]]);
+    let one = listed(&[0], &[&[0]]);
+    let single = |q: &[Requirement]| game(one, one, q);
+    let fork = listed(&[0], &[&[1], &[2, 3], &[2], &[3]]);
+    let branches = [required(&[&[2]], &[&[1]]), required(&[&[3]], &[&[2]])];
+    let each = |s: usize| required(&[&[s]], &[&[s]]);
     let games = [
-        Game::new(two, two, &[Requirement::new(&[&[1]], &[&[1]])]),
+        game(two, two, &[required(&[&[1]], &[&[1]])]),
         single(&[]),
-        single(&[Requirement::new(&[&[0]], &[&[]])]),
-        single(&[Requirement::new(&[], &[&[]])]),
-        single(&[Requirement::new(&[&[]], &[&[]])]),
-        Game::new(fork, Graph::new(&[0], &[&[1, 2], &[1], &[2]]), &branches),
-        Game::new(fork, Graph::new(&[0], &[&[0, 1, 2], &[1], &[2]]), &branches),
-        Game::new(
-            Graph::new(&[0], &[&[1, 2], &[1], &[2]]),
-            Graph::new(&[0], &[&[1, 2], &[0], &[2]]),
+        single(&[required(&[&[0]], &[&[]])]),
+        single(&[required(&[], &[&[]])]),
+        single(&[required(&[&[]], &[&[]])]),
+        game(fork, listed(&[0], &[&[1, 2], &[1], &[2]]), &branches),
+        game(fork, listed(&[0], &[&[0, 1, 2], &[1], &[2]]), &branches),
+        game(
+            listed(&[0], &[&[1, 2], &[1], &[2]]),
+            listed(&[0], &[&[1, 2], &[0], &[2]]),
             &[each(0), each(1), each(2)],
         ),
     ];
@@ -77,7 +90,7 @@ fn modes(n: usize) -> Named {
     let odd = (0..n).filter(|s| s % 2 == 1).fold(0, |x, s| x | 1 << s);
     let adaptee = graph(n, 1, |s| if s == 0 { odd } else { 1 << (s ^ 1) });
     let each: Vec<Requirement> = (0..n).map(|s| requirement(&[1 << s], &[1 << s])).collect();
-    (format!("modes {n}"), Game::new(target, adaptee, &each))
+    (format!("modes {n}"), game(target, adaptee, &each))
 }
 
 /// Marsaglia's xorshift on 64 bits.
@@ -107,7 +120,7 @@ impl Random {
         };
         let (input, output) = (draw(0), draw(1));
         let sets: Vec<(u64, u64)> = (0..32).map(|_| (self.set(n, size), self.set(n, size))).collect();
-        Game::new(input, output, &full(|a| sets[a].0, |a| sets[a].1))
+        game(input, output, &full(|a| sets[a].0, |a| sets[a].1))
     }
 }
 
@@ -133,16 +146,16 @@ fn worst() -> Vec<Named> {
     let mut all = Vec::new();
     let mut add = |name: &str, g: Game| all.push((format!("worst {name}"), g));
     // Both graphs circles: one home, 32 goals of one state, ways of up to 63 moves.
-    add("one home", Game::new(circle(n), circle(n), &full(|a| 1 << (2 * a), |a| 1 << (2 * a))));
+    add("one home", game(circle(n), circle(n), &full(|a| 1 << (2 * a), |a| 1 << (2 * a))));
     // Both graphs go down from 63, and may stay: 64 components each. Requirement r is due in the inputs whose quartet has r, and met at the outputs
     // whose quartet has r: input j has the single home j, which outputs above it reach in up to 63 moves.
     let down = graph(n, 1 << 63, |s| 1 << s | if s == 0 { 0 } else { 1 << (s - 1) });
     let quartet = quartets();
     let due = |a: usize| (0..n).filter(|&d| quartet[d] >> (a / 4) & 1 == 1).fold(0, |x, d| x | 1 << d);
-    add("many homes", Game::new(down, down, &full(due, due)));
+    add("many homes", game(down, down, &full(due, due)));
     // The same with every output above its home one move away.
     let far = graph(n, 1 << 63, |s| range(0, s + 1));
-    add("many homes, near", Game::new(down, far, &full(due, due)));
+    add("many homes, near", game(down, far, &full(due, due)));
     // Inputs in a circle of 63, left for input 63 from one of them; there no guarantee is ever met. A way out of up to 62 moves for every output.
     let exit = graph(n, 1, |s| match s {
         0 => 1 << 1 | 1 << 63,
@@ -150,16 +163,16 @@ fn worst() -> Vec<Named> {
         63 => 1 << 63,
         s => 1 << (s + 1),
     });
-    add("way out", Game::new(exit, circle(n), &full(|_| 1 << 63, |_| 0)));
+    add("way out", game(exit, circle(n), &full(|_| 1 << 63, |_| 0)));
     // Inputs in a circle past 32 assumptions of one state, with no output set ever visited.
-    add("environment's tour", Game::new(circle(n), circle(n), &full(|a| 1 << (2 * a), |_| 0)));
+    add("environment's tour", game(circle(n), circle(n), &full(|a| 1 << (2 * a), |_| 0)));
     // As the way out, with 31 circles of two inputs: each is a component of its own with its own way out.
     let pairs = graph(n, 1, |s| match s {
         62 | 63 => 1 << 63,
         s if s % 2 == 0 => 1 << (s + 1),
         s => 1 << (s - 1) | 1 << 63 | if s < 61 { 1 << (s + 1) } else { 0 },
     });
-    add("ways out of pairs", Game::new(pairs, circle(n), &full(|_| 1 << 63, |_| 0)));
+    add("ways out of pairs", game(pairs, circle(n), &full(|_| 1 << 63, |_| 0)));
     // Inputs 0 to 30 move to all of 31 to 63; 31 to 62 stay and are won from output 63 alone; 63 stays and is never won. Outputs 0 to 31 move to all
     // of 32 to 63, which stay. For an input below 31 every move but the last has a won reply, which is the last.
     let heavy = graph(n, 1, |s| if s < 31 { range(31, 64) } else { 1 << s });
@@ -168,9 +181,9 @@ fn worst() -> Vec<Named> {
     for r in q.iter_mut().take(4) {
         *r = requirement(&[1 << 63; 4], &[0; 4]);
     }
-    add("late replies", Game::new(heavy, light, &q));
+    add("late replies", game(heavy, light, &q));
     // Every move and every set there is: the densest rows.
-    add("dense", Game::new(graph(n, whole, |_| whole), graph(n, whole, |_| whole), &full(|_| whole, |_| whole)));
+    add("dense", game(graph(n, whole, |_| whole), graph(n, whole, |_| whole), &full(|_| whole, |_| whole)));
     all
 }
 
@@ -191,6 +204,6 @@ pub fn longest() -> Game {
     let all: Vec<usize> = (0..64).collect();
     let moves: Vec<&[usize]> = vec![&all; 64];
     let sets: Vec<&[usize]> = vec![&all; 4];
-    let requirements: Vec<Requirement> = (0..8).map(|_| Requirement::new(&sets, &sets)).collect();
-    Game::new(Graph::new(&all, &moves), Graph::new(&all, &moves), &requirements)
+    let requirements: Vec<Requirement> = (0..8).map(|_| required(&sets, &sets)).collect();
+    game(listed(&all, &moves), listed(&all, &moves), &requirements)
 }

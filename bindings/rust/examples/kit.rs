@@ -17,7 +17,7 @@ fn main() -> Result<(), Error> {
             &[BARRED, 1, 2],      // low: slow stays, fast speeds up
             &[BARRED, BARRED, 2], // high is kept until the power is cut
         ],
-    );
+    )?;
     // the same for hold, start, run, boost and flush
     let new = Drive::new(
         &[0],
@@ -28,13 +28,13 @@ fn main() -> Result<(), Error> {
             &[3, BARRED, BARRED, BARRED, BARRED], // high: no flush any more
             &[4, 1, BARRED, BARRED, BARRED],      // flush is followed by the ramp
         ],
-    );
+    )?;
     let requirements = [
-        Requirement::new(&[&[0]], &[&[0]]),       // if stop goes on for ever, the new drive stands still: it does not start before it is asked to
-        Requirement::new(&[&[1]], &[&[2], &[4]]), // if low goes on for ever, it runs low again and again and flushes again and again
-        Requirement::new(&[&[2]], &[&[3]]),       // if high goes on for ever, it runs high again and again
+        Requirement::new(&[&[0]], &[&[0]])?,       // if stop goes on for ever, the new drive stands still: it does not start before it is asked to
+        Requirement::new(&[&[1]], &[&[2], &[4]])?, // if low goes on for ever, it runs low again and again and flushes again and again
+        Requirement::new(&[&[2]], &[&[3]])?,       // if high goes on for ever, it runs high again and again
     ];
-    let kit = Kit::new(old, new, &requirements);
+    let kit = Kit::new(old, new, &requirements)?;
     let Verdict { winner, table } = kit.solve()?;
     if winner == Winner::Environment {
         println!("The new drive cannot stand in for the old one.");

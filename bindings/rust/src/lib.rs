@@ -2,6 +2,9 @@
 //!
 //! The promises are those of `crates/nanpuwiq`: every call answers every input, and on a refusal every buffer holds what it held before.
 //! What the proof does not cover is this file, which declares the records and the entries a second time, and the compiler.
+//!
+//! A record made by `new` has all that was given: what is at fault, or does not fit into the record, is refused with the number that a game or a kit
+//! gets for it. The fields of a record can be set to anything; the calls look at them.
 
 use std::fmt;
 
@@ -154,12 +157,22 @@ pub enum Comparison {
     Fault { step: usize, number: u8 },
 }
 
+/// The refusal with this number.
+fn refused(number: u8) -> Error {
+    Error { number, place: 0 }
+}
+
 /// Ok for 0, else the refusal.
 fn refusal(code: u8) -> Result<(), Error> {
     match code {
         0 => Ok(()),
-        number => Err(Error { number, place: 0 }),
+        number => Err(refused(number)),
     }
+}
+
+/// Ok where it holds, else the refusal.
+fn ensure(holds: bool, number: u8) -> Result<(), Error> {
+    refusal(if holds { 0 } else { number })
 }
 
 impl Default for Graph {
@@ -169,13 +182,16 @@ impl Default for Graph {
 }
 
 impl Graph {
-    /// A graph with a row for each state; a row lists the states that it moves to. Rows past 64 and states past 63 are left out.
-    pub fn new(initial: &[usize], moves: &[&[usize]]) -> Graph {
-        let mut g = Graph { states: moves.len(), initial: set(initial), ..Graph::default() };
+    /// A graph with a row for each state; a row lists the states that it moves to: 1, 2, 3.
+    pub fn new(initial: &[usize], moves: &[&[usize]]) -> Result<Graph, Error> {
+        let states = moves.len();
+        ensure((1..=STATES).contains(&states), 1)?;
+        let mut g = Graph { states, initial: set_below(states, initial).ok_or(refused(2))?, ..Graph::default() };
         for (row, to) in g.moves.iter_mut().zip(moves) {
-            *row = set(to);
+            *row = set_below(states, to).ok_or(refused(2))?;
         }
-        g
+        ensure(g.initial != 0, 3)?;
+        Ok(g)
     }
 }
 
@@ -187,46 +203,57 @@ impl Default for Drive {
 
 impl Drive {
     /// A drive with a row for each mode; a row lists the modes that its commands lead to, or `BARRED`, and what it does not list is barred.
-    /// The longest row has all commands. Rows past 64 and commands past 16 are left out.
-    pub fn new(initial: &[usize], next: &[&[u8]]) -> Drive {
+    /// The longest row has all commands: 1, 17, 18, 2, 3.
+    pub fn new(initial: &[usize], next: &[&[u8]]) -> Result<Drive, Error> {
+        let modes = next.len();
+        ensure((1..=STATES).contains(&modes), 1)?;
         let commands = next.iter().map(|row| row.len()).max().unwrap_or(0);
-        let mut d = Drive { modes: next.len(), initial: set(initial), commands, ..Drive::default() };
+        ensure((1..=COMMANDS).contains(&commands), 17)?;
+        ensure(next.iter().copied().flatten().all(|&to| to == BARRED || usize::from(to) < modes), 18)?;
+        let mut d = Drive { modes, initial: set_below(modes, initial).ok_or(refused(2))?, commands, ..Drive::default() };
+        ensure(d.initial != 0, 3)?;
         for (places, row) in d.next.chunks_mut(COMMANDS).zip(next) {
-            for (place, to) in places.iter_mut().zip(*row) {
-                *place = *to;
-            }
+            places[..row.len()].copy_from_slice(row);
         }
-        d
+        Ok(d)
     }
 }
 
 impl Requirement {
-    /// If these assumptions recur, these guarantees do. Sets past the fourth are left out.
-    pub fn new(assumptions: &[&[usize]], guarantees: &[&[usize]]) -> Requirement {
+    /// If these assumptions recur, these guarantees do: 6, and 7 for a state past 63. A state past the count of a graph is seen by `Game::new` and `Kit::new`.
+    pub fn new(assumptions: &[&[usize]], guarantees: &[&[usize]]) -> Result<Requirement, Error> {
+        ensure(assumptions.len() <= SETS && guarantees.len() <= SETS, 6)?;
         let mut q = Requirement { assumed: assumptions.len(), guaranteed: guarantees.len(), ..Requirement::default() };
         for (place, states) in q.assumptions.iter_mut().zip(assumptions) {
-            *place = InSet(set(states));
+            *place = InSet(set(states).ok_or(refused(7))?);
         }
         for (place, states) in q.guarantees.iter_mut().zip(guarantees) {
-            *place = OutSet(set(states));
+            *place = OutSet(set(states).ok_or(refused(7))?);
         }
-        q
+        Ok(q)
     }
 }
 
-/// The word of a set of states; numbers past 63 are left out.
-pub fn set(states: &[usize]) -> u64 {
-    states.iter().filter(|&&s| s < STATES).fold(0, |x, &s| x | 1 << s)
+/// The word of a set of states; none where a state is past 63.
+pub fn set(states: &[usize]) -> Option<u64> {
+    set_below(STATES, states)
+}
+
+/// The same with a count of at most 64; none where a state is not below it.
+fn set_below(count: usize, states: &[usize]) -> Option<u64> {
+    states.iter().all(|&s| s < count).then(|| states.iter().fold(0, |x, &s| x | 1 << s))
 }
 
 impl Game {
-    /// A game; requirements past the eighth are left out.
-    pub fn new(input: Graph, output: Graph, requirements: &[Requirement]) -> Game {
+    /// A game, which is accepted: 1 to 7.
+    pub fn new(input: Graph, output: Graph, requirements: &[Requirement]) -> Result<Game, Error> {
         let mut g = Game { input, output, k: requirements.len(), ..Game::default() };
+        // those past the eighth have no place: k tells of them
         for (place, q) in g.requirements.iter_mut().zip(requirements) {
             *place = *q;
         }
-        g
+        g.accept()?;
+        Ok(g)
     }
 
     /// Whether the game is accepted: 1 to 7.
@@ -318,19 +345,21 @@ impl Game {
             0 if r.ended => Ok(Comparison::Ended { step: r.step }),
             0 => Ok(Comparison::Differ { step: r.step }),
             14 | 15 => Ok(Comparison::Fault { step: r.step, number: r.code }),
-            number => Err(Error { number, place: 0 }),
+            number => Err(refused(number)),
         }
     }
 }
 
 impl Kit {
-    /// A kit; requirements past the eighth are left out.
-    pub fn new(old: Drive, new: Drive, requirements: &[Requirement]) -> Kit {
+    /// A kit, which is accepted: 1, 17, 18, 2 to 7.
+    pub fn new(old: Drive, new: Drive, requirements: &[Requirement]) -> Result<Kit, Error> {
         let mut kit = Kit { old, new, k: requirements.len(), ..Kit::default() };
+        // those past the eighth have no place: k tells of them
         for (place, q) in kit.requirements.iter_mut().zip(requirements) {
             *place = *q;
         }
-        kit
+        kit.accept()?;
+        Ok(kit)
     }
 
     /// Whether the kit is accepted: 1, 17, 18, 2 to 7.

@@ -1,27 +1,30 @@
 //! Every entry called through the safe wrapper: the example, an environment's win, each refusal, buffers after a refusal, a player's run.
+mod made;
+
+use made::*;
 use nanpuwiq::*;
 
 const TEXT: &[u8] = b"(game 2 2 1)\n(in 0 1 (0 1))\n(in 1 0 (0 1))\n(out 0 1 (0 1))\n(out 1 0 (0 1))\n(if ((1)) ((1)))\n";
 
 fn example() -> Game {
-    Game::new(
-        Graph::new(&[0], &[&[0, 1], &[0, 1]]),
-        Graph::new(&[0], &[&[0, 1], &[0, 1]]),
-        &[Requirement::new(&[&[1]], &[&[1]])],
+    made(
+        graph(&[0], &[&[0, 1], &[0, 1]]),
+        graph(&[0], &[&[0, 1], &[0, 1]]),
+        &[requirement(&[&[1]], &[&[1]])],
     )
 }
 
 // One state each with a self-move.
 fn single(requirements: &[Requirement]) -> Game {
-    Game::new(Graph::new(&[0], &[&[0]]), Graph::new(&[0], &[&[0]]), requirements)
+    made(graph(&[0], &[&[0]]), graph(&[0], &[&[0]]), requirements)
 }
 
 // Case 6: the output commits too early.
 fn early() -> Game {
-    Game::new(
-        Graph::new(&[0], &[&[1], &[2, 3], &[2], &[3]]),
-        Graph::new(&[0], &[&[1, 2], &[1], &[2]]),
-        &[Requirement::new(&[&[2]], &[&[1]]), Requirement::new(&[&[3]], &[&[2]])],
+    made(
+        graph(&[0], &[&[1], &[2, 3], &[2], &[3]]),
+        graph(&[0], &[&[1, 2], &[1], &[2]]),
+        &[requirement(&[&[2]], &[&[1]]), requirement(&[&[3]], &[&[2]])],
     )
 }
 
@@ -63,9 +66,9 @@ fn the_example() {
 
 #[test]
 fn wins_of_the_environment() {
-    let v = single(&[Requirement::new(&[&[0]], &[&[]])]).solve().unwrap();
+    let v = single(&[requirement(&[&[0]], &[&[]])]).solve().unwrap();
     assert_eq!((v.winner, v.table), (Winner::Environment, vec![0, 0]));
-    let v = single(&[Requirement::new(&[], &[&[]])]).solve().unwrap();
+    let v = single(&[requirement(&[], &[&[]])]).solve().unwrap();
     assert_eq!((v.winner, v.table), (Winner::Environment, vec![0, 0]));
     let v = early().solve().unwrap();
     assert_eq!((v.winner, v.table.len()), (Winner::Environment, 1 + 4 * 2 * 3));
@@ -77,7 +80,7 @@ fn wins_of_the_environment() {
 fn wins_of_the_system() {
     let v = single(&[]).solve().unwrap();
     assert_eq!((v.winner, v.table), (Winner::System, vec![0, 0]));
-    let v = single(&[Requirement::new(&[&[]], &[&[]])]).solve().unwrap();
+    let v = single(&[requirement(&[&[]], &[&[]])]).solve().unwrap();
     assert_eq!(v.winner, Winner::System);
     let mut g = early();
     g.output.moves[0] = 7;
@@ -86,10 +89,10 @@ fn wins_of_the_system() {
 
 #[test]
 fn rows_of_case_8() {
-    let s = |s: usize| Requirement::new(&[&[s]], &[&[s]]);
-    let g = Game::new(
-        Graph::new(&[0], &[&[1, 2], &[1], &[2]]),
-        Graph::new(&[0], &[&[1, 2], &[0], &[2]]),
+    let s = |s: usize| requirement(&[&[s]], &[&[s]]);
+    let g = made(
+        graph(&[0], &[&[1, 2], &[1], &[2]]),
+        graph(&[0], &[&[1, 2], &[0], &[2]]),
         &[s(0), s(1), s(2)],
     );
     let v = g.solve().unwrap();
@@ -173,7 +176,7 @@ fn the_rest_of_the_buffers_stays() {
     assert!(scratch[..512].iter().all(|&x| x == 0) && scratch[512..].iter().all(|&x| x == 7));
     assert_eq!(g.write_into(&mut text), Ok(TEXT.len()));
     assert!(text.starts_with(TEXT) && text[TEXT.len()..].iter().all(|&x| x == 11));
-    let g = single(&[Requirement::new(&[&[0]], &[&[]])]);
+    let g = single(&[requirement(&[&[0]], &[&[]])]);
     let mut controller = vec![9u16; 20];
     assert_eq!(g.solve_into(&mut scratch, &mut controller, &mut environment), Ok((Winner::Environment, 2)));
     assert_eq!(environment[..2], [0, 0]);
@@ -268,10 +271,10 @@ fn a_players_refusals() {
 // Three inputs and three outputs, every move there, two requirements with three guarantees in all.
 fn three() -> Game {
     let all: &[usize] = &[0, 1, 2];
-    Game::new(
-        Graph::new(all, &[all; 3]),
-        Graph::new(&[0], &[all; 3]),
-        &[Requirement::new(&[&[1]], &[&[1], &[2]]), Requirement::new(&[&[2]], &[&[0]])],
+    made(
+        graph(all, &[all; 3]),
+        graph(&[0], &[all; 3]),
+        &[requirement(&[&[1]], &[&[1], &[2]]), requirement(&[&[2]], &[&[0]])],
     )
 }
 
@@ -319,8 +322,8 @@ fn a_long_run() {
 fn the_largest_game() {
     let all: Vec<usize> = (0..64).collect();
     let rows = vec![&all[..]; 64];
-    let q: Requirement = Requirement::new(&[&[0], &[1], &[2], &[3]], &[&[60], &[61], &[62], &[63]]);
-    let g = Game::new(Graph::new(&all, &rows), Graph::new(&all, &rows), &[q; 8]);
+    let q: Requirement = requirement(&[&[0], &[1], &[2], &[3]], &[&[60], &[61], &[62], &[63]]);
+    let g = made(graph(&all, &rows), graph(&all, &rows), &[q; 8]);
     let v = g.solve().unwrap();
     assert_eq!((v.winner, v.table.len()), (Winner::System, CONTROLLER_MOST));
     assert_eq!(g.won_map().unwrap(), vec![u64::MAX; 64]);

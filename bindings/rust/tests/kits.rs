@@ -1,4 +1,7 @@
 //! Kits through the safe wrapper: two pump drives, an environment's win, each refusal, and kits at random.
+mod made;
+
+use made::*;
 use nanpuwiq::*;
 
 const B: u8 = BARRED;
@@ -7,17 +10,17 @@ const B: u8 = BARRED;
 // down, flush, park. Low, high and stop with a flush are to be found again and again where they are asked for again and again. Service is never left,
 // nor is park: the new drive is to go there then, and not before.
 fn pump() -> Kit {
-    Kit::new(
-        Drive::new(&[0], &[&[0, 1, B, 3], &[0, 1, 2], &[B, 1, 2], &[B, B, B, 3]]),
-        Drive::new(
+    made_kit(
+        drive(&[0], &[&[0, 1, B, 3], &[0, 1, 2], &[B, 1, 2], &[B, B, B, 3]]),
+        drive(
             &[0],
             &[&[0, 0, 1, B, 4, 5], &[B, 0, 2, B, B, 5], &[2, 0, 3, 2, B, 5], &[3, B, B, 2], &[4, 0, B, B, 4], &[5, 5, B, B, B, 5]],
         ),
         &[
-            Requirement::new(&[&[1]], &[&[2]]),
-            Requirement::new(&[&[2]], &[&[3]]),
-            Requirement::new(&[&[0]], &[&[0], &[4]]),
-            Requirement::new(&[&[3]], &[&[5]]),
+            requirement(&[&[1]], &[&[2]]),
+            requirement(&[&[2]], &[&[3]]),
+            requirement(&[&[0]], &[&[0], &[4]]),
+            requirement(&[&[3]], &[&[5]]),
         ],
     )
 }
@@ -252,13 +255,6 @@ fn drives() {
     assert_eq!((d.modes, d.initial, d.commands), (4, 1, 4));
     assert_eq!(d.next[..20], [0, 1, B, 3, B, B, B, B, B, B, B, B, B, B, B, B, 0, 1, 2, B]);
     assert!(d.next[64..].iter().all(|&x| x == B));
-    // what does not fit is told by the counts
-    let long: &[u8] = &[0; 17];
-    assert_eq!(Drive::new(&[0], &[long]).commands, 17);
-    assert_eq!(Kit::new(Drive::new(&[0], &[long]), d, &[]).accept(), Err(refused(17)));
-    assert_eq!(Kit::new(d, Drive::new(&[0], &[&long[..1]; 65]), &[]).accept(), Err(refused(1)));
-    assert_eq!(Kit::new(d, d, &[Requirement::default(); 9]).accept(), Err(refused(5)));
-    assert_eq!(Kit::new(d, d, &[Requirement::default(); 8]).accept(), Ok(()));
 }
 
 #[test]
@@ -525,9 +521,9 @@ fn the_largest_kit() {
     // command u leads from mode m to mode 16 m + u, counted round: two commands lead anywhere
     let rows: Vec<Vec<u8>> = (0..64).map(|m| (0..16).map(|u| ((16 * m + u) % 64) as u8).collect()).collect();
     let rows: Vec<&[u8]> = rows.iter().map(|row| &row[..]).collect();
-    let d = Drive::new(&[0], &rows);
-    let q = Requirement::new(&[&[0], &[1], &[2], &[3]], &[&[60], &[61], &[62], &[63]]);
-    let kit = Kit::new(d, d, &[q; 8]);
+    let d = drive(&[0], &rows);
+    let q = requirement(&[&[0], &[1], &[2], &[3]], &[&[60], &[61], &[62], &[63]]);
+    let kit = made_kit(d, d, &[q; 8]);
     let v = kit.solve().unwrap();
     assert_eq!((v.winner, v.table.len()), (Winner::System, KIT_MOST));
     assert_eq!(v.table, kit_table(&kit, &game(&kit).solve().unwrap().table));

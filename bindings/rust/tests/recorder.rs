@@ -1,13 +1,16 @@
 //! Two recordings of one run, the panel's and the drive's, compared through the safe wrapper: each reply at the start and later, what goes before what
 //! at one step, each refusal, and recordings and tables at random.
+mod made;
+
+use made::*;
 use nanpuwiq::Comparison::*;
 use nanpuwiq::*;
 
 fn example() -> Game {
-    Game::new(
-        Graph::new(&[0], &[&[0, 1], &[0, 1]]),
-        Graph::new(&[0], &[&[0, 1], &[0, 1]]),
-        &[Requirement::new(&[&[1]], &[&[1]])],
+    made(
+        graph(&[0], &[&[0, 1], &[0, 1]]),
+        graph(&[0], &[&[0, 1], &[0, 1]]),
+        &[requirement(&[&[1]], &[&[1]])],
     )
 }
 
@@ -21,23 +24,23 @@ const ENTRIES: [usize; 6] = [0, 3, 4, 4, 5, 5];
 // Three inputs and three outputs, every move there, two requirements with three guarantees in all.
 fn three() -> Game {
     let all: &[usize] = &[0, 1, 2];
-    Game::new(
-        Graph::new(all, &[all; 3]),
-        Graph::new(&[0], &[all; 3]),
-        &[Requirement::new(&[&[1]], &[&[1], &[2]]), Requirement::new(&[&[2]], &[&[0]])],
+    made(
+        graph(all, &[all; 3]),
+        graph(&[0], &[all; 3]),
+        &[requirement(&[&[1]], &[&[1], &[2]]), requirement(&[&[2]], &[&[0]])],
     )
 }
 
 // Old modes stop, low, high, service; new modes stop, ramp, low, high, flush, park.
 fn pump() -> Game {
-    Game::new(
-        Graph::new(&[0], &[&[0, 1, 3], &[0, 1, 2], &[1, 2], &[3]]),
-        Graph::new(&[0], &[&[0, 1, 4, 5], &[0, 2, 5], &[0, 2, 3, 5], &[2, 3], &[0, 4], &[5]]),
+    made(
+        graph(&[0], &[&[0, 1, 3], &[0, 1, 2], &[1, 2], &[3]]),
+        graph(&[0], &[&[0, 1, 4, 5], &[0, 2, 5], &[0, 2, 3, 5], &[2, 3], &[0, 4], &[5]]),
         &[
-            Requirement::new(&[&[1]], &[&[2]]),
-            Requirement::new(&[&[2]], &[&[3]]),
-            Requirement::new(&[&[0]], &[&[0], &[4]]),
-            Requirement::new(&[&[3]], &[&[5]]),
+            requirement(&[&[1]], &[&[2]]),
+            requirement(&[&[2]], &[&[3]]),
+            requirement(&[&[0]], &[&[0], &[4]]),
+            requirement(&[&[3]], &[&[5]]),
         ],
     )
 }
@@ -46,7 +49,7 @@ fn pump() -> Game {
 fn full() -> Game {
     let all: Vec<usize> = (0..64).collect();
     let rows = vec![&all[..]; 64];
-    Game::new(Graph::new(&all, &rows), Graph::new(&all, &rows), &[Requirement::new(&[&[63]], &[&[63], &[40]])])
+    made(graph(&all, &rows), graph(&all, &rows), &[requirement(&[&[63]], &[&[63], &[40]])])
 }
 
 fn refused(number: u8) -> Error {
