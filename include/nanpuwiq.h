@@ -21,8 +21,8 @@
  *
  * Every value of every parameter has an answer, and on a refusal every buffer holds what it held before. What each entry promises is proved
  * in crates/nanpuwiq (specs/Calls.antt) and crates/results (specs/Results.antt), on the following, which C cannot check and a caller keeps to:
- *  - a pointer is not null, also where its length is 0, and is aligned for its type;
- *  - a length counts elements, not bytes, and that many elements can be read (written, where the pointer is not const);
+ *  - a pointer, a recording's too, is not null, also where its length is 0, and is aligned for its type;
+ *  - a length, a recording's steps too, counts elements, not bytes, and that many elements can be read (written, where the pointer is not const);
  *  - buffers and positions that are written overlap no other buffer of the same call, and no other thread uses them during it.
  * Games, kits, results and other positions go by value. No entry keeps a pointer, allocates, or has state of its own.
  */
@@ -102,6 +102,16 @@ typedef struct {
     nanpuwiq_out_state output;
     size_t counter;
 } nanpuwiq_position;
+
+/* Recordings of one run, a state number a byte: the inputs, from the panel, and the outputs, from the drive. They are types of their own too. */
+typedef struct {
+    const uint8_t *states;
+    size_t steps;
+} nanpuwiq_in_recording;
+typedef struct {
+    const uint8_t *states;
+    size_t steps;
+} nanpuwiq_out_recording;
 
 /* The solver's answer. On a refusal system is false and entries 0. */
 typedef struct {
@@ -186,16 +196,16 @@ nanpuwiq_moved nanpuwiq_step(nanpuwiq_game game, const uint16_t *table, size_t e
 /* Moves the position on by the next input, as nanpuwiq_step does; a refusal leaves it as it was. Code 0, 1 to 7, 16, 14 or 15. */
 uint8_t nanpuwiq_advance(nanpuwiq_game game, const uint16_t *table, size_t entries, nanpuwiq_position *at, nanpuwiq_in_state next);
 
-/* Whether of two recordings of one run, the panel's inputs and the drive's outputs, a state number a byte, the outputs are those that a controller's
- * table gives for the inputs. Step 0 is the first input with the table's start, every later step the table's row. The first step is told that shows
+/* Whether of two recordings of one run, the panel's inputs and the drive's outputs, the outputs are those that a controller's table gives for the
+ * inputs. Step 0 is the first input with the table's start, every later step the table's row. The first step is told that shows
  *  - a fault, that of nanpuwiq_begin or nanpuwiq_step for the input recorded there: code 14 or 15, agree and ended false;
  *  - a difference, an output recorded that is not the table's: code 0, agree and ended false;
  *  - an ending, one recording there and the other at its end: code 0, agree false, ended true.
  * A fault goes before a difference or an ending at its step; where an output is recorded and no input any more it is an ending, whatever the table has.
  * Recordings that end together with none of these agree, two empty ones too: code 0, agree true, ended false.
  * Code 0, 1 to 7, 16, or 14 or 15 with its step. */
-nanpuwiq_compared nanpuwiq_compare(nanpuwiq_game game, const uint16_t *table, size_t entries, const uint8_t *inputs, size_t input_bytes,
-                                   const uint8_t *outputs, size_t output_bytes);
+nanpuwiq_compared nanpuwiq_compare(nanpuwiq_game game, const uint16_t *table, size_t entries, nanpuwiq_in_recording inputs,
+                                   nanpuwiq_out_recording outputs);
 
 #ifdef __cplusplus
 }

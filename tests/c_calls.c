@@ -597,6 +597,26 @@ static void kit_refusals_in_order(void)
     same("kit in order: mended", memcmp(&kit, &right, sizeof kit), 0);
 }
 
+static nanpuwiq_in_recording inputs(const uint8_t *states, size_t steps)
+{
+    nanpuwiq_in_recording recording = {states, steps};
+    return recording;
+}
+
+static nanpuwiq_out_recording outputs(const uint8_t *states, size_t steps)
+{
+    nanpuwiq_out_recording recording = {states, steps};
+    return recording;
+}
+
+#ifdef EXCHANGED
+/* No compiler may take this: the drive's recording for the panel's. */
+nanpuwiq_compared exchanged(nanpuwiq_game g, nanpuwiq_in_recording panels, nanpuwiq_out_recording drives)
+{
+    return nanpuwiq_compare(g, table, 6, drives, panels);
+}
+#endif
+
 /* What is told of two recordings, in all four fields. */
 static void compared(const char *what, nanpuwiq_compared got, uint8_t code, bool agree, bool ended, size_t step)
 {
@@ -633,31 +653,31 @@ static void recordings(void)
 {
     nanpuwiq_game g = example();
     for (size_t n = 0; n <= 6; n++)
-        agrees("recordings, a front of the run", nanpuwiq_compare(g, table, 6, ins, n, outs, n));
+        agrees("recordings, a front of the run", nanpuwiq_compare(g, table, 6, inputs(ins, n), outputs(outs, n)));
     for (size_t n = 0; n <= 6; n++)
         for (size_t m = 0; m <= 6; m++)
             if (n != m)
-                ends("recordings, fronts of two lengths", nanpuwiq_compare(g, table, 6, ins, n, outs, m), n < m ? n : m);
+                ends("recordings, fronts of two lengths", nanpuwiq_compare(g, table, 6, inputs(ins, n), outputs(outs, m)), n < m ? n : m);
     static const uint8_t no_states[] = {2, 63, 64, 65, 128, 192, 255};
     uint8_t in[6], out[6];
     for (size_t n = 0; n < 6; n++) {
         memcpy(out, outs, 6);
         out[n] = !outs[n];
-        differs("recordings, another output", nanpuwiq_compare(g, table, 6, ins, 6, out, 6), n);
-        differs("recordings, another output at the end", nanpuwiq_compare(g, table, 6, ins, n + 1, out, n + 1), n);
+        differs("recordings, another output", nanpuwiq_compare(g, table, 6, inputs(ins, 6), outputs(out, 6)), n);
+        differs("recordings, another output at the end", nanpuwiq_compare(g, table, 6, inputs(ins, n + 1), outputs(out, n + 1)), n);
         for (size_t k = 0; k < sizeof no_states; k++) {
             out[n] = no_states[k];
-            differs("recordings, an output that is none", nanpuwiq_compare(g, table, 6, ins, 6, out, 6), n);
+            differs("recordings, an output that is none", nanpuwiq_compare(g, table, 6, inputs(ins, 6), outputs(out, 6)), n);
         }
         memcpy(in, ins, 6);
         for (size_t k = 0; k < sizeof no_states; k++) {
             in[n] = no_states[k];
-            fault("recordings, an input that is none", nanpuwiq_compare(g, table, 6, in, 6, outs, 6), 14, n);
-            fault("recordings, an input that is none, at the end", nanpuwiq_compare(g, table, 6, in, n + 1, outs, n + 1), 14, n);
+            fault("recordings, an input that is none", nanpuwiq_compare(g, table, 6, inputs(in, 6), outputs(outs, 6)), 14, n);
+            fault("recordings, an input that is none, at the end", nanpuwiq_compare(g, table, 6, inputs(in, n + 1), outputs(outs, n + 1)), 14, n);
         }
     }
     /* input 1 is not initial */
-    fault("recordings, not initial", nanpuwiq_compare(g, table, 6, ins + 1, 5, outs + 1, 5), 14, 0);
+    fault("recordings, not initial", nanpuwiq_compare(g, table, 6, inputs(ins + 1, 5), outputs(outs + 1, 5)), 14, 0);
 }
 
 /* Tables with one entry that is none, has a counter out of range, or an output that is no move. */
@@ -669,25 +689,25 @@ static void recordings_with_faulty_tables(void)
     for (size_t k = 0; k < 6; k++) {
         memcpy(other, table, sizeof other);
         other[0] = starts[k];
-        fault("recordings, start", nanpuwiq_compare(g, other, 6, ins, 6, outs, 6), 15, 0);
-        agrees("recordings, start, both empty", nanpuwiq_compare(g, other, 6, ins, 0, outs, 0));
+        fault("recordings, start", nanpuwiq_compare(g, other, 6, inputs(ins, 6), outputs(outs, 6)), 15, 0);
+        agrees("recordings, start, both empty", nanpuwiq_compare(g, other, 6, inputs(ins, 0), outputs(outs, 0)));
         /* entries 2 and 3 are the rows of output 0 for the inputs 0 and 1, 4 and 5 those of output 1: step 1 has entry 3, step 2 entry 4, step 4 entry 5 */
         static const size_t entries[] = {3, 4, 5}, steps[] = {1, 2, 4};
         for (size_t n = 0; n < 3; n++) {
             memcpy(other, table, sizeof other);
             other[entries[n]] = rows[k];
-            fault("recordings, row", nanpuwiq_compare(g, other, 6, ins, 6, outs, 6), 15, steps[n]);
-            agrees("recordings, row, both end before it", nanpuwiq_compare(g, other, 6, ins, steps[n], outs, steps[n]));
+            fault("recordings, row", nanpuwiq_compare(g, other, 6, inputs(ins, 6), outputs(outs, 6)), 15, steps[n]);
+            agrees("recordings, row, both end before it", nanpuwiq_compare(g, other, 6, inputs(ins, steps[n]), outputs(outs, steps[n])));
         }
         /* entries that the run has no use of */
         memcpy(other, table, sizeof other);
         other[1] = other[2] = rows[k];
-        agrees("recordings, other entries", nanpuwiq_compare(g, other, 6, ins, 6, outs, 6));
+        agrees("recordings, other entries", nanpuwiq_compare(g, other, 6, inputs(ins, 6), outputs(outs, 6)));
     }
     /* a row in order, but another one: then the drive's outputs are the other ones */
     memcpy(other, table, sizeof other);
     other[4] = 0;
-    differs("recordings, another row", nanpuwiq_compare(g, other, 6, ins, 6, outs, 6), 2);
+    differs("recordings, another row", nanpuwiq_compare(g, other, 6, inputs(ins, 6), outputs(outs, 6)), 2);
 }
 
 /* A fault goes before a difference or an ending at its step, 14 before 15, and what a step shows before what a later one does. */
@@ -703,40 +723,40 @@ static void recordings_in_order(void)
         memcpy(other, table, sizeof other);
         in[n] = 255;
         out[n] = 255;
-        fault("recordings in order: 14, then a difference", nanpuwiq_compare(g, table, 6, in, 6, out, 6), 14, n);
-        fault("recordings in order: 14, then an ending", nanpuwiq_compare(g, table, 6, in, 6, outs, n), 14, n);
-        ends("recordings in order: both end, but for an output", nanpuwiq_compare(g, table, 6, in, n, out, n + 1), n);
+        fault("recordings in order: 14, then a difference", nanpuwiq_compare(g, table, 6, inputs(in, 6), outputs(out, 6)), 14, n);
+        fault("recordings in order: 14, then an ending", nanpuwiq_compare(g, table, 6, inputs(in, 6), outputs(outs, n)), 14, n);
+        ends("recordings in order: both end, but for an output", nanpuwiq_compare(g, table, 6, inputs(in, n), outputs(out, n + 1)), n);
         if (n != 3 && n != 5) { /* there the entry is that of the step before */
             other[entries[n]] = NANPUWIQ_NONE;
-            fault("recordings in order: 15, then a difference", nanpuwiq_compare(g, other, 6, ins, 6, out, 6), 15, n);
-            fault("recordings in order: 15, then an ending", nanpuwiq_compare(g, other, 6, ins, 6, outs, n), 15, n);
-            ends("recordings in order: no input, so no 15", nanpuwiq_compare(g, other, 6, ins, n, outs, 6), n);
+            fault("recordings in order: 15, then a difference", nanpuwiq_compare(g, other, 6, inputs(ins, 6), outputs(out, 6)), 15, n);
+            fault("recordings in order: 15, then an ending", nanpuwiq_compare(g, other, 6, inputs(ins, 6), outputs(outs, n)), 15, n);
+            ends("recordings in order: no input, so no 15", nanpuwiq_compare(g, other, 6, inputs(ins, n), outputs(outs, 6)), n);
         }
         if (n < 5) {
             memcpy(out, outs, 6);
             out[n] = 255;
             in[n] = ins[n];
             in[n + 1] = 255;
-            differs("recordings in order: a difference, then 14", nanpuwiq_compare(g, table, 6, in, 6, out, 6), n);
-            differs("recordings in order: a difference, then an ending", nanpuwiq_compare(g, table, 6, ins, 6, out, n + 1), n);
-            differs("recordings in order: a difference, then another ending", nanpuwiq_compare(g, table, 6, ins, n + 1, out, 6), n);
+            differs("recordings in order: a difference, then 14", nanpuwiq_compare(g, table, 6, inputs(in, 6), outputs(out, 6)), n);
+            differs("recordings in order: a difference, then an ending", nanpuwiq_compare(g, table, 6, inputs(ins, 6), outputs(out, n + 1)), n);
+            differs("recordings in order: a difference, then another ending", nanpuwiq_compare(g, table, 6, inputs(ins, n + 1), outputs(out, 6)), n);
             out[n] = outs[n];
             out[n + 1] = 255;
             in[n] = 255;
-            fault("recordings in order: 14, then more", nanpuwiq_compare(g, table, 6, in, 6, out, 6), 14, n);
+            fault("recordings in order: 14, then more", nanpuwiq_compare(g, table, 6, inputs(in, 6), outputs(out, 6)), 14, n);
         }
     }
     /* input 1 is not initial, and its start is none */
-    fault("recordings in order: 14, then 15 at the start", nanpuwiq_compare(g, table, 6, ins + 1, 1, outs, 0), 14, 0);
+    fault("recordings in order: 14, then 15 at the start", nanpuwiq_compare(g, table, 6, inputs(ins + 1, 1), outputs(outs, 0)), 14, 0);
     /* row of none for input 1, which 0 then has no move to */
     uint16_t other[6] = {0, NANPUWIQ_NONE, 1, NANPUWIQ_NONE, 1, 1};
-    fault("recordings in order: 15 alone", nanpuwiq_compare(g, other, 6, ins, 6, outs, 6), 15, 1);
+    fault("recordings in order: 15 alone", nanpuwiq_compare(g, other, 6, inputs(ins, 6), outputs(outs, 6)), 15, 1);
     g.input.moves[0] = 1;
-    fault("recordings in order: 14, then 15", nanpuwiq_compare(g, other, 6, ins, 6, outs, 6), 14, 1);
+    fault("recordings in order: 14, then 15", nanpuwiq_compare(g, other, 6, inputs(ins, 6), outputs(outs, 6)), 14, 1);
     /* nothing recorded on one side, and a start of none */
     other[0] = NANPUWIQ_NONE;
-    ends("recordings in order: no input", nanpuwiq_compare(g, other, 6, ins, 0, outs, 6), 0);
-    fault("recordings in order: no output", nanpuwiq_compare(g, other, 6, ins, 6, outs, 0), 15, 0);
+    ends("recordings in order: no input", nanpuwiq_compare(g, other, 6, inputs(ins, 0), outputs(outs, 6)), 0);
+    fault("recordings in order: no output", nanpuwiq_compare(g, other, 6, inputs(ins, 6), outputs(outs, 0)), 15, 0);
 }
 
 /* All 64 states, each move there, answered with the input's own number; 64 and 255 are no states even so. */
@@ -754,16 +774,16 @@ static void recordings_of_all_states(void)
     uint8_t in[129], out[129];
     for (size_t n = 0; n < 129; n++)
         in[n] = out[n] = (n * 37 + 63) % 64;
-    agrees("64 states", nanpuwiq_compare(g, by_input, 64 + 64 * 64, in, 129, out, 129));
+    agrees("64 states", nanpuwiq_compare(g, by_input, 64 + 64 * 64, inputs(in, 129), outputs(out, 129)));
     for (size_t n = 0; n < 129; n += 64)
         for (unsigned wrong = 64; wrong < 256; wrong++) {
             uint8_t right = in[n];
             in[n] = wrong;
-            fault("64 states, no such input", nanpuwiq_compare(g, by_input, 64 + 64 * 64, in, 129, out, 129), 14, n);
+            fault("64 states, no such input", nanpuwiq_compare(g, by_input, 64 + 64 * 64, inputs(in, 129), outputs(out, 129)), 14, n);
             out[n] = wrong;
-            fault("64 states, no such input or output", nanpuwiq_compare(g, by_input, 64 + 64 * 64, in, 129, out, 129), 14, n);
+            fault("64 states, no such input or output", nanpuwiq_compare(g, by_input, 64 + 64 * 64, inputs(in, 129), outputs(out, 129)), 14, n);
             in[n] = right;
-            differs("64 states, no such output", nanpuwiq_compare(g, by_input, 64 + 64 * 64, in, 129, out, 129), n);
+            differs("64 states, no such output", nanpuwiq_compare(g, by_input, 64 + 64 * 64, inputs(in, 129), outputs(out, 129)), n);
             out[n] = right;
         }
 }
@@ -796,22 +816,22 @@ static void recordings_of_the_pump(void)
             out[n++] = m.at.output.number;
         }
     }
-    agrees("pump's recordings", nanpuwiq_compare(g, r.controller, CONTROLLER, in, STEPS, out, STEPS));
+    agrees("pump's recordings", nanpuwiq_compare(g, r.controller, CONTROLLER, inputs(in, STEPS), outputs(out, STEPS)));
     int new_places = 0;
     uint64_t been_in = 0, been_out = 0;
     for (size_t n = 0; n < STEPS; n++) {
-        agrees("pump's recordings, both cut", nanpuwiq_compare(g, r.controller, CONTROLLER, in, n, out, n));
-        ends("pump's recordings, outputs cut", nanpuwiq_compare(g, r.controller, CONTROLLER, in, STEPS, out, n), n);
-        ends("pump's recordings, inputs cut", nanpuwiq_compare(g, r.controller, CONTROLLER, in, n, out, STEPS), n);
+        agrees("pump's recordings, both cut", nanpuwiq_compare(g, r.controller, CONTROLLER, inputs(in, n), outputs(out, n)));
+        ends("pump's recordings, outputs cut", nanpuwiq_compare(g, r.controller, CONTROLLER, inputs(in, STEPS), outputs(out, n)), n);
+        ends("pump's recordings, inputs cut", nanpuwiq_compare(g, r.controller, CONTROLLER, inputs(in, n), outputs(out, STEPS)), n);
         uint8_t was = out[n];
         out[n] = (was + 1) % OUT;
-        differs("pump's recordings, another output", nanpuwiq_compare(g, r.controller, CONTROLLER, in, STEPS, out, STEPS), n);
+        differs("pump's recordings, another output", nanpuwiq_compare(g, r.controller, CONTROLLER, inputs(in, STEPS), outputs(out, STEPS)), n);
         out[n] = was;
         was = in[n];
         uint64_t moves = n == 0 ? g.input.initial : g.input.moves[in[n - 1]];
         for (in[n] = 0; in[n] < IN; in[n]++)
             if (!(moves >> in[n] & 1))
-                fault("pump's recordings, no move", nanpuwiq_compare(g, r.controller, CONTROLLER, in, STEPS, out, STEPS), 14, n);
+                fault("pump's recordings, no move", nanpuwiq_compare(g, r.controller, CONTROLLER, inputs(in, STEPS), outputs(out, STEPS)), 14, n);
         in[n] = was;
         /* its entry none: a fault at the first step that has it */
         size_t first = 0;
@@ -819,7 +839,7 @@ static void recordings_of_the_pump(void)
             first++;
         uint16_t entry = r.controller[places[n]];
         r.controller[places[n]] = NANPUWIQ_NONE;
-        fault("pump's recordings, entry of none", nanpuwiq_compare(g, r.controller, CONTROLLER, in, STEPS, out, STEPS), 15, first);
+        fault("pump's recordings, entry of none", nanpuwiq_compare(g, r.controller, CONTROLLER, inputs(in, STEPS), outputs(out, STEPS)), 15, first);
         r.controller[places[n]] = entry;
         new_places += first == n;
         been_in |= (uint64_t)1 << in[n];
@@ -836,32 +856,32 @@ static void recordings_refused(void)
     /* inputs that cannot be picked, outputs that are none: tried later, as is the table's length for 1 to 7 */
     static const uint8_t wrong[3] = {255, 255, 255};
     g.input.states = 0;
-    compared("recordings refused: 1", nanpuwiq_compare(g, table, 6, ins, 6, outs, 6), 1, false, false, 0);
+    compared("recordings refused: 1", nanpuwiq_compare(g, table, 6, inputs(ins, 6), outputs(outs, 6)), 1, false, false, 0);
     g = right, g.output.states = 65;
-    compared("recordings refused: 1, 65 states", nanpuwiq_compare(g, table, 5, wrong, 3, wrong, 3), 1, false, false, 0);
+    compared("recordings refused: 1, 65 states", nanpuwiq_compare(g, table, 5, inputs(wrong, 3), outputs(wrong, 3)), 1, false, false, 0);
     g = right, g.output.initial = 4;
-    compared("recordings refused: 2", nanpuwiq_compare(g, table, 6, ins, 6, outs, 6), 2, false, false, 0);
+    compared("recordings refused: 2", nanpuwiq_compare(g, table, 6, inputs(ins, 6), outputs(outs, 6)), 2, false, false, 0);
     g = right, g.input.initial = 0;
-    compared("recordings refused: 3", nanpuwiq_compare(g, table, 6, ins, 6, outs, 6), 3, false, false, 0);
+    compared("recordings refused: 3", nanpuwiq_compare(g, table, 6, inputs(ins, 6), outputs(outs, 6)), 3, false, false, 0);
     /* the new drive latches in 1, which is no refusal: the row that has it go on is at fault */
     g = right, g.output.moves[1] = 0;
-    compared("recordings, a drive that latches", nanpuwiq_compare(g, table, 6, ins, 6, outs, 6), 15, false, false, 2);
+    compared("recordings, a drive that latches", nanpuwiq_compare(g, table, 6, inputs(ins, 6), outputs(outs, 6)), 15, false, false, 2);
     g = right, g.k = 9;
-    compared("recordings refused: 5", nanpuwiq_compare(g, table, 6, ins, 6, outs, 6), 5, false, false, 0);
+    compared("recordings refused: 5", nanpuwiq_compare(g, table, 6, inputs(ins, 6), outputs(outs, 6)), 5, false, false, 0);
     g = right, g.requirements[7].guaranteed = 5;
-    compared("recordings refused: 6", nanpuwiq_compare(g, table, 6, ins, 6, outs, 6), 6, false, false, 0);
+    compared("recordings refused: 6", nanpuwiq_compare(g, table, 6, inputs(ins, 6), outputs(outs, 6)), 6, false, false, 0);
     g = right, g.requirements[0].assumptions[0].states = 4;
-    compared("recordings refused: 7", nanpuwiq_compare(g, table, 5, wrong, 3, wrong, 2), 7, false, false, 0);
-    compared("recordings refused: 7, both empty", nanpuwiq_compare(g, table, 6, ins, 0, outs, 0), 7, false, false, 0);
+    compared("recordings refused: 7", nanpuwiq_compare(g, table, 5, inputs(wrong, 3), outputs(wrong, 2)), 7, false, false, 0);
+    compared("recordings refused: 7, both empty", nanpuwiq_compare(g, table, 6, inputs(ins, 0), outputs(outs, 0)), 7, false, false, 0);
     static const uint16_t longer[7] = {0, NANPUWIQ_NONE, 1, 1, 1, 1, 1};
-    compared("recordings refused: 16, short", nanpuwiq_compare(right, table, 5, ins, 6, outs, 6), 16, false, false, 0);
-    compared("recordings refused: 16, long", nanpuwiq_compare(right, longer, 7, ins, 6, outs, 6), 16, false, false, 0);
-    compared("recordings refused: 16, no entries", nanpuwiq_compare(right, table, 0, ins, 6, outs, 6), 16, false, false, 0);
-    compared("recordings refused: 16, then 14", nanpuwiq_compare(right, table, 5, wrong, 3, wrong, 3), 16, false, false, 0);
-    compared("recordings refused: 16, both empty", nanpuwiq_compare(right, table, 5, ins, 0, outs, 0), 16, false, false, 0);
-    compared("recordings refused: 16, long, both empty", nanpuwiq_compare(right, longer, 7, ins, 0, outs, 0), 16, false, false, 0);
-    compared("recordings refused: 16, no outputs", nanpuwiq_compare(right, table, 5, ins, 6, outs, 0), 16, false, false, 0);
-    compared("recordings refused: 16, long, no inputs", nanpuwiq_compare(right, longer, 7, ins, 0, outs, 6), 16, false, false, 0);
+    compared("recordings refused: 16, short", nanpuwiq_compare(right, table, 5, inputs(ins, 6), outputs(outs, 6)), 16, false, false, 0);
+    compared("recordings refused: 16, long", nanpuwiq_compare(right, longer, 7, inputs(ins, 6), outputs(outs, 6)), 16, false, false, 0);
+    compared("recordings refused: 16, no entries", nanpuwiq_compare(right, table, 0, inputs(ins, 6), outputs(outs, 6)), 16, false, false, 0);
+    compared("recordings refused: 16, then 14", nanpuwiq_compare(right, table, 5, inputs(wrong, 3), outputs(wrong, 3)), 16, false, false, 0);
+    compared("recordings refused: 16, both empty", nanpuwiq_compare(right, table, 5, inputs(ins, 0), outputs(outs, 0)), 16, false, false, 0);
+    compared("recordings refused: 16, long, both empty", nanpuwiq_compare(right, longer, 7, inputs(ins, 0), outputs(outs, 0)), 16, false, false, 0);
+    compared("recordings refused: 16, no outputs", nanpuwiq_compare(right, table, 5, inputs(ins, 6), outputs(outs, 0)), 16, false, false, 0);
+    compared("recordings refused: 16, long, no inputs", nanpuwiq_compare(right, longer, 7, inputs(ins, 0), outputs(outs, 6)), 16, false, false, 0);
 }
 
 int main(void)

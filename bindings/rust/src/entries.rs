@@ -1,5 +1,5 @@
 //! The entries of the static library, each in a safe function. A slice passes as its pointer and its length, a record by value.
-use crate::{Game, InState, Kit, Position};
+use crate::{Game, InRecording, InState, Kit, OutRecording, Position};
 
 #[repr(C)]
 pub struct SolveResult {
@@ -35,6 +35,18 @@ pub struct CompareResult {
     pub step: usize,
 }
 
+#[repr(C)]
+struct InBytes {
+    states: *const u8,
+    steps: usize,
+}
+
+#[repr(C)]
+struct OutBytes {
+    states: *const u8,
+    steps: usize,
+}
+
 extern "C" {
     fn nanpuwiq_accept(game: Game) -> u8;
     fn nanpuwiq_won_map(game: Game, scratch: *mut u64, scratch_words: usize, map: *mut u64, map_words: usize) -> u8;
@@ -64,15 +76,7 @@ extern "C" {
     fn nanpuwiq_begin(game: Game, table: *const u16, entries: usize, first: InState) -> Moved;
     fn nanpuwiq_step(game: Game, table: *const u16, entries: usize, at: Position, next: InState) -> Moved;
     fn nanpuwiq_advance(game: Game, table: *const u16, entries: usize, at: *mut Position, next: InState) -> u8;
-    fn nanpuwiq_compare(
-        game: Game,
-        table: *const u16,
-        entries: usize,
-        inputs: *const u8,
-        input_bytes: usize,
-        outputs: *const u8,
-        output_bytes: usize,
-    ) -> CompareResult;
+    fn nanpuwiq_compare(game: Game, table: *const u16, entries: usize, inputs: InBytes, outputs: OutBytes) -> CompareResult;
 }
 
 // SAFETY, for every call below: a slice's pointer is not null, is aligned and has as many elements as its length says, a reference is as a slice
@@ -140,6 +144,8 @@ pub fn advance(game: Game, table: &[u16], at: &mut Position, next: InState) -> u
     unsafe { nanpuwiq_advance(game, table.as_ptr(), table.len(), at, next) }
 }
 
-pub fn compare(game: Game, table: &[u16], inputs: &[u8], outputs: &[u8]) -> CompareResult {
-    unsafe { nanpuwiq_compare(game, table.as_ptr(), table.len(), inputs.as_ptr(), inputs.len(), outputs.as_ptr(), outputs.len()) }
+pub fn compare(game: Game, table: &[u16], inputs: InRecording, outputs: OutRecording) -> CompareResult {
+    let inputs = InBytes { states: inputs.0.as_ptr(), steps: inputs.0.len() };
+    let outputs = OutBytes { states: outputs.0.as_ptr(), steps: outputs.0.len() };
+    unsafe { nanpuwiq_compare(game, table.as_ptr(), table.len(), inputs, outputs) }
 }

@@ -144,6 +144,14 @@ pub struct Verdict {
     pub table: Vec<u16>,
 }
 
+/// The inputs of a run, recorded by the panel: a state number a byte.
+#[derive(Clone, Copy, Debug, PartialEq, Eq)]
+pub struct InRecording<'a>(pub &'a [u8]);
+
+/// The outputs of a run, recorded by the drive: a state number a byte.
+#[derive(Clone, Copy, Debug, PartialEq, Eq)]
+pub struct OutRecording<'a>(pub &'a [u8]);
+
 /// What two recordings of one run show, and the first step that shows it. Steps count from 0, the start.
 #[derive(Clone, Copy, Debug, PartialEq, Eq)]
 pub enum Comparison {
@@ -336,9 +344,25 @@ impl Game {
         refusal(entries::advance(*self, table, at, next))
     }
 
-    /// Whether the outputs recorded by the drive are those that a controller's table gives for the inputs recorded by the panel, a state number a byte.
+    /// Whether the outputs recorded by the drive are those that a controller's table gives for the inputs recorded by the panel.
     /// The first input has the table's start, every later one its row: 1 to 7, 16.
-    pub fn compare(&self, table: &[u16], inputs: &[u8], outputs: &[u8]) -> Result<Comparison, Error> {
+    ///
+    /// ```
+    /// use nanpuwiq::*;
+    /// fn agree(game: &Game, table: &[u16], panel: InRecording, drive: OutRecording) -> Result<bool, Error> {
+    ///     Ok(game.compare(table, panel, drive)? == Comparison::Agree)
+    /// }
+    /// ```
+    ///
+    /// The two cannot be exchanged:
+    ///
+    /// ```compile_fail,E0308
+    /// use nanpuwiq::*;
+    /// fn agree(game: &Game, table: &[u16], panel: InRecording, drive: OutRecording) -> Result<bool, Error> {
+    ///     Ok(game.compare(table, drive, panel)? == Comparison::Agree)
+    /// }
+    /// ```
+    pub fn compare(&self, table: &[u16], inputs: InRecording, outputs: OutRecording) -> Result<Comparison, Error> {
         let r = entries::compare(*self, table, inputs, outputs);
         match r.code {
             0 if r.agree => Ok(Comparison::Agree),

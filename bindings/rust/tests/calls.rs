@@ -127,7 +127,7 @@ fn faulty_games_are_refused_by_every_entry() {
         assert_eq!(at, old);
         assert_eq!(g.advance(&controller, &mut at, InState(0)), Err(refused(number)));
         assert_eq!(at, old);
-        assert_eq!(g.compare(&controller, &[0], &[0]), Err(refused(number)));
+        assert_eq!(g.compare(&controller, InRecording(&[0]), OutRecording(&[0])), Err(refused(number)));
         assert!(scratch.iter().all(|&x| x == 7) && map.iter().all(|&x| x == 8) && text.iter().all(|&x| x == 11));
         assert!(controller.iter().all(|&x| x == 9) && environment.iter().all(|&x| x == 10));
     }

@@ -69,7 +69,7 @@ fn fronts_of_a_run() {
     for n in 0..=6 {
         for m in 0..=6 {
             let wanted = if n == m { Agree } else { Ended { step: n.min(m) } };
-            assert_eq!(g.compare(&TABLE, &INS[..n], &OUTS[..m]), Ok(wanted), "{n} inputs, {m} outputs");
+            assert_eq!(g.compare(&TABLE, InRecording(&INS[..n]), OutRecording(&OUTS[..m])), Ok(wanted), "{n} inputs, {m} outputs");
         }
     }
 }
@@ -79,32 +79,32 @@ fn each_reply_at_each_step() {
     let g = example();
     for n in 0..6 {
         let other = changed(OUTS, n, 1 - OUTS[n]);
-        assert_eq!(g.compare(&TABLE, &INS, &other), Ok(Differ { step: n }));
-        assert_eq!(g.compare(&TABLE, &INS[..=n], &other[..=n]), Ok(Differ { step: n }));
-        assert_eq!(g.compare(&TABLE, &INS[..n], &other[..n]), Ok(Agree));
+        assert_eq!(g.compare(&TABLE, InRecording(&INS), OutRecording(&other)), Ok(Differ { step: n }));
+        assert_eq!(g.compare(&TABLE, InRecording(&INS[..=n]), OutRecording(&other[..=n])), Ok(Differ { step: n }));
+        assert_eq!(g.compare(&TABLE, InRecording(&INS[..n]), OutRecording(&other[..n])), Ok(Agree));
         // no states
         for byte in 2..=255 {
-            assert_eq!(g.compare(&TABLE, &INS, &changed(OUTS, n, byte)), Ok(Differ { step: n }), "output {byte}");
+            assert_eq!(g.compare(&TABLE, InRecording(&INS), OutRecording(&changed(OUTS, n, byte))), Ok(Differ { step: n }), "output {byte}");
             let wrong = changed(INS, n, byte);
-            assert_eq!(g.compare(&TABLE, &wrong, &OUTS), Ok(Fault { step: n, number: 14 }), "input {byte}");
-            assert_eq!(g.compare(&TABLE, &wrong[..=n], &OUTS[..=n]), Ok(Fault { step: n, number: 14 }), "input {byte}");
-            assert_eq!(g.compare(&TABLE, &wrong[..n], &OUTS[..n]), Ok(Agree), "input {byte} is cut off");
+            assert_eq!(g.compare(&TABLE, InRecording(&wrong), OutRecording(&OUTS)), Ok(Fault { step: n, number: 14 }), "input {byte}");
+            assert_eq!(g.compare(&TABLE, InRecording(&wrong[..=n]), OutRecording(&OUTS[..=n])), Ok(Fault { step: n, number: 14 }), "input {byte}");
+            assert_eq!(g.compare(&TABLE, InRecording(&wrong[..n]), OutRecording(&OUTS[..n])), Ok(Agree), "input {byte} is cut off");
         }
         // none, a counter out of range, an output that is no move or at the start not initial
         let entry = ENTRIES[n];
         let first = ENTRIES.iter().position(|&e| e == entry).unwrap();
         for bad in [NONE, 64, if n == 0 { 1 } else { 65 }, 2, 63, 32_768 + n as u16] {
             let table = changed(TABLE, entry, bad);
-            assert_eq!(g.compare(&table, &INS, &OUTS), Ok(Fault { step: first, number: 15 }), "entry {bad}");
-            assert_eq!(g.compare(&table, &INS[..first], &OUTS[..first]), Ok(Agree), "entry {bad} is not come to");
+            assert_eq!(g.compare(&table, InRecording(&INS), OutRecording(&OUTS)), Ok(Fault { step: first, number: 15 }), "entry {bad}");
+            assert_eq!(g.compare(&table, InRecording(&INS[..first]), OutRecording(&OUTS[..first])), Ok(Agree), "entry {bad} is not come to");
         }
     }
     // not initial
-    assert_eq!(g.compare(&TABLE, &INS[1..], &OUTS[1..]), Ok(Fault { step: 0, number: 14 }));
+    assert_eq!(g.compare(&TABLE, InRecording(&INS[1..]), OutRecording(&OUTS[1..])), Ok(Fault { step: 0, number: 14 }));
     // entries that the run has no use of
-    assert_eq!(g.compare(&[0, 0, NONE, 1, 1, 1], &INS, &OUTS), Ok(Agree));
+    assert_eq!(g.compare(&[0, 0, NONE, 1, 1, 1], InRecording(&INS), OutRecording(&OUTS)), Ok(Agree));
     // a row in order, but another one
-    assert_eq!(g.compare(&changed(TABLE, 4, 0), &INS, &OUTS), Ok(Differ { step: 2 }));
+    assert_eq!(g.compare(&changed(TABLE, 4, 0), InRecording(&INS), OutRecording(&OUTS)), Ok(Differ { step: 2 }));
 }
 
 #[test]
@@ -113,38 +113,38 @@ fn what_goes_before_what() {
     for n in 0..6 {
         let (ins, outs) = (changed(INS, n, 255), changed(OUTS, n, 255));
         // at one step: a fault, then a difference or an ending; with no input there is no fault
-        assert_eq!(g.compare(&TABLE, &ins, &outs), Ok(Fault { step: n, number: 14 }));
-        assert_eq!(g.compare(&TABLE, &ins, &OUTS[..n]), Ok(Fault { step: n, number: 14 }));
-        assert_eq!(g.compare(&TABLE, &INS[..n], &outs), Ok(Ended { step: n }));
+        assert_eq!(g.compare(&TABLE, InRecording(&ins), OutRecording(&outs)), Ok(Fault { step: n, number: 14 }));
+        assert_eq!(g.compare(&TABLE, InRecording(&ins), OutRecording(&OUTS[..n])), Ok(Fault { step: n, number: 14 }));
+        assert_eq!(g.compare(&TABLE, InRecording(&INS[..n]), OutRecording(&outs)), Ok(Ended { step: n }));
         if ENTRIES.iter().position(|&e| e == ENTRIES[n]) == Some(n) {
             let table = changed(TABLE, ENTRIES[n], NONE);
-            assert_eq!(g.compare(&table, &INS, &outs), Ok(Fault { step: n, number: 15 }));
-            assert_eq!(g.compare(&table, &INS, &OUTS[..n]), Ok(Fault { step: n, number: 15 }));
-            assert_eq!(g.compare(&table, &ins, &OUTS), Ok(Fault { step: n, number: 14 }));
-            assert_eq!(g.compare(&table, &INS[..n], &OUTS), Ok(Ended { step: n }));
+            assert_eq!(g.compare(&table, InRecording(&INS), OutRecording(&outs)), Ok(Fault { step: n, number: 15 }));
+            assert_eq!(g.compare(&table, InRecording(&INS), OutRecording(&OUTS[..n])), Ok(Fault { step: n, number: 15 }));
+            assert_eq!(g.compare(&table, InRecording(&ins), OutRecording(&OUTS)), Ok(Fault { step: n, number: 14 }));
+            assert_eq!(g.compare(&table, InRecording(&INS[..n]), OutRecording(&OUTS)), Ok(Ended { step: n }));
         }
         // of two steps the earlier
         for m in n + 1..6 {
-            assert_eq!(g.compare(&TABLE, &ins, &changed(OUTS, m, 255)), Ok(Fault { step: n, number: 14 }));
-            assert_eq!(g.compare(&TABLE, &ins, &OUTS[..m]), Ok(Fault { step: n, number: 14 }));
-            assert_eq!(g.compare(&TABLE, &changed(INS, m, 255), &outs), Ok(Differ { step: n }));
-            assert_eq!(g.compare(&TABLE, &INS, &outs[..m]), Ok(Differ { step: n }));
-            assert_eq!(g.compare(&TABLE, &INS[..m], &outs), Ok(Differ { step: n }));
-            assert_eq!(g.compare(&TABLE, &changed(INS, m, 255), &OUTS[..n]), Ok(Ended { step: n }));
-            assert_eq!(g.compare(&TABLE, &INS[..n], &changed(OUTS, m, 255)), Ok(Ended { step: n }));
+            assert_eq!(g.compare(&TABLE, InRecording(&ins), OutRecording(&changed(OUTS, m, 255))), Ok(Fault { step: n, number: 14 }));
+            assert_eq!(g.compare(&TABLE, InRecording(&ins), OutRecording(&OUTS[..m])), Ok(Fault { step: n, number: 14 }));
+            assert_eq!(g.compare(&TABLE, InRecording(&changed(INS, m, 255)), OutRecording(&outs)), Ok(Differ { step: n }));
+            assert_eq!(g.compare(&TABLE, InRecording(&INS), OutRecording(&outs[..m])), Ok(Differ { step: n }));
+            assert_eq!(g.compare(&TABLE, InRecording(&INS[..m]), OutRecording(&outs)), Ok(Differ { step: n }));
+            assert_eq!(g.compare(&TABLE, InRecording(&changed(INS, m, 255)), OutRecording(&OUTS[..n])), Ok(Ended { step: n }));
+            assert_eq!(g.compare(&TABLE, InRecording(&INS[..n]), OutRecording(&changed(OUTS, m, 255))), Ok(Ended { step: n }));
         }
     }
     // a start of none and nothing recorded on one side
     let table = changed(TABLE, 0, NONE);
-    assert_eq!(g.compare(&table, &[], &OUTS), Ok(Ended { step: 0 }));
-    assert_eq!(g.compare(&table, &INS, &[]), Ok(Fault { step: 0, number: 15 }));
-    assert_eq!(g.compare(&table, &[], &[]), Ok(Agree));
+    assert_eq!(g.compare(&table, InRecording(&[]), OutRecording(&OUTS)), Ok(Ended { step: 0 }));
+    assert_eq!(g.compare(&table, InRecording(&INS), OutRecording(&[])), Ok(Fault { step: 0, number: 15 }));
+    assert_eq!(g.compare(&table, InRecording(&[]), OutRecording(&[])), Ok(Agree));
     // the input is no move and its row is none
     let mut g = g;
     let table = changed(TABLE, 3, NONE);
-    assert_eq!(g.compare(&table, &INS, &OUTS), Ok(Fault { step: 1, number: 15 }));
+    assert_eq!(g.compare(&table, InRecording(&INS), OutRecording(&OUTS)), Ok(Fault { step: 1, number: 15 }));
     g.input.moves[0] = 1;
-    assert_eq!(g.compare(&table, &INS, &OUTS), Ok(Fault { step: 1, number: 14 }));
+    assert_eq!(g.compare(&table, InRecording(&INS), OutRecording(&OUTS)), Ok(Fault { step: 1, number: 14 }));
 }
 
 #[test]
@@ -153,14 +153,14 @@ fn bytes_that_are_no_states_of_the_largest_graphs() {
     // the output is the input's number
     let table: Vec<u16> = (0..64 + 64 * 64).map(|k| k % 64).collect();
     let run: Vec<u8> = (0..130).map(|n| ((n * 37 + 63) % 64) as u8).collect();
-    assert_eq!(g.compare(&table, &run, &run), Ok(Agree));
+    assert_eq!(g.compare(&table, InRecording(&run), OutRecording(&run)), Ok(Agree));
     for n in [0, 1, 64, 129] {
         for byte in 64..=255 {
             let mut other = run.clone();
             other[n] = byte;
-            assert_eq!(g.compare(&table, &other, &run), Ok(Fault { step: n, number: 14 }), "input {byte}");
-            assert_eq!(g.compare(&table, &run, &other), Ok(Differ { step: n }), "output {byte}");
-            assert_eq!(g.compare(&table, &other, &other), Ok(Fault { step: n, number: 14 }), "both {byte}");
+            assert_eq!(g.compare(&table, InRecording(&other), OutRecording(&run)), Ok(Fault { step: n, number: 14 }), "input {byte}");
+            assert_eq!(g.compare(&table, InRecording(&run), OutRecording(&other)), Ok(Differ { step: n }), "output {byte}");
+            assert_eq!(g.compare(&table, InRecording(&other), OutRecording(&other)), Ok(Fault { step: n, number: 14 }), "both {byte}");
         }
     }
 }
@@ -186,7 +186,7 @@ fn refusals() {
         // before 16, 14, 15, a difference and an ending
         for table in [&TABLE[..], &TABLE[..5], &[NONE; 6], &[]] {
             for (ins, outs) in [(&INS[..], &OUTS[..]), (&wrong, &wrong), (&INS, &wrong), (&INS, &OUTS[..2]), (&[], &OUTS), (&[], &[])] {
-                assert_eq!(g.compare(table, ins, outs), Err(refused(number)));
+                assert_eq!(g.compare(table, InRecording(ins), OutRecording(outs)), Err(refused(number)));
             }
         }
     }
@@ -194,16 +194,16 @@ fn refusals() {
     let g = example();
     for table in [&TABLE[..5], &[0, NONE, 1, 1, 1, 1, 1], &[NONE; 5], &[], &[0; CONTROLLER_MOST]] {
         for (ins, outs) in [(&INS[..], &OUTS[..]), (&wrong, &wrong), (&INS, &wrong), (&INS, &OUTS[..2]), (&[], &OUTS), (&[], &[])] {
-            assert_eq!(g.compare(table, ins, outs), Err(refused(16)));
+            assert_eq!(g.compare(table, InRecording(ins), OutRecording(outs)), Err(refused(16)));
         }
     }
     // a drive that latches is none: the row that has it go on is at fault
     let mut latched = g;
     latched.output.moves[1] = 0;
-    assert_eq!(latched.compare(&TABLE, &INS, &OUTS), Ok(Fault { step: 2, number: 15 }));
+    assert_eq!(latched.compare(&TABLE, InRecording(&INS), OutRecording(&OUTS)), Ok(Fault { step: 2, number: 15 }));
     // a panel's table, another game's
-    assert_eq!(g.compare(&[0; 5], &INS, &OUTS), Err(refused(16)));
-    assert_eq!(three().compare(&TABLE, &INS, &OUTS), Err(refused(16)));
+    assert_eq!(g.compare(&[0; 5], InRecording(&INS), OutRecording(&OUTS)), Err(refused(16)));
+    assert_eq!(three().compare(&TABLE, InRecording(&INS), OutRecording(&OUTS)), Err(refused(16)));
 }
 
 // Input, output, counter.
@@ -430,11 +430,11 @@ fn runs_of_controllers_at_random() {
             let steps = 1 + draw.below(40);
             let mut run = draw.run(&g, &v.table, steps);
             assert_eq!(run.inputs.len(), steps);
-            assert_eq!(g.compare(&v.table, &run.inputs, &run.outputs), Ok(Agree));
+            assert_eq!(g.compare(&v.table, InRecording(&run.inputs), OutRecording(&run.outputs)), Ok(Agree));
             let (mut table, right) = (v.table.clone(), run.outputs.clone());
             damaged(&mut draw, &g, &mut table, &mut run);
             let wanted = told(&g, &table, &run.inputs, &run.outputs);
-            assert_eq!(g.compare(&table, &run.inputs, &run.outputs), Ok(wanted), "{g:?} {:?} {:?}", run.inputs, run.outputs);
+            assert_eq!(g.compare(&table, InRecording(&run.inputs), OutRecording(&run.outputs)), Ok(wanted), "{g:?} {:?} {:?}", run.inputs, run.outputs);
             tally.add(wanted, &run, &right);
         }
     }
@@ -453,7 +453,7 @@ fn tables_at_random() {
         let right = run.outputs.clone();
         damaged(&mut draw, &g, &mut table, &mut run);
         let wanted = told(&g, &table, &run.inputs, &run.outputs);
-        assert_eq!(g.compare(&table, &run.inputs, &run.outputs), Ok(wanted), "{g:?} {table:?} {:?} {:?}", run.inputs, run.outputs);
+        assert_eq!(g.compare(&table, InRecording(&run.inputs), OutRecording(&run.outputs)), Ok(wanted), "{g:?} {table:?} {:?} {:?}", run.inputs, run.outputs);
         tally.add(wanted, &run, &right);
     }
     assert!(tally.least() > 10, "{tally:?}");
@@ -468,13 +468,13 @@ fn a_long_recording() {
     let steps = 300_000;
     let mut run = Draw(9).run(&picked, &table, steps);
     assert_eq!(run.inputs.len(), steps);
-    assert_eq!(g.compare(&table, &run.inputs, &run.outputs), Ok(Agree));
+    assert_eq!(g.compare(&table, InRecording(&run.inputs), OutRecording(&run.outputs)), Ok(Agree));
     run.outputs[steps - 1] ^= 1;
-    assert_eq!(g.compare(&table, &run.inputs, &run.outputs), Ok(Differ { step: steps - 1 }));
+    assert_eq!(g.compare(&table, InRecording(&run.inputs), OutRecording(&run.outputs)), Ok(Differ { step: steps - 1 }));
     run.outputs.pop();
-    assert_eq!(g.compare(&table, &run.inputs, &run.outputs), Ok(Ended { step: steps - 1 }));
+    assert_eq!(g.compare(&table, InRecording(&run.inputs), OutRecording(&run.outputs)), Ok(Ended { step: steps - 1 }));
     run.inputs[steps - 1] = 255;
-    assert_eq!(g.compare(&table, &run.inputs, &run.outputs), Ok(Fault { step: steps - 1, number: 14 }));
+    assert_eq!(g.compare(&table, InRecording(&run.inputs), OutRecording(&run.outputs)), Ok(Fault { step: steps - 1, number: 14 }));
     run.inputs.pop();
-    assert_eq!(g.compare(&table, &run.inputs, &run.outputs), Ok(Agree));
+    assert_eq!(g.compare(&table, InRecording(&run.inputs), OutRecording(&run.outputs)), Ok(Agree));
 }

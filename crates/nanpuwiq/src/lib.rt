@@ -12,6 +12,8 @@ use game::Game;
 use game::InState;
 use place::Position;
 use player::Moved;
+use recorder::InRecording;
+use recorder::OutRecording;
 use results::CompareResult;
 use results::ReadResult;
 use results::SolveResult;
@@ -110,13 +112,13 @@ pub extern "C" fn nanpuwiq_advance(g: Game, table: &[u16], at: &mut Position, ne
 
 // Whether the recorded outputs are those that the table gives for the recorded inputs; else the first step that shows it.
 #[no_mangle]
-pub extern "C" fn nanpuwiq_compare(
+pub extern "C" fn nanpuwiq_compare<'a, 'b, 'c>(
     g: Game,
-    table: &[u16],
-    inputs: &[u8],
-    outputs: &[u8],
+    table: &'a [u16],
+    inputs: InRecording<'b>,
+    outputs: OutRecording<'c>,
 ) -> CompareResult
-    ensures { λ r. ⌜ r ≡ compareResult (compared g (now (table .entry)) (now (inputs .entry)) (now (outputs .entry))) ⌝ }
+    ensures { λ r. ⌜ r ≡ compareResult (compared g (now (table .entry)) (now (inputs .entry .states)) (now (outputs .entry .states))) ⌝ }
 {
     results::compare_result(recorder::compare(g, table, inputs, outputs))
 }

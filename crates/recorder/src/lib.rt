@@ -10,6 +10,18 @@ ghost use Prim.Native.Nat.{_≤_, _<_};
 ghost use lib.ListN.{length, getD, drop};
 ghost use Rattle.recorder.specs.Recorded.{ended, answerAt, recorded, nowhere, Compares};
 
+// The inputs of a run, recorded by the panel: a state number a byte.
+#[repr(C)]
+pub struct InRecording<'a> {
+    pub states: &'a [u8],
+}
+
+// The outputs of a run, recorded by the drive.
+#[repr(C)]
+pub struct OutRecording<'a> {
+    pub states: &'a [u8],
+}
+
 // The reply. Steps count from 0, the start. A fault holds its step and the player's number.
 pub enum Compared {
     Agree,
@@ -80,7 +92,7 @@ fn follow(g: Game, table: &[u16], inputs: &[u8], outputs: &[u8]) -> Compared
 }
 
 // Whether the outputs are those that the table gives for the inputs; else the first step that shows it.
-pub fn compare(g: Game, table: &[u16], inputs: &[u8], outputs: &[u8]) -> Compared
+fn compare_states(g: Game, table: &[u16], inputs: &[u8], outputs: &[u8]) -> Compared
     ensures { λ r. ⌜ Compares g (now (table .entry)) (now (inputs .entry)) (now (outputs .entry)) r ⌝ }
 {
     match acceptance::accept(g) {
@@ -92,4 +104,16 @@ pub fn compare(g: Game, table: &[u16], inputs: &[u8], outputs: &[u8]) -> Compare
             follow(g, table, inputs, outputs)
         }
     }
+}
+
+// Whether the recorded outputs are those that the table gives for the recorded inputs; else the first step that shows it.
+pub fn compare<'a, 'b, 'c>(
+    g: Game,
+    table: &'a [u16],
+    inputs: InRecording<'b>,
+    outputs: OutRecording<'c>,
+) -> Compared
+    ensures { λ r. ⌜ Compares g (now (table .entry)) (now (inputs .entry .states)) (now (outputs .entry .states)) r ⌝ }
+{
+    compare_states(g, table, inputs.states, outputs.states)
 }

@@ -1,0 +1,52 @@
+-- `compare_states` by its tests.
+use mathlib.Core.Path.{sym, _∙_}
+use Rattle.recorder.proofs.Steps.{compared-faulty, compared-misfit, compared-in, compares}
+use borrow.Author.Needs.{needs}
+use Rattle.recorder.proofs.compare_states.Statement.{statement}
+use Rattle.recorder.proofs.compare_states.Tie as tie
+
+accept-requires : tie.Need-accept-requires
+accept-requires c κs = search needs
+
+enum-known-n : tie.Need-enum-known-n
+enum-known-n c = search needs
+
+enum-told : tie.Need-enum-told
+enum-told c = search needs
+
+controller-length-requires : tie.Need-controller-length-requires
+controller-length-requires c κs = sym (c .before .before .accept .ensures .answer) ∙ c .enum-told .given .1
+
+returns : tie.Need-returns
+returns c =
+    let t = c .before .before in
+    compares _ _ _ _
+    (compared-misfit _ _ _ _ (sym (t .before .before .accept .ensures .answer) ∙ t .enum-told .given .1)
+    (λ h. c .if1 .taken (h ∙ sym (c .before .controller-length .ensures))))
+
+follow-requires : tie.Need-follow-requires
+follow-requires c κs = search needs
+
+returns-2 : tie.Need-returns-2
+returns-2 c = compares _ _ _ _ (compared-faulty _ _ _ _ _ (sym (c .before .before .before .accept .ensures .answer) ∙ c .before .n .given .1))
+
+returns-3 : tie.Need-returns-3
+returns-3 c =
+    let i = c .before in
+    let t = i .before .before in
+    compares _ _ _ _
+    (compared-in _ _ _ _ (sym (t .before .before .accept .ensures .answer) ∙ t .enum-told .given .1) (i .if1 .left ∙ i .before .controller-length .ensures)
+    (c .follow .ensures))
+
+pub compare-states-spec : {M : Type 1} → statement M
+compare-states-spec =
+    tie.close
+    (tie.spec
+    accept-requires
+    enum-known-n
+    enum-told
+    controller-length-requires
+    returns
+    follow-requires
+    returns-2
+    returns-3)
