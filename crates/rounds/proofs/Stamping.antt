@@ -1,0 +1,124 @@
+-- What a round and a walk write.
+--
+--   first-hit, first-miss, first-small, stamp-entries : the entry of a move
+--   Walked rows z c target own w left x y == from x to y the rows of the states of own that are not left were written
+--   walked-start, walked-turn, walked-still, walked-empty : round after round
+use Prim.Native.Nat.{ℕ, _+_, _*_, _≤_, _<_, _^_}
+use native.Mathlib.Nat.{mul-le-mul}
+use mathlib.Core.Path.{_≡_, refl, _∙_, ap}
+use mathlib.Core.Bool.{Bool, true, false, not, _&&_, _||_}
+use mathlib.Core.List.{List}
+use mathlib.Core.Logic.{_⊎_, inl, inr}
+use native.Mathlib.Omega.{arith}
+use lib.ListN.{length}
+use Rattle.finite.proofs.Truth.{decide, clash}
+use Rattle.sets.specs.Member.{has}
+use Rattle.sets.proofs.Membership.{has-zero}
+use Rattle.sets.proofs.Compare.{nonzero-below}
+use Rattle.graphs.specs.Way.{prefer}
+use Rattle.graphs.proofs.Way.{Leads, prefer-below}
+use Rattle.arena.specs.Table.{Answer}
+use Rattle.ways.specs.Kept.{kept}
+use Rattle.ways.proofs.Round.{settles-left}
+use Rattle.layout.specs.declared.Layout.{Layout}
+use Rattle.layout.specs.Rows.{Fits, Rows, Filled, Entries}
+use Rattle.layout.proofs.Places.{filled-none, filled-join, filled-part}
+use Rattle.rounds.specs.declared.Stamp.{Stamp}
+use Rattle.rounds.specs.Walk.{firstOf, Stamps, Fair, Settled, Leading, Walks}
+use Rattle.rounds.proofs.Levels.{Levels, levels-chosen, levels-leads, levels-still, levels-turn, gone, settled-settles}
+
+-- the entry of a move
+
+pub first-hit : (w : Stamp) (p : ℕ) → has (w .goal) p ≡ true → p + w .hit ≡ firstOf w p
+unfolding firstOf
+first-hit w p e = rw (e, firstOf)
+
+pub first-miss : (w : Stamp) (p : ℕ) → has (w .goal) p ≡ false → p + w .miss ≡ firstOf w p
+unfolding firstOf
+first-miss w p e = rw (e, firstOf)
+
+first-small : (z : Layout) (w : Stamp) (p : ℕ) → Stamps z w → p < 64 → firstOf w p < 2112
+first-small z w p S b =
+    elim (decide (has (w .goal) p)) [
+      | inl e ↦ omega (arith, first-hit w p e, S .hit)
+      | inr e ↦ omega (arith, first-miss w p e, S .miss)
+    ]
+
+pub stamp-entries : (z : Layout) (n : ℕ) (w : Stamp) (p first : ℕ) → Fits z n → Stamps z w → p < 64 → first ≡ firstOf w p → Entries z (w .which) first (w .more)
+stamp-entries z n w p first F S b e = record {
+  counters = S .counters;
+  small = λ h i. omega (arith, first-small z w p S b, mul-le-mul {n₂ = 64} {m₂ = 32} (S .more) (below h i));
+}
+  where
+    below : (h : ℕ) → has (w .which) h ≡ true → h ≤ 32
+    below h i = omega (arith, S .counters h i, F .counters)
+
+-- the choice is a state
+pub choice-small : (s x : ℕ) {v : ℕ} → x < 2 ^ 64 → (x ≡ 0 → ⊥) → v ≡ prefer 64 s (has x) → v < 64
+choice-small s x h ne e =
+    let m = nonzero-below 64 x h ne in
+    omega (arith, prefer-below 64 s (has x) (m .0) (m .1) (m .2))
+
+-- round after round
+
+pub record Walked (rows : List ℕ) (z : Layout) (c target own : ℕ) (w : Stamp) (l left : ℕ) (x y : List ℕ) : Type 0 where
+  pub levels : Levels rows (z .states) c target l left
+  pub part : (s : ℕ) → has left s ≡ true → has own s ≡ true
+  pub long : length y ≡ length x
+  pub fills : (f : ℕ → ℕ → ℕ → Answer) (E : List ℕ) → Rows z f E → Leading rows z c target own w f
+      → Filled z E (λ s h b. (has own s ≡ true) × (has left s ≡ false) × (has (w .which) h ≡ true) × (has (w .over) b ≡ true)) x y
+
+module _ (rows : List ℕ) (z : Layout) (c target own : ℕ) (w : Stamp) where
+  pub walked-start : (x : List ℕ) → Levels rows (z .states) c target target own → Walked rows z c target own w target own x x
+  walked-start x L = record {
+    levels = L;
+    part = λ s e. e;
+    long = refl;
+    fills = λ f E R F. filled-none z f E R x (λ s h b ls lh lb p. clash (p .0) (p .1));
+  }
+
+  module _ (l left r : ℕ) {x y y′ : List ℕ} (few : z .states ≤ 64) (W : Walked rows z c target own w l left x y) (D : Settled rows z c left l w y y′ r) where
+    fair : (f : ℕ → ℕ → ℕ → Answer) → Leading rows z c target own w f → Fair rows z c left l w f
+    fair f F = record {
+      entry = λ s h b ls e i lb o.
+          ap (λ (j : ℕ). firstOf w j + w .more * h) (levels-chosen rows (z .states) c target l left r few (W .levels) (D .states) s ls e)
+          ∙ F .entry s h b ls (W .part s (settles-left rows c left l s e))
+          (levels-leads rows (z .states) c target l left r few (W .levels) (D .states) s e) i lb o;
+    }
+
+    pub walked-still : {y″ : List ℕ} → r ≡ 0 → y″ ≡ y′ → Walks rows z c target own w x y″
+    walked-still {y″} e q = rw q (record {
+      long = D .long ∙ W .long;
+      fills = λ f E R F.
+          filled-join z f E R (W .fills f E R F) (D .fills f E R (fair f F))
+          (λ s h b ls lh lb p. inl (p .0, none s ls (p .1) (decide (has left s)), p .2, p .3));
+    })
+      where
+        none : (s : ℕ) → s < z .states → Leads (z .states) (kept rows c) (has target) s → (has left s ≡ true) ⊎ (has left s ≡ false) → has left s ≡ false
+        none s ls a (inl k) = absurd (levels-still rows (z .states) c target l left r few (W .levels) (D .states) e s ls k a)
+        none s ls a (inr k) = k
+
+    pub walked-turn : (l′ left′ : ℕ) {y″ : List ℕ} → ((s : ℕ) → has l′ s ≡ (has l s || has r s))
+        → ((s : ℕ) → has left′ s ≡ (has left s && not (has r s))) → y″ ≡ y′
+        → Walked rows z c target own w l′ left′ x y″
+    walked-turn l′ left′ {y″} f g q = rw q (record {
+      levels = levels-turn rows (z .states) c target l left r few (W .levels) (D .states) l′ left′ f g;
+      part = λ s e. W .part s (still s e);
+      long = D .long ∙ W .long;
+      fills = λ k E R F.
+          filled-join z k E R (W .fills k E R F) (D .fills k E R (fair k F))
+          (λ s h b ls lh lb p.
+          elim (gone rows (z .states) c target l left r few (W .levels) (D .states) l′ left′ f g s (p .1)) [
+            | inl a ↦ inl (p .0, a, p .2, p .3)
+            | inr a ↦ inr (settled-settles rows (z .states) c target l left r few (W .levels) (D .states) s a, p .2, p .3)
+          ]);
+    })
+      where
+        still : (s : ℕ) → has left′ s ≡ true → has left s ≡ true
+        still s e = elim (decide (has left s)) [ inl a ↦ a | inr a ↦ clash e (g s ∙ ap (λ (k : Bool). k && not (has r s)) a) ]
+
+  pub walked-empty : {l left : ℕ} {x y : List ℕ} → Walked rows z c target own w l left x y → left ≡ 0 → Walks rows z c target own w x y
+  walked-empty {l} {left} W e = record {
+    long = W .long;
+    fills = λ f E R F. filled-part z f E R (W .fills f E R F) (λ s h b ls lh lb p. (p .0, ap (λ (k : ℕ). has k s) e ∙ has-zero s, p .2, p .3));
+  }

@@ -1,0 +1,79 @@
+-- `walk`: round after round while states are left and a round settles some; each round leaves fewer.
+use mathlib.Core.Path.{refl, _∙_}
+use borrow.Author.Needs.{needs}
+use Rattle.finite.specs.Bounded.{count}
+use Rattle.sets.specs.Member.{has}
+use Rattle.layout.proofs.Places.{fits-same}
+use Rattle.rounds.proofs.Levels.{levels-start, left-falls}
+use Rattle.rounds.proofs.Stamping.{Walked, walked-start, walked-turn, walked-still, walked-empty}
+use Rattle.rounds.proofs.walk.Statement.{statement}
+use Rattle.rounds.proofs.walk.Tie as tie
+
+abbrev Inv-loop : tie.InvT-loop
+Inv-loop rows room₀ z inside target own w reached₀ left₀ room reached left = Walked rows z inside target own w reached left room₀ room
+
+abbrev μ-loop : tie.MeasureT-loop
+μ-loop rows room₀ z inside target own w reached₀ left₀ room reached left = count 64 (has left)
+
+loop-holds : tie.Need-loop-holds Inv-loop μ-loop
+loop-holds c = let g = c .before .pre .2 in walked-start _ _ _ _ _ _ _ (levels-start _ _ _ _ _ (g .members) (g .inside) (g .cover))
+
+settle-requires : tie.Need-settle-requires Inv-loop μ-loop
+settle-requires c κs =
+    let l = c .before .before in
+    let p = l .before .before .pre in
+    (fits-same _ _ _ (l .loop .inv .long) (p .0), p .1)
+
+same-length : tie.Need-same-length Inv-loop μ-loop
+same-length c = let s = c .before .before .before in s .settle .ensures .long ∙ s .before .before .before .loop .inv .long
+
+returns : tie.Need-returns Inv-loop μ-loop
+returns c =
+    let s = c .before .before .before in
+    let l = s .before .before .before in
+    walked-still _ _ _ _ _ _ _ _ _ (l .before .before .pre .0 .states) (l .loop .inv) (s .settle .ensures) (c .if1 .taken) refl
+
+union-requires : tie.Need-union-requires Inv-loop μ-loop
+union-requires c κs = search needs
+
+difference-requires : tie.Need-difference-requires Inv-loop μ-loop
+difference-requires c κs = search needs
+
+loop-less : tie.Need-loop-less Inv-loop μ-loop
+loop-less c =
+    let e = c .before .before in
+    let s = e .before .before .before in
+    let l = s .before .before .before in
+    left-falls _ _ _ _ _ _ _ (l .before .before .pre .0 .states) (l .loop .inv .levels) (s .settle .ensures .states) _ _
+    (c .before .union .ensures) (c .difference .ensures) (e .if1 .left)
+
+loop-again : tie.Need-loop-again Inv-loop μ-loop
+loop-again c =
+    let e = c .before .before in
+    let s = e .before .before .before in
+    let l = s .before .before .before in
+    walked-turn _ _ _ _ _ _ _ _ _ (l .before .before .pre .0 .states) (l .loop .inv) (s .settle .ensures) _ _
+    (c .before .union .ensures) (c .difference .ensures) refl
+
+same-length-2 : tie.Need-same-length-2 Inv-loop μ-loop
+same-length-2 c = c .before .loop .inv .long
+
+returns-2 : tie.Need-returns-2 Inv-loop μ-loop
+returns-2 c = walked-empty _ _ _ _ _ _ (c .before .loop .inv) (c .loop-test .left)
+
+pub walk-spec : {M : Type 1} → statement M
+walk-spec =
+    tie.close
+    (tie.spec
+    Inv-loop
+    μ-loop
+    loop-holds
+    settle-requires
+    same-length
+    returns
+    union-requires
+    difference-requires
+    loop-less
+    loop-again
+    same-length-2
+    returns-2)

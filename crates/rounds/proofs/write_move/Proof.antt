@@ -1,0 +1,22 @@
+-- `write_move` writes the entry of the move.
+use borrow.Author.Needs.{needs}
+use Rattle.rounds.proofs.Stamping.{stamp-entries}
+use Rattle.rounds.proofs.write_move.Statement.{statement}
+use Rattle.rounds.proofs.write_move.Tie as tie
+
+first-of-requires : tie.Need-first-of-requires
+first-of-requires c κs = search needs
+
+write-requires : tie.Need-write-requires
+write-requires c κs =
+    let p = c .before .before .before .pre in
+    (p .0, p .1, stamp-entries _ _ _ _ _ (p .0) (p .3) (p .2) (c .before .first-of .ensures))
+
+same-length : tie.Need-same-length
+same-length c = search needs
+
+returns : tie.Need-returns
+returns c = rw (c .before .before .before .before .first-of .ensures) at (c .before .before .write .ensures)
+
+pub write-move-spec : {M : Type 1} → statement M
+write-move-spec = tie.close (tie.spec first-of-requires write-requires same-length returns)
