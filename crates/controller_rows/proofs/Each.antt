@@ -1,14 +1,12 @@
 -- Laws of loops that change a buffer.
 --
 --   each-hit, each-miss, each-end    : the turns of a loop, and its end
---   each-skip                        : a loop that passes over numbers without p
 --   each-long                        : steps that keep the length
-use Prim.Native.Nat.{ℕ, zero, suc, _+_, _≤_, _<_}
+use Prim.Native.Nat.{ℕ, _+_, _≤_}
 use native.Mathlib.Numerals.{add-one}
-use mathlib.Core.Path.{_≡_, refl, sym, _∙_, subst}
+use mathlib.Core.Path.{_≡_, refl, _∙_, subst}
 use mathlib.Core.Bool.{Bool, true, false}
 use mathlib.Core.List.{List}
-use native.Mathlib.Decide.{ℕ-discrete}
 use native.Mathlib.Omega.{arith}
 use lib.ListN.{length}
 use Rattle.controller_rows.specs.Each.{Each, none, hit, miss}
@@ -24,14 +22,6 @@ module _ {p : ℕ → Bool} {F : ℕ → List ℕ → List ℕ → Type 0} where
   each-end {k} {n} {l} {m} a b e =
       let q : k ≡ n = omega arith in
       subst (λ (i : ℕ). Each p F i l m) q e
-
-  pub each-skip : (e : ℕ) {k : ℕ} {l m : List ℕ} → k ≤ e → ((t : ℕ) → k ≤ t → t < e → p t ≡ false) → Each p F k l m → Each p F e l m
-  each-skip zero a f w = each-end a (omega arith) w
-  each-skip (suc e) {k} {l} {m} a f w = go (ℕ-discrete k (suc e)) (λ b. each-skip e b (λ t c d. f t c (omega arith)) w)
-    where
-      go : Dec (k ≡ suc e) → (k ≤ e → Each p F e l m) → Each p F (suc e) l m
-      go (yes q) rec = rw (sym q) w
-      go (no q) rec = miss (rec (omega arith)) (f e (omega arith) (omega arith))
 
   pub each-long : ((i : ℕ) (l m : List ℕ) → F i l m → length m ≡ length l) → {k : ℕ} {l m : List ℕ} → Each p F k l m → length m ≡ length l
   each-long f none = refl

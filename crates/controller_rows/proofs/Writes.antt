@@ -1,13 +1,12 @@
 -- Laws of what the loops write.
 --
 --   stays-state, stays-none          : the two kinds of entries for every counter
---   passed-below                     : the next counter is one
 --   base-small, cell-below           : the place of a row is small, and lies in the buffer
 --   column-fits, block-fits          : so what is written fits
---   row-of, rows-of, aim-of          : what was written
+--   row-of, rows-of                  : what was written
 --   long-..                          : lengths are kept
 --   table-long                       : the table fits any buffer of the length
---   settles-in, settles-out, home-in, home-out, start-in, start-out : the tests by cases
+--   settles-in, settles-out, start-in, start-out : the tests by cases
 use Prim.Native.Nat.{ℕ, _+_, _*_, _≤_, _<_}
 use native.Mathlib.Nat.{mul-le-mul, mul-le-mul-left, mul-le-mul-right, mul-suc, suc-mul, mul-comm, add-mul, zero-mul}
 use mathlib.Core.Path.{_≡_, refl, sym, _∙_, ap}
@@ -15,18 +14,15 @@ use mathlib.Core.Bool.{Bool, true, false}
 use mathlib.Core.List.{List}
 use native.Mathlib.Omega.{arith}
 use native.Mathlib.Decide.{decLt}
-use lib.Dec.{eqb}
 use lib.Bits.{bitAnd}
 use lib.ListN.{length, set, length-set}
 use borrow.Author.Tests.{lt-ltb, le-ltb, ltb-true}
 use Rattle.finite.specs.Bounded.{least}
 use Rattle.sets.specs.Member.{has, pack, meets}
 use Rattle.stored.specs.Stored.{wonAt}
-use Rattle.theory.proofs.Around.{around-below}
 use Rattle.columns.specs.Column.{Fits, Column, BlockFits, Block}
-use Rattle.touring.specs.Goal.{passed}
 use Rattle.controller_rows.specs.declared.Size.{Size}
-use Rattle.controller_rows.specs.Writes.{first, more, Stays, base, Table, Row, Rows, settlesAt, homeAt, Plain, Plains, Away, Rest, Aimed, Aim, startOf, Start, Starts}
+use Rattle.controller_rows.specs.Writes.{first, more, Stays, base, Table, Row, Rows, settlesAt, Plain, Plains, Away, startOf, Start, Starts}
 use Rattle.controller_rows.proofs.Each.{each-long}
 
 -- ---- entries for every counter
@@ -53,11 +49,6 @@ stays-small p f m h e b = go (decLt p 64)
         let x : f ≡ 65535 = e .first ∙ sym (v .first) in
         let y : m ≡ 0 = e .more ∙ sym (v .more) in
         rw (x, y, zero-mul h) (omega arith)
-
-pub passed-below : (m : ℕ) (b : Bool) (a : ℕ) → a < m → passed m b a < m
-unfolding passed
-passed-below m true a l = around-below m a 1 l (omega arith)
-passed-below m false a l = l
 
 -- ---- places
 
@@ -123,21 +114,12 @@ module _ (z : Size) (o : ℕ) where
   pub rows-of : (w p : ℕ) {at f m : ℕ} {l r : List ℕ} → at ≡ base z o → Stays p f m → Block l r at (z .inputs) w (z .all) f m → Rows z o w p l r
   rows-of w p e s c = record { block = rw (← e, ← s .first, ← s .more) c }
 
-  pub aimed-of : (goal a w which p : ℕ) {at c : ℕ} {b : Bool} {l r : List ℕ} → at ≡ base z o → b ≡ has goal p → c ≡ passed (z .counters) b a
-      → Block l r at (z .inputs) w which (p + 64 * c) 0 → Aimed z goal a w which o p l r
-  aimed-of goal a w which p e h q k =
-      let x = q ∙ ap (λ (y : Bool). passed (z .counters) y a) h in
-      record { block = rw (← e, ← x) k }
-
 module _ {z : Size} {o : ℕ} {l m : List ℕ} where
   pub row-at : {j p p′ : ℕ} → p ≡ p′ → Row z o j p l m → Row z o j p′ l m
   row-at e r = rw (← e) r
 
   pub rows-at : {w w′ p p′ : ℕ} → w ≡ w′ → p ≡ p′ → Rows z o w p l m → Rows z o w′ p′ l m
   rows-at d e r = rw (← d, ← e) r
-
-  pub aimed-at : {goal a w which p p′ : ℕ} → p ≡ p′ → Aimed z goal a w which o p l m → Aimed z goal a w which o p′ l m
-  aimed-at e r = rw (← e) r
 
 pub start-of : {z : Size} {s : List ℕ} {cores ins outs i v : ℕ} {l : List ℕ} → v ≡ startOf z s cores ins outs i → Start z s cores ins outs i l (set l i v)
 start-of {i = i} {l = l} e = record { written = ap (set l i) e }
@@ -158,12 +140,6 @@ module _ {z : Size} {l m : List ℕ} where
   pub long-away : {s : List ℕ} {cores d comp k : ℕ} {next : List ℕ} → Away z s cores d comp next k l m → length m ≡ length l
   long-away e = each-long (λ o a b r. r .block .long) (e .each)
 
-  pub long-rest : {rows : List ℕ} {comp w k : ℕ} → Rest z rows comp w k l m → length m ≡ length l
-  long-rest e = each-long (λ o a b r. r .block .long) (e .each)
-
-  pub long-aim : {goal a comp w which k : ℕ} {next : List ℕ} → Aim z goal a comp w which next k l m → length m ≡ length l
-  long-aim e = each-long (λ o x y r. r .block .long) (e .each)
-
 module _ {z : Size} {l m : List ℕ} where
   pub long-plains : {s : List ℕ} {cores : ℕ} {rows : List ℕ} {k : ℕ} → Plains z s cores rows k l m → length m ≡ length l
   long-plains e = each-long (λ o a b r. long-plain r) (e .each)
@@ -178,14 +154,6 @@ module _ (cores j row reach : ℕ) where
   pub settles-out : has cores j ≡ false → false ≡ settlesAt cores j row reach
   unfolding settlesAt
   settles-out h = rw h refl
-
-  pub home-in : (d : ℕ) {x : ℕ} → has cores j ≡ true → x ≡ least 64 (has (bitAnd row reach)) → eqb x d ≡ homeAt cores j row reach d
-  unfolding homeAt
-  home-in d {x} h e = rw h (ap (λ (k : ℕ). eqb k d) e)
-
-  pub home-out : (d : ℕ) → has cores j ≡ false → false ≡ homeAt cores j row reach d
-  unfolding homeAt
-  home-out d h = rw h refl
 
 module _ (z : Size) (s : List ℕ) (cores ins outs i : ℕ) where
   pub start-in : {p x f m : ℕ} → has ins i ≡ true → x ≡ pack (z .outputs) (wonAt s (z .inputs) cores i) → p ≡ least 64 (has (bitAnd outs x)) → Stays p f m

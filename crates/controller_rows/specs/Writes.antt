@@ -2,6 +2,7 @@
 --
 --   first p, more p                == first p + more p × c is the entry for state p and counter c, and none where p is no state
 --   base z o                       == where the rows of output o begin
+--   ControllerLayout z y           == y is the layout of its rows
 --   Table z long                   == a buffer of that length has the table
 --   Row z o j p l m                == the rows of (o, j) were written: state p, the counter stays
 --   Rows z o w p l m               == the same for each input of the set w
@@ -13,10 +14,6 @@
 --   Plain z s cores o moves k      == for each input j < k with no home in reach of o: the lowest of the moves to a member of the row of j, or none
 --   Plains z s cores rows k        == the same for each output o < k
 --   Away z s cores d comp next k   == for each output o < k outside the set comp the inputs that reside at d go on by next
---   Rest z rows comp w k           == for each output o < k of the set comp the inputs of w make the preferred move inside
---   Aims z which a                 == a and the members of `which` are counters
---   States z comp next             == next has a state for each of comp
---   Aim z goal a comp w which next k == the same by next, for the counters of `which`; the counter goes on from a where the set is entered
 --   startOf .. i, Starts .. k      == the start entries
 use Prim.Native.Nat.{ℕ, _+_, _*_, _≤_, _<_}
 use mathlib.Core.Path.{_≡_}
@@ -27,10 +24,9 @@ use lib.Bits.{bitAnd}
 use lib.ListN.{getD, set}
 use Rattle.finite.specs.Bounded.{least}
 use Rattle.sets.specs.Member.{has, pack, meets}
-use Rattle.graphs.specs.Way.{prefer}
 use Rattle.stored.specs.Stored.{wonAt}
 use Rattle.columns.specs.Column.{Column, Block}
-use Rattle.touring.specs.Goal.{passed}
+use Rattle.layout.specs.declared.Layout.{Layout}
 use Rattle.controller_rows.specs.declared.Size.{Size}
 use Rattle.controller_rows.specs.Each.{Each}
 
@@ -48,6 +44,13 @@ pub record Stays (p f m : ℕ) : Type 0 where
 -- "one start entry an input, then rows by output, counter, input, the last running fastest"
 unfoldable pub base : Size → ℕ → ℕ
 base z o = z .inputs + o * z .counters * z .inputs
+
+-- "Controller: one start entry an input, then rows by output, counter, input"
+pub record ControllerLayout (z : Size) (y : Layout) : Type 0 where
+  pub base : y .base ≡ z .inputs
+  pub states : y .states ≡ z .outputs
+  pub counters : y .counters ≡ z .counters
+  pub width : y .width ≡ z .inputs
 
 pub record Table (z : Size) (long : ℕ) : Type 0 where
   pub inputs : z .inputs ≤ 64
@@ -82,23 +85,6 @@ pub record Plains (z : Size) (s : List ℕ) (cores : ℕ) (rows : List ℕ) (k :
 
 pub record Away (z : Size) (s : List ℕ) (cores d comp : ℕ) (next : List ℕ) (k : ℕ) (l m : List ℕ) : Type 0 where
   pub each : Each (λ o. not (has comp o)) (λ o. Rows z o (pack (z .inputs) (residesAt s (z .inputs) cores o d)) (getD next o 0)) k l m
-
-pub record Rest (z : Size) (rows : List ℕ) (comp w k : ℕ) (l m : List ℕ) : Type 0 where
-  pub each : Each (has comp) (λ o. Rows z o w (prefer 64 o (has (bitAnd (getD rows o 0) comp)))) k l m
-
-pub record Aims (z : Size) (which a : ℕ) : Type 0 where
-  pub goal : a < z .counters
-  pub counters : (c : ℕ) → has which c ≡ true → c < z .counters
-
-pub record States (z : Size) (comp : ℕ) (next : List ℕ) : Type 0 where
-  pub below : (o : ℕ) → o < z .outputs → has comp o ≡ true → getD next o 0 < 64
-
--- the rows of output o for the goal a: state p
-pub record Aimed (z : Size) (goal a w which o p : ℕ) (l m : List ℕ) : Type 0 where
-  pub block : Block l m (base z o) (z .inputs) w which (p + 64 * passed (z .counters) (has goal p) a) 0
-
-pub record Aim (z : Size) (goal a comp w which : ℕ) (next : List ℕ) (k : ℕ) (l m : List ℕ) : Type 0 where
-  pub each : Each (has comp) (λ o. Aimed z goal a w which o (getD next o 0)) k l m
 
 unfoldable pub startOf : Size → List ℕ → ℕ → ℕ → ℕ → ℕ → ℕ
 startOf z s cores ins outs i =

@@ -2,12 +2,12 @@
 use crate::Size;
 use game::InSet;
 use game::InState;
-use game::OutSet;
 use game::OutState;
+use layout::Layout;
 ghost use mathlib.Core.Path.{_≡_};
 ghost use Prim.Native.Nat.{_≤_, _<_};
 ghost use lib.ListN.{length};
-ghost use Rattle.controller_rows.specs.Writes.{Stays, base as baseOf, Table, Row, Rows, Aims, Aimed};
+ghost use Rattle.controller_rows.specs.Writes.{Stays, base as baseOf, ControllerLayout, Table, Row, Rows};
 
 // A pattern of entries: first + more × counter for each counter.
 pub struct Pattern {
@@ -36,6 +36,18 @@ pub fn wide(x: u8) -> usize
     ensures { λ r. ⌜ r ≡ x ⌝ }
 {
     x as usize
+}
+
+// Where the rows lie: by output, counter and input, after the starts.
+pub fn layout_of(z: Size) -> Layout
+    ensures { λ r. ⌜ ControllerLayout z r ⌝ }
+{
+    Layout {
+        base: z.inputs,
+        states: z.outputs,
+        counters: z.counters,
+        width: z.inputs,
+    }
 }
 
 // Where the rows of output o begin.
@@ -70,24 +82,4 @@ pub fn write_rows(room: &mut [u16], z: Size, o: OutState, inputs: InSet, p: usiz
         e.first,
         e.more,
     );
-}
-
-// The rows of output o for the inputs at home there and the counters of `which`, whose goal is a: state p. The counter goes on where p is in the
-// goal.
-pub fn write_aimed(
-    room: &mut [u16],
-    z: Size,
-    o: OutState,
-    inputs: InSet,
-    which: u64,
-    goal: OutSet,
-    a: usize,
-    p: usize,
-)
-    requires { ⌜ Table z (length (now room)) × (o .0 < z .outputs) × Aims z which a × (p < 64) ⌝ }
-    ensures { λ r. ⌜ Aimed z (goal .0) a (inputs .0) which (o .0) p (now (room .entry)) (now (room .exit)) ⌝ }
-{
-    let c = touring::next_counter(z.counters, a, sets::member(goal.0, p));
-    let e = p + 64 * c;
-    columns::block(room, base(z, o.0), z.inputs, inputs.0, which, e as u16, 0);
 }

@@ -2,8 +2,6 @@
 --
 --   plain-entry     : the rows with no home in reach
 --   away-entry      : the way home
---   rest-entry      : at home with no goal
---   aim-entry       : at home with a goal
 --   start-entry     : the starts
 use Prim.Native.Nat.{ℕ, _+_, _*_, _≤_, _<_}
 use native.Mathlib.Nat.{zero-mul, mul-zero, add-zero}
@@ -14,7 +12,7 @@ use mathlib.Core.Logic.{_⊎_, inl, inr}
 use native.Mathlib.Omega.{arith}
 use native.Mathlib.Decide.{decLt}
 use lib.Bits.{bitAnd}
-use lib.ListN.{length, getD}
+use lib.ListN.{getD}
 use Rattle.finite.specs.Bounded.{least}
 use Rattle.finite.proofs.Truth.{decide, clash, false-of, and-intro, and-left, and-right, and-false-left, and-false-right}
 use Rattle.finite.proofs.Bounded.{least-below, least-member, least-before, least-unique}
@@ -22,23 +20,19 @@ use Rattle.sets.specs.Member.{has, pack}
 use Rattle.sets.proofs.Membership.{has-and, has-pack-below}
 use Rattle.graphs.specs.Graph.{edge, begins}
 use Rattle.graphs.specs.Component.{joined, nontrivial}
-use Rattle.graphs.specs.Way.{prefer, toward}
+use Rattle.graphs.specs.Way.{toward}
 use Rattle.graphs.proofs.Graph.{edge-to, begins-below}
 use Rattle.graphs.proofs.Closure.{reaches-edge}
-use Rattle.graphs.proofs.Component.{joined-to, nontrivial-same}
-use Rattle.graphs.proofs.Way.{prefer-below, toward-below}
+use Rattle.graphs.proofs.Way.{toward-below}
 use Rattle.arena.specs.Arena.{Separated}
 use Rattle.arena.specs.Table.{none, gives}
 use Rattle.stored.specs.Stored.{wonAt}
 use Rattle.theory.specs.Region.{homeFor, settles, answers, region, opens}
-use Rattle.theory.specs.Tour.{goalAt, inside, goal, hasGoal, target, tour}
+use Rattle.theory.specs.Tour.{tour}
 use Rattle.theory.specs.Choice.{guarantees, settled, controllerRow, controllerStart}
 use Rattle.theory.specs.Entries.{entry}
 use Rattle.theory.proofs.Region.{answers-elim, answers-false, settles-intro, opens-elim, opens-false}
-use Rattle.theory.proofs.Tour.{inside-move, inside-to}
 use Rattle.theory.proofs.ControllerRow.{row-answers, answers-settles, homeward-at, homeward-away, home-leads}
-use Rattle.touring.specs.Goal.{passed}
-use Rattle.touring.proofs.Tours.{tour-rests, tour-aims}
 use Rattle.controller_rows.specs.declared.Size.{Size}
 use Rattle.controller_rows.specs.Writes.{first, more, settlesAt, startOf}
 use Rattle.controller_table.specs.Filled.{Resides}
@@ -214,23 +208,5 @@ module _ (S : Separated) (o d j : ℕ) (r : Resides S o d j) (a : j < S .input .
       rw (row-home S o d j r a c, homeward-away S d o c h, ← e) (entry-state p c (omega arith))
 
   module _ (h : joined (S .output) d o ≡ true) where
-    here : nontrivial (S .output) o ≡ true
-    here = sym (nontrivial-same (S .output) d o h) ∙ home-core S o d j r
-
-    at-home : (c : ℕ) → controllerRow S o c j ≡ tour (S .output) d (guarantees S) o c
+    pub at-home : (c : ℕ) → controllerRow S o c j ≡ tour (S .output) d (guarantees S) o c
     at-home c = row-home S o d j r a c ∙ homeward-at S d o c h
-
-    pub rest-entry : (p c : ℕ) → hasGoal (S .output) d (guarantees S) ≡ false → p ≡ prefer (S .output .states) o (inside (S .output) d o)
-        → first p + more p * c ≡ entry (controllerRow S o c j)
-    rest-entry p c g e =
-        let v = inside-move (S .output) d o h here in
-        let b = prefer-below (S .output .states) o (inside (S .output) d o) (v .0) (joined-to (S .output) d (v .0) (inside-to (S .output) d o (v .0) (v .1))) (v .1) in
-        rw (at-home c, tour-rests (S .output) d (guarantees S) o c p g e) (entry-state p c (omega arith))
-
-    pub aim-entry : (x p c g : ℕ) → hasGoal (S .output) d (guarantees S) ≡ true → g ≡ goal (S .output) d (guarantees S) c → has x ≡ goalAt (guarantees S) g
-        → p ≡ toward (S .output .states) (inside (S .output) d) (target (S .output) d (guarantees S) g) o
-        → p + 64 * passed (length (guarantees S)) (has x p) g ≡ entry (controllerRow S o c j)
-    unfolding entry
-    aim-entry x p c g y e f q =
-        rw (at-home c, tour-aims (S .output) d (guarantees S) o c g p y e q)
-        (ap (λ (b : Bool). p + 64 * passed (length (guarantees S)) b g) (ap (λ (k : ℕ → Bool). k p) f))

@@ -4,9 +4,9 @@
 --   Fills S F P             == every step F fills, the rows with P among them
 --   filled-none, filled-more, filled-part : nothing written; one after the other; fewer rows
 --   fills-each              : a loop of such steps
---   fills-row, fills-rows, fills-aimed    : the steps
+--   fills-row, fills-rows                 : the steps
 use Prim.Native.Nat.{ℕ, suc, _+_, _*_, _≤_, _<_}
-use native.Mathlib.Nat.{mul-comm, add-mul, zero-mul, add-zero}
+use native.Mathlib.Nat.{mul-comm, add-mul}
 use mathlib.Core.Path.{_≡_, sym, _∙_, ap, subst}
 use mathlib.Core.Bool.{Bool, true}
 use mathlib.Core.List.{List}
@@ -24,10 +24,9 @@ use Rattle.filling.proofs.Grows.{grows-none, grows-more}
 use Rattle.theory.specs.Choice.{controllerRow}
 use Rattle.theory.specs.Entries.{entry, controllerCounters, controllerEntries}
 use Rattle.columns.specs.Column.{Agrees, Columned, BlockAgrees, Blocked, Block}
-use Rattle.touring.specs.Goal.{passed}
 use Rattle.controller_rows.specs.declared.Size.{Size}
 use Rattle.controller_rows.specs.Each.{Each, none, hit, miss}
-use Rattle.controller_rows.specs.Writes.{first, more, base, Row, Rows, Aimed}
+use Rattle.controller_rows.specs.Writes.{first, more, base, Row, Rows}
 use Rattle.controller_table.specs.Filled.{place, Filled}
 use Rattle.controller_table.proofs.Cells.{place-in, row-entry}
 
@@ -124,12 +123,4 @@ module _ (S : Separated) (z : Size) (Z : Sizes S z) where
       fills = λ l k s long.
           filled-part S (λ o′ c j a x y h. (h .0, h .1, below-all c x))
           (fills-block w (z .all) (first p) (more p) all-below (λ c j h. e c j (all-below c h)) .fills l k (s .block) long);
-    }
-
-    pub fills-aimed : (goal a w which p : ℕ) → ((c : ℕ) → has which c ≡ true → c < controllerCounters S)
-        → ((c j : ℕ) → has which c ≡ true → j < S .input .states → has w j ≡ true → p + 64 * passed (z .counters) (has goal p) a ≡ entry (controllerRow S o c j))
-        → Fills S (Aimed z goal a w which o p) (λ o′ c j. (o′ ≡ o) × (has w j ≡ true) × (has which c ≡ true))
-    fills-aimed goal a w which p r e = record {
-      fills = λ l k s long.
-          fills-block w which (p + 64 * passed (z .counters) (has goal p) a) 0 r (λ c j h d i. rw (zero-mul c) (add-zero (p + 64 * passed (z .counters) (has goal p) a) ∙ e c j h d i)) .fills l k (s .block) long;
     }

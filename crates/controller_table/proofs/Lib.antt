@@ -1,13 +1,13 @@
 -- Cells: the places of the table. Fills: writing right entries fills it. Told: what scratch tells. Entries: each entry is the right one.
--- Loops: so each loop fills its rows. Setting: what an accepted game gives to these. Phases: the way home and the tour of one home.
--- Seeking: the way to one goal, of any game that fits. Homes: all homes. Table: the whole table.
+-- Loops: so each loop fills its rows. Setting: what an accepted game gives to these. Laid: the table in its layout. Phases: the way home and the tour of one home.
+-- Homes: all homes. Table: the whole table.
 pub mod Cells
 pub mod Fills
 pub mod Told
 pub mod Entries
 pub mod Loops
 pub mod Setting
+pub mod Laid
 pub mod Phases
-pub mod Seeking
 pub mod Homes
 pub mod Table

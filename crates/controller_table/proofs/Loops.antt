@@ -2,8 +2,6 @@
 --
 --   fills-plains    : the rows with no home in reach
 --   fills-away      : the rows outside a home
---   fills-rest      : the rows at a home with no goal
---   fills-aim       : the rows at a home for one goal
 --   starts-filled   : the starts
 use Prim.Native.Nat.{ℕ, suc, _+_, _≤_, _<_}
 use mathlib.Core.Path.{_≡_, refl, sym, _∙_, ap}
@@ -21,26 +19,25 @@ use Rattle.sets.proofs.Membership.{has-pack-below}
 use Rattle.graphs.specs.Graph.{edge}
 use Rattle.graphs.specs.Closure.{reaches}
 use Rattle.graphs.specs.Component.{joined}
-use Rattle.graphs.specs.Way.{prefer, toward}
+use Rattle.graphs.specs.Way.{toward}
 use Rattle.graphs.proofs.Component.{joined-to, joined-sym}
 use Rattle.arena.specs.Arena.{Separated}
 use Rattle.filling.specs.Grows.{Right, Grows}
 use Rattle.filling.proofs.Grows.{grows-none, grows-more, grows-set, right-set}
-use Rattle.theory.specs.Tour.{goalAt, inside, goal, hasGoal, target}
-use Rattle.theory.specs.Choice.{guarantees, controllerStart}
-use Rattle.theory.specs.Entries.{entry, controllerCounters, controllerEntries}
+use Rattle.theory.specs.Choice.{controllerStart}
+use Rattle.theory.specs.Entries.{entry, controllerEntries}
 use Rattle.ways.proofs.Kept.{members-pack}
 use Rattle.controller_rows.specs.declared.Size.{Size}
 use Rattle.controller_rows.specs.declared.Home.{Home}
 use Rattle.controller_rows.specs.Each.{Each, none, hit, miss}
-use Rattle.controller_rows.specs.Writes.{Row, Rows, settlesAt, residesAt, Plain, Plains, Rest, Aimed, Aim, startOf, Start, Starts}
+use Rattle.controller_rows.specs.Writes.{Row, Rows, settlesAt, residesAt, Plain, Plains, startOf, Start, Starts}
 use Rattle.controller_rows.specs.Writes.{Away as AwayLoop}
-use Rattle.controller_table.specs.Filled.{Resides, Away, There, Toward, HomeOf}
+use Rattle.controller_table.specs.Filled.{Resides, Away, HomeOf}
 use Rattle.theory.proofs.Entries.{controller-long}
 use Rattle.controller_table.proofs.Cells.{start-at}
-use Rattle.controller_table.proofs.Fills.{Sizes, Fills, filled-part, fills-each, fills-row, fills-rows, fills-aimed}
+use Rattle.controller_table.proofs.Fills.{Sizes, Fills, filled-part, fills-each, fills-row, fills-rows}
 use Rattle.controller_table.proofs.Told.{Told, resides-word, resides-at, resides-same, home-reached-at}
-use Rattle.controller_table.proofs.Entries.{plain-entry, away-entry, rest-entry, aim-entry}
+use Rattle.controller_table.proofs.Entries.{plain-entry, away-entry}
 
 -- the component of a home, as a word
 pub comp-in : (S : Separated) (w : Home) → HomeOf S w → (o : ℕ) → has (w .component .0) o ≡ joined (S .output) (w .state .0) o
@@ -110,44 +107,11 @@ module _ (S : Separated) (z : Size) (Z : Sizes S z) where
 
   module _ (w : Home) (H : HomeOf S w) (few : S .output .states ≤ 64) where
     -- who resides at the home, at any state of its component
-    resident-at : (o j : ℕ) → j < S .input .states → joined (S .output) (w .state .0) o ≡ true → has (w .inputs .0) j ≡ true → Resides S o (w .state .0) j
+    pub resident-at : (o j : ℕ) → j < S .input .states → joined (S .output) (w .state .0) o ≡ true → has (w .inputs .0) j ≡ true → Resides S o (w .state .0) j
     resident-at o j a h i = resides-same S (w .state .0) o (w .state .0) j a h (H .resides j a i)
 
-    input-at : (o j : ℕ) → j < S .input .states → joined (S .output) (w .state .0) o ≡ true → Resides S o (w .state .0) j → has (w .inputs .0) j ≡ true
+    pub input-at : (o j : ℕ) → j < S .input .states → joined (S .output) (w .state .0) o ≡ true → Resides S o (w .state .0) j → has (w .inputs .0) j ≡ true
     input-at o j a h r = H .resident j a (resides-same S o (w .state .0) (w .state .0) j a (joined-sym (S .output) (w .state .0) o h) r)
-
-    pub fills-rest : (rows : List ℕ) → hasGoal (S .output) (w .state .0) (guarantees S) ≡ false
-        → ((o : ℕ) → joined (S .output) (w .state .0) o ≡ true
-        → prefer 64 o (has (bitAnd (getD rows o 0) (w .component .0))) ≡ prefer (S .output .states) o (inside (S .output) (w .state .0) o))
-        → Fills S (Rest z rows (w .component .0) (w .inputs .0) (z .outputs)) (There S (w .state .0))
-    fills-rest rows g way = record {
-      fills = λ l m e long.
-          filled-part S (λ o c j b y a h. (o, rw (Z .outputs) b, comp-in S w H o ∙ h .within, (refl, input-at o j a (h .within) (h .resides))))
-          (fills-each S (has (w .component .0)) (λ o. Rows z o (w .inputs .0) (prefer 64 o (has (bitAnd (getD rows o 0) (w .component .0)))))
-          (λ i o c j. (o ≡ i) × (has (w .inputs .0) j ≡ true)) (z .outputs)
-          (λ o b h. let k = sym (comp-in S w H o) ∙ h in
-          fills-rows S z Z o (rw (Z .outputs) at b) (w .inputs .0) (prefer 64 o (has (bitAnd (getD rows o 0) (w .component .0))))
-          (λ c j x a i. rest-entry S o (w .state .0) j (resident-at o j a k i) a few k (prefer 64 o (has (bitAnd (getD rows o 0) (w .component .0)))) c g (way o k)))
-          .fills l m (e .each) long);
-    }
-
-    pub fills-aim : (x a which : ℕ) (next : List ℕ) → hasGoal (S .output) (w .state .0) (guarantees S) ≡ true → z .counters ≡ length (guarantees S)
-        → has x ≡ goalAt (guarantees S) a
-        → ((c : ℕ) → has which c ≡ true → (c < controllerCounters S) × (goal (S .output) (w .state .0) (guarantees S) c ≡ a))
-        → ((c : ℕ) → c < controllerCounters S → goal (S .output) (w .state .0) (guarantees S) c ≡ a → has which c ≡ true)
-        → ((o : ℕ) → joined (S .output) (w .state .0) o ≡ true
-        → getD next o 0 ≡ toward (S .output .states) (inside (S .output) (w .state .0)) (target (S .output) (w .state .0) (guarantees S) a) o)
-        → Fills S (Aim z x a (w .component .0) (w .inputs .0) which next (z .outputs)) (Toward S (w .state .0) a)
-    fills-aim x a which next g counters e of at way = record {
-      fills = λ l m f long.
-          filled-part S (λ o c j b y d h. (o, rw (Z .outputs) b, comp-in S w H o ∙ h .there .within, (refl, input-at o j d (h .there .within) (h .there .resides), at c y (h .goal))))
-          (fills-each S (has (w .component .0)) (λ o. Aimed z x a (w .inputs .0) which o (getD next o 0))
-          (λ i o c j. (o ≡ i) × (has (w .inputs .0) j ≡ true) × (has which c ≡ true)) (z .outputs)
-          (λ o b h. let k = sym (comp-in S w H o) ∙ h in
-          fills-aimed S z Z o (rw (Z .outputs) at b) x a (w .inputs .0) which (getD next o 0) (λ c y. of c y .0)
-          (λ c j y d i. rw counters (aim-entry S o (w .state .0) j (resident-at o j d k i) d few k x (getD next o 0) c a g (sym (of c y .1)) e (way o k))))
-          .fills l m (f .each) long);
-    }
 
 -- ---- the starts
 

@@ -5,25 +5,18 @@
 --   Resides S o d j      == j is in a nontrivial component, and its home at output o is d
 --   Away S d o c j       == so it is, and o lies outside the component of d
 --   There S d o c j      == so it is, and o lies in the component of d
---   Toward S d a o c j   == and the goal of counter c is a
---   Between S d i k o c j  == and the goal of counter c is at least i and below k
 --   At S d o c j         == so it is, wherever o lies
 --   Below S k o c j      == the home of j at o is below k
 --   Sized g z            == an accepted game and the size of its table
 --   Given g z s cores    == with scratch, and the inputs in nontrivial components
 --   HomeOf S w           == w is a home with its component and the inputs that reside there
 --   Goals S w q          == q is the set of the numbers of the guarantees that meet its component
---   Seeking r z w q x a n    == of a game with moves r, whose table fits n entries: x is goal number a at home w
---   Sought r z w q x a l m   == from l to m the rows of the counters whose goal it is were written, of any such game
---   Visiting r t z w q n     == of such a game: t are some of its guarantees by their numbers, and some guarantee meets the component of w
---   Visited r t z w q j l m  == from l to m the rows of the counters whose goal is among the first j of t were written, of any such game
-use Prim.Native.Nat.{ℕ, _+_, _*_, _≤_, _<_}
+use Prim.Native.Nat.{ℕ, _+_, _*_, _<_}
 use mathlib.Core.Path.{_≡_}
 use mathlib.Core.Bool.{true, false}
 use mathlib.Core.List.{List}
-use mathlib.Core.Logic.{_≢_}
 use lib.Dec.{ltb}
-use lib.ListN.{length, getD}
+use lib.ListN.{length}
 use Rattle.sets.specs.Member.{has, pack}
 use Rattle.graphs.specs.Component.{joined, nontrivial, meetsAt}
 use Rattle.arena.specs.Arena.{Separated}
@@ -34,11 +27,9 @@ use Rattle.game.specs.Acceptance.{acceptance}
 use Rattle.play.specs.Play.{graphOf, separatedOf}
 use Rattle.stored.specs.Stored.{Ready}
 use Rattle.theory.specs.Region.{region, settles}
-use Rattle.theory.specs.Tour.{goalAt, goal}
+use Rattle.theory.specs.Tour.{goalAt}
 use Rattle.theory.specs.Choice.{guarantees, home}
 use Rattle.theory.specs.Entries.{controllerCounters, controllerEntries}
-use Rattle.touring.specs.declared.Stretch.{Stretch}
-use Rattle.touring.specs.Stretches.{Short}
 use Rattle.controller_rows.specs.declared.Size.{Size}
 use Rattle.controller_rows.specs.declared.Home.{Home}
 
@@ -63,15 +54,6 @@ pub record Away (S : Separated) (d o c j : ℕ) : Type 0 where
 pub record There (S : Separated) (d o c j : ℕ) : Type 0 where
   pub resides : Resides S o d j
   pub within : joined (S .output) d o ≡ true
-
-pub record Toward (S : Separated) (d a o c j : ℕ) : Type 0 where
-  pub there : There S d o c j
-  pub goal : goal (S .output) d (guarantees S) c ≡ a
-
-pub record Between (S : Separated) (d i k o c j : ℕ) : Type 0 where
-  pub there : There S d o c j
-  pub from : i ≤ goal (S .output) d (guarantees S) c
-  pub goal : goal (S .output) d (guarantees S) c < k
 
 pub record At (S : Separated) (d o c j : ℕ) : Type 0 where
   pub resides : Resides S o d j
@@ -101,30 +83,3 @@ pub record HomeOf (S : Separated) (w : Home) : Type 0 where
 
 pub record Goals (S : Separated) (w : Home) (q : ℕ) : Type 0 where
   pub is : q ≡ pack (length (guarantees S)) (λ k. meetsAt (S .output) (w .state .0) (goalAt (guarantees S) k))
-
-pub record Seeking (r : List ℕ) (z : Size) (w : Home) (q x a n : ℕ) : Type 0 where
-  pub game : Game
-  pub moves : r ≡ game .output .moves
-  pub sized : Sized game z
-  pub home : HomeOf (separatedOf game) w
-  pub goals : Goals (separatedOf game) w q
-  pub goal : has q a ≡ true
-  pub members : has x ≡ goalAt (guarantees (separatedOf game)) a
-  pub room : length (controllerEntries (separatedOf game)) ≤ n
-
-pub record Sought (r : List ℕ) (z : Size) (w : Home) (q x a : ℕ) (l m : List ℕ) : Type 0 where
-  pub fills : (p : Seeking r z w q x a (length l)) → Filled (separatedOf (p .game)) (Toward (separatedOf (p .game)) (w .state .0) a) l m
-
-pub record Visiting (r : List ℕ) (t : Stretch) (z : Size) (w : Home) (q n : ℕ) : Type 0 where
-  pub game : Game
-  pub moves : r ≡ game .output .moves
-  pub sized : Sized game z
-  pub home : HomeOf (separatedOf game) w
-  pub goals : Goals (separatedOf game) w q
-  pub some : q ≢ 0
-  pub short : Short t
-  pub sets : (j : ℕ) → j < t .count → has (getD (t .words) j 0) ≡ goalAt (guarantees (separatedOf game)) (t .from + j)
-  pub room : length (controllerEntries (separatedOf game)) ≤ n
-
-pub record Visited (r : List ℕ) (t : Stretch) (z : Size) (w : Home) (q j : ℕ) (l m : List ℕ) : Type 0 where
-  pub fills : (p : Visiting r t z w q (length l)) → Filled (separatedOf (p .game)) (Between (separatedOf (p .game)) (w .state .0) (t .from) (t .from + j)) l m

@@ -1,10 +1,10 @@
 -- Laws of the filling of the environment's table.
 pub mod Places
+pub mod Laid
 pub mod Members
 pub mod Known
 pub mod Reading
 pub mod Outward
 pub mod Toured
-pub mod Aiming
 pub mod Walked
 pub mod Filling

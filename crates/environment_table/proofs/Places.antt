@@ -5,7 +5,6 @@
 --   filled-none, filled-join  : nothing written, and one writing after the other
 --   filled-same               : fewer rows than were written
 --   putting-*, put-done, spreading-*, spread-done, spread-in : what the columns and blocks of rows ask and give
---   filled-skip, filled-next  : the states of a set, one after the other
 use Prim.Native.Nat.{ℕ, suc, _+_, _-_, _*_, _<_, _≤_}
 use native.Mathlib.Nat.{mul-comm, mul-zero, add-mul, mul-le-mul, le-max-left}
 use mathlib.Core.Path.{_≡_, refl, sym, _∙_, ap, subst}
@@ -247,21 +246,6 @@ module _ (g : Game) (M i over which first more : ℕ) where
       → Filled g (λ a h b. (a ≡ i) × (has which h ≡ true) × (has over b ≡ true)) l m
   unfolding spreading-of
   spread-in {l} R S D = D .fills (spreading-of (length l) R S)
-
--- the states of a set, one after the other
-
-module _ (g : Game) (l m : List ℕ) (k : ℕ) where
-  pub filled-skip : {P : ℕ → ℕ → ℕ → Type 0} {r : List ℕ} → Filled g (λ a h b. (a < k) × P a h b) l m → ((h b : ℕ) → P k h b → ⊥) → r ≡ m
-      → Filled g (λ a h b. (a < k + 1) × P a h b) l r
-  filled-skip {P} f out q = rw q (filled-same g f (λ a h b x y z p. (go a h b (p .0) (p .1) (ℕ-discrete a k), p .1)))
-    where
-      go : (a h b : ℕ) → a < k + 1 → P a h b → Dec (a ≡ k) → a < k
-      go a h b lt p (yes e) = absurd (out h b (subst (λ (x : ℕ). P x h b) e p))
-      go a h b lt p (no e) = omega arith
-
-  pub filled-next : {P Q : ℕ → ℕ → ℕ → Type 0} {n r : List ℕ} → Filled g (λ a h b. (a < k) × P a h b) l m → Filled g Q m n
-      → ((a h b : ℕ) → h < environmentCounters (separatedOf g) → a ≡ k → P a h b → Q a h b) → r ≡ n → Filled g (λ a h b. (a < k + 1) × P a h b) l r
-  filled-next f d into q = rw q (filled-join g f d (λ a h b x y z p. below-next a k (p .0) (λ e. (e, p .1)) (λ e. into a h b y e (p .1))))
 
 -- what a row begins with fits 16 bits
 pub same-small : (g : Game) (M n i o first more : ℕ) → Roomy g M n → Same g M i o first more → first < 65536

@@ -5,6 +5,7 @@
 --   Solved g s n                == the game is accepted, scratch s holds its region, and n entries hold the table
 --   Known g s cores             == the game is accepted, scratch s holds its region, and cores are the inputs in nontrivial components
 --   Roomy g counters n          == the table has so many counters, and fits n entries
+--   EnvironmentLayout N M O z   == z is the layout of the rows of N inputs, M counters and O outputs
 --   Filled g P l m              == from l to m rows were written, those with P among them
 --   Same g counters i o first more   == the rows of i and o hold first + more × h
 --   Spread g i over which first more == so do those of i and the outputs of `over`, for the counters of `which`
@@ -29,6 +30,7 @@ use Rattle.theory.specs.Choice.{environmentRow}
 use Rattle.theory.specs.Entries.{entry, environmentCounters, environmentEntries}
 use Rattle.stored.specs.Stored.{Ready}
 use Rattle.filling.specs.Grows.{Right, Grows}
+use Rattle.layout.specs.declared.Layout.{Layout}
 
 unfoldable pub entriesOf : Game → List ℕ
 entriesOf g = environmentEntries (separatedOf g)
@@ -56,6 +58,13 @@ pub record Roomy (g : Game) (M n : ℕ) : Type 0 where
   pub inputs : g .input .states ≤ 64
   pub outputs : g .output .states ≤ 64
   pub room : length (entriesOf g) ≤ n
+
+-- "Panel: one start entry, then rows by input, counter, output"
+pub record EnvironmentLayout (N M O : ℕ) (z : Layout) : Type 0 where
+  pub base : z .base ≡ 1
+  pub states : z .states ≡ N
+  pub counters : z .counters ≡ M
+  pub width : z .width ≡ O
 
 pub record Filled (g : Game) (P : ℕ → ℕ → ℕ → Type 0) (l m : List ℕ) : Type 0 where
   pub grows : Grows (entriesOf g) l m

@@ -2,5 +2,4 @@
 pub mod Goal
 pub mod Aims
 pub mod Tours
-pub mod Next
 pub mod Stretches

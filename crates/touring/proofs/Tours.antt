@@ -7,7 +7,6 @@
 --   inside-kept            : moves inside the component
 --   prefer-inside          : the choice from the moves inside
 --   target-word            : a goal's members in the component
---   toward-target, target-next : the next state on the way to a goal, and that it is one of the component
 --   tour-rests             : with no goal, the choice from the moves inside
 --   tour-aims              : else the move towards the goal
 use Prim.Native.Nat.{ℕ, _≤_, _<_}
@@ -31,11 +30,10 @@ use Rattle.graphs.proofs.Component.{joined-to, meetsAt-intro, meetsAt-elim}
 use Rattle.arena.specs.Table.{Answer, gives}
 use Rattle.theory.specs.Tour.{goalAt, around, inside, ahead, goal, hasGoal, target, arrive, tour}
 use Rattle.theory.proofs.Around.{around-below}
-use Rattle.graphs.proofs.Way.{Leads, toward-move}
+use Rattle.graphs.proofs.Way.{Leads}
 use Rattle.theory.proofs.Tour.{inside-intro, inside-edge, inside-to, inside-move, inside-leads}
 use Rattle.ways.specs.Kept.{kept}
-use Rattle.ways.specs.Search.{Toward}
-use Rattle.ways.proofs.Kept.{kept-pack, members-pack, toward-along}
+use Rattle.ways.proofs.Kept.{kept-pack, members-pack}
 use Rattle.graphs.proofs.Way.{prefer-same, prefer-wider}
 use Rattle.touring.specs.Goal.{Goals, firstFrom, passed}
 use Rattle.touring.specs.Stretches.{metIn}
@@ -140,18 +138,6 @@ module _ (G : Graph) (c : ℕ) (rows : List ℕ) (comp : ℕ)
     target-leads m s j n =
         let v = meetsAt-elim G c (goalAt l a) m in
         inside-leads G c (target G c l a) s (v .0) j n (and-intro (v .1) (v .2)) (v .2)
-
-    pub toward-target : (next : List ℕ) → meetsAt G c (goalAt l a) ≡ true → Toward rows (G .states) comp y next → (s : ℕ) → joined G c s ≡ true → nontrivial G s ≡ true
-        → getD next s 0 ≡ toward (G .states) (inside G c) (target G c l a) s
-    toward-target next m w s j n =
-        toward-along (inside G c) (target G c l a) inside-kept target-word w s (joined-to G c s j) (target-leads m s j n)
-
-    -- the next state is one of the component
-    pub target-next : (next : List ℕ) → meetsAt G c (goalAt l a) ≡ true → Toward rows (G .states) comp y next → (s : ℕ) → joined G c s ≡ true → nontrivial G s ≡ true
-        → joined G c (getD next s 0) ≡ true
-    target-next next m w s j n =
-        ap (joined G c) (toward-target next m w s j n)
-        ∙ inside-to G c s (toward (G .states) (inside G c) (target G c l a) s) (toward-move (G .states) (inside G c) (target G c l a) s (target-leads m s j n))
 
 -- the moves of a tour
 

@@ -5,7 +5,6 @@
 --   passed m b a        == the counter after a move towards goal a; b tells whether the move landed in it
 --   Past x r            == the members of x are below r, and the number before r is one
 --   aimedAt m q a h     == a is the first member from h on
---   NextIn x n k r      == r is the first member of x from k on and below n; n where there is none
 use Prim.Native.Nat.{ℕ, _+_, _≤_, _<_}
 use mathlib.Core.Path.{_≡_}
 use mathlib.Core.Bool.{Bool, true, false}
@@ -36,9 +35,3 @@ pub record Past (x r : ℕ) : Type 0 where
 
 unfoldable pub aimedAt : ℕ → ℕ → ℕ → ℕ → Bool
 aimedAt m q a h = eqb (firstFrom m q h) a
-
-pub record NextIn (x n k r : ℕ) : Type 0 where
-  pub from : k ≤ r
-  pub most : r ≤ n
-  pub passes : (t : ℕ) → k ≤ t → t < r → has x t ≡ false
-  pub here : r < n → has x r ≡ true

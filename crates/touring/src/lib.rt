@@ -2,7 +2,7 @@
 ghost use mathlib.Core.Path.{_≡_};
 ghost use Prim.Native.Nat.{_≤_, _<_};
 ghost use Rattle.sets.specs.Member.{pack};
-ghost use Rattle.touring.specs.Goal.{Goals, passed, Past, aimedAt, NextIn};
+ghost use Rattle.touring.specs.Goal.{Goals, passed, Past, aimedAt};
 ghost use Rattle.touring.specs.Stretches.{Short, MetMore};
 
 // Some sets of a tour, one after the other, as words: the first of them is number `from` of all. Of the four places `count` are in use.
@@ -65,16 +65,4 @@ pub fn counters_toward(q: u64, count: usize, a: usize) -> u64
     }
     let round = sets::difference(sets::below(count), sets::below(past(q)));
     sets::union(upto, round)
-}
-
-// The first member of x from k on and below n; n where there is none. A loop that goes by it passes over all other numbers at once.
-pub fn next_in(x: u64, n: usize, k: usize) -> usize
-    requires { ⌜ (k ≤ n) × (n ≤ 64) ⌝ }
-    ensures { λ r. ⌜ NextIn x n k r ⌝ }
-{
-    let r = sets::lowest(sets::difference(x, sets::below(k)));
-    if r < n {
-        return r;
-    }
-    n
 }

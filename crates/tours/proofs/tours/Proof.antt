@@ -1,22 +1,36 @@
 -- `tours` by its test.
 use borrow.Author.Needs.{needs}
-use Rattle.environment_table.proofs.Toured.{rests-rows, aims-of}
+use Rattle.environment_table.proofs.Toured.{aims-of}
+use Rattle.environment_table.proofs.Laid.{laid-fits}
+use Rattle.tours.proofs.Courses.{rests-moving, rests-filled}
 use Rattle.tours.proofs.tours.Statement.{statement}
 use Rattle.tours.proofs.tours.Tie as tie
 
 assumptions-met-requires : tie.Need-assumptions-met-requires
-assumptions-met-requires c κs = c .before .pre .0 .accepted
+assumptions-met-requires c κs = search needs
 
-rests-requires : tie.Need-rests-requires
-rests-requires c κs =
-    let p = c .before .before .before .before .pre in
-    (p .0, rests-rows _ _ _ _ (p .0 .inputs) (p .1) (c .before .before .assumptions-met .ensures) (c .before .if1 .taken))
+layout-of-requires : tie.Need-layout-of-requires
+layout-of-requires c κs = search needs
+
+stay-requires : tie.Need-stay-requires
+stay-requires c κs =
+    let z = c .before .before .before in
+    let t = z .before .before in
+    let p = t .before .before .before .pre in (
+      laid-fits _ _ _ _ (p .0) (z .layout-of .ensures),
+      rests-moving _ _ _ _ (p .0) (z .layout-of .ensures) _ _ _ (p .1) (t .before .assumptions-met .ensures) (t .if1 .taken),
+    )
 
 same-length : tie.Need-same-length
 same-length c = search needs
 
 returns : tie.Need-returns
-returns c = search needs
+returns c =
+    let s = c .before .before in
+    let z = s .before .before .before .before in
+    let t = z .before .before in
+    let p = t .before .before .before .pre in
+    rests-filled _ _ _ _ (p .0) (z .layout-of .ensures) _ _ _ (p .1) (t .before .assumptions-met .ensures) (t .if1 .taken) (s .stay .ensures)
 
 aims-requires : tie.Need-aims-requires
 aims-requires c κs =
@@ -34,7 +48,8 @@ tours-spec =
     tie.close
     (tie.spec
     assumptions-met-requires
-    rests-requires
+    layout-of-requires
+    stay-requires
     same-length
     returns
     aims-requires

@@ -5,31 +5,34 @@ use native.Mathlib.Omega.{arith}
 use borrow.Author.Needs.{needs}
 use Rattle.play.specs.Play.{separatedOf}
 use Rattle.theory.specs.Choice.{guarantees}
+use Rattle.theory.specs.Entries.{controllerEntries}
 use Rattle.sizes.specs.Below.{guaranteeSide, setsIn}
 use Rattle.sizes.specs.Numbered.{Upto}
 use Rattle.sizes.proofs.Below.{guarantees-listed, few, guaranteed-few}
 use Rattle.sizes.proofs.Numbered.{upto-none, upto-next, upto-all, stretch-short, stretch-set}
-use Rattle.controller_table.specs.Filled.{Filled, Between}
-use Rattle.controller_table.proofs.Phases.{sought-none, sought-all}
-use Rattle.controller_table.proofs.Seeking.{visiting-of, visited-further}
+use Rattle.layout.specs.Rows.{Filled}
+use Rattle.layout.proofs.Places.{fits-same}
+use Rattle.aiming.specs.Course.{Headed}
+use Rattle.controller_table.proofs.Laid.{laid-fits}
+use Rattle.visit.proofs.Courses.{home-counted, home-members, home-none, home-further, home-filled}
 use Rattle.visit.proofs.seek_all.Statement.{statement}
 use Rattle.visit.proofs.seek_all.Tie as tie
 
 abbrev Inv-loop : tie.InvT-loop
-Inv-loop room₀ z w q g h n₀ r₀ room n r =
-    (r ≤ g .k) × (g .k ≤ 8) × Upto guaranteeSide g r n × Filled (separatedOf g) (Between (separatedOf g) (w .state .0) 0 n) room₀ room
+Inv-loop room₀ q g h y component inputs n₀ r₀ room n r =
+    (r ≤ g .k) × (g .k ≤ 8) × Upto guaranteeSide g r n × Filled y (controllerEntries (separatedOf g)) (Headed y (component .0) (inputs .0) q 0 n) room₀ room
 
 abbrev μ-loop : tie.MeasureT-loop
-μ-loop room₀ z w q g h n₀ r₀ room n r = g .k - r
+μ-loop room₀ q g h y component inputs n₀ r₀ room n r = g .k - r
+
+layout-of-requires : tie.Need-layout-of-requires Inv-loop μ-loop
+layout-of-requires c κs = search needs
 
 loop-holds : tie.Need-loop-holds Inv-loop μ-loop
 loop-holds c =
-    let b = c .before .before in (
-      omega arith,
-      few _ (b .pre .0 .accepted),
-      upto-none guaranteeSide guarantees-listed _,
-      sought-none _ _ (b .pre .0) _ (b .pre .1) _ (b .pre .2) 0 0 _ (omega arith),
-    )
+    let p = c .before .before .before .before .before .pre in
+    let none = upto-none guaranteeSide guarantees-listed _ in
+    (omega arith, few _ (p .0 .accepted), none, home-none _ _ _ (p .0) (c .before .before .layout-of .ensures) _ (p .1) _ (p .2) (p .3) _)
 
 mul-guarantees-of : tie.Need-mul-guarantees-of Inv-loop μ-loop
 mul-guarantees-of c = omega arith
@@ -40,25 +43,32 @@ element-copy-out-guarantees-of c = omega arith
 guarantees-of-requires : tie.Need-guarantees-of-requires Inv-loop μ-loop
 guarantees-of-requires c κs = search needs
 
-seek-some-requires : tie.Need-seek-some-requires Inv-loop μ-loop
-unfolding guaranteeSide setsIn guarantees
-seek-some-requires c κs =
+aim-some-requires : tie.Need-aim-some-requires Inv-loop μ-loop
+unfolding guaranteeSide
+aim-some-requires c κs =
     let o = c .before .before .before in
     let l = o .before .before .before in
     let i = l .loop .inv in
-    let p = l .before .before .before .pre in
+    let y = l .before .before .before in
+    let p = y .before .before .before .pre in
+    let z = y .layout-of .ensures in
     let b = o .before .before .loop-test .taken in
-    let f = guaranteed-few _ (p .0 .accepted) (l .loop .r) b in
-    visiting-of _ _ (p .0) _ (p .1) _ (p .2) (p .3) _ (stretch-short guaranteeSide guarantees-listed _ (l .loop .r) _ _ b (i .1) f (i .2) (o .guarantees-of .ensures))
-    (stretch-set guaranteeSide guarantees-listed _ (l .loop .r) _ _ b (i .1) f (i .2) (o .guarantees-of .ensures)) _ (omega (arith, p .4, i .3 .grows .long))
+    let f = guaranteed-few _ (p .0 .accepted) (l .loop .r) b in (
+      fits-same _ _ _ (i .3 .grows .long) (laid-fits _ _ _ (p .0) z _ (p .4)),
+      home-members _ _ _ (p .0) z _ (p .1) _ (p .2) (p .3),
+      home-counted _ _ _ (p .0) z _ (p .1) _ (p .2) (p .3),
+      stretch-short guaranteeSide guarantees-listed _ (l .loop .r) _ _ b (i .1) f (i .2) (o .guarantees-of .ensures),
+    )
 
 add-n : tie.Need-add-n Inv-loop μ-loop
 unfolding guaranteeSide
 add-n c =
-    let o = c .before .before .before .before .before .before .before in
+    let s = c .before .before .before in
+    let o = s .before .before .before .before in
     let l = o .before .before .before in
     let i = l .loop .inv in
-    let p = l .before .before .before .pre in
+    let y = l .before .before .before in
+    let p = y .before .before .before .pre in
     let b = o .before .before .loop-test .taken in
     let f = guaranteed-few _ (p .0 .accepted) (l .loop .r) b in
     omega (arith, i .1, upto-next guaranteeSide guarantees-listed _ (l .loop .r) _ _ b (i .1) f (i .2) (o .guarantees-of .ensures) .few)
@@ -72,18 +82,19 @@ loop-less c = omega arith
 loop-again : tie.Need-loop-again Inv-loop μ-loop
 unfolding guaranteeSide setsIn guarantees
 loop-again c =
-    let o = c .before .before .before .before .before .before .before in
+    let s = c .before .before .before in
+    let o = s .before .before .before .before in
     let l = o .before .before .before in
     let i = l .loop .inv in
-    let p = l .before .before .before .pre in
+    let y = l .before .before .before in
+    let p = y .before .before .before .pre in
     let b = o .before .before .loop-test .taken in
     let f = guaranteed-few _ (p .0 .accepted) (l .loop .r) b in (
       omega arith,
       i .1,
       upto-next guaranteeSide guarantees-listed _ (l .loop .r) _ _ b (i .1) f (i .2) (o .guarantees-of .ensures),
-      visited-further _ _ (p .0) _ (p .1) _ (p .2) (p .3) _ (stretch-short guaranteeSide guarantees-listed _ (l .loop .r) _ _ b (i .1) f (i .2) (o .guarantees-of .ensures))
-          (stretch-set guaranteeSide guarantees-listed _ (l .loop .r) _ _ b (i .1) f (i .2) (o .guarantees-of .ensures)) _ (o .guarantees-of .ensures .first) (p .4) (i .3) refl
-          (c .before .before .before .seek-some .ensures),
+      home-further _ _ _ (p .0) (y .layout-of .ensures) _ (p .1) _ (p .2) (p .3) _ _ (o .guarantees-of .ensures .first)
+          (stretch-set guaranteeSide guarantees-listed _ (l .loop .r) _ _ b (i .1) f (i .2) (o .guarantees-of .ensures)) (i .3) (s .aim-some .ensures) refl,
     )
 
 same-length : tie.Need-same-length Inv-loop μ-loop
@@ -92,9 +103,12 @@ same-length c = c .before .loop .inv .3 .grows .long
 returns : tie.Need-returns Inv-loop μ-loop
 unfolding guaranteeSide setsIn guarantees
 returns c =
-    let i = c .before .loop .inv in
-    let p = c .before .before .before .before .pre in
-    sought-all _ _ (p .0) _ (p .1) _ (p .2) _ (upto-all guaranteeSide guarantees-listed _ (c .before .loop .r) _ (i .0) (c .loop-test .left) (i .2)) (p .3) (i .3)
+    let l = c .before in
+    let i = l .loop .inv in
+    let y = l .before .before .before in
+    let p = y .before .before .before .pre in
+    home-filled _ _ _ (p .0) (y .layout-of .ensures) _ (p .1) _ (p .2) (p .3) _
+    (upto-all guaranteeSide guarantees-listed _ (l .loop .r) _ (i .0) (c .loop-test .left) (i .2)) (i .3)
 
 pub seek-all-spec : {M : Type 1} → statement M
 seek-all-spec =
@@ -102,11 +116,12 @@ seek-all-spec =
     (tie.spec
     Inv-loop
     μ-loop
+    layout-of-requires
     loop-holds
     mul-guarantees-of
     element-copy-out-guarantees-of
     guarantees-of-requires
-    seek-some-requires
+    aim-some-requires
     add-n
     add-r
     loop-less

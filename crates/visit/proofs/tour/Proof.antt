@@ -1,31 +1,47 @@
 -- `tour`: with no goal, or with some.
 use borrow.Author.Needs.{needs}
-use Rattle.controller_table.proofs.Setting.{table-of}
-use Rattle.controller_table.proofs.Phases.{met-goals, rested}
+use Rattle.controller_table.proofs.Phases.{met-goals}
+use Rattle.controller_table.proofs.Laid.{laid-fits}
+use Rattle.visit.proofs.Courses.{rests-moving, rests-filled}
 use Rattle.visit.proofs.tour.Statement.{statement}
 use Rattle.visit.proofs.tour.Tie as tie
 
 guarantees-met-requires : tie.Need-guarantees-met-requires
 guarantees-met-requires c κs = search needs
 
-rest-requires : tie.Need-rest-requires
-rest-requires c κs =
-    let b = c .before .before .before .before .before .before .before .before in
-    table-of _ _ (b .pre .0) _ (b .pre .2)
+layout-of-requires : tie.Need-layout-of-requires
+layout-of-requires c κs = search needs
+
+stay-requires : tie.Need-stay-requires
+stay-requires c κs =
+    let h = c .before .before .before in
+    let t = h .before .before .before in
+    let m = t .before in
+    let p = m .before .before .before .pre in
+    let y = c .layout-of .ensures in (
+      laid-fits _ _ _ (p .0) y _ (p .2),
+      rests-moving _ _ _ (p .0) y _ (p .1) _ (met-goals _ _ (p .0) _ (p .1) _ (m .guarantees-met .ensures)) (t .if1 .taken),
+    )
 
 same-length : tie.Need-same-length
 same-length c = search needs
 
 returns : tie.Need-returns
 returns c =
-    let q = c .before .before .before .before .before .before .before .before in
-    let b = c .before .before .before .before .before .before .before .before .before .before .before in
-    rested _ _ (b .pre .0) _ (b .pre .1) _ _ _ (met-goals _ _ (b .pre .0) _ (b .pre .1) _ (q .guarantees-met .ensures)) (c .before .before .before .before .before .before .before .if1 .taken) (b .pre .2) (c .before .before .rest .ensures)
+    let s = c .before .before in
+    let y = s .before in
+    let h = y .before .before .before in
+    let t = h .before .before .before in
+    let m = t .before in
+    let p = m .before .before .before .pre in
+    rests-filled _ _ _ (p .0) (y .layout-of .ensures) _ (p .1) _
+    (met-goals _ _ (p .0) _ (p .1) _ (m .guarantees-met .ensures)) (t .if1 .taken) (s .stay .ensures)
 
 seek-all-requires : tie.Need-seek-all-requires
 seek-all-requires c κs =
-    let b = c .before .before .before .before .before in
-    (b .pre .0, b .pre .1, met-goals _ _ (b .pre .0) _ (b .pre .1) _ (c .before .before .guarantees-met .ensures), c .before .if1 .left, b .pre .2)
+    let m = c .before .before in
+    let p = m .before .before .before .pre in
+    (p .0, p .1, met-goals _ _ (p .0) _ (p .1) _ (m .guarantees-met .ensures), c .before .if1 .left, p .2)
 
 same-length-2 : tie.Need-same-length-2
 same-length-2 c = search needs
@@ -38,7 +54,8 @@ tour-spec =
     tie.close
     (tie.spec
     guarantees-met-requires
-    rest-requires
+    layout-of-requires
+    stay-requires
     same-length
     returns
     seek-all-requires
