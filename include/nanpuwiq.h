@@ -8,7 +8,7 @@
  *    5  k over 8
  *    6  a length over 4, all eight places counted
  *    7  a state past its count in a set, an unused set not empty, or an unused requirement with a length not 0
- *    8  scratch under 512 words, or, for the map, a map under one word an input
+ *    8  scratch under 2 * inputs + outputs words, or, for the map, a map under one word an input
  *    9  the controller's buffer too short, or the kit's      10  the panel's too short      all tried whoever wins
  *   11  bytes that are no game's text, with a place      12  over 40,960 bytes      13  a text buffer under the text's length
  *   14  an input that the panel cannot pick now, or at that step of a recording
@@ -40,7 +40,7 @@ extern "C" {
 #define NANPUWIQ_STATES 64          /* states of a graph at most */
 #define NANPUWIQ_REQUIREMENTS 8     /* places for requirements */
 #define NANPUWIQ_SETS 4             /* places for sets on each side of a requirement */
-#define NANPUWIQ_SCRATCH 512        /* words of scratch that solve, solve_kit and won_map ask for */
+#define NANPUWIQ_SCRATCH_MOST 192   /* words of scratch that the largest game asks for */
 #define NANPUWIQ_NONE 65535         /* the entry of a table that is none */
 #define NANPUWIQ_TABLE_MOST 131136  /* entries of the longest controller's table; the longest panel's has 131073 */
 #define NANPUWIQ_TEXT_MOST 40960    /* bytes of the longest text that is read */
@@ -147,16 +147,27 @@ typedef struct {
     size_t step;     /* the first step that shows a fault, a difference or an ending; 0 where they agree and for 1 to 7 and 16 */
 } nanpuwiq_compared;
 
+/* Words of scratch that an accepted game asks for, and an accepted kit: 2 * inputs + outputs. On a verdict or a map that many words of scratch are
+ * zero, from the first on, and the rest is as it was. */
+static inline size_t nanpuwiq_scratch_words(nanpuwiq_game game)
+{
+    return 2 * game.input.states + game.output.states;
+}
+static inline size_t nanpuwiq_kit_scratch_words(nanpuwiq_kit kit)
+{
+    return 2 * kit.old_drive.modes + kit.new_drive.modes;
+}
+
 /* Whether the game is accepted: 0, or 1 to 7. */
 uint8_t nanpuwiq_accept(nanpuwiq_game game);
 
 /* The won map: word i of map is the set of the outputs that are won with input i; later words stay as they were.
  * A bit is set exactly where a controller with finitely many memory values, started there, makes every reachable round meet all requirements.
- * Code 0, 1 to 7, or 8. On 0 scratch's first 512 words are zero and the rest as it was. */
+ * Code 0, 1 to 7, or 8. On 0 scratch's first nanpuwiq_scratch_words(game) words are zero and the rest is as it was. */
 uint8_t nanpuwiq_won_map(nanpuwiq_game game, uint64_t *scratch, size_t scratch_words, uint64_t *map, size_t map_words);
 
 /* Names the side that wins and fills the front of its buffer with a table that wins for it; no table of any finite size wins for the other.
- * The rest of that buffer and all of the other stay as they were; scratch's first 512 words are zero and the rest as it was.
+ * The rest of that buffer and all of the other stay as they were; scratch's first nanpuwiq_scratch_words(game) words are zero and the rest is as it was.
  * An entry is next state + 64 * next counter, or NANPUWIQ_NONE.
  * Controller: inputs + outputs * max(1, G) * inputs entries, G guarantees in all: a start for each input, then rows by output, counter, input.
  * Panel: 1 + inputs * max(1, H) * outputs entries, H assumptions in all: the start, then rows by input, counter, output.

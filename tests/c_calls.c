@@ -54,45 +54,48 @@ static void acceptance(void)
 static void map(void)
 {
     nanpuwiq_game g = example();
-    uint64_t scratch[513], words[3] = {7, 7, 7};
+    uint64_t scratch[7], words[3] = {7, 7, 7};
     memset(scratch, 255, sizeof scratch);
-    same("map, scratch short", nanpuwiq_won_map(g, scratch, 511, words, 3), 8);
-    same("map, map short", nanpuwiq_won_map(g, scratch, 512, words, 1), 8);
+    same("scratch of 2 inputs and 2 outputs", nanpuwiq_scratch_words(g), 6);
+    same("map, scratch short", nanpuwiq_won_map(g, scratch, 5, words, 3), 8);
+    same("map, map short", nanpuwiq_won_map(g, scratch, 6, words, 1), 8);
     same("map refused: word 0", words[0], 7);
     same("map refused: scratch", scratch[0], UINT64_MAX);
-    same("map", nanpuwiq_won_map(g, scratch, 513, words, 3), 0);
+    same("map", nanpuwiq_won_map(g, scratch, 7, words, 3), 0);
     same("map: word 0", words[0], 3);
     same("map: word 1", words[1], 3);
     same("map: word 2", words[2], 7);
     same("map: scratch 0", scratch[0], 0);
-    same("map: scratch 511", scratch[511], 0);
-    same("map: scratch 512", scratch[512], UINT64_MAX);
+    same("map: scratch 5", scratch[5], 0);
+    same("map: scratch 6", scratch[6], UINT64_MAX);
+    same("map, scratch of the exact length", nanpuwiq_won_map(g, scratch, 6, words, 2), 0);
 }
 
 static void solving(void)
 {
     nanpuwiq_game g = example();
-    uint64_t scratch[512];
+    uint64_t scratch[6];
     uint16_t controller[7], panel[6];
     memset(scratch, 255, sizeof scratch);
     memset(controller, 1, sizeof controller);
     memset(panel, 2, sizeof panel);
-    same("solve, scratch short", nanpuwiq_solve(g, scratch, 511, controller, 7, panel, 6).code, 8);
-    same("solve, controller short", nanpuwiq_solve(g, scratch, 512, controller, 5, panel, 6).code, 9);
-    same("solve, panel short", nanpuwiq_solve(g, scratch, 512, controller, 6, panel, 4).code, 10);
+    same("solve, scratch short", nanpuwiq_solve(g, scratch, 5, controller, 7, panel, 6).code, 8);
+    same("solve, controller short", nanpuwiq_solve(g, scratch, 6, controller, 5, panel, 6).code, 9);
+    same("solve, panel short", nanpuwiq_solve(g, scratch, 6, controller, 6, panel, 4).code, 10);
     same("solve refused: controller", controller[0], 257);
     same("solve refused: panel", panel[0], 514);
     same("solve refused: scratch", scratch[0], UINT64_MAX);
-    nanpuwiq_solved r = nanpuwiq_solve(g, scratch, 512, controller, 7, panel, 6);
+    nanpuwiq_solved r = nanpuwiq_solve(g, scratch, 6, controller, 7, panel, 6);
     same("solve", r.code, 0);
     same("solve: system", r.system, true);
     same("solve: entries", r.entries, 6);
     same("solve: table", memcmp(controller, table, sizeof table), 0);
     same("solve: entry 6", controller[6], 257);
     same("solve: panel", panel[0], 514);
-    same("solve: scratch", scratch[0], 0);
+    same("solve: scratch 0", scratch[0], 0);
+    same("solve: scratch 5", scratch[5], 0);
     g.requirements[0].guarantees[0].states = 0;
-    r = nanpuwiq_solve(g, scratch, 512, controller, 7, panel, 6);
+    r = nanpuwiq_solve(g, scratch, 6, controller, 7, panel, 6);
     same("no adapter", r.code, 0);
     same("no adapter: system", r.system, false);
     same("no adapter: entries", r.entries, 5);
@@ -100,6 +103,30 @@ static void solving(void)
     same("no adapter: row 0 0 0", panel[1], 1);
     same("no adapter: entry 5", panel[5], 514);
     same("no adapter: controller", memcmp(controller, table, sizeof table), 0);
+}
+
+/* 64 states each ask for 192 words: one word less gets 8, that many pass and are zero afterwards, and no word past them is. */
+static void scratch_of_the_largest(void)
+{
+    static uint16_t controller[64 + 64 * 64], panel[1 + 64 * 64];
+    nanpuwiq_game g;
+    uint64_t scratch[NANPUWIQ_SCRATCH_MOST + 1], map[64];
+    memset(&g, 0, sizeof g);
+    g.input.states = g.output.states = 64;
+    g.input.initial = g.output.initial = 1;
+    for (size_t s = 0; s < 64; s++)
+        g.input.moves[s] = g.output.moves[s] = (uint64_t)1 << (s + 1) % 64;
+    same("64 states: words", nanpuwiq_scratch_words(g), NANPUWIQ_SCRATCH_MOST);
+    memset(scratch, 255, sizeof scratch);
+    same("64 states: 191 words", nanpuwiq_solve(g, scratch, 191, controller, 64 + 64 * 64, panel, 1 + 64 * 64).code, 8);
+    same("64 states, map: 191 words", nanpuwiq_won_map(g, scratch, 191, map, 64), 8);
+    same("64 states: 192 words", nanpuwiq_solve(g, scratch, 192, controller, 64 + 64 * 64, panel, 1 + 64 * 64).code, 0);
+    same("64 states: the last word", scratch[191], 0);
+    same("64 states: the word after it", scratch[192], UINT64_MAX);
+    memset(scratch, 255, sizeof scratch);
+    same("64 states, map: 192 words", nanpuwiq_won_map(g, scratch, 192, map, 64), 0);
+    same("64 states, map: the last word", scratch[191], 0);
+    same("64 states, map: the word after it", scratch[192], UINT64_MAX);
 }
 
 static void texts(void)
@@ -204,9 +231,9 @@ static void long_run(void)
     g.requirements[1].assumptions[0].states = 4;
     g.requirements[1].guarantees[0].states = 1;
     g.requirements[1].assumed = g.requirements[1].guaranteed = 1;
-    uint64_t scratch[NANPUWIQ_SCRATCH];
+    uint64_t scratch[NANPUWIQ_SCRATCH_MOST];
     uint16_t controller[30], panel[19];
-    nanpuwiq_solved won = nanpuwiq_solve(g, scratch, NANPUWIQ_SCRATCH, controller, 30, panel, 19);
+    nanpuwiq_solved won = nanpuwiq_solve(g, scratch, NANPUWIQ_SCRATCH_MOST, controller, 30, panel, 19);
     same("long run: solve", won.code, 0);
     same("long run: system", won.system, true);
     nanpuwiq_in_state next = {0};
@@ -275,6 +302,7 @@ enum {
     IN = 4,
     OUT = 6,
     COUNTERS = 5,
+    SCRATCH = 2 * IN + OUT,
     CONTROLLER = IN + OUT * COUNTERS * IN,
     PANEL = 1 + IN * 4 * OUT,
     KIT = IN + OUT * COUNTERS * IN * 4
@@ -304,7 +332,7 @@ static nanpuwiq_game game_of(const nanpuwiq_kit *kit)
 }
 
 typedef struct {
-    uint64_t scratch[NANPUWIQ_SCRATCH + 8];
+    uint64_t scratch[SCRATCH + 8];
     uint16_t controller[CONTROLLER + 5], panel[PANEL + 5], room[KIT + 5];
 } rooms;
 
@@ -357,11 +385,13 @@ static void kit_solving(void)
     clear(&r);
     clear(&by_game);
     same("kit: accept", nanpuwiq_accept_kit(kit), 0);
-    nanpuwiq_solved game_won = nanpuwiq_solve(g, by_game.scratch, 520, by_game.controller, CONTROLLER + 5, by_game.panel, PANEL + 5);
+    same("kit: words of scratch", nanpuwiq_kit_scratch_words(kit), SCRATCH);
+    same("kit: words of scratch, its game", nanpuwiq_scratch_words(g), SCRATCH);
+    nanpuwiq_solved game_won = nanpuwiq_solve(g, by_game.scratch, SCRATCH + 8, by_game.controller, CONTROLLER + 5, by_game.panel, PANEL + 5);
     same("kit: its game", game_won.code, 0);
     same("kit: its game: system", game_won.system, true);
     same("kit: its game: entries", game_won.entries, CONTROLLER);
-    nanpuwiq_solved won = nanpuwiq_solve_kit(kit, r.scratch, 520, r.controller, CONTROLLER + 5, r.panel, PANEL + 5, r.room, KIT + 5);
+    nanpuwiq_solved won = nanpuwiq_solve_kit(kit, r.scratch, SCRATCH + 8, r.controller, CONTROLLER + 5, r.panel, PANEL + 5, r.room, KIT + 5);
     same("kit: solve", won.code, 0);
     same("kit: system", won.system, true);
     same("kit: entries", won.entries, KIT);
@@ -370,8 +400,8 @@ static void kit_solving(void)
     same("kit: controller", memcmp(r.controller, by_game.controller, sizeof r.controller), 0);
     same("kit: panel", touched(r.panel, 0, PANEL + 5), 0);
     same("kit: scratch", memcmp(r.scratch, by_game.scratch, sizeof r.scratch), 0);
-    same("kit: scratch 511", r.scratch[511], 0);
-    same("kit: scratch 512", r.scratch[512], 0x5a5a5a5a5a5a5a5au);
+    same("kit: the last word of scratch that is cleared", r.scratch[SCRATCH - 1], 0);
+    same("kit: the word after it", r.scratch[SCRATCH], 0x5a5a5a5a5a5a5a5au);
     /* from stop, fast is barred; in park all is lost but service, in which hold is the lowest command that stays there */
     same("kit: barred", r.room[IN + 2], NANPUWIQ_NONE);
     same("kit: off in park", r.room[IN + 5 * COUNTERS * IN * 4], NANPUWIQ_NONE);
@@ -382,7 +412,7 @@ static void kit_solving(void)
     same("kit: some entries are none, some are not", none > 0 && none < KIT, true);
     /* rooms of the exact length */
     clear(&r);
-    won = nanpuwiq_solve_kit(kit, r.scratch, 512, r.controller, CONTROLLER, r.panel, PANEL, r.room, KIT);
+    won = nanpuwiq_solve_kit(kit, r.scratch, SCRATCH, r.controller, CONTROLLER, r.panel, PANEL, r.room, KIT);
     same("kit, exact rooms", won.code, 0);
     same("kit, exact rooms: system", won.system, true);
     same("kit, exact rooms: wrong entries", wrong_entries(&kit, r.controller, r.room), 0);
@@ -395,7 +425,7 @@ static void kit_playing(void)
     nanpuwiq_game g = game_of(&kit);
     rooms r;
     clear(&r);
-    nanpuwiq_solved won = nanpuwiq_solve_kit(kit, r.scratch, 512, r.controller, CONTROLLER, r.panel, PANEL, r.room, KIT);
+    nanpuwiq_solved won = nanpuwiq_solve_kit(kit, r.scratch, SCRATCH, r.controller, CONTROLLER, r.panel, PANEL, r.room, KIT);
     same("kit run: solve", won.code, 0);
     size_t in = 0, out = r.room[in] % 64, counter = r.room[in] / 64;
     nanpuwiq_in_state next = {in};
@@ -449,8 +479,8 @@ static void kit_no_adapter(void)
     rooms r, by_game;
     clear(&r);
     clear(&by_game);
-    nanpuwiq_solve(g, by_game.scratch, 520, by_game.controller, CONTROLLER + 5, by_game.panel, PANEL + 5);
-    nanpuwiq_solved won = nanpuwiq_solve_kit(kit, r.scratch, 520, r.controller, CONTROLLER + 5, r.panel, PANEL + 5, r.room, KIT + 5);
+    nanpuwiq_solve(g, by_game.scratch, SCRATCH + 8, by_game.controller, CONTROLLER + 5, by_game.panel, PANEL + 5);
+    nanpuwiq_solved won = nanpuwiq_solve_kit(kit, r.scratch, SCRATCH + 8, r.controller, CONTROLLER + 5, r.panel, PANEL + 5, r.room, KIT + 5);
     same("kit, no adapter", won.code, 0);
     same("kit, no adapter: system", won.system, false);
     same("kit, no adapter: entries", won.entries, PANEL);
@@ -459,10 +489,10 @@ static void kit_no_adapter(void)
     same("kit, no adapter: panel", memcmp(r.panel, by_game.panel, sizeof r.panel), 0);
     same("kit, no adapter: panel's table", touched(r.panel, 0, PANEL), PANEL);
     same("kit, no adapter: entries after it", touched(r.panel, PANEL, PANEL + 5), 0);
-    same("kit, no adapter: scratch 511", r.scratch[511], 0);
-    same("kit, no adapter: scratch 512", r.scratch[512], 0x5a5a5a5a5a5a5a5au);
+    same("kit, no adapter: the last word of scratch that is cleared", r.scratch[SCRATCH - 1], 0);
+    same("kit, no adapter: the word after it", r.scratch[SCRATCH], 0x5a5a5a5a5a5a5a5au);
     /* the kit's room is tried whoever wins */
-    won = nanpuwiq_solve_kit(kit, r.scratch, 512, r.controller, CONTROLLER, r.panel, PANEL, r.room, KIT - 1);
+    won = nanpuwiq_solve_kit(kit, r.scratch, SCRATCH, r.controller, CONTROLLER, r.panel, PANEL, r.room, KIT - 1);
     same("kit, no adapter, room short", won.code, 9);
 }
 
@@ -475,7 +505,7 @@ static void kit_latches(void)
     clear(&r);
     memset(kit.new_drive.next + 16 * 5, NANPUWIQ_BARRED, 16);
     same("kit latches: accept", nanpuwiq_accept_kit(kit), 0);
-    nanpuwiq_solved won = nanpuwiq_solve_kit(kit, r.scratch, 512, r.controller, CONTROLLER, r.panel, PANEL, r.room, KIT);
+    nanpuwiq_solved won = nanpuwiq_solve_kit(kit, r.scratch, SCRATCH, r.controller, CONTROLLER, r.panel, PANEL, r.room, KIT);
     same("kit latches: solve", won.code, 0);
     same("kit latches: system", won.system, false);
     same("kit latches: entries", won.entries, PANEL);
@@ -488,7 +518,7 @@ static void kit_latches(void)
     same("kit latches: rows for park", wrong, 0);
     memset(kit.old_drive.next + 16 * 3, NANPUWIQ_BARRED, 16);
     clear(&r);
-    won = nanpuwiq_solve_kit(kit, r.scratch, 512, r.controller, CONTROLLER, r.panel, PANEL, r.room, KIT);
+    won = nanpuwiq_solve_kit(kit, r.scratch, SCRATCH, r.controller, CONTROLLER, r.panel, PANEL, r.room, KIT);
     same("kit latches, the old drive too: solve", won.code, 0);
     same("kit latches, the old drive too: system", won.system, true);
     same("kit latches, the old drive too: entries", won.entries, KIT);
@@ -518,7 +548,7 @@ static void refused(const char *what, nanpuwiq_kit kit, size_t words, size_t con
 
 static void faulty(const char *what, nanpuwiq_kit kit, uint8_t number)
 {
-    refused(what, kit, 512, CONTROLLER, PANEL, KIT, number);
+    refused(what, kit, SCRATCH, CONTROLLER, PANEL, KIT, number);
 }
 
 static void kit_refusals(void)
@@ -550,10 +580,10 @@ static void kit_refusals(void)
     faulty("kit, five sets in the last place", kit, 6);
     kit = right, kit.requirements[0].guarantees[0].states = 1 << 6;
     faulty("kit, a set with a mode past the count", kit, 7);
-    refused("kit, scratch short", right, 511, CONTROLLER, PANEL, KIT, 8);
-    refused("kit, controller's room short", right, 512, CONTROLLER - 1, PANEL, KIT, 9);
-    refused("kit, kit's room short", right, 512, CONTROLLER, PANEL, KIT - 1, 9);
-    refused("kit, panel's room short", right, 512, CONTROLLER, PANEL - 1, KIT, 10);
+    refused("kit, scratch short", right, SCRATCH - 1, CONTROLLER, PANEL, KIT, 8);
+    refused("kit, controller's room short", right, SCRATCH, CONTROLLER - 1, PANEL, KIT, 9);
+    refused("kit, kit's room short", right, SCRATCH, CONTROLLER, PANEL, KIT - 1, 9);
+    refused("kit, panel's room short", right, SCRATCH, CONTROLLER, PANEL - 1, KIT, 10);
     refused("kit, no rooms", right, 0, 0, 0, 0, 8);
 }
 
@@ -571,28 +601,28 @@ static void kit_refusals_in_order(void)
     kit.k = 9;
     kit.requirements[7].guaranteed = 5;
     kit.requirements[0].guarantees[0].states = 1 << 6;
-    refused("kit in order: 1", kit, 511, CONTROLLER - 1, PANEL - 1, KIT - 1, 1);
+    refused("kit in order: 1", kit, SCRATCH - 1, CONTROLLER - 1, PANEL - 1, KIT - 1, 1);
     kit.new_drive.modes = 6;
-    refused("kit in order: 17", kit, 511, CONTROLLER - 1, PANEL - 1, KIT - 1, 17);
+    refused("kit in order: 17", kit, SCRATCH - 1, CONTROLLER - 1, PANEL - 1, KIT - 1, 17);
     kit.old_drive.commands = 4;
-    refused("kit in order: 18", kit, 511, CONTROLLER - 1, PANEL - 1, KIT - 1, 18);
+    refused("kit in order: 18", kit, SCRATCH - 1, CONTROLLER - 1, PANEL - 1, KIT - 1, 18);
     kit.old_drive.next[16 * 2 + 0] = NANPUWIQ_BARRED;
-    refused("kit in order: 18, past the counts", kit, 511, CONTROLLER - 1, PANEL - 1, KIT - 1, 18);
+    refused("kit in order: 18, past the counts", kit, SCRATCH - 1, CONTROLLER - 1, PANEL - 1, KIT - 1, 18);
     kit.new_drive.next[16 * 63 + 15] = NANPUWIQ_BARRED;
-    refused("kit in order: 2", kit, 511, CONTROLLER - 1, PANEL - 1, KIT - 1, 2);
+    refused("kit in order: 2", kit, SCRATCH - 1, CONTROLLER - 1, PANEL - 1, KIT - 1, 2);
     kit.old_drive.initial = 1;
-    refused("kit in order: 3", kit, 511, CONTROLLER - 1, PANEL - 1, KIT - 1, 3);
+    refused("kit in order: 3", kit, SCRATCH - 1, CONTROLLER - 1, PANEL - 1, KIT - 1, 3);
     kit.new_drive.initial = 1;
-    refused("kit in order: 5", kit, 511, CONTROLLER - 1, PANEL - 1, KIT - 1, 5);
+    refused("kit in order: 5", kit, SCRATCH - 1, CONTROLLER - 1, PANEL - 1, KIT - 1, 5);
     kit.k = 4;
-    refused("kit in order: 6", kit, 511, CONTROLLER - 1, PANEL - 1, KIT - 1, 6);
+    refused("kit in order: 6", kit, SCRATCH - 1, CONTROLLER - 1, PANEL - 1, KIT - 1, 6);
     kit.requirements[7].guaranteed = 0;
-    refused("kit in order: 7", kit, 511, CONTROLLER - 1, PANEL - 1, KIT - 1, 7);
+    refused("kit in order: 7", kit, SCRATCH - 1, CONTROLLER - 1, PANEL - 1, KIT - 1, 7);
     kit.requirements[0].guarantees[0].states = 1 << 2;
-    refused("kit in order: 8", kit, 511, CONTROLLER - 1, PANEL - 1, KIT - 1, 8);
-    refused("kit in order: 9", kit, 512, CONTROLLER - 1, PANEL - 1, KIT - 1, 9);
-    refused("kit in order: 9, the kit's", kit, 512, CONTROLLER, PANEL - 1, KIT - 1, 9);
-    refused("kit in order: 10", kit, 512, CONTROLLER, PANEL - 1, KIT, 10);
+    refused("kit in order: 8", kit, SCRATCH - 1, CONTROLLER - 1, PANEL - 1, KIT - 1, 8);
+    refused("kit in order: 9", kit, SCRATCH, CONTROLLER - 1, PANEL - 1, KIT - 1, 9);
+    refused("kit in order: 9, the kit's", kit, SCRATCH, CONTROLLER, PANEL - 1, KIT - 1, 9);
+    refused("kit in order: 10", kit, SCRATCH, CONTROLLER, PANEL - 1, KIT, 10);
     memcpy(kit.new_drive.next, right.new_drive.next, sizeof kit.new_drive.next);
     same("kit in order: mended", memcmp(&kit, &right, sizeof kit), 0);
 }
@@ -796,7 +826,7 @@ static void recordings_of_the_pump(void)
     nanpuwiq_game g = game_of(&kit);
     rooms r;
     clear(&r);
-    nanpuwiq_solved won = nanpuwiq_solve(g, r.scratch, 512, r.controller, CONTROLLER, r.panel, PANEL);
+    nanpuwiq_solved won = nanpuwiq_solve(g, r.scratch, SCRATCH, r.controller, CONTROLLER, r.panel, PANEL);
     same("pump's recordings: solve", won.code, 0);
     same("pump's recordings: system", won.system, true);
     uint8_t in[STEPS] = {0}, out[STEPS];
@@ -889,6 +919,7 @@ int main(void)
     acceptance();
     map();
     solving();
+    scratch_of_the_largest();
     texts();
     playing();
     advancing();

@@ -7,7 +7,7 @@ mod games;
 mod measure;
 
 use measure::{best, plain_loop, single_stores};
-use nanpuwiq::{Game, Winner, CONTROLLER_MOST, ENVIRONMENT_MOST, SCRATCH};
+use nanpuwiq::{Game, Winner, CONTROLLER_MOST, ENVIRONMENT_MOST, SCRATCH_MOST};
 use std::env;
 use std::hint::black_box;
 
@@ -20,7 +20,7 @@ struct Buffers {
 
 impl Buffers {
     fn new() -> Buffers {
-        Buffers { scratch: vec![0; SCRATCH], controller: vec![0; CONTROLLER_MOST], environment: vec![0; ENVIRONMENT_MOST] }
+        Buffers { scratch: vec![0; SCRATCH_MOST], controller: vec![0; CONTROLLER_MOST], environment: vec![0; ENVIRONMENT_MOST] }
     }
 
     fn solve(&mut self, g: &Game) -> (Winner, usize) {

@@ -16,8 +16,8 @@ pub const STATES: usize = 64;
 pub const REQUIREMENTS: usize = 8;
 /// Places for sets on each side of a requirement.
 pub const SETS: usize = 4;
-/// Words of scratch that solving and the map ask for.
-pub const SCRATCH: usize = 512;
+/// Words of scratch that the largest game asks for.
+pub const SCRATCH_MOST: usize = 3 * STATES;
 /// The entry of a table that is none.
 pub const NONE: u16 = 65_535;
 /// Entries of the longest controller's table.
@@ -252,6 +252,11 @@ fn set_below(count: usize, states: &[usize]) -> Option<u64> {
     states.iter().all(|&s| s < count).then(|| states.iter().fold(0, |x, &s| x | 1 << s))
 }
 
+/// Counts that no accepted game has give some number too.
+fn scratch_words(inputs: usize, outputs: usize) -> usize {
+    inputs.saturating_mul(2).saturating_add(outputs)
+}
+
 impl Game {
     /// A game, which is accepted: 1 to 7.
     pub fn new(input: Graph, output: Graph, requirements: &[Requirement]) -> Result<Game, Error> {
@@ -269,6 +274,12 @@ impl Game {
         refusal(entries::accept(*self))
     }
 
+    /// Words of scratch that the game asks for, where it is accepted: 2 × inputs + outputs. On a verdict or a map that many words of scratch are zero,
+    /// from the first on, and the rest is as it was.
+    pub fn scratch_words(&self) -> usize {
+        scratch_words(self.input.states, self.output.states)
+    }
+
     /// The won map in a buffer of the caller's, a word for each input: 1 to 7, 8.
     pub fn won_map_into(&self, scratch: &mut [u64], map: &mut [u64]) -> Result<(), Error> {
         refusal(entries::won_map(*self, scratch, map))
@@ -277,7 +288,7 @@ impl Game {
     /// The won map: word i is the set of the outputs that are won with input i.
     pub fn won_map(&self) -> Result<Vec<u64>, Error> {
         let mut map = vec![0; self.input.states.min(STATES)];
-        self.won_map_into(&mut [0; SCRATCH], &mut map)?;
+        self.won_map_into(&mut [0; SCRATCH_MOST], &mut map)?;
         Ok(map)
     }
 
@@ -292,7 +303,7 @@ impl Game {
     pub fn solve(&self) -> Result<Verdict, Error> {
         let mut controller = vec![0; CONTROLLER_MOST];
         let mut environment = vec![0; ENVIRONMENT_MOST];
-        let (winner, entries) = self.solve_into(&mut [0; SCRATCH], &mut controller, &mut environment)?;
+        let (winner, entries) = self.solve_into(&mut [0; SCRATCH_MOST], &mut controller, &mut environment)?;
         let mut table = match winner {
             Winner::System => controller,
             Winner::Environment => environment,
@@ -391,6 +402,11 @@ impl Kit {
         refusal(entries::accept_kit(*self))
     }
 
+    /// Words of scratch that the kit asks for, where it is accepted: those of its game.
+    pub fn scratch_words(&self) -> usize {
+        scratch_words(self.old.modes, self.new.modes)
+    }
+
     /// The side that wins the kit's game, and how many entries are filled: of `room` with the kit's table where the system wins, of the environment's
     /// buffer with its table where that does. The other buffers become what `Game::solve_into` makes of them: 1, 17, 18, 2 to 7, 8, 9, 10.
     ///
@@ -417,7 +433,7 @@ impl Kit {
         let mut controller = vec![0; CONTROLLER_MOST];
         let mut environment = vec![0; ENVIRONMENT_MOST];
         let mut room = vec![0; KIT_MOST];
-        let (winner, entries) = self.solve_into(&mut [0; SCRATCH], &mut controller, &mut environment, &mut room)?;
+        let (winner, entries) = self.solve_into(&mut [0; SCRATCH_MOST], &mut controller, &mut environment, &mut room)?;
         let mut table = match winner {
             Winner::System => room,
             Winner::Environment => environment,

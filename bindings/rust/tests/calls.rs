@@ -136,16 +136,16 @@ fn faulty_games_are_refused_by_every_entry() {
 #[test]
 fn short_buffers_are_refused() {
     let g = example();
-    let mut scratch = vec![7u64; 512];
+    let mut scratch = vec![7u64; g.scratch_words()];
     let mut map = vec![8u64; 2];
     let mut controller = vec![9u16; 6];
     let mut environment = vec![10u16; 5];
-    let calls: [(u8, usize, usize, usize); 5] = [(8, 511, 6, 5), (8, 511, 0, 0), (9, 512, 5, 5), (9, 512, 5, 4), (10, 512, 6, 4)];
+    let calls: [(u8, usize, usize, usize); 5] = [(8, 5, 6, 5), (8, 5, 0, 0), (9, 6, 5, 5), (9, 6, 5, 4), (10, 6, 6, 4)];
     for (number, s, c, e) in calls {
         let r = g.solve_into(&mut scratch[..s], &mut controller[..c], &mut environment[..e]);
         assert_eq!(r, Err(refused(number)));
     }
-    assert_eq!(g.won_map_into(&mut scratch[..511], &mut map), Err(refused(8)));
+    assert_eq!(g.won_map_into(&mut scratch[..5], &mut map), Err(refused(8)));
     assert_eq!(g.won_map_into(&mut scratch, &mut map[..1]), Err(refused(8)));
     assert_eq!(g.won_map_into(&mut [], &mut []), Err(refused(8)));
     let mut text = vec![11u8; TEXT.len()];
@@ -155,6 +155,7 @@ fn short_buffers_are_refused() {
     assert!(controller.iter().all(|&x| x == 9) && environment.iter().all(|&x| x == 10));
     // buffers of the exact length are long enough
     assert_eq!(g.solve_into(&mut scratch, &mut controller, &mut environment), Ok((Winner::System, 6)));
+    assert_eq!(g.won_map_into(&mut scratch, &mut map), Ok(()));
     assert_eq!(g.write_into(&mut text), Ok(TEXT.len()));
     assert_eq!(text, TEXT);
 }
@@ -169,11 +170,11 @@ fn the_rest_of_the_buffers_stays() {
     let mut text = vec![11u8; 200];
     assert_eq!(g.won_map_into(&mut scratch, &mut map), Ok(()));
     assert_eq!(map, [3, 3, 8, 8]);
-    assert!(scratch[..512].iter().all(|&x| x == 0) && scratch[512..].iter().all(|&x| x == 7));
+    assert!(scratch[..6].iter().all(|&x| x == 0) && scratch[6..].iter().all(|&x| x == 7));
     assert_eq!(g.solve_into(&mut scratch, &mut controller, &mut environment), Ok((Winner::System, 6)));
     assert_eq!(controller[..6], [0, NONE, 1, 1, 1, 1]);
     assert!(controller[6..].iter().all(|&x| x == 9) && environment.iter().all(|&x| x == 10));
-    assert!(scratch[..512].iter().all(|&x| x == 0) && scratch[512..].iter().all(|&x| x == 7));
+    assert!(scratch[..6].iter().all(|&x| x == 0) && scratch[6..].iter().all(|&x| x == 7));
     assert_eq!(g.write_into(&mut text), Ok(TEXT.len()));
     assert!(text.starts_with(TEXT) && text[TEXT.len()..].iter().all(|&x| x == 11));
     let g = single(&[requirement(&[&[0]], &[&[]])]);
@@ -329,6 +330,48 @@ fn the_largest_game() {
     assert_eq!(g.won_map().unwrap(), vec![u64::MAX; 64]);
     assert_eq!(Game::read(&g.write().unwrap()), Ok(g));
     let mut short = vec![0; CONTROLLER_MOST - 1];
-    let r = g.solve_into(&mut [0; SCRATCH], &mut short, &mut vec![0; ENVIRONMENT_MOST]);
+    let r = g.solve_into(&mut [0; SCRATCH_MOST], &mut short, &mut vec![0; ENVIRONMENT_MOST]);
     assert_eq!(r, Err(refused(9)));
+    // one word of scratch under 2 × inputs + outputs gets 8; that many pass, are zero afterwards, and no word past them is
+    assert_eq!(g.scratch_words(), SCRATCH_MOST);
+    let mut scratch = [7; SCRATCH_MOST + 1];
+    let (mut controller, mut environment, mut map) = (vec![0; CONTROLLER_MOST], vec![0; ENVIRONMENT_MOST], [0; 64]);
+    assert_eq!(g.solve_into(&mut scratch[..SCRATCH_MOST - 1], &mut controller, &mut environment), Err(refused(8)));
+    assert_eq!(g.won_map_into(&mut scratch[..SCRATCH_MOST - 1], &mut map), Err(refused(8)));
+    assert_eq!(scratch, [7; SCRATCH_MOST + 1]);
+    assert!(g.solve_into(&mut scratch, &mut controller, &mut environment).is_ok());
+    assert_eq!((&scratch[..SCRATCH_MOST], scratch[SCRATCH_MOST]), (&[0; SCRATCH_MOST][..], 7));
+    scratch.fill(7);
+    assert!(g.won_map_into(&mut scratch, &mut map).is_ok());
+    assert_eq!((&scratch[..SCRATCH_MOST], scratch[SCRATCH_MOST]), (&[0; SCRATCH_MOST][..], 7));
+}
+
+// Every size of up to 9 states a side: the words that are asked for, one less, one more.
+#[test]
+fn scratch_of_every_small_size() {
+    for inputs in 1..10 {
+        for outputs in 1..10 {
+            let turning = |n: usize| -> Graph {
+                let rows: Vec<[usize; 1]> = (0..n).map(|s| [(s + 1) % n]).collect();
+                let rows: Vec<&[usize]> = rows.iter().map(|row| &row[..]).collect();
+                graph(&[0], &rows)
+            };
+            let g = made(turning(inputs), turning(outputs), &[requirement(&[&[0]], &[&[0]])]);
+            let n = 2 * inputs + outputs;
+            assert_eq!(g.scratch_words(), n);
+            let mut scratch = vec![7; n + 3];
+            let (mut controller, mut environment, mut map) = (vec![0; 100], vec![0; 100], [0; 10]);
+            assert_eq!(g.solve_into(&mut scratch[..n - 1], &mut controller, &mut environment), Err(refused(8)));
+            assert_eq!(g.won_map_into(&mut scratch[..n - 1], &mut map), Err(refused(8)));
+            assert!(scratch.iter().all(|&x| x == 7));
+            for length in [n, n + 3] {
+                scratch.fill(7);
+                assert!(g.solve_into(&mut scratch[..length], &mut controller, &mut environment).is_ok());
+                assert!(scratch[..n].iter().all(|&x| x == 0) && scratch[n..].iter().all(|&x| x == 7));
+                scratch.fill(7);
+                assert!(g.won_map_into(&mut scratch[..length], &mut map).is_ok());
+                assert!(scratch[..n].iter().all(|&x| x == 0) && scratch[n..].iter().all(|&x| x == 7));
+            }
+        }
+    }
 }

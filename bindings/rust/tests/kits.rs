@@ -25,7 +25,8 @@ fn pump() -> Kit {
     )
 }
 
-// Lengths of the tables of that kit: five guarantees, four assumptions.
+// Words of scratch of that kit, and lengths of its tables: five guarantees, four assumptions.
+const SCRATCH: usize = 2 * 4 + 6;
 const CONTROLLER: usize = 4 + 6 * 5 * 4;
 const ENVIRONMENT: usize = 1 + 4 * 4 * 6;
 const KIT: usize = 4 + 6 * 5 * 4 * 4;
@@ -312,14 +313,14 @@ fn the_rest_of_the_rooms_stays() {
     assert_eq!(r.room[..KIT], kit_table(&kit, &r.controller));
     assert!(r.controller[CONTROLLER..].iter().all(|&x| x == 9) && r.room[KIT..].iter().all(|&x| x == 11));
     assert!(r.environment.iter().all(|&x| x == 10));
-    assert!(r.scratch[..512].iter().all(|&x| x == 0) && r.scratch[512..].iter().all(|&x| x == 7));
+    assert!(r.scratch[..SCRATCH].iter().all(|&x| x == 0) && r.scratch[SCRATCH..].iter().all(|&x| x == 7));
     let kit = hopeless();
     let mut r = Rooms::new(600, CONTROLLER + 3, ENVIRONMENT + 3, KIT + 3);
     assert_eq!(r.solve(&kit), Ok((Winner::Environment, ENVIRONMENT)));
     assert_eq!(r.environment[..ENVIRONMENT], game(&kit).solve().unwrap().table);
     assert!(r.environment[ENVIRONMENT..].iter().all(|&x| x == 10));
     assert!(r.controller.iter().all(|&x| x == 9) && r.room.iter().all(|&x| x == 11));
-    assert!(r.scratch[..512].iter().all(|&x| x == 0) && r.scratch[512..].iter().all(|&x| x == 7));
+    assert!(r.scratch[..SCRATCH].iter().all(|&x| x == 0) && r.scratch[SCRATCH..].iter().all(|&x| x == 7));
 }
 
 // Park takes no command any more. Where the old drive goes on in service, park would have to recur; where service latches too, all that is allowed is answered.
@@ -395,7 +396,7 @@ fn the_first_fault_is_told() {
             change(&mut kit);
         }
         assert_eq!(kit.accept(), Err(refused(number)), "from fault {n}");
-        let mut r = Rooms::new(511, CONTROLLER - 1, ENVIRONMENT - 1, KIT - 1);
+        let mut r = Rooms::new(SCRATCH - 1, CONTROLLER - 1, ENVIRONMENT - 1, KIT - 1);
         assert_eq!(r.solve(&kit), Err(refused(number)), "from fault {n}");
         assert!(r.untouched());
     }
@@ -404,14 +405,14 @@ fn the_first_fault_is_told() {
 #[test]
 fn short_rooms_are_refused() {
     let rooms = [
-        (8, 511, CONTROLLER, ENVIRONMENT, KIT),
-        (8, 511, CONTROLLER - 1, ENVIRONMENT - 1, KIT - 1),
+        (8, SCRATCH - 1, CONTROLLER, ENVIRONMENT, KIT),
+        (8, SCRATCH - 1, CONTROLLER - 1, ENVIRONMENT - 1, KIT - 1),
         (8, 0, 0, 0, 0),
-        (9, 512, CONTROLLER - 1, ENVIRONMENT, KIT),
-        (9, 512, CONTROLLER, ENVIRONMENT, KIT - 1),
-        (9, 512, CONTROLLER, ENVIRONMENT - 1, KIT - 1),
-        (9, 512, CONTROLLER - 1, ENVIRONMENT - 1, KIT),
-        (10, 512, CONTROLLER, ENVIRONMENT - 1, KIT),
+        (9, SCRATCH, CONTROLLER - 1, ENVIRONMENT, KIT),
+        (9, SCRATCH, CONTROLLER, ENVIRONMENT, KIT - 1),
+        (9, SCRATCH, CONTROLLER, ENVIRONMENT - 1, KIT - 1),
+        (9, SCRATCH, CONTROLLER - 1, ENVIRONMENT - 1, KIT),
+        (10, SCRATCH, CONTROLLER, ENVIRONMENT - 1, KIT),
     ];
     // whoever wins
     for kit in [pump(), hopeless()] {
@@ -421,7 +422,8 @@ fn short_rooms_are_refused() {
             assert!(r.untouched());
         }
         // rooms of the exact length are long enough
-        assert!(Rooms::new(512, CONTROLLER, ENVIRONMENT, KIT).solve(&kit).is_ok());
+        assert_eq!(kit.scratch_words(), SCRATCH);
+        assert!(Rooms::new(SCRATCH, CONTROLLER, ENVIRONMENT, KIT).solve(&kit).is_ok());
     }
 }
 
@@ -527,6 +529,6 @@ fn the_largest_kit() {
     let v = kit.solve().unwrap();
     assert_eq!((v.winner, v.table.len()), (Winner::System, KIT_MOST));
     assert_eq!(v.table, kit_table(&kit, &game(&kit).solve().unwrap().table));
-    let mut r = Rooms::new(SCRATCH, CONTROLLER_MOST, ENVIRONMENT_MOST, KIT_MOST - 1);
+    let mut r = Rooms::new(SCRATCH_MOST, CONTROLLER_MOST, ENVIRONMENT_MOST, KIT_MOST - 1);
     assert_eq!(r.solve(&kit), Err(refused(9)));
 }

@@ -16,6 +16,7 @@ use Rattle.game.proofs.Refusals.{refused-code}
 use Rattle.play.specs.Play.{separatedOf}
 use Rattle.theory.specs.Region.{verdict}
 use Rattle.theory.specs.Entries.{controllerEntries, environmentEntries}
+use Rattle.scratch.specs.Scratch.{scratchLength}
 use Rattle.solver.specs.declared.Verdict.{Verdict}
 use Rattle.solver.specs.declared.Verdict.the-variants.{System, Environment, Refused as NotSolved}
 use Rattle.solver.specs.Promise.{
@@ -66,7 +67,7 @@ module _ (g : Game) (s c e : ℕ) where
 
   told-acceptance : (a : Acceptance) → acceptance g ≡ a → Told g c e (elim a as (λ x. Verdict) [ Accepted ↦ eighth g s c e | Faulty n ↦ NotSolved n ])
   unfolding Told eighth
-  told-acceptance Accepted h = told-eighth (leb 512 s)
+  told-acceptance Accepted h = told-eighth (leb (scratchLength g) s)
   told-acceptance (Faulty n) h = let r = refused-code g n h in (r .0, omega (arith, r .1))
 
   pub told-answer : Told g c e (verdictAnswer g s c e)

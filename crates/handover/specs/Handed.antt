@@ -44,7 +44,7 @@ Beaten g (NotSolved n) t = Unit {0}
 
 -- the answer v, handed over as the part t of the buffer p, with the refusal's number n and the side b
 pub record Handed (g : Game) (v : Verdict) (s s′ : List ℕ) (n : ℕ) (b b′ : Bool) (c e p : ℕ × ℕ) (t : List ℕ) : Type 0 where
-  pub scratch : s′ ≡ verdictScratch v s
+  pub scratch : s′ ≡ verdictScratch g v s
   pub refusal : n ≡ numberOf v
   pub system : b′ ≡ side v b
   pub buffer : p ≡ chosen v c e

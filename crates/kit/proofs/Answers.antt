@@ -23,6 +23,7 @@ use Rattle.play.specs.Play.{separatedOf}
 use Rattle.theory.specs.Region.{verdict}
 use Rattle.theory.specs.Entries.{controllerEntries}
 use Rattle.demands.specs.Demands.{playOf, controllerOf}
+use Rattle.scratch.specs.Scratch.{scratchLength}
 use Rattle.solver.specs.declared.Verdict.{Verdict}
 use Rattle.solver.specs.declared.Verdict.the-variants.{System, Environment, Refused}
 use Rattle.solver.specs.Promise.{
@@ -96,14 +97,14 @@ module _ (k : Kit) (s c e t : ℕ) where
   eighth-number false = refl
 
   acceptance-number : (a : Acceptance)
-      → numberOf (elim a as (λ x. Verdict) [ Accepted ↦ kitEighth k s c e t | Faulty n ↦ Refused n ]) ≡ after a (firstOf (rooms (leb 512 s)))
+      → numberOf (elim a as (λ x. Verdict) [ Accepted ↦ kitEighth k s c e t | Faulty n ↦ Refused n ]) ≡ after a (firstOf (rooms (leb (scratchLength (gameFrom k)) s)))
   unfolding kitEighth
-  acceptance-number Accepted = eighth-number (leb 512 s)
+  acceptance-number Accepted = eighth-number (leb (scratchLength (gameFrom k)) s)
   acceptance-number (Faulty n) = refl
 
   kit-number : numberOf (kitAnswer k s c e t) ≡ firstOf (solveKitTests k s c e t)
   unfolding kitAnswer solveKitTests
-  kit-number = acceptance-number (kitAcceptance k) ∙ sym (kit-after k (rooms (leb 512 s)))
+  kit-number = acceptance-number (kitAcceptance k) ∙ sym (kit-after k (rooms (leb (scratchLength (gameFrom k)) s)))
 
 module _ (k : Kit) (s c e t : List ℕ) where
   told : {r : Verdict} → r ≡ kitAnswer k (length s) (length c) (length e) (length t)
@@ -123,27 +124,27 @@ module _ (k : Kit) (s c e t : List ℕ) where
     unfolding kitAnswer
     at-eight = rw (a, kitAnswer) refl
 
-    pub kit-scratch-short : length s < 512 → KitSolved k s s c c e e t t (Refused 8)
+    pub kit-scratch-short : length s < scratchLength (gameFrom k) → KitSolved k s s c c e e t t (Refused 8)
     unfolding kitEighth
-    kit-scratch-short b = refused 8 (sym (at-eight ∙ rw (lt-leb 512 (length s) b, kitEighth) refl))
+    kit-scratch-short b = refused 8 (sym (at-eight ∙ rw (lt-leb (scratchLength (gameFrom k)) (length s) b, kitEighth) refl))
 
-    at-nine : 512 ≤ length s → kitAnswer k (length s) (length c) (length e) (length t) ≡ kitNinth k (length c) (length e) (length t)
+    at-nine : scratchLength (gameFrom k) ≤ length s → kitAnswer k (length s) (length c) (length e) (length t) ≡ kitNinth k (length c) (length e) (length t)
     unfolding kitEighth
-    at-nine b = at-eight ∙ rw (le-leb 512 (length s) b, kitEighth) refl
+    at-nine b = at-eight ∙ rw (le-leb (scratchLength (gameFrom k)) (length s) b, kitEighth) refl
 
-    short : 512 ≤ length s → (leb (controllerLength (gameFrom k)) (length c) && leb (kitLength k) (length t)) ≡ false → KitSolved k s s c c e e t t (Refused 9)
+    short : scratchLength (gameFrom k) ≤ length s → (leb (controllerLength (gameFrom k)) (length c) && leb (kitLength k) (length t)) ≡ false → KitSolved k s s c c e e t t (Refused 9)
     unfolding kitNinth
     short b d = refused 9 (sym (at-nine b ∙ rw (d, kitNinth) refl))
 
-    pub kit-controller-short : 512 ≤ length s → length c < controllerLength (gameFrom k) → KitSolved k s s c c e e t t (Refused 9)
+    pub kit-controller-short : scratchLength (gameFrom k) ≤ length s → length c < controllerLength (gameFrom k) → KitSolved k s s c c e e t t (Refused 9)
     kit-controller-short b d = short b (ap (λ (x : Bool). x && leb (kitLength k) (length t)) (lt-leb (controllerLength (gameFrom k)) (length c) d))
 
-    pub kit-room-short : 512 ≤ length s → controllerLength (gameFrom k) ≤ length c → length t < kitLength k → KitSolved k s s c c e e t t (Refused 9)
+    pub kit-room-short : scratchLength (gameFrom k) ≤ length s → controllerLength (gameFrom k) ≤ length c → length t < kitLength k → KitSolved k s s c c e e t t (Refused 9)
     kit-room-short b d f =
         short b (ap (λ (x : Bool). x && leb (kitLength k) (length t)) (le-leb (controllerLength (gameFrom k)) (length c) d) ∙ lt-leb (kitLength k) (length t) f)
 
     -- past the tests: what the solver answers, lifted
-    module _ (b : 512 ≤ length s) (d : controllerLength (gameFrom k) ≤ length c) (f : kitLength k ≤ length t) where
+    module _ (b : scratchLength (gameFrom k) ≤ length s) (d : controllerLength (gameFrom k) ≤ length c) (f : kitLength k ≤ length t) where
       at-ten : kitAnswer k (length s) (length c) (length e) (length t) ≡ kitTenth k (length e)
       unfolding kitNinth
       at-ten =
@@ -154,7 +155,7 @@ module _ (k : Kit) (s c e t : List ℕ) where
       unfolding verdictAnswer eighth ninth
       solver-ten =
           rw (kit-fitting k a .game, verdictAnswer)
-          (rw (le-leb 512 (length s) b, eighth) (rw (le-leb (controllerLength (gameFrom k)) (length c) d, ninth) refl))
+          (rw (le-leb (scratchLength (gameFrom k)) (length s) b, eighth) (rw (le-leb (controllerLength (gameFrom k)) (length c) d, ninth) refl))
 
       same-ten : kitTenth k (length e) ≡ lifted k (tenth (gameFrom k) (length e))
       unfolding kitTenth tenth kitNamed named lifted

@@ -1,6 +1,6 @@
 -- From the solver's answer to the kit's.
 --
---   game-accepted, length-of, counters-of    : the game is the kit's
+--   game-accepted, words-of, length-of, counters-of    : the game is the kit's
 --   front-in, front-long    : the controller's table is a part of its room
 --   ready                   : it is what the writing of the kit's table asks for
 --   done-system, done-environment, done-refused    : the kit's answer
@@ -14,6 +14,7 @@ use Rattle.game.specs.declared.Acceptance.the-variants.{Accepted}
 use Rattle.game.specs.Acceptance.{acceptance}
 use Rattle.play.specs.Play.{separatedOf}
 use Rattle.theory.specs.Entries.{controllerCounters, controllerEntries}
+use Rattle.scratch.specs.Scratch.{scratchLength}
 use Rattle.solver.specs.declared.Verdict.{Verdict}
 use Rattle.solver.specs.declared.Verdict.the-variants.{System, Environment, Refused}
 use Rattle.solver.specs.Promise.{controllerLength, controllerAfter, Solved}
@@ -29,6 +30,9 @@ use Rattle.kit.proofs.Lengths.{controller-long, kit-ready}
 
 pub game-accepted : (k : Kit) (g : Game) → kitAcceptance k ≡ Accepted → g ≡ gameFrom k → acceptance g ≡ Accepted
 game-accepted k g a q = ap acceptance q ∙ kit-fitting k a .game
+
+pub words-of : (k : Kit) (g : Game) (n : ℕ) → g ≡ gameFrom k → n ≡ scratchLength g → n ≡ scratchLength (gameFrom k)
+words-of k g n q e = e ∙ ap (λ (x : Game). scratchLength x) q
 
 pub length-of : (k : Kit) (g : Game) (n : ℕ) → g ≡ gameFrom k → n ≡ length (controllerEntries (separatedOf g)) → n ≡ controllerLength (gameFrom k)
 length-of k g n q e = e ∙ ap (λ (x : Game). length (controllerEntries (separatedOf x))) q ∙ controller-long k

@@ -17,6 +17,7 @@ use Rattle.game.specs.Numbers.{firstOf}
 use Rattle.play.specs.Play.{separatedOf}
 use Rattle.theory.specs.Region.{verdict}
 use Rattle.theory.specs.Entries.{controllerEntries}
+use Rattle.scratch.specs.Scratch.{scratchLength}
 use Rattle.solver.specs.declared.Verdict.{Verdict}
 use Rattle.solver.specs.declared.Verdict.the-variants.{System, Environment, Refused}
 use Rattle.solver.specs.Promise.{controllerLength, environmentLength, numberOf, controllerAfter, environmentAfter, verdictScratch, Decided}
@@ -37,15 +38,16 @@ kitTenth k e = elim (leb (environmentLength (gameFrom k)) e) [ true ↦ kitNamed
 unfoldable pub kitNinth : Kit → ℕ → ℕ → ℕ → Verdict
 kitNinth k c e t = elim (leb (controllerLength (gameFrom k)) c && leb (kitLength k) t) [ true ↦ kitTenth k e | false ↦ Refused 9 ]
 
+-- "The kit and later calls that take scratch and name no length keep this rule." (document 02, M-103)
 unfoldable pub kitEighth : Kit → ℕ → ℕ → ℕ → ℕ → Verdict
-kitEighth k s c e t = elim (leb 512 s) [ true ↦ kitNinth k c e t | false ↦ Refused 8 ]
+kitEighth k s c e t = elim (leb (scratchLength (gameFrom k)) s) [ true ↦ kitNinth k c e t | false ↦ Refused 8 ]
 
 unfoldable pub kitAnswer : Kit → ℕ → ℕ → ℕ → ℕ → Verdict
 kitAnswer k s c e t = elim (kitAcceptance k) [ Accepted ↦ kitEighth k s c e t | Faulty n ↦ Refused n ]
 
 unfoldable pub solveKitTests : Kit → ℕ → ℕ → ℕ → ℕ → List (ℕ × Bool)
 solveKitTests k s c e t =
-    kitTests k ++ (8, leb 512 s) ∷ (9, leb (controllerLength (gameFrom k)) c && leb (kitLength k) t) ∷ (10, leb (environmentLength (gameFrom k)) e) ∷ []
+    kitTests k ++ (8, leb (scratchLength (gameFrom k)) s) ∷ (9, leb (controllerLength (gameFrom k)) c && leb (kitLength k) t) ∷ (10, leb (environmentLength (gameFrom k)) e) ∷ []
 
 -- "the other rooms are as the solver leaves them"
 unfoldable pub solverAnswer : Kit → Verdict → Verdict
@@ -67,7 +69,7 @@ Kept k (Refused n) t = Unit {0}
 pub record KitSolved (k : Kit) (s s′ c c′ e e′ t t′ : List ℕ) (r : Verdict) : Type 0 where
   pub answer : r ≡ kitAnswer k (length s) (length c) (length e) (length t)
   pub number : numberOf r ≡ firstOf (solveKitTests k (length s) (length c) (length e) (length t))
-  pub scratch : s′ ≡ verdictScratch r s
+  pub scratch : s′ ≡ verdictScratch (gameFrom k) r s
   pub controller : c′ ≡ controllerAfter (gameFrom k) (solverAnswer k r) c
   pub environment : e′ ≡ environmentAfter (gameFrom k) r e
   pub kit : t′ ≡ kitAfter k r t

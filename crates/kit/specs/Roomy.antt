@@ -5,6 +5,7 @@ use Prim.Native.Nat.{ℕ, _≤_}
 use mathlib.Core.Path.{_≡_}
 use Rattle.game.specs.declared.Game.{Game}
 use Rattle.game.specs.declared.Acceptance.the-variants.{Accepted}
+use Rattle.scratch.specs.Scratch.{scratchLength}
 use Rattle.solver.specs.Promise.{controllerLength}
 use Rattle.drives.specs.declared.Kit.{Kit}
 use Rattle.drives.specs.Drive.{gameFrom}
@@ -15,6 +16,6 @@ pub record Roomy (k : Kit) (g : Game) (t s c n : ℕ) : Type 0 where
   pub accepted : kitAcceptance k ≡ Accepted
   pub game : g ≡ gameFrom k
   pub table : t ≡ kitLength k
-  pub scratch : 512 ≤ s
+  pub scratch : scratchLength (gameFrom k) ≤ s
   pub controller : controllerLength (gameFrom k) ≤ c
   pub room : kitLength k ≤ n

@@ -55,10 +55,10 @@ fn solve_accepted(
     requires { ⌜ kitAcceptance k ≡ Accepted ⌝ }
     ensures { λ r. ⌜ KitSolved k (now (scratch .entry)) (now (scratch .exit)) (now (controller .entry)) (now (controller .exit)) (now (panel .entry)) (now (panel .exit)) (now (room .entry)) (now (room .exit)) r ⌝ }
 {
-    if scratch.len() < 512 {
+    let g = drives::game_of(k);
+    if scratch.len() < scratch::length(g) {
         return Verdict::Refused(8);
     }
-    let g = drives::game_of(k);
     if controller.len() < sizes::controller_length(g) {
         return Verdict::Refused(9);
     }

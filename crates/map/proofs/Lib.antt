@@ -1,3 +1,3 @@
--- Scratch: the map's rows and cleared words. Made: the promise for every input.
+-- Scratch: the map's rows. Made: the promise for every input.
 pub mod Scratch
 pub mod Made

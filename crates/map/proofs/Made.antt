@@ -1,5 +1,5 @@
 -- What the entries answer, case by case.
-use Prim.Native.Nat.{ℕ, _+_, _-_, _≤_, _<_}
+use Prim.Native.Nat.{ℕ, _+_, _≤_, _<_}
 use mathlib.Core.Path.{_≡_, refl, sym, _∙_, ap}
 use mathlib.Core.Bool.{Bool, true, false}
 use mathlib.Core.List.{List, [], _∷_, _++_}
@@ -7,7 +7,6 @@ use mathlib.Core.Logic.{_↔_}
 use native.Mathlib.Omega.{arith}
 use lib.Dec.{leb}
 use lib.ListN.{length, getD, drop}
-use lib.Seq.{drop-drop}
 use borrow.Author.Tests.{le-leb, lt-leb}
 use Rattle.finite.specs.Tabulate.{tabulate}
 use Rattle.finite.proofs.Truth.{and-intro, and-false-left, and-false-right}
@@ -30,10 +29,12 @@ use Rattle.demands.proofs.Demands.{demand-two}
 use Rattle.theory.specs.Region.{region}
 use Rattle.region.specs.Fill.{Kept, Prepared}
 use Rattle.region.proofs.Order.{laid-closes}
+use Rattle.scratch.specs.Scratch.{scratchLength, cleared}
+use Rattle.scratch.proofs.Cleared.{cleared-same}
 use Rattle.map.specs.declared.Mapped.{Mapped}
 use Rattle.map.specs.declared.Mapped.the-variants.{Done, Refused as NotMapped}
 use Rattle.map.specs.Read.{Reading, mapRow}
-use Rattle.map.specs.Map.{cleared, mapFits, mapRoom, mapAnswer, mapTests, numberOf, mapAfter, mapScratch, MapMade}
+use Rattle.map.specs.Map.{mapFits, mapRoom, mapAnswer, mapTests, numberOf, mapAfter, mapScratch, MapMade}
 
 -- ---- scratch
 
@@ -41,19 +42,11 @@ row-bit : (g : Game) (i o : ℕ) → o < g .output .states → has (mapRow g i) 
 unfolding mapRow
 row-bit g i o b = has-pack-below (g .output .states) (region (separatedOf g) i) o b
 
-pub scratch-enough : (g : Game) → Fits g → (l : List ℕ) → 512 ≤ length l → g .input .states + g .input .states + g .output .states ≤ length l
-scratch-enough g F l b = omega (arith, F .input .most, F .output .most)
-
--- what lies past the three areas lies past the first 512 words
-pub cleared-kept : (g : Game) → Fits g → (l m : List ℕ) → Kept g l m → cleared m ≡ cleared l
-unfolding cleared
-cleared-kept g F l m K = ap (λ (x : List ℕ). tabulate 512 (λ k. 0) ++ x) (sym (after m) ∙ ap (drop (512 - used)) (K .rest) ∙ after l)
-  where
-    used : ℕ
-    used = g .input .states + g .input .states + g .output .states
-
-    after : (x : List ℕ) → drop (512 - used) (drop used x) ≡ drop 512 x
-    after x = let q : used + (512 - used) ≡ 512 = omega (arith, F .input .most, F .output .most) in drop-drop (512 - used) used x ∙ ap (λ (k : ℕ). drop k x) q
+-- what lies past the three areas lies past the words that are cleared
+pub cleared-kept : (g : Game) (l m m′ : List ℕ) {n : ℕ} → Kept g l m → n ≡ scratchLength g → m′ ≡ cleared n m → m′ ≡ cleared (scratchLength g) l
+cleared-kept g l m m′ K e h =
+    let q : scratchLength g ≡ g .input .states + g .input .states + g .output .states = omega arith in
+    h ∙ ap (λ (k : ℕ). cleared k m) e ∙ cleared-same (scratchLength g) l m (ap (λ (k : ℕ). drop k m) q ∙ K .rest ∙ sym (ap (λ (k : ℕ). drop k l) q))
 
 pub reading-made : (g : Game) → Fits g → (l m : List ℕ) {cores : ℕ} → Prepared g l m
     → cores ≡ pack (g .input .states) (turns (g .input .moves) m (g .input .states)) → Reading g m cores
@@ -96,17 +89,17 @@ map-room : (g : Game) (s m : ℕ) (b : Bool) {r : Mapped} → acceptance g ≡ A
 unfolding mapAnswer mapRoom
 map-room g s m b a e h = rw (a, mapAnswer) (rw (e, mapRoom) h)
 
-pub map-scratch-short : (g : Game) (s m : List ℕ) → acceptance g ≡ Accepted → length s < 512 → MapMade g s s m m (NotMapped 8)
+pub map-scratch-short : (g : Game) (s m : List ℕ) → acceptance g ≡ Accepted → length s < scratchLength g → MapMade g s s m m (NotMapped 8)
 unfolding mapFits
 map-scratch-short g s m a b =
-    map-refused g s m 8 (map-room g (length s) (length m) false a (and-false-left (leb (g .input .states) (length m)) (lt-leb 512 (length s) b)) refl)
+    map-refused g s m 8 (map-room g (length s) (length m) false a (and-false-left (leb (g .input .states) (length m)) (lt-leb (scratchLength g) (length s) b)) refl)
 
 pub map-short : (g : Game) (s m : List ℕ) → acceptance g ≡ Accepted → length m < g .input .states → MapMade g s s m m (NotMapped 8)
 unfolding mapFits
 map-short g s m a b =
-    map-refused g s m 8 (map-room g (length s) (length m) false a (and-false-right (leb 512 (length s)) (lt-leb (g .input .states) (length m) b)) refl)
+    map-refused g s m 8 (map-room g (length s) (length m) false a (and-false-right (leb (scratchLength g) (length s)) (lt-leb (g .input .states) (length m) b)) refl)
 
-pub map-done : (g : Game) (s s′ m m′ : List ℕ) → acceptance g ≡ Accepted → 512 ≤ length s → g .input .states ≤ length m → s′ ≡ cleared s
+pub map-done : (g : Game) (s s′ m m′ : List ℕ) → acceptance g ≡ Accepted → scratchLength g ≤ length s → g .input .states ≤ length m → s′ ≡ cleared (scratchLength g) s
     → m′ ≡ tabulate (g .input .states) (mapRow g) ++ drop (g .input .states) m → MapMade g s s′ m m′ Done
 unfolding mapAfter mapScratch mapFits
 map-done g s s′ m m′ a b c e f = record {
@@ -118,7 +111,7 @@ map-done g s s′ m m′ a b c e f = record {
 }
   where
     done : Done ≡ mapAnswer g (length s) (length m)
-    done = map-room g (length s) (length m) true a (and-intro (le-leb 512 (length s) b) (le-leb (g .input .states) (length m) c)) refl
+    done = map-room g (length s) (length m) true a (and-intro (le-leb (scratchLength g) (length s) b) (le-leb (g .input .states) (length m) c)) refl
 
     bit : (i o : ℕ) → i < g .input .states → o < g .output .states → has (getD m′ i 0) o ≡ region (separatedOf g) i o
     bit i o li lo =

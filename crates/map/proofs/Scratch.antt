@@ -1,4 +1,4 @@
--- What is read from scratch, and the verdict.
+-- What is read from scratch, and a buffer that is filled from the front.
 use Prim.Native.Nat.{ℕ, _+_, _≤_, _<_}
 use mathlib.Core.Path.{_≡_, refl, _∙_, ap}
 use mathlib.Core.Bool.{Bool}
@@ -6,7 +6,7 @@ use mathlib.Core.List.{List, _++_}
 use native.Mathlib.Omega.{arith}
 use lib.ListN.{length, drop, set}
 use Rattle.finite.specs.Tabulate.{tabulate}
-use Rattle.finite.proofs.Front.{front-none, front-length, front-next}
+use Rattle.finite.proofs.Front.{front-length, front-next}
 use Rattle.sets.specs.Member.{pack}
 use Rattle.sets.proofs.Membership.{pack-ext}
 use Rattle.game.specs.declared.Game.{Game}
@@ -14,7 +14,6 @@ use Rattle.play.specs.Play.{separatedOf}
 use Rattle.theory.specs.Region.{region}
 use Rattle.stored.specs.Stored.{wonAt}
 use Rattle.stored.proofs.Read.{won-region}
-use Rattle.map.specs.Map.{cleared}
 use Rattle.map.specs.Read.{Reading, mapRow}
 
 module _ {g : Game} {l : List ℕ} {cores : ℕ} (R : Reading g l cores) where
@@ -37,23 +36,3 @@ filled-more f d l i v b e h = ap (λ (x : List ℕ). set x i v) e ∙ front-next
 
 pub filled-end : (f : ℕ → ℕ) (d l : List ℕ) (i n : ℕ) → i ≤ n → n ≤ i → l ≡ tabulate i f ++ drop i d → l ≡ tabulate n f ++ drop n d
 filled-end f d l i n a b e = let q : i ≡ n = omega arith in e ∙ ap (λ (k : ℕ). tabulate k f ++ drop k d) q
-
--- the first 512 words
-pub Zeroed : List ℕ → List ℕ → ℕ → Type 0
-Zeroed d l i = l ≡ tabulate i (λ k. 0) ++ drop i d
-
-pub zeroed-none : (d : List ℕ) → Zeroed d d 0
-unfolding Zeroed
-zeroed-none d = front-none (λ k. 0) d
-
-pub zeroed-length : (l d : List ℕ) (i : ℕ) → i ≤ length d → Zeroed d l i → length l ≡ length d
-unfolding Zeroed
-zeroed-length l d i b e = filled-length (λ k. 0) d l i b e
-
-pub zeroed-more : (l d : List ℕ) (i : ℕ) → i < length d → Zeroed d l i → Zeroed d (set l i 0) (i + 1)
-unfolding Zeroed
-zeroed-more l d i b e = filled-more (λ k. 0) d l i 0 b e refl
-
-pub zeroed-end : (l d : List ℕ) (i : ℕ) → i ≤ 512 → 512 ≤ i → Zeroed d l i → l ≡ cleared d
-unfolding Zeroed cleared
-zeroed-end l d i a b e = filled-end (λ k. 0) d l i 512 a b e

@@ -1,6 +1,5 @@
 -- What the map's call promises, for every input.
 --
---   cleared s                 == s with its first 512 words zero
 --   mapAnswer g s m           == the answer of the map's call, scratch being of s words and the map of m
 --   mapTests g s m            == its tests under their numbers
 --   numberOf r                == document 01's number of the answer r, 0 for a map that is made
@@ -21,17 +20,14 @@ use Rattle.game.specs.declared.Acceptance.the-variants.{Accepted, Refused as Fa
 use Rattle.game.specs.Acceptance.{acceptance}
 use Rattle.game.specs.Numbers.{firstOf, gameTests}
 use Rattle.demands.specs.Demands.{playOf}
+use Rattle.scratch.specs.Scratch.{scratchLength, cleared}
 use Rattle.map.specs.declared.Mapped.{Mapped}
 use Rattle.map.specs.declared.Mapped.the-variants.{Done, Refused as NotMapped}
 use Rattle.map.specs.Read.{mapRow}
 
--- "Scratch has its first 512 words zero after an answer and the rest unchanged."
-unfoldable pub cleared : List ℕ → List ℕ
-cleared s = tabulate 512 (λ k. 0) ++ drop 512 s
-
--- "8 scratch under 512 words, or, where the call writes the map, map room under one word an input"
+-- "Number 8 is given below that length" (document 02, M-103); "or, where the call writes the map, map room under one word an input"
 unfoldable pub mapFits : Game → ℕ → ℕ → Bool
-mapFits g s m = leb 512 s && leb (g .input .states) m
+mapFits g s m = leb (scratchLength g) s && leb (g .input .states) m
 
 unfoldable pub mapRoom : Game → ℕ → ℕ → Mapped
 mapRoom g s m = elim (mapFits g s m) [ true ↦ Done | false ↦ NotMapped 8 ]
@@ -51,13 +47,14 @@ unfoldable pub mapAfter : Game → Mapped → List ℕ → List ℕ
 mapAfter g Done m = tabulate (g .input .states) (mapRow g) ++ drop (g .input .states) m
 mapAfter g (NotMapped n) m = m
 
-unfoldable pub mapScratch : Mapped → List ℕ → List ℕ
-mapScratch Done s = cleared s
-mapScratch (NotMapped n) s = s
+-- "after an answer the first that many words are zero and the rest unchanged"; "Each returns its number only .. and changes no lent memory"
+unfoldable pub mapScratch : Game → Mapped → List ℕ → List ℕ
+mapScratch g Done s = cleared (scratchLength g) s
+mapScratch g (NotMapped n) s = s
 
 pub record MapMade (g : Game) (s s′ m m′ : List ℕ) (r : Mapped) : Type 0 where
   pub answer : r ≡ mapAnswer g (length s) (length m)
   pub number : numberOf r ≡ firstOf (mapTests g (length s) (length m))
   pub map : m′ ≡ mapAfter g r m
-  pub scratch : s′ ≡ mapScratch r s
+  pub scratch : s′ ≡ mapScratch g r s
   pub won : r ≡ Done → (i o : ℕ) → i < g .input .states → o < g .output .states → (has (getD m′ i 0) o ≡ true) ↔ Won (playOf g) i o

@@ -8,23 +8,12 @@ ghost use Rattle.game.specs.declared.Acceptance.the-variants.{Accepted};
 ghost use Rattle.game.specs.Acceptance.{acceptance};
 ghost use Rattle.game.specs.Fits.{Fits};
 ghost use Rattle.map.specs.Read.{Reading, mapRow};
-ghost use Rattle.map.specs.Map.{cleared, MapMade};
+ghost use Rattle.scratch.specs.Scratch.{scratchLength, cleared};
+ghost use Rattle.map.specs.Map.{MapMade};
 use game::Acceptance;
 use game::Game;
 use game::InSet;
 use game::InState;
-
-// Sets the first 512 words to zero.
-pub fn clear(s: &mut [u64])
-    requires { ⌜ 512 ≤ length (now s) ⌝ }
-    ensures { λ _. ⌜ now (s .exit) ≡ cleared (now (s .entry)) ⌝ }
-{
-    let mut i: usize = 0;
-    while i < 512 {
-        s[i] = 0;
-        i += 1;
-    }
-}
 
 // The outputs that are won with input i.
 fn map_row(g: Game, s: &[u64], cores: u64, i: usize) -> u64
@@ -51,14 +40,14 @@ fn fill_map(g: Game, s: &[u64], cores: u64, map: &mut [u64])
 
 // Writes the map of an accepted game and clears scratch.
 fn make_map(g: Game, scratch: &mut [u64], map: &mut [u64])
-    requires { ⌜ Fits g × (512 ≤ length (now scratch)) × (g .input .states ≤ length (now map)) ⌝ }
-    ensures { λ _. ⌜ (now (scratch .exit) ≡ cleared (now (scratch .entry)))
+    requires { ⌜ Fits g × (scratchLength g ≤ length (now scratch)) × (g .input .states ≤ length (now map)) ⌝ }
+    ensures { λ _. ⌜ (now (scratch .exit) ≡ cleared (scratchLength g) (now (scratch .entry)))
         × (now (map .exit) ≡ tabulate (g .input .states) (mapRow g) ++ drop (g .input .states) (now (map .entry))) ⌝ }
 {
     region::prepare(g, scratch);
     let cores = components::cores(g.input, scratch);
     fill_map(g, scratch, cores, map);
-    clear(scratch);
+    scratch::clear(scratch, scratch::length(g));
 }
 
 // The answer of the map's call.
@@ -72,7 +61,7 @@ fn map_accepted(g: Game, scratch: &mut [u64], map: &mut [u64]) -> Mapped
     requires { ⌜ acceptance g ≡ Accepted ⌝ }
     ensures { λ r. ⌜ MapMade g (now (scratch .entry)) (now (scratch .exit)) (now (map .entry)) (now (map .exit)) r ⌝ }
 {
-    if scratch.len() < 512 {
+    if scratch.len() < scratch::length(g) {
         return Mapped::Refused(8);
     }
     if map.len() < g.input.states {

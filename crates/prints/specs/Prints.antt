@@ -11,6 +11,7 @@ use Rattle.game.specs.declared.Game.{Game}
 use Rattle.play.specs.Play.{separatedOf}
 use Rattle.theory.specs.Choice.{guarantees, assumptions}
 use Rattle.theory.specs.Entries.{controllerEntries, environmentEntries}
+use Rattle.scratch.specs.Scratch.{scratchLength}
 use Rattle.solver.specs.declared.Verdict.{Verdict}
 use Rattle.solver.specs.declared.Verdict.the-variants.{System, Environment, Refused as NotSolved}
 use Rattle.solver.specs.Promise.{verdictAnswer}
@@ -26,9 +27,9 @@ tablePrint g (Environment n) =
     environmentPrint (g .input .states) (g .output .states) (length (assumptions (separatedOf g))) (environmentEntries (separatedOf g))
 tablePrint g (NotSolved n) = refusedLine n
 
--- "The program lends 32,768 entries a room."
+-- "The program lends 32,768 entries a room.", and as much scratch as the game asks for
 unfoldable pub gamePrint : Game → List ℕ
-gamePrint g = tablePrint g (verdictAnswer g 512 32768 32768)
+gamePrint g = tablePrint g (verdictAnswer g (scratchLength g) 32768 32768)
 
 -- "A refusal prints (refused N), for 11 (refused 11 P)."
 unfoldable pub answerPrint : Game → Answer → List ℕ

@@ -20,7 +20,8 @@ use Rattle.sizes.proofs.Lengths.{controller-length, environment-length, inputs-
 use Rattle.solver.specs.declared.Verdict.{Verdict}
 use Rattle.solver.specs.declared.Verdict.the-variants.{System, Environment, Refused as NotSolved}
 use Rattle.solver.specs.Promise.{verdictAnswer}
-use Rattle.solver.proofs.Verdicts.{controller-long, environment-long}
+use Rattle.scratch.specs.Scratch.{scratchLength}
+use Rattle.solver.proofs.Verdicts.{controller-long, environment-long, more-scratch}
 use Rattle.handover.specs.Handed.{side, front, Handed}
 use Rattle.handover.proofs.Handing.{Told, told-answer}
 use Rattle.text.specs.declared.Answer.{Answer}
@@ -115,22 +116,25 @@ module _ {g : Game} {s s′ : List ℕ} {n : ℕ} {b b′ : Bool} {x y p : ℕ �
   part-short k c e H h l = short-of (verdictAnswer g k c e) (told-answer g k c e) H h l
 
   -- of the lengths that the program lends
-  module _ {k c e : ℕ} (u : k ≡ 512) (v : c ≡ 32768) (w : e ≡ 32768) (H : Handed g (verdictAnswer g k c e) s s′ n b b′ x y p t)
+  module _ {k c e : ℕ} (u : 192 ≤ k) (v : c ≡ 32768) (w : e ≡ 32768) (H : Handed g (verdictAnswer g k c e) s s′ n b b′ x y p t)
       {d : List ℕ} {r : ℕ} {f : List ℕ} where
-    printed-as : Made d (tablePrint g (verdictAnswer g k c e)) r f → Made d (gamePrint g) r f
+    -- no game asks for more than 192 words of scratch
+    printed-as : acceptance g ≡ Accepted → Made d (tablePrint g (verdictAnswer g k c e)) r f → Made d (gamePrint g) r f
     unfolding gamePrint
-    printed-as M = made-as (λ i. tablePrint g (verdictAnswer g (u i) (v i) (w i))) M
+    printed-as a M =
+        let b : scratchLength g ≤ k = omega (arith, u, inputs-most g a, outputs-most g a) in
+        made-as (ap (tablePrint g) (more-scratch g k c e b) ∙ λ i. tablePrint g (verdictAnswer g (scratchLength g) (v i) (w i))) M
 
     pub prints-system : acceptance g ≡ Accepted → n ≡ 0 → b′ ≡ true
         → Made d (controllerAnswer (g .input .states) (g .output .states) (length (guarantees (separatedOf g))) t) r f → Made d (gamePrint g) r f
-    prints-system a z q M = printed-as (system-of c e (verdictAnswer g k c e) (told-answer g k c e) H a z q M)
+    prints-system a z q M = printed-as a (system-of c e (verdictAnswer g k c e) (told-answer g k c e) H a z q M)
 
     pub prints-environment : acceptance g ≡ Accepted → n ≡ 0 → b′ ≡ false
         → Made d (environmentAnswer (g .input .states) (g .output .states) (length (assumptions (separatedOf g))) t) r f → Made d (gamePrint g) r f
-    prints-environment a z q M = printed-as (environment-of c e (verdictAnswer g k c e) (told-answer g k c e) H a z q M)
+    prints-environment a z q M = printed-as a (environment-of c e (verdictAnswer g k c e) (told-answer g k c e) H a z q M)
 
-    pub prints-refused : n ≢ 0 → Puts d 0 (refusedLine n) r f → Made d (gamePrint g) r f
-    prints-refused z P = printed-as (refused-of c e (verdictAnswer g k c e) (told-answer g k c e) H z P)
+    pub prints-refused : acceptance g ≡ Accepted → n ≢ 0 → Puts d 0 (refusedLine n) r f → Made d (gamePrint g) r f
+    prints-refused a z P = printed-as a (refused-of c e (verdictAnswer g k c e) (told-answer g k c e) H z P)
 
 module _ {s : List ℕ} {x : Reading} (R : Reads s x) {d : List ℕ} {r : ℕ} {f : List ℕ} where
   pub answers-game : x .answer ≡ Read → Made d (gamePrint (x .game)) r f → Printed s d r f

@@ -3,6 +3,7 @@ use Prim.Native.Nat.{ℕ, _≤_, _<_}
 use mathlib.Core.Path.{_≡_, refl, sym, _∙_, ap, subst, subst⁻¹}
 use mathlib.Core.Bool.{Bool, true, false}
 use mathlib.Core.List.{List, [], _∷_, _++_}
+use native.Mathlib.Omega.{arith}
 use lib.Dec.{leb}
 use lib.ListN.{length, take, drop}
 use lib.Seq.{take-append-seam}
@@ -22,7 +23,7 @@ use Rattle.demands.specs.Demands.{playOf, controllerOf, environmentOf}
 use Rattle.demands.proofs.Demands.{demand-three-system, demand-three-environment}
 use Rattle.solver.specs.declared.Verdict.{Verdict}
 use Rattle.solver.specs.declared.Verdict.the-variants.{System, Environment, Refused as NotSolved}
-use Rattle.map.specs.Map.{cleared}
+use Rattle.scratch.specs.Scratch.{scratchLength, cleared}
 use Rattle.solver.specs.Promise.{
   controllerLength,
   environmentLength,
@@ -76,14 +77,21 @@ module _ (g : Game) (s c e : ℕ) where
   eighth-number false = refl
 
   acceptance-number : (a : Acceptance)
-      → numberOf (elim a as (λ x. Verdict) [ Accepted ↦ eighth g s c e | Faulty n ↦ NotSolved n ]) ≡ after a (firstOf (rooms (leb 512 s)))
+      → numberOf (elim a as (λ x. Verdict) [ Accepted ↦ eighth g s c e | Faulty n ↦ NotSolved n ]) ≡ after a (firstOf (rooms (leb (scratchLength g) s)))
   unfolding eighth
-  acceptance-number Accepted = eighth-number (leb 512 s)
+  acceptance-number Accepted = eighth-number (leb (scratchLength g) s)
   acceptance-number (Faulty n) = refl
 
   pub verdict-number : numberOf (verdictAnswer g s c e) ≡ firstOf (solveTests g s c e)
   unfolding verdictAnswer solveTests
-  verdict-number = acceptance-number (acceptance g) ∙ sym (game-after g (rooms (leb 512 s)))
+  verdict-number = acceptance-number (acceptance g) ∙ sym (game-after g (rooms (leb (scratchLength g) s)))
+
+-- scratch beyond what the game asks for changes no answer
+pub more-scratch : (g : Game) (s c e : ℕ) → scratchLength g ≤ s → verdictAnswer g s c e ≡ verdictAnswer g (scratchLength g) c e
+unfolding verdictAnswer eighth
+more-scratch g s c e h =
+    ap (λ (b : Bool). elim (acceptance g) as (λ x. Verdict) [ Accepted ↦ elim b as (λ x. Verdict) [ true ↦ ninth g c e | false ↦ NotSolved 8 ] | Faulty n ↦ NotSolved n ])
+    (le-leb (scratchLength g) s h ∙ sym (le-leb (scratchLength g) (scratchLength g) (omega arith)))
 
 module _ (g : Game) (s c e : List ℕ) where
   told : {r : Verdict} → r ≡ verdictAnswer g (length s) (length c) (length e) → numberOf r ≡ firstOf (solveTests g (length s) (length c) (length e))
@@ -102,32 +110,32 @@ module _ (g : Game) (s c e : List ℕ) where
     unfolding verdictAnswer
     at-eighth = rw (a, verdictAnswer) refl
 
-    pub solve-scratch-short : length s < 512 → Solved g s s c c e e (NotSolved 8)
+    pub solve-scratch-short : length s < scratchLength g → Solved g s s c c e e (NotSolved 8)
     unfolding eighth
-    solve-scratch-short h = refused 8 (sym (at-eighth ∙ rw (lt-leb 512 (length s) h, eighth) refl))
+    solve-scratch-short h = refused 8 (sym (at-eighth ∙ rw (lt-leb (scratchLength g) (length s) h, eighth) refl))
 
-    at-ninth : 512 ≤ length s → verdictAnswer g (length s) (length c) (length e) ≡ ninth g (length c) (length e)
+    at-ninth : scratchLength g ≤ length s → verdictAnswer g (length s) (length c) (length e) ≡ ninth g (length c) (length e)
     unfolding eighth
-    at-ninth h = at-eighth ∙ rw (le-leb 512 (length s) h, eighth) refl
+    at-ninth h = at-eighth ∙ rw (le-leb (scratchLength g) (length s) h, eighth) refl
 
-    pub solve-controller-short : 512 ≤ length s → length c < controllerLength g → Solved g s s c c e e (NotSolved 9)
+    pub solve-controller-short : scratchLength g ≤ length s → length c < controllerLength g → Solved g s s c c e e (NotSolved 9)
     unfolding ninth
     solve-controller-short h k = refused 9 (sym (at-ninth h ∙ rw (lt-leb (controllerLength g) (length c) k, ninth) refl))
 
-    at-tenth : 512 ≤ length s → controllerLength g ≤ length c → verdictAnswer g (length s) (length c) (length e) ≡ tenth g (length e)
+    at-tenth : scratchLength g ≤ length s → controllerLength g ≤ length c → verdictAnswer g (length s) (length c) (length e) ≡ tenth g (length e)
     unfolding ninth
     at-tenth h k = at-ninth h ∙ rw (le-leb (controllerLength g) (length c) k, ninth) refl
 
-    pub solve-environment-short : 512 ≤ length s → controllerLength g ≤ length c → length e < environmentLength g → Solved g s s c c e e (NotSolved 10)
+    pub solve-environment-short : scratchLength g ≤ length s → controllerLength g ≤ length c → length e < environmentLength g → Solved g s s c c e e (NotSolved 10)
     unfolding tenth
     solve-environment-short h k l = refused 10 (sym (at-tenth h k ∙ rw (lt-leb (environmentLength g) (length e) l, tenth) refl))
 
-    module _ (h : 512 ≤ length s) (k : controllerLength g ≤ length c) (l : environmentLength g ≤ length e) where
+    module _ (h : scratchLength g ≤ length s) (k : controllerLength g ≤ length c) (l : environmentLength g ≤ length e) where
       at-named : verdictAnswer g (length s) (length c) (length e) ≡ named g
       unfolding tenth
       at-named = at-tenth h k ∙ rw (le-leb (environmentLength g) (length e) l, tenth) refl
 
-      pub solved-system : (s′ c′ : List ℕ) → verdict (separatedOf g) ≡ true → s′ ≡ cleared s
+      pub solved-system : (s′ c′ : List ℕ) → verdict (separatedOf g) ≡ true → s′ ≡ cleared (scratchLength g) s
           → c′ ≡ controllerEntries (separatedOf g) ++ drop (controllerLength g) c → Solved g s s′ c c′ e e (System (controllerLength g))
       unfolding verdictScratch controllerAfter environmentAfter Decided named
       solved-system s′ c′ v p q = record {
@@ -148,7 +156,7 @@ module _ (g : Game) (s c e : List ℕ) where
               ∙ ap (λ (n : ℕ). take n (controllerEntries (separatedOf g) ++ drop (controllerLength g) c)) (sym (controller-long g))
               ∙ take-append-seam (controllerEntries (separatedOf g)) (drop (controllerLength g) c)
 
-      pub solved-environment : (s′ e′ : List ℕ) → verdict (separatedOf g) ≡ false → s′ ≡ cleared s
+      pub solved-environment : (s′ e′ : List ℕ) → verdict (separatedOf g) ≡ false → s′ ≡ cleared (scratchLength g) s
           → e′ ≡ environmentEntries (separatedOf g) ++ drop (environmentLength g) e → Solved g s s′ c c e e′ (Environment (environmentLength g))
       unfolding verdictScratch controllerAfter environmentAfter Decided named
       solved-environment s′ e′ v p q = record {
@@ -171,7 +179,7 @@ module _ (g : Game) (s c e : List ℕ) where
 
 -- ---- from what was written
 
-module _ (g : Game) (s s′ c c′ e e′ : List ℕ) {r : Bool} (W : Written g s s′ c c′ e e′ r) (a : acceptance g ≡ Accepted) (h : 512 ≤ length s)
+module _ (g : Game) (s s′ c c′ e e′ : List ℕ) {r : Bool} (W : Written g s s′ c c′ e e′ r) (a : acceptance g ≡ Accepted) (h : scratchLength g ≤ length s)
     (x y : ℕ) (p : x ≡ length (controllerEntries (separatedOf g))) (q : y ≡ length (environmentEntries (separatedOf g))) (k : x ≤ length c) (l : y ≤ length e) where
   lc : x ≡ controllerLength g
   lc = p ∙ controller-long g

@@ -24,7 +24,7 @@ use Rattle.theory.specs.Entries.{controllerCounters, environmentCounters, contr
 use Rattle.demands.specs.Demands.{playOf, controllerOf, environmentOf}
 use Rattle.solver.specs.declared.Verdict.{Verdict}
 use Rattle.solver.specs.declared.Verdict.the-variants.{System, Environment, Refused as NotSolved}
-use Rattle.map.specs.Map.{cleared}
+use Rattle.scratch.specs.Scratch.{scratchLength, cleared}
 
 -- "inputs + outputs × max(1, G) × inputs entries"; "1 + inputs × max(1, H) × outputs entries"
 unfoldable pub controllerLength : Game → ℕ
@@ -37,7 +37,7 @@ environmentLength g = 1 + g .input .states * environmentCounters (separatedOf g)
 unfoldable pub named : Game → Verdict
 named g = elim (verdict (separatedOf g)) [ true ↦ System (controllerLength g) | false ↦ Environment (environmentLength g) ]
 
--- "8 scratch under 512 words ..; 9 controller room too short and 10 panel room too short, each tried whoever wins"
+-- "Number 8 is given below that length" (document 02, M-103); "9 controller room too short and 10 panel room too short, each tried whoever wins"
 unfoldable pub tenth : Game → ℕ → Verdict
 tenth g e = elim (leb (environmentLength g) e) [ true ↦ named g | false ↦ NotSolved 10 ]
 
@@ -45,13 +45,13 @@ unfoldable pub ninth : Game → ℕ → ℕ → Verdict
 ninth g c e = elim (leb (controllerLength g) c) [ true ↦ tenth g e | false ↦ NotSolved 9 ]
 
 unfoldable pub eighth : Game → ℕ → ℕ → ℕ → Verdict
-eighth g s c e = elim (leb 512 s) [ true ↦ ninth g c e | false ↦ NotSolved 8 ]
+eighth g s c e = elim (leb (scratchLength g) s) [ true ↦ ninth g c e | false ↦ NotSolved 8 ]
 
 unfoldable pub verdictAnswer : Game → ℕ → ℕ → ℕ → Verdict
 verdictAnswer g s c e = elim (acceptance g) [ Accepted ↦ eighth g s c e | Faulty n ↦ NotSolved n ]
 
 unfoldable pub solveTests : Game → ℕ → ℕ → ℕ → List (ℕ × Bool)
-solveTests g s c e = gameTests g ++ (8, leb 512 s) ∷ (9, leb (controllerLength g) c) ∷ (10, leb (environmentLength g) e) ∷ []
+solveTests g s c e = gameTests g ++ (8, leb (scratchLength g) s) ∷ (9, leb (controllerLength g) c) ∷ (10, leb (environmentLength g) e) ∷ []
 
 abbrev pub numberOf : Verdict → ℕ
 numberOf (System n) = 0
@@ -69,10 +69,11 @@ environmentAfter g (System n) e = e
 environmentAfter g (Environment n) e = environmentEntries (separatedOf g) ++ drop n e
 environmentAfter g (NotSolved n) e = e
 
-unfoldable pub verdictScratch : Verdict → List ℕ → List ℕ
-verdictScratch (System n) s = cleared s
-verdictScratch (Environment n) s = cleared s
-verdictScratch (NotSolved n) s = s
+-- "after an answer the first that many words are zero and the rest unchanged"
+unfoldable pub verdictScratch : Game → Verdict → List ℕ → List ℕ
+verdictScratch g (System n) s = cleared (scratchLength g) s
+verdictScratch g (Environment n) s = cleared (scratchLength g) s
+verdictScratch g (NotSolved n) s = s
 
 -- Demand 3 for this game: the table read from the filled front wins for the side named, and no table of any finite size wins for the other.
 unfoldable pub Decided : Game → Verdict → List ℕ → List ℕ → Type 0
@@ -83,7 +84,7 @@ Decided g (NotSolved n) c e = Unit {0}
 pub record Solved (g : Game) (s s′ c c′ e e′ : List ℕ) (r : Verdict) : Type 0 where
   pub answer : r ≡ verdictAnswer g (length s) (length c) (length e)
   pub number : numberOf r ≡ firstOf (solveTests g (length s) (length c) (length e))
-  pub scratch : s′ ≡ verdictScratch r s
+  pub scratch : s′ ≡ verdictScratch g r s
   pub controller : c′ ≡ controllerAfter g r c
   pub environment : e′ ≡ environmentAfter g r e
   pub demand : Decided g r c′ e′

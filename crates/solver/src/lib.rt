@@ -23,7 +23,7 @@ fn solve_accepted(
     requires { ⌜ acceptance g ≡ Accepted ⌝ }
     ensures { λ r. ⌜ Solved g (now (scratch .entry)) (now (scratch .exit)) (now (controller .entry)) (now (controller .exit)) (now (panel .entry)) (now (panel .exit)) r ⌝ }
 {
-    if scratch.len() < 512 {
+    if scratch.len() < scratch::length(g) {
         return Verdict::Refused(8);
     }
     let c = sizes::controller_length(g);

@@ -11,11 +11,11 @@ use Rattle.game.specs.declared.Game.{Game}
 use Rattle.play.specs.Play.{separatedOf}
 use Rattle.theory.specs.Region.{verdict}
 use Rattle.theory.specs.Entries.{controllerEntries, environmentEntries}
-use Rattle.map.specs.Map.{cleared}
+use Rattle.scratch.specs.Scratch.{scratchLength, cleared}
 
 -- what is written for an accepted game whose buffers are long enough
 pub record Written (g : Game) (s s′ c c′ e e′ : List ℕ) (r : Bool) : Type 0 where
   pub wins : r ≡ verdict (separatedOf g)
-  pub scratch : s′ ≡ cleared s
+  pub scratch : s′ ≡ cleared (scratchLength g) s
   pub controller : c′ ≡ elim r as (λ x. List ℕ) [ true ↦ controllerEntries (separatedOf g) ++ drop (length (controllerEntries (separatedOf g))) c | false ↦ c ]
   pub environment : e′ ≡ elim r as (λ x. List ℕ) [ true ↦ e | false ↦ environmentEntries (separatedOf g) ++ drop (length (environmentEntries (separatedOf g))) e ]

@@ -6,23 +6,25 @@ ghost use Rattle.game.specs.declared.Acceptance.the-variants.{Accepted};
 ghost use Rattle.game.specs.Acceptance.{acceptance};
 ghost use Rattle.play.specs.Play.{separatedOf};
 ghost use Rattle.theory.specs.Entries.{controllerEntries, environmentEntries};
+ghost use Rattle.scratch.specs.Scratch.{scratchLength};
 ghost use Rattle.winner.specs.Written.{Written};
 use game::Game;
 
 // Writes the winner's table of an accepted game and clears scratch. Answers whether that is the system's.
 pub fn write_winner(g: Game, scratch: &mut [u64], controller: &mut [u16], panel: &mut [u16]) -> bool
-    requires { ⌜ (acceptance g ≡ Accepted) × (512 ≤ length (now scratch)) × (length (controllerEntries (separatedOf g)) ≤ length (now controller))
+    requires { ⌜ (acceptance g ≡ Accepted) × (scratchLength g ≤ length (now scratch)) × (length (controllerEntries (separatedOf g)) ≤ length (now controller))
         × (length (environmentEntries (separatedOf g)) ≤ length (now panel)) ⌝ }
     ensures { λ r. ⌜ Written g (now (scratch .entry)) (now (scratch .exit)) (now (controller .entry)) (now (controller .exit)) (now (panel .entry)) (now (panel .exit)) r ⌝ }
 {
+    let used = scratch::length(g);
     region::prepare(g, scratch);
     let cores = components::cores(g.input, scratch);
     if verdict::system_wins(g, scratch, cores) {
         controller::fill(g, scratch, controller);
-        map::clear(scratch);
+        scratch::clear(scratch, used);
         return true;
     }
     environment::fill(g, scratch, panel);
-    map::clear(scratch);
+    scratch::clear(scratch, used);
     false
 }

@@ -1,43 +1,73 @@
 -- `solve_accepted` tests the rooms.
 use native.Mathlib.Omega.{arith}
+use Rattle.game.proofs.Laws.{accepted-fits}
 use Rattle.kit.proofs.Answers.{kit-scratch-short, kit-controller-short, kit-room-short}
 use Rattle.kit.proofs.Lengths.{both-small}
-use Rattle.kit.proofs.Handing.{game-accepted, length-of, counters-of}
+use Rattle.kit.proofs.Handing.{game-accepted, words-of, length-of, counters-of}
 use Rattle.kit.proofs.solve_accepted.Statement.{statement}
 use Rattle.kit.proofs.solve_accepted.Tie as tie
 
-returns : tie.Need-returns
-returns c = kit-scratch-short _ _ _ _ _ (c .before .before .before .before .before .pre) (c .if1 .taken)
-
 game-of-requires : tie.Need-game-of-requires
-game-of-requires c κs = both-small _ (c .before .before .before .before .before .pre)
+game-of-requires c κs = both-small _ (c .before .before .before .before .pre)
+
+length-requires : tie.Need-length-requires
+length-requires c κs =
+    let F = accepted-fits _ (game-accepted _ _ (c .before .before .before .before .before .pre) (c .game-of .ensures)) in
+    (F .input .most, F .output .most)
+
+returns : tie.Need-returns
+returns c =
+    let words = c .before in
+    let game = words .before in
+    kit-scratch-short _ _ _ _ _ (game .before .before .before .before .before .pre) (omega (arith, words-of _ _ _ (game .game-of .ensures) (words .length .ensures), c .if1 .taken))
 
 controller-length-requires : tie.Need-controller-length-requires
-controller-length-requires c κs = game-accepted _ _ (c .before .before .before .before .before .before .pre) (c .game-of .ensures)
+controller-length-requires c κs =
+    let game = c .before .before in
+    game-accepted _ _ (game .before .before .before .before .before .pre) (game .game-of .ensures)
 
 returns-2 : tie.Need-returns-2
-returns-2 c = kit-controller-short _ _ _ _ _ (c .before .before .before .before .before .before .before .before .pre) (omega arith) (omega (arith, c .if2 .taken, length-of _ _ _ (c .before .before .game-of .ensures) (c .before .controller-length .ensures)))
+returns-2 c =
+    let controller = c .before in
+    let words = controller .before .before in
+    let game = words .before in
+    kit-controller-short _ _ _ _ _ (game .before .before .before .before .before .pre) (omega (arith, words-of _ _ _ (game .game-of .ensures) (words .length .ensures), controller .before .if1 .left))
+    (omega (arith, c .if2 .taken, length-of _ _ _ (game .game-of .ensures) (controller .controller-length .ensures)))
 
 controller-counters-requires : tie.Need-controller-counters-requires
-controller-counters-requires c κs = game-accepted _ _ (c .before .before .before .before .before .before .before .before .pre) (c .before .before .game-of .ensures)
+controller-counters-requires c κs =
+    let game = c .before .before .before .before in
+    game-accepted _ _ (game .before .before .before .before .before .pre) (game .game-of .ensures)
 
 table-length-requires : tie.Need-table-length-requires
-table-length-requires c κs = (c .before .before .before .before .before .before .before .before .before .pre, counters-of _ _ _ (c .before .before .before .game-of .ensures) (c .controller-counters .ensures))
+table-length-requires c κs =
+    let game = c .before .before .before .before .before in
+    (game .before .before .before .before .before .pre, counters-of _ _ _ (game .game-of .ensures) (c .controller-counters .ensures))
 
 returns-3 : tie.Need-returns-3
 returns-3 c =
-    kit-room-short _ _ _ _ _ (c .before .before .before .before .before .before .before .before .before .before .before .pre) (omega arith) (omega (arith, c .before .before .before .if2 .left, length-of _ _ _ (c .before .before .before .before .before .game-of .ensures) (c .before .before .before .before .controller-length .ensures)))
-    (omega (arith, c .if3 .taken, c .before .table-length .ensures))
+    let room = c .before .before .before in
+    let controller = room .before in
+    let words = controller .before .before in
+    let game = words .before in
+    kit-room-short _ _ _ _ _ (game .before .before .before .before .before .pre) (omega (arith, words-of _ _ _ (game .game-of .ensures) (words .length .ensures), controller .before .if1 .left))
+    (omega (arith, room .if2 .left, length-of _ _ _ (game .game-of .ensures) (controller .controller-length .ensures))) (omega (arith, c .if3 .taken, c .before .table-length .ensures))
 
 solve-fitting-requires : tie.Need-solve-fitting-requires
-solve-fitting-requires c κs = record {
-  accepted = c .before .before .before .before .before .before .before .before .before .before .before .before .before .before .before .pre;
-  game = c .before .before .before .before .before .before .before .before .before .game-of .ensures;
-  table = c .before .before .before .before .before .table-length .ensures;
-  scratch = omega arith;
-  controller = omega (arith, c .before .before .before .before .before .before .before .if2 .left, length-of _ _ _ (c .before .before .before .before .before .before .before .before .before .game-of .ensures) (c .before .before .before .before .before .before .before .before .controller-length .ensures));
-  room = omega (arith, c .before .before .before .before .if3 .left, c .before .before .before .before .before .table-length .ensures);
-}
+solve-fitting-requires c κs =
+    let table = c .before .before .before .before .before in
+    let room = table .before .before in
+    let controller = room .before in
+    let words = controller .before .before in
+    let game = words .before in
+    record {
+      accepted = game .before .before .before .before .before .pre;
+      game = game .game-of .ensures;
+      table = table .table-length .ensures;
+      scratch = omega (arith, words-of _ _ _ (game .game-of .ensures) (words .length .ensures), controller .before .if1 .left);
+      controller = omega (arith, room .if2 .left, length-of _ _ _ (game .game-of .ensures) (controller .controller-length .ensures));
+      room = omega (arith, c .before .before .before .before .if3 .left, table .table-length .ensures);
+    }
 
 same-length : tie.Need-same-length
 same-length c = c .before .before .before .before .before .before .before .before .solve-fitting .kept .1 .1 .1 .0
@@ -58,8 +88,9 @@ pub solve-accepted-spec : {M : Type 1} → statement M
 solve-accepted-spec =
     tie.close
     (tie.spec
-    returns
     game-of-requires
+    length-requires
+    returns
     controller-length-requires
     returns-2
     controller-counters-requires

@@ -1,6 +1,5 @@
 -- `make_map`.
 use Rattle.map.proofs.Made.{reading-made, cleared-kept}
-use mathlib.Core.Path.{_∙_}
 use borrow.Author.Needs.{needs}
 use Rattle.map.proofs.make_map.Statement.{statement}
 use Rattle.map.proofs.make_map.Tie as tie
@@ -13,8 +12,13 @@ cores-requires c κs = search needs
 
 fill-map-requires : tie.Need-fill-map-requires
 fill-map-requires c κs =
-    let p = c .before .before .before .before .before .before .before .before .before .before .pre in
-    (reading-made _ (p .0) _ _ (c .before .before .before .before .before .before .prepare .ensures) (c .before .before .cores .ensures), p .2)
+    let cores = c .before .before in
+    let prepare = cores .before .before .before .before in
+    let p = prepare .before .before .before .before .pre in
+    (reading-made _ (p .0) _ _ (prepare .prepare .ensures) (cores .cores .ensures), p .2)
+
+length-requires : tie.Need-length-requires
+length-requires c κs = search needs
 
 clear-requires : tie.Need-clear-requires
 clear-requires c κs = search needs
@@ -27,8 +31,11 @@ same-length-2 c = search needs
 
 returns : tie.Need-returns
 returns c =
-    let p = c .before .before .before .before .before .before .before .before .before .before .before .before .before .before .before .before .before .pre in
-    (c .before .before .clear .ensures ∙ cleared-kept _ (p .0) _ _ (c .before .before .before .before .before .before .before .before .before .before .before .before .before .prepare .ensures .kept), c .before .before .before .before .before .before .fill-map .ensures)
+    let clear = c .before .before in
+    let fill = clear .before .before .before .before .before in
+    let cores = fill .before .before .before in
+    let prepare = cores .before .before .before .before in
+    (cleared-kept _ _ _ _ (prepare .prepare .ensures .kept) (clear .before .length .ensures) (clear .clear .ensures), fill .fill-map .ensures)
 
 pub make-map-spec : {M : Type 1} → statement M
 make-map-spec =
@@ -37,6 +44,7 @@ make-map-spec =
     prepare-requires
     cores-requires
     fill-map-requires
+    length-requires
     clear-requires
     same-length
     same-length-2

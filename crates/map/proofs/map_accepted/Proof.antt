@@ -6,14 +6,25 @@ use borrow.Author.Needs.{needs}
 use Rattle.map.proofs.map_accepted.Statement.{statement}
 use Rattle.map.proofs.map_accepted.Tie as tie
 
+length-requires : tie.Need-length-requires
+length-requires c κs =
+    let F = accepted-fits _ (c .before .before .pre) in
+    (F .input .most, F .output .most)
+
 returns : tie.Need-returns
-returns c = map-scratch-short _ _ _ (c .before .before .before .pre) (c .if1 .taken)
+returns c =
+    let b = c .before in
+    map-scratch-short _ _ _ (b .before .before .before .pre) (omega (arith, b .length .ensures, c .if1 .taken))
 
 returns-2 : tie.Need-returns-2
-returns-2 c = map-short _ _ _ (c .before .before .before .before .before .pre) (c .if2 .taken)
+returns-2 c =
+    let b = c .before .before .before in
+    map-short _ _ _ (b .before .before .before .pre) (c .if2 .taken)
 
 make-map-requires : tie.Need-make-map-requires
-make-map-requires c κs = (accepted-fits _ (c .before .before .before .before .before .before .before .pre), omega arith, omega arith)
+make-map-requires c κs =
+    let b = c .before .before .before .before .before in
+    (accepted-fits _ (b .before .before .before .pre), omega (arith, b .length .ensures), omega arith)
 
 same-length : tie.Need-same-length
 same-length c = search needs
@@ -23,9 +34,10 @@ same-length-2 c = search needs
 
 returns-3 : tie.Need-returns-3
 returns-3 c =
-    let b = c .before .before .before .before in
-    map-done _ _ _ _ _ (c .before .before .before .before .before .before .before .before .before .before .before .before .pre) (omega arith) (omega arith) (b .make-map .ensures .0) (b .make-map .ensures .1)
+    let m = c .before .before .before .before in
+    let b = m .before .before .before .before .before .before in
+    map-done _ _ _ _ _ (b .before .before .before .pre) (omega (arith, b .length .ensures)) (omega arith) (m .make-map .ensures .0) (m .make-map .ensures .1)
 
 pub map-accepted-spec : {M : Type 1} → statement M
 map-accepted-spec =
-    tie.close (tie.spec returns returns-2 make-map-requires same-length same-length-2 returns-3)
+    tie.close (tie.spec length-requires returns returns-2 make-map-requires same-length same-length-2 returns-3)

@@ -37,7 +37,8 @@ returns c =
     let h = i .before .before in
     let m = h .before .before .before in
     let n = m .before .before .before in
-    prints-refused refl (sym (n .before .empty-room .ensures)) (sym (n .empty-room2 .ensures)) (h .solve .ensures) (i .if1 .taken) (p .put-refused .ensures)
+    prints-refused (omega arith) (sym (n .before .empty-room .ensures)) (sym (n .empty-room2 .ensures)) (h .solve .ensures)
+    (n .before .before .before .pre) (i .if1 .taken) (p .put-refused .ensures)
 
 put-system-requires : tie.Need-put-system-requires
 put-system-requires c κs =
@@ -58,7 +59,7 @@ returns-2 c =
     let h = i .before .before .before in
     let m = h .before .before .before in
     let n = m .before .before .before in
-    prints-system refl (sym (n .before .empty-room .ensures)) (sym (n .empty-room2 .ensures)) (h .solve .ensures)
+    prints-system (omega arith) (sym (n .before .empty-room .ensures)) (sym (n .empty-room2 .ensures)) (h .solve .ensures)
     (n .before .before .before .pre) (i .before .if1 .left) (i .if2 .taken) (p .put-system .ensures)
 
 put-panel-requires : tie.Need-put-panel-requires
@@ -80,7 +81,7 @@ returns-3 c =
     let h = i .before .before .before in
     let m = h .before .before .before in
     let n = m .before .before .before in
-    prints-environment refl (sym (n .before .empty-room .ensures)) (sym (n .empty-room2 .ensures)) (h .solve .ensures)
+    prints-environment (omega arith) (sym (n .before .empty-room .ensures)) (sym (n .empty-room2 .ensures)) (h .solve .ensures)
     (n .before .before .before .pre) (i .before .if1 .left) (i .if2 .left) (p .put-panel .ensures)
 
 pub solve-spec : {M : Type 1} → statement M

@@ -7,17 +7,37 @@ use borrow.Author.Needs.{needs}
 use Rattle.winner.proofs.write_winner.Statement.{statement}
 use Rattle.winner.proofs.write_winner.Tie as tie
 
+length-requires : tie.Need-length-requires
+length-requires c κs =
+    let F = accepted-fits _ (c .before .before .before .pre .0) in
+    (F .input .most, F .output .most)
+
 prepare-requires : tie.Need-prepare-requires
-prepare-requires c κs = let p = c .before .before .before .before .pre in let F = accepted-fits _ (p .0) in (F, omega (arith, F .input .most, F .output .most, p .1))
+prepare-requires c κs =
+    let p = c .before .before .before .before .before .pre in
+    (accepted-fits _ (p .0), omega (arith, p .1))
 
 cores-requires : tie.Need-cores-requires
-cores-requires c κs = let F = accepted-fits _ (c .before .before .before .before .before .before .before .before .pre .0) in (F .input .most, omega (arith, F .input .most, F .output .most, c .before .before .before .prepare .ensures .ready .laid .long))
+cores-requires c κs =
+    let prepare = c .before .before .before in
+    let length = prepare .before .before in
+    let F = accepted-fits _ (length .before .before .before .before .pre .0) in
+    (F .input .most, omega (arith, prepare .prepare .ensures .ready .laid .long))
 
 system-wins-requires : tie.Need-system-wins-requires
-system-wins-requires c κs = reading-made _ (accepted-fits _ (c .before .before .before .before .before .before .before .before .before .before .pre .0)) _ _ (c .before .before .before .before .before .prepare .ensures) (c .before .cores .ensures)
+system-wins-requires c κs =
+    let cores = c .before in
+    let prepare = cores .before .before .before .before in
+    let length = prepare .before .before in
+    reading-made _ (accepted-fits _ (length .before .before .before .before .pre .0)) _ _ (prepare .prepare .ensures) (cores .cores .ensures)
 
 fill-requires : tie.Need-fill-requires
-fill-requires c κs = let p = c .before .before .before .before .before .before .before .before .before .before .before .before .before .before .pre in (p .0, c .before .before .before .before .before .before .before .before .before .prepare .ensures .ready, p .2)
+fill-requires c κs =
+    let cores = c .before .before .before .before .before in
+    let prepare = cores .before .before .before .before in
+    let length = prepare .before .before in
+    let p = length .before .before .before .before .pre in
+    (p .0, prepare .prepare .ensures .ready, p .2)
 
 clear-requires : tie.Need-clear-requires
 clear-requires c κs = search needs
@@ -29,15 +49,26 @@ same-length-2 : tie.Need-same-length-2
 same-length-2 c = search needs
 
 returns : tie.Need-returns
-returns c = record {
-  wins = sym (sym (c .before .before .before .before .before .before .before .before .before .before .system-wins .ensures) ∙ c .before .before .before .before .before .before .before .before .before .if1 .taken);
-  scratch = c .before .before .clear .ensures ∙ cleared-kept _ (accepted-fits _ (c .before .before .before .before .before .before .before .before .before .before .before .before .before .before .before .before .before .before .before .before .before .pre .0)) _ _ (c .before .before .before .before .before .before .before .before .before .before .before .before .before .before .before .before .prepare .ensures .kept);
-  controller = c .before .before .before .before .before .before .fill .ensures;
-  environment = refl;
-}
+returns c =
+    let clear = c .before .before in
+    let fill = clear .before .before .before .before in
+    let branch = fill .before .before .before in
+    let cores = branch .before .before .before in
+    let prepare = cores .before .before .before .before in
+    record {
+      wins = sym (sym (branch .before .system-wins .ensures) ∙ branch .if1 .taken);
+      scratch = cleared-kept _ _ _ _ (prepare .prepare .ensures .kept) (prepare .before .before .length .ensures) (clear .clear .ensures);
+      controller = fill .fill .ensures;
+      environment = refl;
+    }
 
 fill-requires-2 : tie.Need-fill-requires-2
-fill-requires-2 c κs = let p = c .before .before .before .before .before .before .before .before .before .before .before .before .before .before .pre in record { accepted = p .0; ready = c .before .before .before .before .before .before .before .before .before .prepare .ensures .ready; room = p .3 }
+fill-requires-2 c κs =
+    let cores = c .before .before .before .before .before in
+    let prepare = cores .before .before .before .before in
+    let length = prepare .before .before in
+    let p = length .before .before .before .before .pre in
+    record { accepted = p .0; ready = prepare .prepare .ensures .ready; room = p .3 }
 
 clear-requires-2 : tie.Need-clear-requires-2
 clear-requires-2 c κs = search needs
@@ -49,17 +80,24 @@ same-length-4 : tie.Need-same-length-4
 same-length-4 c = search needs
 
 returns-2 : tie.Need-returns-2
-returns-2 c = record {
-  wins = sym (sym (c .before .before .before .before .before .before .before .before .before .before .system-wins .ensures) ∙ c .before .before .before .before .before .before .before .before .before .if1 .left);
-  scratch = c .before .before .clear2 .ensures ∙ cleared-kept _ (accepted-fits _ (c .before .before .before .before .before .before .before .before .before .before .before .before .before .before .before .before .before .before .before .before .before .pre .0)) _ _ (c .before .before .before .before .before .before .before .before .before .before .before .before .before .before .before .before .prepare .ensures .kept);
-  controller = refl;
-  environment = c .before .before .before .before .before .before .fill2 .ensures;
-}
+returns-2 c =
+    let clear = c .before .before in
+    let fill = clear .before .before .before .before in
+    let branch = fill .before .before .before in
+    let cores = branch .before .before .before in
+    let prepare = cores .before .before .before .before in
+    record {
+      wins = sym (sym (branch .before .system-wins .ensures) ∙ branch .if1 .left);
+      scratch = cleared-kept _ _ _ _ (prepare .prepare .ensures .kept) (prepare .before .before .length .ensures) (clear .clear2 .ensures);
+      controller = refl;
+      environment = fill .fill2 .ensures;
+    }
 
 pub write-winner-spec : {M : Type 1} → statement M
 write-winner-spec =
     tie.close
     (tie.spec
+    length-requires
     prepare-requires
     cores-requires
     system-wins-requires

@@ -1,0 +1,2 @@
+-- Laws of scratch that is cleared from the front.
+pub mod Cleared
