@@ -56,11 +56,11 @@ def walk(term):
 
 class Function:
     def __init__(self, definition):
-        _, self.name, item, named = definition
+        _, self.name, item, *named = definition
         kind, _, _, self.parameters, locals_, self.body = item
         assert kind == "fnItem", kind
         self.types = [local[1] for local in items(locals_)]
-        self.named = {pair[1]: pair[2] for pair in items(named)}
+        self.named = {pair[1]: pair[2] for pairs in named for pair in items(pairs)}
         self.calls = {term[1] for term in walk(self.body) if term[0] == "fnRef"}
 
     def size(self, t):
