@@ -131,7 +131,7 @@ class Test:
         while left:
             f = functions[left.pop()]  # an entry that is not there is an error
             self.function(f, own)
-            for name in f.calls - seen:
+            for name in sorted(f.calls - seen):
                 seen.add(name)
                 left.append(name)
         self.functions += len(seen)
