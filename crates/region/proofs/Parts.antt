@@ -13,6 +13,7 @@ use Rattle.closure.specs.Sweep.{Closed}
 use Rattle.components.specs.Component.{turns}
 use Rattle.components.specs.Closes.{Closes}
 use Rattle.components.proofs.Closed.{cores-closed}
+use Rattle.scratch.specs.Scratch.{scratchLength}
 use Rattle.stored.specs.Stored.{Laid}
 use Rattle.dues.specs.Dues.{Serves, Serving}
 use Rattle.dues.proofs.Meaning.{serving-closed}
@@ -25,18 +26,22 @@ use Rattle.ranks.proofs.Order.{kept-more}
 -- the two closures, one after the other
 module _ (g : Game) (F : Fits g) (l₀ l₁ l₂ : List ℕ) {k : ℕ} (C : Closed (g .input) l₀ l₁ k)
     (D : ClosedAt (g .output) (g .input .states + g .input .states) l₁ l₂)
-    (long : g .input .states + g .input .states + g .output .states ≤ length l₀) where
+    (long : scratchLength g ≤ length l₀) where
   abbrev n : ℕ
   n = g .input .states
 
   abbrev m : ℕ
   m = g .output .states
 
+  -- the three areas fill scratch
+  areas : n + n + m ≤ length l₀
+  areas = omega (arith, long)
+
   pub laid-first : Laid g l₂
-  laid-first = laid-both g F l₀ l₁ l₂ C D long
+  laid-first = laid-both g F l₀ l₁ l₂ C D areas
 
   outer-closes : Closes (g .output) (drop (n + n) l₂)
-  outer-closes = out-closes g F l₀ l₁ l₂ C D long
+  outer-closes = out-closes g F l₀ l₁ l₂ C D areas
 
   -- nothing reaches no state, so all that the first rows need stands
   pub filling-first : (cores turning : ℕ) → cores ≡ pack n (turns (g .input .moves) l₂ n) → turning ≡ pack m (turns (g .output .moves) (drop (n + n) l₂) m)
@@ -55,4 +60,4 @@ module _ (g : Game) (F : Fits g) (l₀ l₁ l₂ : List ℕ) {k : ℕ} (C : Clos
   serving-first x S = serving-closed g F (drop (n + n) l₂) x outer-closes S
 
   pub prepared-both : (l₃ : List ℕ) → Prepared g l₂ l₃ → Prepared g l₀ l₃
-  prepared-both l₃ P = record { ready = P .ready; kept = kept-more (record { long = areas-long g F l₀ l₁ l₂ C D long; rest = areas-rest g F l₀ l₁ l₂ C D long }) (P .kept) }
+  prepared-both l₃ P = record { ready = P .ready; kept = kept-more (record { long = areas-long g F l₀ l₁ l₂ C D areas; rest = areas-rest g F l₀ l₁ l₂ C D areas }) (P .kept) }

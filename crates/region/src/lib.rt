@@ -1,7 +1,8 @@
 // The winning region, worked out in scratch.
-ghost use Prim.Native.Nat.{_+_, _≤_};
+ghost use Prim.Native.Nat.{_≤_};
 ghost use lib.ListN.{length};
 ghost use Rattle.game.specs.Fits.{Fits};
+ghost use Rattle.scratch.specs.Scratch.{scratchLength};
 ghost use Rattle.dues.specs.Dues.{Serving};
 ghost use Rattle.ranks.specs.Fill.{Filling};
 ghost use Rattle.region.specs.Fill.{Prepared};
@@ -22,7 +23,7 @@ fn fill(g: Game, t: Servers, s: &mut [u64], cores: u64, turning: u64)
 
 // Works out both closures and the region in scratch.
 pub fn prepare(g: Game, s: &mut [u64])
-    requires { ⌜ Fits g × (g .input .states + g .input .states + g .output .states ≤ length (now s)) ⌝ }
+    requires { ⌜ Fits g × (scratchLength g ≤ length (now s)) ⌝ }
     ensures { λ _. ⌜ Prepared g (now (s .entry)) (now (s .exit)) ⌝ }
 {
     let at = g.input.states + g.input.states;
