@@ -97,7 +97,8 @@ module _ (k : Kit) (s c e t : ℕ) where
   eighth-number false = refl
 
   acceptance-number : (a : Acceptance)
-      → numberOf (elim a as (λ x. Verdict) [ Accepted ↦ kitEighth k s c e t | Faulty n ↦ Refused n ]) ≡ after a (firstOf (rooms (leb (scratchLength (gameFrom k)) s)))
+      → numberOf (elim a as (λ x. Verdict) [ Accepted ↦ kitEighth k s c e t | Faulty n ↦ Refused n ])
+      ≡ after a (firstOf (rooms (leb (scratchLength (gameFrom k)) s)))
   unfolding kitEighth
   acceptance-number Accepted = eighth-number (leb (scratchLength (gameFrom k)) s)
   acceptance-number (Faulty n) = refl
@@ -132,14 +133,16 @@ module _ (k : Kit) (s c e t : List ℕ) where
     unfolding kitEighth
     at-nine b = at-eight ∙ rw (le-leb (scratchLength (gameFrom k)) (length s) b, kitEighth) refl
 
-    short : scratchLength (gameFrom k) ≤ length s → (leb (controllerLength (gameFrom k)) (length c) && leb (kitLength k) (length t)) ≡ false → KitSolved k s s c c e e t t (Refused 9)
+    short : scratchLength (gameFrom k) ≤ length s → (leb (controllerLength (gameFrom k)) (length c) && leb (kitLength k) (length t)) ≡ false
+        → KitSolved k s s c c e e t t (Refused 9)
     unfolding kitNinth
     short b d = refused 9 (sym (at-nine b ∙ rw (d, kitNinth) refl))
 
     pub kit-controller-short : scratchLength (gameFrom k) ≤ length s → length c < controllerLength (gameFrom k) → KitSolved k s s c c e e t t (Refused 9)
     kit-controller-short b d = short b (ap (λ (x : Bool). x && leb (kitLength k) (length t)) (lt-leb (controllerLength (gameFrom k)) (length c) d))
 
-    pub kit-room-short : scratchLength (gameFrom k) ≤ length s → controllerLength (gameFrom k) ≤ length c → length t < kitLength k → KitSolved k s s c c e e t t (Refused 9)
+    pub kit-room-short : scratchLength (gameFrom k) ≤ length s → controllerLength (gameFrom k) ≤ length c → length t < kitLength k
+        → KitSolved k s s c c e e t t (Refused 9)
     kit-room-short b d f =
         short b (ap (λ (x : Bool). x && leb (kitLength k) (length t)) (le-leb (controllerLength (gameFrom k)) (length c) d) ∙ lt-leb (kitLength k) (length t) f)
 

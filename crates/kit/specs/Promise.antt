@@ -47,7 +47,9 @@ kitAnswer k s c e t = elim (kitAcceptance k) [ Accepted ↦ kitEighth k s c e t 
 
 unfoldable pub solveKitTests : Kit → ℕ → ℕ → ℕ → ℕ → List (ℕ × Bool)
 solveKitTests k s c e t =
-    kitTests k ++ (8, leb (scratchLength (gameFrom k)) s) ∷ (9, leb (controllerLength (gameFrom k)) c && leb (kitLength k) t) ∷ (10, leb (environmentLength (gameFrom k)) e) ∷ []
+    kitTests k
+    ++ (8, leb (scratchLength (gameFrom k)) s) ∷ (9, leb (controllerLength (gameFrom k)) c && leb (kitLength k) t)
+    ∷ (10, leb (environmentLength (gameFrom k)) e) ∷ []
 
 -- "the other rooms are as the solver leaves them"
 unfoldable pub solverAnswer : Kit → Verdict → Verdict

@@ -92,14 +92,17 @@ map-room g s m b a e h = rw (a, mapAnswer) (rw (e, mapRoom) h)
 pub map-scratch-short : (g : Game) (s m : List ℕ) → acceptance g ≡ Accepted → length s < scratchLength g → MapMade g s s m m (NotMapped 8)
 unfolding mapFits
 map-scratch-short g s m a b =
-    map-refused g s m 8 (map-room g (length s) (length m) false a (and-false-left (leb (g .input .states) (length m)) (lt-leb (scratchLength g) (length s) b)) refl)
+    map-refused g s m 8
+    (map-room g (length s) (length m) false a (and-false-left (leb (g .input .states) (length m)) (lt-leb (scratchLength g) (length s) b)) refl)
 
 pub map-short : (g : Game) (s m : List ℕ) → acceptance g ≡ Accepted → length m < g .input .states → MapMade g s s m m (NotMapped 8)
 unfolding mapFits
 map-short g s m a b =
-    map-refused g s m 8 (map-room g (length s) (length m) false a (and-false-right (leb (scratchLength g) (length s)) (lt-leb (g .input .states) (length m) b)) refl)
+    map-refused g s m 8
+    (map-room g (length s) (length m) false a (and-false-right (leb (scratchLength g) (length s)) (lt-leb (g .input .states) (length m) b)) refl)
 
-pub map-done : (g : Game) (s s′ m m′ : List ℕ) → acceptance g ≡ Accepted → scratchLength g ≤ length s → g .input .states ≤ length m → s′ ≡ cleared (scratchLength g) s
+pub map-done : (g : Game) (s s′ m m′ : List ℕ) → acceptance g ≡ Accepted → scratchLength g ≤ length s → g .input .states ≤ length m
+    → s′ ≡ cleared (scratchLength g) s
     → m′ ≡ tabulate (g .input .states) (mapRow g) ++ drop (g .input .states) m → MapMade g s s′ m m′ Done
 unfolding mapAfter mapScratch mapFits
 map-done g s s′ m m′ a b c e f = record {

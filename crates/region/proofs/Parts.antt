@@ -60,4 +60,7 @@ module _ (g : Game) (F : Fits g) (l₀ l₁ l₂ : List ℕ) {k : ℕ} (C : Clos
   serving-first x S = serving-closed g F (drop (n + n) l₂) x outer-closes S
 
   pub prepared-both : (l₃ : List ℕ) → Prepared g l₂ l₃ → Prepared g l₀ l₃
-  prepared-both l₃ P = record { ready = P .ready; kept = kept-more (record { long = areas-long g F l₀ l₁ l₂ C D areas; rest = areas-rest g F l₀ l₁ l₂ C D areas }) (P .kept) }
+  prepared-both l₃ P = record {
+    ready = P .ready;
+    kept = kept-more (record { long = areas-long g F l₀ l₁ l₂ C D areas; rest = areas-rest g F l₀ l₁ l₂ C D areas }) (P .kept);
+  }

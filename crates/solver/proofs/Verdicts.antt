@@ -90,8 +90,10 @@ module _ (g : Game) (s c e : ℕ) where
 pub more-scratch : (g : Game) (s c e : ℕ) → scratchLength g ≤ s → verdictAnswer g s c e ≡ verdictAnswer g (scratchLength g) c e
 unfolding verdictAnswer eighth
 more-scratch g s c e h =
-    ap (λ (b : Bool). elim (acceptance g) as (λ x. Verdict) [ Accepted ↦ elim b as (λ x. Verdict) [ true ↦ ninth g c e | false ↦ NotSolved 8 ] | Faulty n ↦ NotSolved n ])
-    (le-leb (scratchLength g) s h ∙ sym (le-leb (scratchLength g) (scratchLength g) (omega arith)))
+    ap told (le-leb (scratchLength g) s h ∙ sym (le-leb (scratchLength g) (scratchLength g) (omega arith)))
+  where
+    told : Bool → Verdict
+    told b = elim (acceptance g) [ Accepted ↦ elim b [ true ↦ ninth g c e | false ↦ NotSolved 8 ] | Faulty n ↦ NotSolved n ]
 
 module _ (g : Game) (s c e : List ℕ) where
   told : {r : Verdict} → r ≡ verdictAnswer g (length s) (length c) (length e) → numberOf r ≡ firstOf (solveTests g (length s) (length c) (length e))
@@ -126,7 +128,8 @@ module _ (g : Game) (s c e : List ℕ) where
     unfolding ninth
     at-tenth h k = at-ninth h ∙ rw (le-leb (controllerLength g) (length c) k, ninth) refl
 
-    pub solve-environment-short : scratchLength g ≤ length s → controllerLength g ≤ length c → length e < environmentLength g → Solved g s s c c e e (NotSolved 10)
+    pub solve-environment-short : scratchLength g ≤ length s → controllerLength g ≤ length c → length e < environmentLength g
+        → Solved g s s c c e e (NotSolved 10)
     unfolding tenth
     solve-environment-short h k l = refused 10 (sym (at-tenth h k ∙ rw (lt-leb (environmentLength g) (length e) l, tenth) refl))
 

@@ -19,7 +19,8 @@ returns : tie.Need-returns
 returns c =
     let words = c .before in
     let game = words .before in
-    kit-scratch-short _ _ _ _ _ (game .before .before .before .before .before .pre) (omega (arith, words-of _ _ _ (game .game-of .ensures) (words .length .ensures), c .if1 .taken))
+    kit-scratch-short _ _ _ _ _ (game .before .before .before .before .before .pre)
+    (omega (arith, words-of _ _ _ (game .game-of .ensures) (words .length .ensures), c .if1 .taken))
 
 controller-length-requires : tie.Need-controller-length-requires
 controller-length-requires c κs =
@@ -31,7 +32,8 @@ returns-2 c =
     let controller = c .before in
     let words = controller .before .before in
     let game = words .before in
-    kit-controller-short _ _ _ _ _ (game .before .before .before .before .before .pre) (omega (arith, words-of _ _ _ (game .game-of .ensures) (words .length .ensures), controller .before .if1 .left))
+    kit-controller-short _ _ _ _ _ (game .before .before .before .before .before .pre)
+    (omega (arith, words-of _ _ _ (game .game-of .ensures) (words .length .ensures), controller .before .if1 .left))
     (omega (arith, c .if2 .taken, length-of _ _ _ (game .game-of .ensures) (controller .controller-length .ensures)))
 
 controller-counters-requires : tie.Need-controller-counters-requires
@@ -50,8 +52,10 @@ returns-3 c =
     let controller = room .before in
     let words = controller .before .before in
     let game = words .before in
-    kit-room-short _ _ _ _ _ (game .before .before .before .before .before .pre) (omega (arith, words-of _ _ _ (game .game-of .ensures) (words .length .ensures), controller .before .if1 .left))
-    (omega (arith, room .if2 .left, length-of _ _ _ (game .game-of .ensures) (controller .controller-length .ensures))) (omega (arith, c .if3 .taken, c .before .table-length .ensures))
+    kit-room-short _ _ _ _ _ (game .before .before .before .before .before .pre)
+    (omega (arith, words-of _ _ _ (game .game-of .ensures) (words .length .ensures), controller .before .if1 .left))
+    (omega (arith, room .if2 .left, length-of _ _ _ (game .game-of .ensures) (controller .controller-length .ensures)))
+    (omega (arith, c .if3 .taken, c .before .table-length .ensures))
 
 solve-fitting-requires : tie.Need-solve-fitting-requires
 solve-fitting-requires c κs =
