@@ -3,7 +3,7 @@
 --   known-won, known-core : the region, and the nontrivial components
 --   start-found, start-none : the start
 --   same-none, same-push   : rows that need no walk
---   spread-won, none-filled : those of one input that are none
+--   none-entries, none-filled : those of one input that are none
 --   lone-of                : the inputs in trivial components
 --   pushed-all, pushed-lone, pushed-of, pushed-within : the inputs whose rows with an output need no walk: those, or all where it has no move
 --   pushes-*, plain-join   : their pushes, output after output, and all rows that need no walk
@@ -39,10 +39,13 @@ use Rattle.theory.specs.Entries.{entry}
 use Rattle.theory.proofs.EnvironmentRow.{unanswered, row-pushed}
 use Rattle.stored.specs.Stored.{wonAt}
 use Rattle.stored.proofs.Read.{won-region}
-use Rattle.environment_table.specs.Table.{Known, Roomy, Filled, Same, Spread, Pushes}
+use Rattle.environment_table.specs.Table.{Known, Roomy, Filled, Same, EnvironmentLayout, Pushes}
 use Rattle.environment_table.specs.Reading.{Shaped, anyWon, refusedAt, openAt, unansweredAt, lostAt, Lone, unwalked, pushedAt, Pushed, plain}
 use Rattle.environment_table.specs.Pressing.{lostIn}
-use Rattle.environment_table.proofs.Places.{filled-none, filled-join, filled-same, below-next, every-counter}
+use Rattle.layout.specs.declared.Layout.{Layout}
+use Rattle.layout.specs.Rows.{Entries, Wrote}
+use Rattle.environment_table.proofs.Laid.{laid-block}
+use Rattle.environment_table.proofs.Places.{filled-none, filled-join, filled-same, below-next}
 use Rattle.environment_table.proofs.Reading.{refused-within, unanswered-both}
 
 -- what is read of the game's sets
@@ -152,18 +155,20 @@ module _ (g : Game) (s : List ℕ) (cores : ℕ) (K : Known g s cores) where
     won-has o b = ap (λ (x : ℕ). has x o) w ∙ has-pack-below (g .output .states) (wonAt s (g .input .states) cores i) o b
 
     -- those of the won outputs
-    pub spread-won : (M n every : ℕ) → Roomy g M n → ((h : ℕ) → has every h ≡ ltb h M) → Spread g i won every 65535 0
-    spread-won M n every R e = record {
-      input = a;
-      counter = λ h x. omega (arith, R .counters, ltb-true h M (sym (e h) ∙ x));
-      entry = λ h o x b y. same-none i o a b M (sym (won-has o b) ∙ y) .entry h (ltb-true h M (sym (e h) ∙ x));
+
+    pub none-entries : (M every : ℕ) (z : Layout) → EnvironmentLayout (g .input .states) M (g .output .states) z → ((h : ℕ) → has every h ≡ ltb h M)
+        → Entries z every 65535 0
+    none-entries M every z Z e = record {
+      counters = λ h x. omega (arith, Z .counters, ltb-true h M (sym (e h) ∙ x));
+      small = λ h x. omega (arith, zero-mul h);
     }
 
     -- so the won rows of i are written
-    pub none-filled : {l m : List ℕ} (M n every : ℕ) → Roomy g M n → ((h : ℕ) → has every h ≡ ltb h M)
-        → Filled g (λ x h o. (x ≡ i) × (has every h ≡ true) × (has won o ≡ true)) l m → Filled g (λ x h o. (x ≡ i) × (region (separatedOf g) x o ≡ true)) l m
-    none-filled M n every R e F =
-        filled-same g F (λ x h o lx lh lo p. (p .0, every-counter g M n every h R e lh, won-has o lo ∙ known-won i o a lo ∙ ap (λ (y : ℕ). region (separatedOf g) y o) (sym (p .0)) ∙ p .1))
+    pub none-filled : {l m : List ℕ} (M n every : ℕ) (z : Layout) → Roomy g M n → EnvironmentLayout (g .input .states) M (g .output .states) z
+        → ((h : ℕ) → has every h ≡ ltb h M) → Wrote z i won every 65535 0 l m → Filled g (λ x h o. (x ≡ i) × (region (separatedOf g) x o ≡ true)) l m
+    none-filled M n every z R Z e W =
+        filled-same g (laid-block g M n z R Z i won every 65535 0 e (λ h o lh b y. same-none i o a b M (sym (won-has o b) ∙ y) .entry h lh) W)
+        (λ x h o lx lh lo p. (p .0, won-has o lo ∙ known-won i o a lo ∙ ap (λ (y : ℕ). region (separatedOf g) y o) (sym (p .0)) ∙ p .1))
 
   -- a stuck output has an empty row
 

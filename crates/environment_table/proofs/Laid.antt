@@ -3,20 +3,25 @@
 --   laid-fits     : the buffer has the rows
 --   laid-table    : the table ends in them
 --   laid-filled   : rows that were written there were written in the table
-use Prim.Native.Nat.{ℕ, _+_, _*_}
+--   laid-block    : the rows of one input and a set of outputs, for all counters
+use Prim.Native.Nat.{ℕ, _+_, _*_, _<_}
 use mathlib.Core.Path.{_≡_, refl, sym, _∙_, ap}
+use mathlib.Core.Bool.{true}
 use mathlib.Core.List.{List}
 use native.Mathlib.Omega.{arith}
+use lib.Dec.{ltb}
 use lib.ListN.{length, getD}
+use borrow.Author.Tests.{ltb-true}
+use Rattle.sets.specs.Member.{has}
 use Rattle.game.specs.declared.Game.{Game}
 use Rattle.play.specs.Play.{separatedOf}
 use Rattle.theory.specs.Choice.{environmentRow}
-use Rattle.theory.specs.Entries.{environmentCounters}
+use Rattle.theory.specs.Entries.{entry, environmentCounters}
 use Rattle.layout.specs.declared.Layout.{Layout}
-use Rattle.layout.specs.Rows.{place as placeOf, Fits, Rows}
+use Rattle.layout.specs.Rows.{place as placeOf, Fits, Rows, Wrote}
 use Rattle.layout.specs.Rows.{Filled as FilledIn}
 use Rattle.environment_table.specs.Table.{entriesOf, place, Roomy, EnvironmentLayout, Filled}
-use Rattle.environment_table.proofs.Places.{entries-length, entry-at, some-counter}
+use Rattle.environment_table.proofs.Places.{entries-length, entry-at, some-counter, filled-same, every-counter}
 
 module _ (g : Game) (M n : ℕ) (z : Layout) (R : Roomy g M n) (Z : EnvironmentLayout (g .input .states) M (g .output .states) z) where
   -- a row's place is the same
@@ -52,3 +57,13 @@ module _ (g : Game) (M n : ℕ) (z : Layout) (R : Roomy g M n) (Z : EnvironmentL
         rw (sym (at a h b))
         (F .rows a h b (omega (arith, Z .states)) (omega (arith, Z .counters, R .counters)) (omega (arith, Z .width)) p);
   }
+
+  pub laid-block : (i over every first more : ℕ) {l m : List ℕ} → ((h : ℕ) → has every h ≡ ltb h M)
+      → ((h o : ℕ) → h < M → o < g .output .states → has over o ≡ true → first + more * h ≡ entry (environmentRow (separatedOf g) i h o))
+      → Wrote z i over every first more l m → Filled g (λ a h o. (a ≡ i) × (has over o ≡ true)) l m
+  laid-block i over every first more e agrees W =
+      filled-same g
+      (laid-filled
+      (W .fills (environmentRow (separatedOf g)) (entriesOf g) laid-table
+      (λ h o x b y. agrees h o (ltb-true h M (sym (e h) ∙ x)) (omega (arith, Z .width)) y)))
+      (λ a h o la lh lo p. (p .0, every-counter g M n every h R e lh, p .1))

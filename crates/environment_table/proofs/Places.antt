@@ -4,8 +4,8 @@
 --   entry-small               : every entry fits 16 bits
 --   filled-none, filled-join  : nothing written, and one writing after the other
 --   filled-same               : fewer rows than were written
---   putting-*, put-done, spreading-*, spread-done, spread-in : what the columns and blocks of rows ask and give
-use Prim.Native.Nat.{ℕ, suc, _+_, _-_, _*_, _<_, _≤_}
+--   putting-*, put-done       : what the columns of rows ask and give
+use Prim.Native.Nat.{ℕ, suc, _+_, _*_, _<_, _≤_}
 use native.Mathlib.Nat.{mul-comm, mul-zero, add-mul, mul-le-mul, le-max-left}
 use mathlib.Core.Path.{_≡_, refl, sym, _∙_, ap, subst}
 use mathlib.Core.Bool.{true, false}
@@ -34,8 +34,8 @@ use Rattle.theory.proofs.EnvironmentRow.{pushed}
 use Rattle.demands.proofs.Sizes.{environment-few}
 use Rattle.filling.specs.Grows.{Right}
 use Rattle.filling.proofs.Grows.{grows-none, grows-more}
-use Rattle.columns.specs.Column.{Fits, Agrees, Columned, Column, BlockFits, BlockAgrees, Blocked, Block}
-use Rattle.environment_table.specs.Table.{entriesOf, place, Roomy, Filled, Same, Spread, Spreading, Spreads, Putting, Put}
+use Rattle.columns.specs.Column.{Fits, Agrees, Columned, Column}
+use Rattle.environment_table.specs.Table.{entriesOf, place, Roomy, Filled, Same, Putting, Put}
 
 -- the length of the list, and what stands at the place of a row
 
@@ -133,11 +133,6 @@ module _ (g : Game) (M n i : ℕ) (R : Roomy g M n) (li : i < g .input .states) 
       → entry (environmentRow (separatedOf g) i h o) ≡ getD (entriesOf g) (1 + i * M * g .output .states + o + g .output .states * h) 0
   at-entry h o b c = sym (entry-at g i h o li (counter-in h b) c) ∙ ap (λ (k : ℕ). getD (entriesOf g) k 0) (sym (at h o))
 
-  pub first-row : 1 + i * M * g .output .states + g .output .states ≤ length (entriesOf g)
-  first-row =
-      let b : g .output .states - 1 < g .output .states = omega (arith, accepted-fits g (R .accepted) .output .some) in
-      omega (arith, at-below 0 (g .output .states - 1) (rw (R .counters) (some-counter (separatedOf g))) b, mul-zero (g .output .states))
-
 module _ (g : Game) (M n i o first more which : ℕ) (R : Roomy g M n) (S : Same g M i o first more) (w : (h : ℕ) → has which h ≡ ltb h M) where
   counter : (h : ℕ) → has which h ≡ true → h < M
   counter h e = ltb-true h M (sym (w h) ∙ e)
@@ -186,66 +181,6 @@ put-done O M i o first more which {l} {m} w C = record {
   fills = λ p. put-filled (p .game) M (length l) i o first more which (p .roomy) (p .same) w refl
       (subst (λ (k : ℕ). Column l m (1 + i * M * k + o) k which first more) (p .outputs) C);
 }
-
-module _ (g : Game) (M n i over which first more : ℕ) (R : Roomy g M n) (S : Spread g i over which first more) where
-  counter-of : (h : ℕ) → has which h ≡ true → h < M
-  counter-of h e = omega (arith, S .counter h e, R .counters)
-
-  spread-fits : BlockFits n (1 + i * M * g .output .states) (g .output .states) over which first more
-  spread-fits = record {
-    narrow = R .outputs;
-    inside = omega (arith, first-row g M n i R (S .input), R .room);
-    columns = λ o b a. record {
-      below = λ h e. omega (arith, at-below g M n i R (S .input) h o (counter-of h e) b, R .room);
-      small = λ h e. rw (S .entry h o e b a) (entry-small g i h o (S .input) (S .counter h e) b (R .accepted));
-    };
-  }
-
-  spread-agrees : BlockAgrees (entriesOf g) (1 + i * M * g .output .states) (g .output .states) over which first more
-  spread-agrees = record {
-    columns = λ o b a. record {
-      below = λ h e. at-below g M n i R (S .input) h o (counter-of h e) b;
-      entry = λ h e. S .entry h o e b a ∙ at-entry g M n i R (S .input) h o (counter-of h e) b;
-    };
-  }
-
-  spread-filled : {l m : List ℕ} → length l ≡ n → Block l m (1 + i * M * g .output .states) (g .output .states) over which first more
-      → Filled g (λ a h b. (a ≡ i) × (has which h ≡ true) × (has over b ≡ true)) l m
-  spread-filled {l} {m} e B = record { grows = done .grows; rows = λ a h b x y z q. rows a h b z (q .0) (q .1) (q .2) }
-    where
-      done : Blocked (entriesOf g) l m (1 + i * M * g .output .states) (g .output .states) over which (g .output .states)
-      done = B .fills (entriesOf g) spread-agrees (omega (arith, R .room))
-
-      rows : (a h b : ℕ) → b < g .output .states → a ≡ i → has which h ≡ true → has over b ≡ true
-          → Right (entriesOf g) m (place (environmentCounters (separatedOf g)) (g .output .states) a h b)
-      rows a h b z p q r = rw (p, ← at g M n i R (S .input) h b) (done .right b h z r q)
-
-module _ (O M i over which first more n : ℕ) (p : Spreading O M i over which first more n) where
-  pub spreading-rows : i * M ≤ 2048
-  spreading-rows = rows-small (p .game) M n i (p .roomy) (p .spread .input)
-
-  pub spreading-entries : i * M * O ≤ 131072
-  spreading-entries = rw (p .outputs) (entries-small (p .game) M n i (p .roomy) (p .spread .input))
-
-  pub spreading-fits : BlockFits n (1 + i * M * O) O over which first more
-  spreading-fits = rw (p .outputs) (spread-fits (p .game) M n i over which first more (p .roomy) (p .spread))
-
-pub spread-done : (O M i over which first more : ℕ) {l m : List ℕ} → Block l m (1 + i * M * O) O over which first more → Spreads O M i over which first more l m
-spread-done O M i over which first more {l} {m} B = record {
-  fills = λ p. spread-filled (p .game) M (length l) i over which first more (p .roomy) (p .spread) refl
-      (subst (λ (k : ℕ). Block l m (1 + i * M * k) k over which first more) (p .outputs) B);
-}
-
--- of one game
-
-module _ (g : Game) (M i over which first more : ℕ) where
-  pub spreading-of : (n : ℕ) → Roomy g M n → Spread g i over which first more → Spreading (g .output .states) M i over which first more n
-  spreading-of n R S = record { game = g; outputs = refl; roomy = R; spread = S }
-
-  pub spread-in : {l m : List ℕ} → Roomy g M (length l) → Spread g i over which first more → Spreads (g .output .states) M i over which first more l m
-      → Filled g (λ a h b. (a ≡ i) × (has which h ≡ true) × (has over b ≡ true)) l m
-  unfolding spreading-of
-  spread-in {l} R S D = D .fills (spreading-of (length l) R S)
 
 -- what a row begins with fits 16 bits
 pub same-small : (g : Game) (M n i o first more : ℕ) → Roomy g M n → Same g M i o first more → first < 65536

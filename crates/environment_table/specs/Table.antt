@@ -8,9 +8,6 @@
 --   EnvironmentLayout N M O z   == z is the layout of the rows of N inputs, M counters and O outputs
 --   Filled g P l m              == from l to m rows were written, those with P among them
 --   Same g counters i o first more   == the rows of i and o hold first + more × h
---   Spread g i over which first more == so do those of i and the outputs of `over`, for the counters of `which`
---   Spreading O M i over which first more n   == so do those of a game with O outputs, whose table fits n entries
---   Spreads O M i over which first more l m   == from l to m they were written, of any such game
 --   Putting O M i o first more n     == so do the rows of i and o of a game with O outputs, whose table fits n entries
 --   Put O M i o first more l m       == from l to m they were written, of any such game
 --   Pushes g M which o refused       == so do those of an input of `which` and o: first is its lowest move into the set `refused`, more is 64
@@ -75,21 +72,6 @@ pub record Same (g : Game) (counters i o first more : ℕ) : Type 0 where
   pub input : i < g .input .states
   pub output : o < g .output .states
   pub entry : (h : ℕ) → h < counters → first + more * h ≡ entry (environmentRow (separatedOf g) i h o)
-
-pub record Spread (g : Game) (i over which first more : ℕ) : Type 0 where
-  pub input : i < g .input .states
-  pub counter : (h : ℕ) → has which h ≡ true → h < environmentCounters (separatedOf g)
-  pub entry : (h o : ℕ) → has which h ≡ true → o < g .output .states → has over o ≡ true → first + more * h ≡ entry (environmentRow (separatedOf g) i h o)
-
-pub record Spreading (O M i over which first more n : ℕ) : Type 0 where
-  pub game : Game
-  pub outputs : O ≡ game .output .states
-  pub roomy : Roomy game M n
-  pub spread : Spread game i over which first more
-
-pub record Spreads (O M i over which first more : ℕ) (l m : List ℕ) : Type 0 where
-  pub fills : (p : Spreading O M i over which first more (length l))
-      → Filled (p .game) (λ a h b. (a ≡ i) × (has which h ≡ true) × (has over b ≡ true)) l m
 
 pub record Putting (O M i o first more n : ℕ) : Type 0 where
   pub game : Game

@@ -99,16 +99,8 @@ fn none_row(g: Game, s: &[u64], cores: InSet, counters: usize, i: InState, room:
     ensures { λ r. ⌜ Filled g (λ a h b. (a ≡ i .0) × (region (separatedOf g) a b ≡ true)) (now (room .entry)) (now (room .exit)) ⌝ }
 {
     let won = stored::won_outputs(s, g.input.states, g.output.states, cores, i);
-    rows::spread(
-        g.output.states,
-        counters,
-        i,
-        won,
-        sets::below(counters),
-        65535,
-        0,
-        room,
-    );
+    let z = rows::layout_of(g.input.states, counters, g.output.states);
+    layout::write(room, z, i.0, won.0, sets::below(counters), 65535, 0);
 }
 
 // The rows of all won positions.

@@ -1,8 +1,8 @@
 -- `none_row`: the won outputs.
 use native.Mathlib.Omega.{arith}
 use borrow.Author.Needs.{needs}
-use Rattle.environment_table.proofs.Places.{spreading-of, spread-in}
-use Rattle.environment_table.proofs.Known.{shaped, spread-won, none-filled}
+use Rattle.environment_table.proofs.Laid.{laid-fits}
+use Rattle.environment_table.proofs.Known.{shaped, none-entries, none-filled}
 use Rattle.plain.proofs.none_row.Statement.{statement}
 use Rattle.plain.proofs.none_row.Tie as tie
 
@@ -12,31 +12,38 @@ won-outputs-requires c κs =
     let h = shaped _ _ _ (p .0) in
     (h .inputs, h .outputs, p .2, h .long)
 
-below-requires : tie.Need-below-requires
-below-requires c κs = omega (arith, c .before .before .before .pre .1 .few)
+layout-of-requires : tie.Need-layout-of-requires
+layout-of-requires c κs = search needs
 
-spread-requires : tie.Need-spread-requires
-spread-requires c κs =
-    let p = c .before .before .before .before .before .pre in
-    spreading-of _ _ _ _ _ _ _ _ (p .1) (spread-won _ _ _ (p .0) _ (p .2) _ (c .before .before .won-outputs .ensures) _ _ _ (p .1) (c .before .below .ensures))
+below-requires : tie.Need-below-requires
+below-requires c κs = let w = c .before .before in omega (arith, w .before .before .before .pre .1 .few)
+
+write-requires : tie.Need-write-requires
+write-requires c κs =
+    let z = c .before .before in
+    let w = z .before in
+    let p = w .before .before .before .pre in
+    let Z = z .layout-of .ensures in
+    (laid-fits _ _ _ _ (p .1) Z, omega (arith, p .2, Z .states), none-entries _ _ _ (p .0) _ (p .2) _ (w .won-outputs .ensures) _ _ _ Z (c .below .ensures))
 
 same-length : tie.Need-same-length
 same-length c = search needs
 
 returns : tie.Need-returns
 returns c =
-    let p = c .before .before .before .before .before .before .before .before .pre in
-    let won = c .before .before .before .before .before .won-outputs .ensures in
-    let every = c .before .before .before .before .below .ensures in
-    none-filled _ _ _ (p .0) _ (p .2) _ won _ _ _ (p .1) every
-    (spread-in _ _ _ _ _ _ _ (p .1) (spread-won _ _ _ (p .0) _ (p .2) _ won _ _ _ (p .1) every) (c .before .before .spread .ensures))
+    let b = c .before .before .before in
+    let z = b .before .before in
+    let w = z .before in
+    let p = w .before .before .before .pre in
+    none-filled _ _ _ (p .0) _ (p .2) _ (w .won-outputs .ensures) _ _ _ _ (p .1) (z .layout-of .ensures) (b .below .ensures) (c .before .before .write .ensures)
 
 pub none-row-spec : {M : Type 1} → statement M
 none-row-spec =
     tie.close
     (tie.spec
     won-outputs-requires
+    layout-of-requires
     below-requires
-    spread-requires
+    write-requires
     same-length
     returns)
