@@ -25,7 +25,7 @@ use Rattle.layout.specs.Rows.{Fits, Rows, Filled, Entries}
 use Rattle.layout.proofs.Places.{filled-none, filled-join, filled-part}
 use Rattle.rounds.specs.declared.Stamp.{Stamp}
 use Rattle.rounds.specs.Walk.{firstOf, Stamps, Fair, Settled, Leading, Walks}
-use Rattle.rounds.proofs.Levels.{Levels, levels-chosen, levels-leads, levels-still, levels-turn, gone, settled-settles}
+use Rattle.ways.proofs.Levels.{Levels, levels-chosen, levels-leads, levels-still, levels-turn, gone, settled-settles}
 
 -- the entry of a move
 

@@ -1,126 +1,49 @@
--- All rounds of the search.
+-- The list of moves, round after round.
 --
---   Search        : what holds after some rounds: the layer reached, which states are left, and that the moves of all others are right
+--   Search        : what holds after some rounds: the levels, and that the moves of all states that are not left are right
 --   search-start  : it holds at the start
 --   search-turn   : and again after a round
---   left-falls    : a round that settles a state leaves fewer
 --   search-empty  : where no state is left, every move is right
---   search-still  : where a round settles no state, those that are left have no way
-use Prim.Native.Nat.{ℕ, zero, suc, _≤_, _<_}
-use mathlib.Core.Path.{_≡_, refl, sym, _∙_, ap}
-use mathlib.Core.Bool.{Bool, true, false, not, _&&_, _||_}
+--   search-still  : and so where a round settles no state
+use Prim.Native.Nat.{ℕ, _≤_, _<_}
+use mathlib.Core.Path.{_≡_, _∙_, ap}
+use mathlib.Core.Bool.{true, false, not, _&&_, _||_}
 use mathlib.Core.List.{List}
 use mathlib.Core.Logic.{_⊎_, inl, inr}
-use native.Mathlib.Decide.{decLt}
 use native.Mathlib.Omega.{arith}
 use lib.ListN.{length, getD}
-use Rattle.finite.specs.Bounded.{any, count}
-use Rattle.finite.proofs.Truth.{decide, clash, false-of, and-intro, and-left, and-right, and-cases, or-left, or-right, or-cases, same-test, not-true, not-false}
-use Rattle.finite.proofs.Bounded.{any-intro, least-at-most, count-less, below-suc}
+use Rattle.finite.proofs.Truth.{decide, clash, false-of}
 use Rattle.sets.specs.Member.{has}
-use Rattle.sets.proofs.Membership.{ext, has-zero, within-lt, has-pack-below, pack-has}
-use Rattle.sets.proofs.Compare.{nonzero-member}
-use Rattle.graphs.specs.Way.{layer, near, approach, shortest, toward}
-use Rattle.graphs.proofs.Way.{Leads, near-below, near-more, near-step, near-cases, toward-move, toward-near}
+use Rattle.sets.proofs.Membership.{has-zero}
+use Rattle.graphs.specs.Way.{toward}
+use Rattle.graphs.proofs.Way.{Leads}
 use Rattle.ways.specs.Kept.{kept}
-use Rattle.ways.specs.Search.{choices, settles, Settled, Bounds, Toward}
-use Rattle.ways.proofs.Kept.{kept-from, pack-below}
-use Rattle.graphs.proofs.Way.{prefer-same, prefer-wider}
-use Rattle.ways.proofs.Round.{has-choices, settles-intro, settles-nonzero, settles-left, settles-move, length-written, written-settled, written-other}
+use Rattle.ways.specs.Search.{settles, Settled, Bounds, Toward}
+use Rattle.ways.proofs.Kept.{kept-from}
+use Rattle.ways.proofs.Round.{settles-left, length-written, written-settled, written-other}
+use Rattle.ways.proofs.Levels.{Levels, levels-start, levels-chosen, levels-still, levels-turn, gone, settled-settles}
 
--- ---- shortest ways along any relation
-
-module _ (n : ℕ) (r : ℕ → ℕ → Bool) (p : ℕ → Bool) where
-  approach-most : (s t k : ℕ) → r s t ≡ true → near n r p k t ≡ true → approach n r p s ≤ k
-  unfolding approach
-  approach-most s t k e h =
-      least-at-most n (λ j. any n (λ u. r s u && near n r p j u)) k
-      (any-intro n (λ u. r s u && near n r p k u) t (near-below n r p k t h) (and-intro e h))
-
-  -- the first layer that a move of s lands in
-  approach-first : (s t k : ℕ) → r s t ≡ true → near n r p k t ≡ true → ((u j : ℕ) → j < k → r s u ≡ true → near n r p j u ≡ false) → approach n r p s ≡ k
-  approach-first s t k e h none = go (decLt (approach n r p s) k)
-    where
-      way : Leads n r p s
-      way = record { next = t; moves = k; move = e; way = h }
-
-      go : Dec (approach n r p s < k) → approach n r p s ≡ k
-      go (yes b) = clash (toward-near n r p s way) (none (toward n r p s) (approach n r p s) b (toward-move n r p s way))
-      go (no b) = omega (arith, approach-most s t k e h)
-
-  near-at : (k l t : ℕ) → l ≡ layer n r p k → near n r p k t ≡ has l t
-  unfolding near
-  near-at k l t e = ap (λ (x : ℕ). has x t) (sym e)
-
-  near-later : (k t : ℕ) → near n r p zero t ≡ true → near n r p k t ≡ true
-  near-later zero t h = h
-  near-later (suc k) t h = near-more n r p k t (near-later k t h)
-
--- ---- the search
-
--- l is the set of the states reached, left the states of c without a next state, next the list of moves
+-- next is the list of moves
 pub record Search (rows : List ℕ) (n c target l left : ℕ) (next : List ℕ) : Type 0 where
-  pub rounds : ℕ
+  pub levels : Levels rows n c target l left
   pub room : length next ≡ 64
-  pub reached : l ≡ layer n (kept rows c) (has target) rounds
-  pub inside : (s : ℕ) → has left s ≡ true → has c s ≡ true
-  pub waits : (s t j : ℕ) → s < n → has left s ≡ true → j < rounds → kept rows c s t ≡ true → near n (kept rows c) (has target) j t ≡ false
-  pub settled : (s : ℕ) → s < n → has c s ≡ true → has left s ≡ false → has l s ≡ true
   pub moves : (s : ℕ) → s < n → has c s ≡ true → has left s ≡ false → getD next s 0 ≡ toward n (kept rows c) (has target) s
 
 pub search-start : (rows : List ℕ) (n c target : ℕ) (next : List ℕ) → Bounds n target → length next ≡ 64 → Search rows n c target target c next
-unfolding layer
-search-start rows n c target next b room =
-    record {
-      rounds = zero;
-      room = room;
-      reached = sym (pack-has n target (within-lt target n (b .members)));
-      inside = λ s h. h;
-      waits = λ s t j a h k. absurd (omega arith);
-      settled = λ s a h f. clash h f;
-      moves = λ s a h f. clash h f;
-    }
+search-start rows n c target next b room = record {
+  levels = levels-start rows n c target c (b .members) (λ s h. h) (λ s h f. clash h f);
+  room = room;
+  moves = λ s a h f. clash h f;
+}
 
 pub search-empty : (rows : List ℕ) (n c target l left : ℕ) (next : List ℕ) → Search rows n c target l left next → left ≡ 0 → Toward rows n c target next
-search-empty rows n c target l left next h e =
-    record {
-      moves = λ s b w.
-          h .moves s b (kept-from rows c s (w .next) (w .move)) (ap (λ (x : ℕ). has x s) e ∙ has-zero s);
-    }
+search-empty rows n c target l left next h e = record {
+  moves = λ s b w. h .moves s b (kept-from rows c s (w .next) (w .move)) (ap (λ (x : ℕ). has x s) e ∙ has-zero s);
+}
 
--- a round from a state of the search
-module _ (rows : List ℕ) (n c target l left : ℕ) (x y : List ℕ) (z : ℕ) (fits : n ≤ 64) (h : Search rows n c target l left x) (d : Settled rows n c left l x y z) where
-  settled-has : (s : ℕ) → s < n → has z s ≡ settles rows c left l s
-  settled-has s b = ap (λ (k : ℕ). has k s) (d .states) ∙ has-pack-below n (settles rows c left l) s b
-
-  settled-below : (s : ℕ) → has z s ≡ true → s < n
-  settled-below s e = pack-below n (settles rows c left l) s (ap (λ (k : ℕ). has k s) (sym (d .states)) ∙ e)
-
-  settled-settles : (s : ℕ) → has z s ≡ true → settles rows c left l s ≡ true
-  settled-settles s e = sym (settled-has s (settled-below s e)) ∙ e
-
-  now-at : (t : ℕ) → near n (kept rows c) (has target) (h .rounds) t ≡ has l t
-  now-at t = near-at n (kept rows c) (has target) (h .rounds) l t (h .reached)
-
-  -- a state that is left and has a move into what is reached settles
-  takes : (s t : ℕ) → s < n → has left s ≡ true → kept rows c s t ≡ true → has l t ≡ true → has z s ≡ true
-  takes s t b a m e = settled-has s b ∙ settles-intro rows c left l s t a m e
-
-  -- ---- a round that settles no state
-
-  still : z ≡ 0 → (k t : ℕ) → near n (kept rows c) (has target) k t ≡ true → has l t ≡ true
-  still e zero t a = sym (now-at t) ∙ near-later n (kept rows c) (has target) (h .rounds) t a
-  still e (suc k) t a = go (near-cases n (kept rows c) (has target) k t a) (decide (has left t)) (still e k)
-    where
-      go : (near n (kept rows c) (has target) k t ≡ true) ⊎ ((u : ℕ) × (u < n) × (kept rows c t u ≡ true) × (near n (kept rows c) (has target) k u ≡ true))
-          → (has left t ≡ true) ⊎ (has left t ≡ false)
-          → ((u : ℕ) → near n (kept rows c) (has target) k u ≡ true → has l u ≡ true) → has l t ≡ true
-      go (inl b) f rec = rec t b
-      go (inr w) (inl f) rec =
-          clash (takes t (w .0) (near-below n (kept rows c) (has target) (suc k) t a) f (w .2) (rec (w .0) (w .3)))
-          (ap (λ (j : ℕ). has j t) e ∙ has-zero t)
-      go (inr w) (inr f) rec = h .settled t (near-below n (kept rows c) (has target) (suc k) t a) (kept-from rows c t (w .0) (w .2)) f
-
+-- a round that takes the list x to y and settles the states z
+module _ (rows : List ℕ) (n c target l left : ℕ) (x y : List ℕ) (z : ℕ) (fits : n ≤ 64)
+    (h : Search rows n c target l left x) (d : Settled rows n c left l x y z) where
   -- the moves made before stay
   stays : (s : ℕ) → has left s ≡ false → getD y s 0 ≡ getD x s 0
   stays s f =
@@ -130,109 +53,25 @@ module _ (rows : List ℕ) (n c target l left : ℕ) (x y : List ℕ) (z : ℕ) 
   pub search-still : z ≡ 0 → Toward rows n c target y
   search-still e = record { moves = λ s b w. go s b w (decide (has left s)) }
     where
-      go : (s : ℕ) → s < n → Leads n (kept rows c) (has target) s → (has left s ≡ true) ⊎ (has left s ≡ false) → getD y s 0 ≡ toward n (kept rows c) (has target) s
-      go s b w (inl a) =
-          clash (takes s (w .next) b a (w .move) (still e (w .moves) (w .next) (w .way))) (ap (λ (j : ℕ). has j s) e ∙ has-zero s)
+      go : (s : ℕ) → s < n → Leads n (kept rows c) (has target) s → (has left s ≡ true) ⊎ (has left s ≡ false)
+          → getD y s 0 ≡ toward n (kept rows c) (has target) s
+      go s b w (inl a) = absurd (levels-still rows n c target l left z fits (h .levels) (d .states) e s b a w)
       go s b w (inr f) = stays s f ∙ h .moves s b (kept-from rows c s (w .next) (w .move)) f
 
-  -- ---- a round that settles some
-
-  -- a state settles in the round of its shortest way
-  settles-approach : (s : ℕ) → s < n → settles rows c left l s ≡ true → approach n (kept rows c) (has target) s ≡ h .rounds
-  settles-approach s b e =
-      let a = settles-left rows c left l s e in
-      let w = settles-move rows c left l s (h .inside s a) e in
-      approach-first n (kept rows c) (has target) s (w .0) (h .rounds) (w .1) (now-at (w .0) ∙ w .2) (λ u j k m. h .waits s u j b a k m)
-
-  -- what it chooses from is its shortest moves
-  chooses : (s : ℕ) → s < n → settles rows c left l s ≡ true → (t : ℕ) → has (choices rows c left l s) t ≡ shortest n (kept rows c) (has target) s t
-  unfolding shortest
-  chooses s b e t =
-      let a = settles-left rows c left l s e in
-      has-choices rows c left l s t a (h .inside s a)
-      ∙ ap (λ (k : Bool). kept rows c s t && k)
-      (sym (now-at t) ∙ ap (λ (k : ℕ). near n (kept rows c) (has target) k t) (sym (settles-approach s b e)))
-
   chosen : (s : ℕ) → s < n → settles rows c left l s ≡ true → getD y s 0 ≡ toward n (kept rows c) (has target) s
-  unfolding toward
   chosen s b e =
-      let a = settles-left rows c left l s e in
-      let m = nonzero-member (choices rows c left l s) (settles-nonzero rows c left l s e) in
       ap (λ (k : List ℕ). getD k s 0) (d .moves)
       ∙ written-settled rows c left l n s x b (omega (arith, h .room)) e
-      ∙ prefer-wider n 64 s (has (choices rows c left l s)) (m .0) fits
-      (λ t k.
-      near-below n (kept rows c) (has target) (h .rounds) t
-      (now-at t ∙ and-right (kept rows c s t) (has l t) (sym (has-choices rows c left l s t a (h .inside s a)) ∙ k)))
-      (m .1)
-      ∙ prefer-same n s (has (choices rows c left l s)) (shortest n (kept rows c) (has target) s) (λ t k. chooses s b e t)
+      ∙ levels-chosen rows n c target l left z fits (h .levels) (d .states) s b e
 
-  -- the next layer: what is reached, and those that settle
-  grown : (l′ : ℕ) → ((s : ℕ) → has l′ s ≡ (has l s || has z s)) → l′ ≡ layer n (kept rows c) (has target) (suc (h .rounds))
-  grown l′ f = ext l′ next (λ s. f s ∙ same-test (has l s || has z s) (has next s) (to s) (back s))
-    where
-      next : ℕ
-      next = layer n (kept rows c) (has target) (suc (h .rounds))
-
-      near-next : (s : ℕ) → near n (kept rows c) (has target) (suc (h .rounds)) s ≡ has (layer n (kept rows c) (has target) (suc (h .rounds))) s
-      near-next s = near-at n (kept rows c) (has target) (suc (h .rounds)) (layer n (kept rows c) (has target) (suc (h .rounds))) s refl
-
-      to : (s : ℕ) → (has l s || has z s) ≡ true → has (layer n (kept rows c) (has target) (suc (h .rounds))) s ≡ true
-      to s e = sym (near-next s) ∙ elim (or-cases (has l s) (has z s) e) [
-        | inl a ↦ near-more n (kept rows c) (has target) (h .rounds) s (now-at s ∙ a)
-        | inr a ↦
-            let q = settled-settles s a in
-            let w = settles-move rows c left l s (h .inside s (settles-left rows c left l s q)) q in
-            near-step n (kept rows c) (has target) (h .rounds) s (w .0) (settled-below s a) (w .1) (now-at (w .0) ∙ w .2)
-      ]
-
-      split : (s : ℕ) → s < n
-          → (near n (kept rows c) (has target) (h .rounds) s ≡ true) ⊎ ((t : ℕ) × (t < n) × (kept rows c s t ≡ true) × (near n (kept rows c) (has target) (h .rounds) t ≡ true))
-          → (has left s ≡ true) ⊎ (has left s ≡ false) → (has l s || has z s) ≡ true
-      split s b (inl a) g = or-left (has z s) (sym (now-at s) ∙ a)
-      split s b (inr w) (inl g) = or-right (has l s) (takes s (w .0) b g (w .2) (sym (now-at (w .0)) ∙ w .3))
-      split s b (inr w) (inr g) = or-left (has z s) (h .settled s b (kept-from rows c s (w .0) (w .2)) g)
-
-      back : (s : ℕ) → has (layer n (kept rows c) (has target) (suc (h .rounds))) s ≡ true → (has l s || has z s) ≡ true
-      back s e =
-          let a = near-next s ∙ e in
-          split s (near-below n (kept rows c) (has target) (suc (h .rounds)) s a) (near-cases n (kept rows c) (has target) (h .rounds) s a) (decide (has left s))
-
-  module _ (l′ left′ : ℕ) (f : (s : ℕ) → has l′ s ≡ (has l s || has z s)) (g : (s : ℕ) → has left′ s ≡ (has left s && not (has z s))) where
-    still-left : (s : ℕ) → has left′ s ≡ true → has left s ≡ true
-    still-left s e = and-left (has left s) (not (has z s)) (sym (g s) ∙ e)
-
-    still-waits : (s t j : ℕ) → s < n → has left′ s ≡ true → j < suc (h .rounds) → kept rows c s t ≡ true → near n (kept rows c) (has target) j t ≡ false
-    still-waits s t j b e k m =
-        elim (below-suc j (h .rounds) k) [
-          | inl q ↦ false-of (near n (kept rows c) (has target) j t)
-              (λ a. clash
-              (takes s t b (still-left s e) m (sym (now-at t) ∙ ap (λ (i : ℕ). near n (kept rows c) (has target) i t) (sym q) ∙ a))
-              (not-true (has z s) (and-right (has left s) (not (has z s)) (sym (g s) ∙ e))))
-          | inr q ↦ h .waits s t j b (still-left s e) q m
-        ]
-
-    -- a state that is not left any more was not left before, or settles now
-    gone : (s : ℕ) → has left′ s ≡ false → (has left s ≡ false) ⊎ (has z s ≡ true)
-    gone s e =
-        elim (and-cases (has left s) (not (has z s)) (sym (g s) ∙ e)) [ inl a ↦ inl a | inr a ↦ inr (not-false (has z s) a) ]
-
-    pub search-turn : Search rows n c target l′ left′ y
-    search-turn =
-        record {
-          rounds = suc (h .rounds);
-          room = ap length (d .moves) ∙ length-written rows c left l n x ∙ h .room;
-          reached = grown l′ f;
-          inside = λ s e. h .inside s (still-left s e);
-          waits = still-waits;
-          settled = λ s b e k. f s ∙ elim (gone s k) [ inl a ↦ or-left (has z s) (h .settled s b e a) | inr a ↦ or-right (has l s) a ];
-          moves = λ s b e k. elim (gone s k) [ inl a ↦ stays s a ∙ h .moves s b e a | inr a ↦ chosen s b (settled-settles s a) ];
-        }
-
-    pub left-falls : (z ≡ 0 → ⊥) → count 64 (has left′) < count 64 (has left)
-    left-falls ne =
-        let m = nonzero-member z ne in
-        let a = settles-left rows c left l (m .0) (settled-settles (m .0) (m .1)) in
-        count-less 64 (has left′) (has left) (λ s b e. still-left s e) (m .0) (omega (arith, settled-below (m .0) (m .1)))
-        (g (m .0) ∙ rw (a, m .1) refl)
-        a
+  pub search-turn : (l′ left′ : ℕ) → ((s : ℕ) → has l′ s ≡ (has l s || has z s)) → ((s : ℕ) → has left′ s ≡ (has left s && not (has z s)))
+      → Search rows n c target l′ left′ y
+  search-turn l′ left′ f g = record {
+    levels = levels-turn rows n c target l left z fits (h .levels) (d .states) l′ left′ f g;
+    room = ap length (d .moves) ∙ length-written rows c left l n x ∙ h .room;
+    moves = λ s b e k.
+        elim (gone rows n c target l left z fits (h .levels) (d .states) l′ left′ f g s k) [
+          | inl a ↦ stays s a ∙ h .moves s b e a
+          | inr a ↦ chosen s b (settled-settles rows n c target l left z fits (h .levels) (d .states) s a)
+        ];
+  }

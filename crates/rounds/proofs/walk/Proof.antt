@@ -4,7 +4,7 @@ use borrow.Author.Needs.{needs}
 use Rattle.finite.specs.Bounded.{count}
 use Rattle.sets.specs.Member.{has}
 use Rattle.layout.proofs.Places.{fits-same}
-use Rattle.rounds.proofs.Levels.{levels-start, left-falls}
+use Rattle.ways.proofs.Levels.{levels-start, left-falls}
 use Rattle.rounds.proofs.Stamping.{Walked, walked-start, walked-turn, walked-still, walked-empty}
 use Rattle.rounds.proofs.walk.Statement.{statement}
 use Rattle.rounds.proofs.walk.Tie as tie

@@ -3,7 +3,8 @@ use mathlib.Core.Path.{refl}
 use borrow.Author.Needs.{needs}
 use Rattle.finite.specs.Bounded.{count}
 use Rattle.sets.specs.Member.{has}
-use Rattle.ways.proofs.Search.{Search, search-start, search-turn, search-empty, search-still, left-falls}
+use Rattle.ways.proofs.Levels.{left-falls}
+use Rattle.ways.proofs.Search.{Search, search-start, search-turn, search-empty, search-still}
 use Rattle.ways.proofs.toward.Statement.{statement}
 use Rattle.ways.proofs.toward.Tie as tie
 
@@ -36,7 +37,7 @@ difference-requires c κs = search needs
 loop-less : tie.Need-loop-less Inv-loop μ-loop
 loop-less c =
     let b = c .before .before .before in
-    left-falls _ _ _ _ _ _ _ _ _ (b .before .before .before .before .pre .states) (b .before .before .before .loop .inv) (b .settle .ensures) _ _
+    left-falls _ _ _ _ _ _ _ (b .before .before .before .before .pre .states) (b .before .before .before .loop .inv .levels) (b .settle .ensures .states) _ _
     (c .before .union .ensures) (c .difference .ensures) (c .before .before .if1 .left)
 
 loop-again : tie.Need-loop-again Inv-loop μ-loop
