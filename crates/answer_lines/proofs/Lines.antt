@@ -64,7 +64,7 @@ none-line d at e t h =
     let empty : unlessNone e t ≡ [] = rw (eq-eqb e 65535 h, unlessNone) in
     puts-as (sym empty) (puts-nothing d at)
 
-pub some-line : (e : ℕ) (t : List ℕ) → (e ≡ 65535 → ⊥) → t ≡ unlessNone e t
+some-line : (e : ℕ) (t : List ℕ) → (e ≡ 65535 → ⊥) → t ≡ unlessNone e t
 unfolding unlessNone
 some-line e t h = sym (rw (ne-eqb e 65535 h, unlessNone))
 
@@ -76,7 +76,7 @@ unless-short e n t h =
     (λ b. let whole : unlessNone e t ≡ t = rw (b, unlessNone) in omega (arith, ap length whole))
 
 -- the lines
-pub wins-pieces : (b : Bool) → opening 4 ++ (word (winnerWord b) ++ 41 ∷ 10 ∷ []) ≡ winsLine b
+wins-pieces : (b : Bool) → opening 4 ++ (word (winnerWord b) ++ 41 ∷ 10 ∷ []) ≡ winsLine b
 unfolding winsLine line bracket items gapText opening
 wins-pieces b = simp (append-assoc, append-nil)
 

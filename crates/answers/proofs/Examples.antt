@@ -4,7 +4,18 @@ use mathlib.Core.Path.{_≡_, refl}
 use Rattle.grammar.specs.Number.{digits, decimal}
 use Rattle.shape.specs.Text.{words, word, gapText, items, bracket, line}
 use Rattle.answer_lines.specs.Line.{none, unlessNone, winnerWord, winsLine, startLine, environmentStart, rowLine, stepLine}
-use Rattle.answers.specs.Print.{startLines, stepLines, controllerPrint, environmentPrint, inRange, controllerFits, environmentFits, onlyIf, controllerAnswer, environmentAnswer}
+use Rattle.answers.specs.Print.{
+  startLines,
+  stepLines,
+  controllerPrint,
+  environmentPrint,
+  inRange,
+  controllerFits,
+  environmentFits,
+  onlyIf,
+  controllerAnswer,
+  environmentAnswer,
+}
 
 -- one input and two outputs, the row of output 0 being none:
 --   (wins environment)
@@ -15,7 +26,8 @@ pub none-skipped : environmentAnswer 1 2 1 (0 ∷ none ∷ 0 ∷ [])
     40 ∷ 119 ∷ 105 ∷ 110 ∷ 115 ∷ 32 ∷ 101 ∷ 110 ∷ 118 ∷ 105 ∷ 114 ∷ 111 ∷ 110 ∷ 109 ∷ 101 ∷ 110 ∷ 116 ∷ 41 ∷ 10 ∷
     40 ∷ 115 ∷ 116 ∷ 97 ∷ 114 ∷ 116 ∷ 32 ∷ 48 ∷ 41 ∷ 10 ∷
     40 ∷ 115 ∷ 116 ∷ 101 ∷ 112 ∷ 32 ∷ 48 ∷ 32 ∷ 48 ∷ 32 ∷ 49 ∷ 32 ∷ 48 ∷ 32 ∷ 48 ∷ 41 ∷ 10 ∷ []
-unfolding environmentAnswer onlyIf environmentFits inRange environmentPrint winsLine winnerWord environmentStart stepLines stepLine rowLine unlessNone line bracket items gapText word words decimal digits
+unfolding environmentAnswer onlyIf environmentFits inRange environmentPrint winsLine winnerWord environmentStart stepLines stepLine rowLine unlessNone
+    line bracket items gapText word words decimal digits
 none-skipped = refl
 
 -- one entry more, or a dimension that no game has: nothing

@@ -14,7 +14,18 @@ use Rattle.grammar.proofs.Place.{same-default}
 use Rattle.put.specs.Put.{Puts}
 use Rattle.put.proofs.Buffer.{puts-then, puts-as}
 use Rattle.answer_lines.specs.Line.{none, winsLine, environmentStart}
-use Rattle.answers.specs.Print.{startLines, stepLines, controllerPrint, environmentPrint, inRange, controllerFits, environmentFits, onlyIf, controllerAnswer, environmentAnswer}
+use Rattle.answers.specs.Print.{
+  startLines,
+  stepLines,
+  controllerPrint,
+  environmentPrint,
+  inRange,
+  controllerFits,
+  environmentFits,
+  onlyIf,
+  controllerAnswer,
+  environmentAnswer,
+}
 use Rattle.answer_lines.proofs.Lines.{puts-nothing}
 
 module _ (i o c : ℕ) where
@@ -33,8 +44,12 @@ module _ (i o c : ℕ) where
   pub range-bounds : inRange i o c ≡ true → (i ≤ 64) × (o ≤ 64) × (c ≤ 32)
   unfolding inRange
   range-bounds h =
-      let rest = and-right (leb i 64) (leb o 64 && leb c 32) h in
-      (leb-true i 64 (and-left (leb i 64) (leb o 64 && leb c 32) h), leb-true o 64 (and-left (leb o 64) (leb c 32) rest), leb-true c 32 (and-right (leb o 64) (leb c 32) rest))
+      let rest = and-right (leb i 64) (leb o 64 && leb c 32) h in (
+        leb-true i 64 (and-left (leb i 64) (leb o 64 && leb c 32) h),
+        leb-true o 64 (and-left (leb o 64) (leb c 32) rest),
+        leb-true c 32
+            (and-right (leb o 64) (leb c 32) rest),
+      )
 
 -- a states, counters for c sets, b states
 pub rows-most : (a c m : ℕ) → a ≤ 64 → c ≤ 32 → m ≡ max 1 c → a * m ≤ 64 * 32
@@ -92,12 +107,14 @@ module _ {d : List ℕ} (i o c : ℕ) (es : List ℕ) where
   environment-nothing h = puts-as (sym (ap (λ (b : Bool). onlyIf b (environmentPrint i o c es)) h)) (puts-nothing d 0)
 
   pub controller-whole : {m : ℕ} {f : List ℕ} {k : ℕ} {g : List ℕ} {r : ℕ} {e : List ℕ} → controllerFits i o c (length es) ≡ true
-      → Puts d 0 (winsLine true) m f → Puts f m (startLines i 0 es) k g → Puts g k (stepLines (length es - i) 0 c i i es) r e → Puts d 0 (controllerAnswer i o c es) r e
+      → Puts d 0 (winsLine true) m f → Puts f m (startLines i 0 es) k g → Puts g k (stepLines (length es - i) 0 c i i es) r e → Puts d 0
+      (controllerAnswer i o c es) r e
   unfolding controllerAnswer onlyIf controllerPrint
   controller-whole h P Q R =
       let l = controller-entries i o c (length es) h .1 in
       let rows : length es - i ≡ o * max 1 c * i = omega (arith, l) in
-      puts-as (sym (ap (λ (b : Bool). onlyIf b (controllerPrint i o c es)) h)) (puts-then P (puts-then Q (puts-as (ap (λ (n : ℕ). stepLines n 0 c i i es) rows) R)))
+      puts-as (sym (ap (λ (b : Bool). onlyIf b (controllerPrint i o c es)) h))
+      (puts-then P (puts-then Q (puts-as (ap (λ (n : ℕ). stepLines n 0 c i i es) rows) R)))
 
   pub environment-whole : {m : ℕ} {f : List ℕ} {k : ℕ} {g : List ℕ} {r : ℕ} {e : List ℕ} → environmentFits i o c (length es) ≡ true
       → Puts d 0 (winsLine false) m f → Puts f m (environmentStart (getD es 0 0)) k g → Puts g k (stepLines (length es - 1) 0 c o 1 es) r e

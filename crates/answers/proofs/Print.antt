@@ -11,7 +11,7 @@ use Rattle.answer_lines.specs.Line.{none, startLine, stepLine}
 use Rattle.answers.specs.Print.{startLines, stepLines}
 use Rattle.answer_lines.proofs.Lines.{puts-nothing, start-short}
 
-pub starts-next : (n i : ℕ) (es : List ℕ) → startLines n i es ++ startLine (i + n) (getD es (i + n) none) ≡ startLines (suc n) i es
+starts-next : (n i : ℕ) (es : List ℕ) → startLines n i es ++ startLine (i + n) (getD es (i + n) none) ≡ startLines (suc n) i es
 unfolding startLines
 starts-next zero i es =
     let here : i + 0 ≡ i = omega arith in
@@ -22,7 +22,7 @@ starts-next (suc n) i es =
     ∙ ap (λ (j : ℕ). startLine i (getD es i none) ++ (startLines n (suc i) es ++ startLine j (getD es j none))) there
     ∙ ap (λ (t : List ℕ). startLine i (getD es i none) ++ t) (starts-next n (suc i) es)
 
-pub steps-next : (k r c n at : ℕ) (es : List ℕ) → stepLines k r c n at es ++ stepLine c n (r + k) (getD es (at + (r + k)) none) ≡ stepLines (suc k) r c n at es
+steps-next : (k r c n at : ℕ) (es : List ℕ) → stepLines k r c n at es ++ stepLine c n (r + k) (getD es (at + (r + k)) none) ≡ stepLines (suc k) r c n at es
 unfolding stepLines
 steps-next zero r c n at es =
     let here : r + 0 ≡ r = omega arith in

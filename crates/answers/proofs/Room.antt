@@ -14,8 +14,34 @@ use Rattle.grammar.proofs.Place.{same-default}
 use Rattle.shape.specs.Text.{words, word}
 use Rattle.shape.specs.Shape.{opening}
 use Rattle.answer_lines.specs.Line.{none, winsLine, startLine, environmentStart, rowLine, stepLine, refusedLine, misshapenLine}
-use Rattle.answers.specs.Print.{startLines, stepLines, controllerPrint, environmentPrint, controllerFits, environmentFits, onlyIf, controllerAnswer, environmentAnswer}
-use Rattle.answer_lines.proofs.Lines.{two-digits, four-digits, six-digits, unless-short, start-text, environment-text, row-pieces, refused-pieces, misshapen-pieces, number-short, opening-short, Short, then-short, ended, wins-short}
+use Rattle.answers.specs.Print.{
+  startLines,
+  stepLines,
+  controllerPrint,
+  environmentPrint,
+  controllerFits,
+  environmentFits,
+  onlyIf,
+  controllerAnswer,
+  environmentAnswer,
+}
+use Rattle.answer_lines.proofs.Lines.{
+  two-digits,
+  four-digits,
+  six-digits,
+  unless-short,
+  start-text,
+  environment-text,
+  row-pieces,
+  refused-pieces,
+  misshapen-pieces,
+  number-short,
+  opening-short,
+  Short,
+  then-short,
+  ended,
+  wins-short,
+}
 use Rattle.answers.proofs.Fits.{controller-entries, environment-entries, controller-sets, environment-sets}
 
 number : (v b k : ℕ) → length (decimal v) ≤ k → Short (decimal v ++ b ∷ []) (k + 1)
@@ -32,7 +58,8 @@ step-opening = record { size = omega arith }
 start-room : (i e : ℕ) → i < 100 → length (startLine i e) ≤ 28
 unfolding startLine
 start-room i e h =
-    let all = then-short start-opening (then-short (number i 32 2 (two-digits i h)) (then-short (number (e % 64) 41 2 (two-digits (e % 64) (omega arith))) ended)) .size in
+    let all = then-short start-opening (then-short (number i 32 2 (two-digits i h))
+    (then-short (number (e % 64) 41 2 (two-digits (e % 64) (omega arith))) ended)) .size in
     unless-short e 28 _ (omega (arith, all, ap length (start-text i e)))
 
 environment-start-room : (e : ℕ) → length (environmentStart e) ≤ 28
@@ -43,7 +70,8 @@ environment-start-room e =
 
 row-room : (a g b e : ℕ) → a < 1000000 → g < 100 → b < 100 → e < 65536 → length (rowLine a g b e) ≤ 28
 row-room a g b e p q s h =
-    let next = then-short (number (e % 64) 32 2 (two-digits (e % 64) (omega arith))) (then-short (number (e / 64) 41 4 (four-digits (e / 64) (omega arith))) ended) in
+    let next = then-short (number (e % 64) 32 2 (two-digits (e % 64) (omega arith)))
+    (then-short (number (e / 64) 41 4 (four-digits (e / 64) (omega arith))) ended) in
     let all =
     then-short step-opening
     (then-short (number a 32 6 (six-digits a p)) (then-short (number g 32 2 (two-digits g q)) (then-short (number b 32 2 (two-digits b s)) next))) .size in

@@ -30,7 +30,8 @@ fn put_steps(
     table: &[u16],
 ) -> usize
     requires { ⌜ (at ≤ 160 * 65) × (first ≤ length (now table)) × (length (now table) ≤ 2 ^ 18) ⌝ }
-    ensures { λ r. ⌜ Puts (now (buffer .entry)) at (stepLines (length (now (table .entry)) - first) 0 sets last first (now (table .entry))) r (now (buffer .exit)) ⌝ }
+    ensures { λ r. ⌜ Puts (now (buffer .entry)) at (stepLines (length (now (table .entry)) - first) 0 sets last first (now (table .entry))) r
+        (now (buffer .exit)) ⌝ }
 {
     let n = table.len() - first;
     let mut to = at;

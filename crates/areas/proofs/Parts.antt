@@ -33,11 +33,13 @@ rest-part : (l : List ℕ) (k : ℕ) → take (length l - k) (drop k l) ≡ drop
 rest-part l k = take-all (length l - k) (drop k l) (omega (arith, length-drop k l))
 
 -- what is put back in place of the part from `at` on
-pub closed-at : (f : Graph) (at : ℕ) (l m : List ℕ) {k : ℕ} → at ≤ length l → Closed f (midOf at (length l - at) l) m k → ClosedAt f at l (putMid at (length l - at) l m)
+pub closed-at : (f : Graph) (at : ℕ) (l m : List ℕ) {k : ℕ} → at ≤ length l → Closed f (midOf at (length l - at) l) m k
+    → ClosedAt f at l (putMid at (length l - at) l m)
 closed-at f at l m b C = record {
   rows =
       ap (λ (x : List ℕ). take at l ++ x)
-      (ap (λ (x : List ℕ). m ++ x) past ∙ append-nil m ∙ C .rows ∙ ap (λ (x : List ℕ). rowsOf (f .states) (f .states) (reaches (graphOf f)) ++ drop (f .states) x) (rest-part l at));
+      (ap (λ (x : List ℕ). m ++ x) past ∙ append-nil m ∙ C .rows ∙ ap
+      (λ (x : List ℕ). rowsOf (f .states) (f .states) (reaches (graphOf f)) ++ drop (f .states) x) (rest-part l at));
 }
   where
     past : drop (length l - at) (drop at l) ≡ []

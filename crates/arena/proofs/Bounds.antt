@@ -38,28 +38,28 @@ pub record Inside (A : Arena) (M : ℕ) (c : Configuration) : Type 0 where
   pub memory : c .memory < M
 
 module _ {A : Arena} (B : Bounded A) where
-  pub inside-controller-first : {T : ControllerTable} {c : Configuration} → ControllerFirst A T c → Inside A (T .memories) c
+  inside-controller-first : {T : ControllerTable} {c : Configuration} → ControllerFirst A T c → Inside A (T .memories) c
   inside-controller-first {T} {c} f = record {
     input = B .initial (c .input) (f .initial);
     output = B .opening (c .input) (c .output) (f .start .state);
     memory = f .start .memory;
   }
 
-  pub inside-controller-turn : {T : ControllerTable} {c d : Configuration} → ControllerTurn A T c d → Inside A (T .memories) d
+  inside-controller-turn : {T : ControllerTable} {c d : Configuration} → ControllerTurn A T c d → Inside A (T .memories) d
   inside-controller-turn {T} {c} {d} t = record {
     input = B .move (c .input) (d .input) (t .move);
     output = B .reply (d .input) (c .output) (d .output) (t .step .state);
     memory = t .step .memory;
   }
 
-  pub inside-environment-first : {P : EnvironmentTable} {c : Configuration} → EnvironmentFirst A P c → Inside A (P .memories) c
+  inside-environment-first : {P : EnvironmentTable} {c : Configuration} → EnvironmentFirst A P c → Inside A (P .memories) c
   inside-environment-first {P} {c} f = record {
     input = B .initial (c .input) (f .start .state);
     output = B .opening (c .input) (c .output) (f .opening);
     memory = f .start .memory;
   }
 
-  pub inside-environment-turn : {P : EnvironmentTable} {c d : Configuration} → EnvironmentTurn A P c d → Inside A (P .memories) d
+  inside-environment-turn : {P : EnvironmentTable} {c d : Configuration} → EnvironmentTurn A P c d → Inside A (P .memories) d
   inside-environment-turn {P} {c} {d} t = record {
     input = B .move (c .input) (d .input) (t .step .state);
     output = B .reply (d .input) (c .output) (d .output) (t .reply);

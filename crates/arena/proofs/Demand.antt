@@ -20,7 +20,7 @@ module _ (A : Arena) (P : EnvironmentTable) where
   unfolding DemandThree
   environment-holds d = d .0
 
-  pub environment-alone : DemandThree A (environment P) → (T : ControllerTable) → ControllerWins A T → ⊥
+  environment-alone : DemandThree A (environment P) → (T : ControllerTable) → ControllerWins A T → ⊥
   unfolding DemandThree
   environment-alone d = d .1
 

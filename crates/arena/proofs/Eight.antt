@@ -158,8 +158,10 @@ twice : (a b d x c : Configuration) (w : Walk (ControllerTurn eight only) x c) �
 unfolding Leaf
 twice a b d x c w t u v e n =
     elim (hub-or-leaf a b t) [
-      | inl h ↦ rel-of-pairwise-cons (Pairwise·of-cons n) ∣ passed-last w ∣₁ (named b d 0 u (hub-after b d u (h .1)) ∙ sym (last-named w v ∙ ap (λ (y : Configuration). on (y .input)) e ∙ ap on (h .0)))
-      | inr h ↦ rel-of-pairwise-cons n ∣ List·Memᴰ·tail (passed-first w) ∣₁ (named a b 0 t (h .1) ∙ sym (named d x 0 v (hub-after d x v (leaf-after b d u (h .1)))))
+      | inl h ↦ rel-of-pairwise-cons (Pairwise·of-cons n) ∣ passed-last w ∣₁
+          (named b d 0 u (hub-after b d u (h .1)) ∙ sym (last-named w v ∙ ap (λ (y : Configuration). on (y .input)) e ∙ ap on (h .0)))
+      | inr h ↦ rel-of-pairwise-cons n ∣ List·Memᴰ·tail (passed-first w) ∣₁
+          (named a b 0 t (h .1) ∙ sym (named d x 0 v (hub-after d x v (leaf-after b d u (h .1)))))
     ]
 
 -- by how many turns the cycle has: one does not come back, two are a loop, and three or more come to 0 twice

@@ -85,13 +85,13 @@ meets-elim q cs h k =
 module _ (cs ds : List Configuration)
     (inputs : map (λ (c : Configuration). c .input) cs ≡ map (λ (c : Configuration). c .input) ds)
     (outputs : map (λ (c : Configuration). c .output) cs ≡ map (λ (c : Configuration). c .output) ds) where
-  pub visitsInput-same : (s : ℕ → Bool) → visitsInput s cs ≡ visitsInput s ds
+  visitsInput-same : (s : ℕ → Bool) → visitsInput s cs ≡ visitsInput s ds
   visitsInput-same s = visitsInput-inputs s cs ∙ ap (anyOf s) inputs ∙ sym (visitsInput-inputs s ds)
 
-  pub visitsOutput-same : (s : ℕ → Bool) → visitsOutput s cs ≡ visitsOutput s ds
+  visitsOutput-same : (s : ℕ → Bool) → visitsOutput s cs ≡ visitsOutput s ds
   visitsOutput-same s = visitsOutput-outputs s cs ∙ ap (anyOf s) outputs ∙ sym (visitsOutput-outputs s ds)
 
-  pub meets-same : (q : Requirement) → meets q cs ≡ meets q ds
+  meets-same : (q : Requirement) → meets q cs ≡ meets q ds
   unfolding meets
   meets-same q =
       rw (

@@ -12,11 +12,11 @@ abbrev nowhere : ℕ → Bool
 nowhere s = false
 
 -- "An empty input set is never visited, an empty output set neither."
-pub empty-input-set : (cs : List Configuration) → visitsInput nowhere cs ≡ false
+empty-input-set : (cs : List Configuration) → visitsInput nowhere cs ≡ false
 unfolding visitsInput
 empty-input-set cs = anyOf-none (λ c. false) cs (λ c m. refl)
 
-pub empty-output-set : (cs : List Configuration) → visitsOutput nowhere cs ≡ false
+empty-output-set : (cs : List Configuration) → visitsOutput nowhere cs ≡ false
 unfolding visitsOutput
 empty-output-set cs = anyOf-none (λ c. false) cs (λ c m. refl)
 

@@ -36,7 +36,7 @@ module _ {A : Arena} (B : Bounded A) {T : ControllerTable} (W : ControllerWins A
       let s = W .starts i e in
       (record { input = i; output = s .state; memory = s .memory }, record { initial = e; start = s .names }, refl)
 
-  pub controller-never-stopped : ControllerNeverStopped A T
+  controller-never-stopped : ControllerNeverStopped A T
   controller-never-stopped = record {
     begins = first;
     onward = λ c r.
@@ -52,7 +52,7 @@ module _ {A : Arena} (B : Bounded A) {P : EnvironmentTable} (W : EnvironmentWins
       → EnvironmentTurn A P c (record { input = a .input; output = p; memory = a .memory })
   goes-on c a p e = record { step = a .names; reply = e }
 
-  pub environment-never-stopped : EnvironmentNeverStopped A P
+  environment-never-stopped : EnvironmentNeverStopped A P
   environment-never-stopped = record {
     begins = W .starts;
     onward = λ c r.

@@ -51,14 +51,14 @@ unfolding pair begins
 zero-alone o h = sym (eqb-true 0 o (and-right (ltb o 2) (eqb 0 o) h))
 
 module _ (a : ℕ → Bool) where
-  pub opening-0 : Opening (rest a (eqb 0)) 0
+  opening-0 : Opening (rest a (eqb 0)) 0
   unfolding rest arenaOf pair begins
   opening-0 = record { output = 0; allowed = refl; won = position-won a (eqb 0) 0 0 (omega arith) (inl refl) refl }
 
   pub won-1-1 : Won (rest a (eqb 0)) 1 1
   won-1-1 = position-won a (eqb 0) 1 1 (omega arith) (inr refl) refl
 
-  pub no-opening-1 : Opening (rest a (eqb 0)) 1 → ⊥
+  no-opening-1 : Opening (rest a (eqb 0)) 1 → ⊥
   unfolding rest arenaOf
   no-opening-1 x = position-lost a (eqb 0) (rw (zero-alone (x .output) (x .allowed)) at (x .won))
 

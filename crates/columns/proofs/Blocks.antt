@@ -32,7 +32,8 @@ pub record Blocking (l m : List ℕ) (base width over which first more left : �
   pub fills : (E : List ℕ) → BlockAgrees E base width over which first more → length E ≤ length l → ColumnsPart E l m base width over which left
 
 -- b is all below the width, left what `over` has of them
-pub blocking-start : (l : List ℕ) (base width over which first more left b : ℕ) → ((s : ℕ) → has b s ≡ ltb s width) → ((s : ℕ) → has left s ≡ (has over s && has b s))
+pub blocking-start : (l : List ℕ) (base width over which first more left b : ℕ) → ((s : ℕ) → has b s ≡ ltb s width)
+    → ((s : ℕ) → has left s ≡ (has over s && has b s))
     → left < 2 ^ 64 → Blocking l l base width over which first more left
 blocking-start l base width over which first more left b f i small = record {
   long = refl;

@@ -45,7 +45,7 @@ module _ (l m : List ℕ) (base step which first more rest h r : ℕ) (C : Colum
   less : (s : ℕ) → has r s ≡ (has rest s && not (eqb s h))
   less = lowest-less rest h r e d
 
-  pub column-member : has which h ≡ true
+  column-member : has which h ≡ true
   column-member = C .inside h (lowest-in rest h (C .small) ne e)
 
   pub columning-turn : r < 2 ^ 64 → Columning l (set m (base + step * h) (first + more * h)) base step which first more r
@@ -75,7 +75,8 @@ module _ (l m : List ℕ) (base step which first more rest h r : ℕ) (C : Colum
   pub column-falls : count 64 (has r) < count 64 (has rest)
   column-falls = less-falls rest h r less 64 (lowest-below rest h (C .small) ne e) (lowest-in rest h (C .small) ne e)
 
-pub columning-end : (l m : List ℕ) (base step which first more rest : ℕ) → Columning l m base step which first more rest → rest ≡ 0 → Column l m base step which first more
+pub columning-end : (l m : List ℕ) (base step which first more rest : ℕ) → Columning l m base step which first more rest → rest ≡ 0
+    → Column l m base step which first more
 columning-end l m base step which first more rest C e = record {
   long = C .long;
   fills = λ E A n. record {

@@ -39,7 +39,8 @@ front-next l m base step count first more h R lt b = record {
         let less : y < h = omega arith in
         now E A .kept (base + step * y) (A .below y (omega arith)) (R .fills E A .right y less)
 
-pub front-end : (l m : List ℕ) (base step count first more h : ℕ) → Front l m base step count first more h → count ≤ h → Front l m base step count first more count
+pub front-end : (l m : List ℕ) (base step count first more h : ℕ) → Front l m base step count first more h → count ≤ h
+    → Front l m base step count first more count
 front-end l m base step count first more h R b = record {
   long = R .long;
   fills = λ E A. record { grows = R .fills E A .grows; right = λ y c. R .fills E A .right y (omega arith) };

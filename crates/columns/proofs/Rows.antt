@@ -127,13 +127,13 @@ pub narrow : (over width inside b : ℕ) → ((s : ℕ) → has b s ≡ ltb s wi
 narrow over width inside b f i s = i s ∙ ap (λ (t : Bool). has over s && t) (f s)
 
 module _ (over width inside : ℕ) (i : (s : ℕ) → has inside s ≡ (has over s && ltb s width)) where
-  pub inside-over : (x : ℕ) → has inside x ≡ true → has over x ≡ true
+  inside-over : (x : ℕ) → has inside x ≡ true → has over x ≡ true
   inside-over x e = and-left (has over x) (ltb x width) (sym (i x) ∙ e)
 
   pub inside-below : (x : ℕ) → has inside x ≡ true → x < width
   inside-below x e = ltb-true x width (and-right (has over x) (ltb x width) (sym (i x) ∙ e))
 
-  pub inside-in : (x : ℕ) → x < width → has over x ≡ true → has inside x ≡ true
+  inside-in : (x : ℕ) → x < width → has over x ≡ true → has inside x ≡ true
   inside-in x lt e = i x ∙ and-intro e (lt-ltb x width lt)
 
 module _ (n base width over which first more inside : ℕ) (B : BlockFits n base width over which first more) (I : Narrowed over width inside)
@@ -201,8 +201,11 @@ module _ (l m : List ℕ) (base width over which first more left h r : ℕ) (C :
 
           agrees : RowAgrees E (base + width * h) inside (first + more * h)
           agrees = record {
-            below = λ x q. omega (arith, A .columns x (inside-below over width inside (I .is) x q) (inside-over over width inside (I .is) x q) .below h row-member);
-            entry = λ x q. A .columns x (inside-below over width inside (I .is) x q) (inside-over over width inside (I .is) x q) .entry h row-member ∙ ap (λ (z : ℕ). getD E z 0) (sym (swap x h));
+            below =
+                λ x q. omega (arith, A .columns x (inside-below over width inside (I .is) x q) (inside-over over width inside (I .is) x q) .below h row-member);
+            entry =
+                λ x q. A .columns x (inside-below over width inside (I .is) x q) (inside-over over width inside (I .is) x q) .entry h row-member ∙ ap
+                (λ (z : ℕ). getD E z 0) (sym (swap x h));
           }
 
           now : Rowed E m k (base + width * h) inside

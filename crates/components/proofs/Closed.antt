@@ -27,11 +27,11 @@ use Rattle.components.specs.Component.{together, turns, enters}
 use Rattle.components.specs.Closes.{Closes}
 
 module _ (h : Record) where
-  pub moves-edge : (s t : ℕ) → edge (graphOf h) s t ≡ true → has (getD (h .moves) s 0) t ≡ true
+  moves-edge : (s t : ℕ) → edge (graphOf h) s t ≡ true → has (getD (h .moves) s 0) t ≡ true
   unfolding graphOf
   moves-edge s t e = edge-moves (graphOf h) s t e
 
-  pub edge-moved : (s t : ℕ) → s < h .states → t < h .states → has (getD (h .moves) s 0) t ≡ true → edge (graphOf h) s t ≡ true
+  edge-moved : (s t : ℕ) → s < h .states → t < h .states → has (getD (h .moves) s 0) t ≡ true → edge (graphOf h) s t ≡ true
   unfolding graphOf
   edge-moved s t a b e = edge-intro (graphOf h) s t a b e
 
@@ -47,7 +47,7 @@ module _ (h : Record) (l : List ℕ) (C : Closes h l) where
   pub component-closed : (s : ℕ) → s < h .states → pack (h .states) (together l s) ≡ pack (h .states) (joined (graphOf h) s)
   component-closed s a = pack-ext (h .states) (together l s) (joined (graphOf h) s) (λ t b. together-closed s t a b)
 
-  pub turns-closed : h .states ≤ 64 → (s : ℕ) → s < h .states → turns (h .moves) l (h .states) s ≡ nontrivial (graphOf h) s
+  turns-closed : h .states ≤ 64 → (s : ℕ) → s < h .states → turns (h .moves) l (h .states) s ≡ nontrivial (graphOf h) s
   unfolding turns graphOf
   turns-closed n s a =
       ap (λ (x : ℕ). meets 64 (getD (h .moves) s 0) x) (component-closed s a)
@@ -67,7 +67,8 @@ module _ (h : Record) (l : List ℕ) (C : Closes h l) where
       back e =
           let v = nontrivial-move (graphOf h) s e in
           let b = below (v .0) (v .1) in
-          meets-intro 64 (getD (h .moves) s 0) comp (v .0) (omega arith) (moves-edge h s (v .0) (v .1)) (has-pack-below (h .states) (joined (graphOf h) s) (v .0) b ∙ v .2)
+          meets-intro 64 (getD (h .moves) s 0) comp (v .0) (omega arith) (moves-edge h s (v .0) (v .1))
+          (has-pack-below (h .states) (joined (graphOf h) s) (v .0) b ∙ v .2)
         where
           below : (t : ℕ) → edge (graphOf h) s t ≡ true → t < h .states
           below t m = edge-to (graphOf h) s t m
@@ -89,7 +90,8 @@ module _ (h : Record) (F : GraphFits h) where
 
   -- the exits of a component
   pub leaving-closed : (s r : ℕ)
-      → ((t : ℕ) → has r t ≡ (enters (h .moves) (pack (h .states) (joined (graphOf h) s)) (h .states) t && not (has (pack (h .states) (joined (graphOf h) s)) t)))
+      → ((t : ℕ) → has r t ≡ (enters (h .moves) (pack (h .states) (joined (graphOf h) s)) (h .states) t && not
+      (has (pack (h .states) (joined (graphOf h) s)) t)))
       → (t : ℕ) → has r t ≡ leaves (graphOf h) s t
   unfolding leaves enters graphOf
   leaving-closed s r e t =

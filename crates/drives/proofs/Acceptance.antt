@@ -96,7 +96,8 @@ module _ (n : List ℕ) (M C m u t : ℕ) (e : t ≡ nextIn n m u) where
 pub drive-named : (d : Drive) → Small d → entriesFit d ≡ true → (m u : ℕ) → m < d .modes → u < d .commands → nextMode d m u ≢ 255 → nextMode d m u < d .modes
 unfolding entriesFit entryFits
 drive-named d S e m u a b n =
-    let f = all-elim 16 (entryFits (d .next) (d .modes) (d .commands) m) (all-elim 64 (λ k. all 16 (entryFits (d .next) (d .modes) (d .commands) k)) e m (omega (arith, S .modes))) u (omega (arith, S .commands)) in
+    let f = all-elim 16 (entryFits (d .next) (d .modes) (d .commands) m)
+    (all-elim 64 (λ k. all 16 (entryFits (d .next) (d .modes) (d .commands) k)) e m (omega (arith, S .modes))) u (omega (arith, S .commands)) in
     elim (or-cases (eqb (nextMode d m u) 255) (ltb m (d .modes) && (ltb u (d .commands) && ltb (nextMode d m u) (d .modes))) f) [
       | inl h ↦ absurd (n (eqb-true (nextMode d m u) 255 h))
       | inr h ↦ ltb-true (nextMode d m u) (d .modes)

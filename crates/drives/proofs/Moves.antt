@@ -37,27 +37,32 @@ module _ (n : List ℕ) (modes m : ℕ) where
 
   pub made-in : (u x r t : ℕ) → x ≡ pack modes (madeBy n u m) → t ≡ nextIn n m u → t < modes → ((s : ℕ) → has r s ≡ (has x s || eqb s t))
       → r ≡ pack modes (madeBy n (u + 1) m)
-  made-in u x r t e d b f = ext r (pack modes (madeBy n (u + 1) m)) (λ s. f s ∙ at s (ℕ-discrete s t) ∙ sym (has-pack modes (madeBy n (u + 1) m) s ∙ ap (_&&_ (ltb s modes)) (more u s)))
+  made-in u x r t e d b f =
+      ext r (pack modes (madeBy n (u + 1) m)) (λ s. f s ∙ at s (ℕ-discrete s t) ∙ sym
+      (has-pack modes (madeBy n (u + 1) m) s ∙ ap (_&&_ (ltb s modes)) (more u s)))
     where
       alone : (b : Bool) → (b || false) ≡ b
       alone true = refl
       alone false = refl
 
       at : (s : ℕ) → Dec (s ≡ t) → (has x s || eqb s t) ≡ (ltb s modes && (eqb (nextIn n m u) s || madeBy n u m s))
-      at s (yes q) = or-right (has x s) (eq-eqb s t q) ∙ sym (and-intro (lt-ltb s modes (omega arith)) (or-left (madeBy n u m s) (eq-eqb (nextIn n m u) s (sym d ∙ sym q))))
+      at s (yes q) = or-right (has x s) (eq-eqb s t q) ∙ sym
+          (and-intro (lt-ltb s modes (omega arith)) (or-left (madeBy n u m s) (eq-eqb (nextIn n m u) s (sym d ∙ sym q))))
       at s (no q) =
           rw (ne-eqb s t q, ne-eqb (nextIn n m u) s (λ h. q (sym h ∙ sym d)))
           (alone (has x s) ∙ ap (λ (y : ℕ). has y s) e ∙ has-pack modes (madeBy n u m) s)
 
   pub made-past : (u x t : ℕ) → x ≡ pack modes (madeBy n u m) → t ≡ nextIn n m u → modes ≤ t → x ≡ pack modes (madeBy n (u + 1) m)
   made-past u x t e d b =
-      e ∙ pack-ext modes (madeBy n u m) (madeBy n (u + 1) m) (λ s l. sym (more u s ∙ ap (λ (y : Bool). y || madeBy n u m s) (ne-eqb (nextIn n m u) s (λ h. omega arith))))
+      e ∙ pack-ext modes (madeBy n u m) (madeBy n (u + 1) m)
+      (λ s l. sym (more u s ∙ ap (λ (y : Bool). y || madeBy n u m s) (ne-eqb (nextIn n m u) s (λ h. omega arith))))
 
   pub made-all : (u c x : ℕ) → u ≤ c → c ≤ u → x ≡ pack modes (madeBy n u m) → x ≡ pack modes (madeBy n c m)
   made-all u c x a b e = e ∙ ap (λ (k : ℕ). pack modes (madeBy n k m)) (omega arith)
 
 -- the rows of all modes
-pub graph-made : (d : Drive) (l moves : List ℕ) (m : ℕ) → m ≤ 64 → 64 ≤ m → drop 64 l ≡ [] → moves ≡ rowsOf m (d .modes) (madeBy (d .next) (d .commands)) ++ drop m l
+pub graph-made : (d : Drive) (l moves : List ℕ) (m : ℕ) → m ≤ 64 → 64 ≤ m → drop 64 l ≡ []
+    → moves ≡ rowsOf m (d .modes) (madeBy (d .next) (d .commands)) ++ drop m l
     → _≡_ {A = Graph} (record { states = d .modes; initial = d .initial; moves = moves }) (graphFrom d)
 unfolding graphFrom
 graph-made d l moves m a b z e =

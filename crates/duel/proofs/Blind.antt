@@ -20,7 +20,19 @@ use Rattle.graphs.specs.Graph.{edge, begins}
 use Rattle.graphs.proofs.Walk.{keep}
 use Rattle.arena.specs.Arena.{arenaOf}
 use Rattle.arena.specs.Table.{gives, Some, ControllerTable, EnvironmentTable}
-use Rattle.arena.specs.Play.{Configuration, ControllerFirst, ControllerTurn, EnvironmentTurn, Reachable, Cycle, configurations, visitsInput, visitsOutput, meets, breaks}
+use Rattle.arena.specs.Play.{
+  Configuration,
+  ControllerFirst,
+  ControllerTurn,
+  EnvironmentTurn,
+  Reachable,
+  Cycle,
+  configurations,
+  visitsInput,
+  visitsOutput,
+  meets,
+  breaks,
+}
 use Rattle.arena.specs.Win.{ControllerWins}
 use Rattle.arena.proofs.Bounds.{bounded-arenaOf}
 use Rattle.arena.proofs.Answers.{names-both}

@@ -20,7 +20,7 @@ use Rattle.duel.specs.Beats.{Beats}
 use Rattle.duel.proofs.Match.{no-play}
 
 -- the first configurations are those of the two starts
-pub no-both : (A : Arena) → Bounded A → (T : ControllerTable) (P : EnvironmentTable) → ControllerWins A T → EnvironmentWins A P → ⊥
+no-both : (A : Arena) → Bounded A → (T : ControllerTable) (P : EnvironmentTable) → ControllerWins A T → EnvironmentWins A P → ⊥
 no-both A B T P win lose =
     no-play A B T P (ControllerFirst A T) (EnvironmentFirst A P)
     (record { steps = win .steps; rounds = win .rounds }) (record { steps = lose .steps; rounds = lose .rounds })

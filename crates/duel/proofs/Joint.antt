@@ -45,11 +45,14 @@ module _ (a b m n : ℕ) where
   pub code-injective : (j k : Joint) → Within a b m n j → Within a b m n k → code b m n j ≡ code b m n k → j ≡ k
   unfolding code
   code-injective j k v w e =
-      let three : (j .input * b + j .output) * m + j .controllerMemory ≡ (k .input * b + k .output) * m + k .controllerMemory = digit-high _ _ (v .environmentMemory) (w .environmentMemory) e in
+      let three : (j .input * b + j .output) * m + j .controllerMemory ≡ (k .input * b + k .output) * m + k .controllerMemory = digit-high _ _
+      (v .environmentMemory) (w .environmentMemory) e in
       let two : j .input * b + j .output ≡ k .input * b + k .output = digit-high _ _ (v .controllerMemory) (w .controllerMemory) three in
       let p : j .input ≡ k .input = digit-high _ _ (v .output) (w .output) two in
       let q : j .output ≡ k .output = digit-low (j .input) (k .input) (v .output) (w .output) two in
-      let r : j .controllerMemory ≡ k .controllerMemory = digit-low (j .input * b + j .output) (k .input * b + k .output) (v .controllerMemory) (w .controllerMemory) three in
+      let r : j .controllerMemory ≡ k .controllerMemory = digit-low (j .input * b + j .output) (k .input * b + k .output) (v .controllerMemory)
+      (w .controllerMemory) three in
       let s : j .environmentMemory ≡ k .environmentMemory
-      = digit-low ((j .input * b + j .output) * m + j .controllerMemory) ((k .input * b + k .output) * m + k .controllerMemory) (v .environmentMemory) (w .environmentMemory) e in
+      = digit-low ((j .input * b + j .output) * m + j .controllerMemory) ((k .input * b + k .output) * m + k .controllerMemory) (v .environmentMemory)
+      (w .environmentMemory) e in
       λ i. record { input = p i; output = q i; controllerMemory = r i; environmentMemory = s i }

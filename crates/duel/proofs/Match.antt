@@ -138,7 +138,8 @@ module _ (A : Arena) (B : Bounded A) (T : ControllerTable) (P : EnvironmentTable
     no-return =
         meets-breaks (configurations _ _ controller-cycle) (configurations _ _ environment-cycle)
         (rw (controller-passed, environment-passed) (map-same controllerOf environmentOf (λ c. c .input) (λ c. c .input) (λ x. refl) (trail advance (suc k) s)))
-        (rw (controller-passed, environment-passed) (map-same controllerOf environmentOf (λ c. c .output) (λ c. c .output) (λ x. refl) (trail advance (suc k) s)))
+        (rw (controller-passed, environment-passed) (map-same controllerOf environmentOf (λ c. c .output) (λ c. c .output) (λ x. refl)
+        (trail advance (suc k) s)))
         (A .requirements) (wins .rounds controller-cycle) (beats .rounds environment-cycle)
 
   number : Stage A T P F G → ℕ

@@ -56,14 +56,16 @@ module _ (g : Game) (F : Fits g) where
   unfolding meetsAt graphOf
   out-meets d x = meets-component (g .output .states) x (joined (graphOf (g .output)) d) (F .output .most)
 
-  due-means : (q : RequirementRecord) (i : ℕ) → inMeets q (pack (g .input .states) (joined (graphOf (g .input)) i)) (q .assumed) ≡ due (separatedOf g) i (requirementOf q)
+  due-means : (q : RequirementRecord) (i : ℕ)
+      → inMeets q (pack (g .input .states) (joined (graphOf (g .input)) i)) (q .assumed) ≡ due (separatedOf g) i (requirementOf q)
   unfolding inMeets inMeetsAt due requirementOf separatedOf
   due-means q i =
       all-same (q .assumed) (inMeetsAt q (pack (g .input .states) (joined (graphOf (g .input)) i)))
       (λ j. meetsAt (graphOf (g .input)) i (has (getD (q .assumptions) j noInput .0))) (λ j b. in-meets i (getD (q .assumptions) j noInput .0))
       ∙ sym (allOf-tabulate (meetsAt (graphOf (g .input)) i) (q .assumed) (λ j. has (getD (q .assumptions) j noInput .0)))
 
-  served-means : (q : RequirementRecord) (d : ℕ) → outMeets q (pack (g .output .states) (joined (graphOf (g .output)) d)) (q .guaranteed) ≡ served (separatedOf g) d (requirementOf q)
+  served-means : (q : RequirementRecord) (d : ℕ)
+      → outMeets q (pack (g .output .states) (joined (graphOf (g .output)) d)) (q .guaranteed) ≡ served (separatedOf g) d (requirementOf q)
   unfolding outMeets outMeetsAt served requirementOf separatedOf
   served-means q d =
       all-same (q .guaranteed) (outMeetsAt q (pack (g .output .states) (joined (graphOf (g .output)) d)))

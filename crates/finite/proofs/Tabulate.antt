@@ -12,19 +12,19 @@ use Rattle.finite.proofs.Truth.{and-intro, and-left, and-right, same-te
 use Rattle.finite.proofs.Bounded.{all-intro, all-elim}
 
 module _ {A : Type 0} (f : ℕ → A) where
-  pub length-tabulateFrom : (k n : ℕ) → length (tabulateFrom k n f) ≡ n
+  length-tabulateFrom : (k n : ℕ) → length (tabulateFrom k n f) ≡ n
   unfolding tabulateFrom
   length-tabulateFrom k zero = refl
   length-tabulateFrom k (suc n) = ap suc (length-tabulateFrom (suc k) n)
 
-  pub getD-tabulateFrom : (k n i : ℕ) (d : A) → i < n → getD (tabulateFrom k n f) i d ≡ f (k + i)
+  getD-tabulateFrom : (k n i : ℕ) (d : A) → i < n → getD (tabulateFrom k n f) i d ≡ f (k + i)
   unfolding tabulateFrom
   getD-tabulateFrom k zero i d h = absurd (omega arith)
   getD-tabulateFrom k (suc n) zero d h = ap f (sym (add-zero k))
   getD-tabulateFrom k (suc n) (suc i) d h =
       getD-tabulateFrom (suc k) n i d (omega arith) ∙ ap f (omega arith)
 
-  pub getD-tabulateFrom-past : (k n i : ℕ) (d : A) → n ≤ i → getD (tabulateFrom k n f) i d ≡ d
+  getD-tabulateFrom-past : (k n i : ℕ) (d : A) → n ≤ i → getD (tabulateFrom k n f) i d ≡ d
   unfolding tabulateFrom
   getD-tabulateFrom-past k zero i d h = refl
   getD-tabulateFrom-past k (suc n) zero d h = absurd (omega arith)

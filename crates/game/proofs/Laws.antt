@@ -64,10 +64,13 @@ module _ (x used j n : ℕ) where
 -- ---- a graph
 
 module _ (g : Graph) where
-  pub count-bounds : countFits g ≡ true → (1 ≤ g .states) × (g .states ≤ 64)
+  count-bounds : countFits g ≡ true → (1 ≤ g .states) × (g .states ≤ 64)
   unfolding countFits
-  count-bounds e =
-      (leb-true 1 (g .states) (and-left (leb 1 (g .states)) (leb (g .states) 64) e), leb-true (g .states) 64 (and-right (leb 1 (g .states)) (leb (g .states) 64) e))
+  count-bounds e = (
+    leb-true 1 (g .states) (and-left (leb 1 (g .states)) (leb (g .states) 64) e),
+    leb-true (g .states) 64
+        (and-right (leb 1 (g .states)) (leb (g .states) 64) e),
+  )
 
   bounds-count : 1 ≤ g .states → g .states ≤ 64 → countFits g ≡ true
   unfolding countFits
@@ -132,8 +135,11 @@ module _ (g : Graph) where
 module _ (q : Requirement) where
   few-bounds : fewSets q ≡ true → (q .assumed ≤ 4) × (q .guaranteed ≤ 4)
   unfolding fewSets
-  few-bounds e =
-      (leb-true (q .assumed) 4 (and-left (leb (q .assumed) 4) (leb (q .guaranteed) 4) e), leb-true (q .guaranteed) 4 (and-right (leb (q .assumed) 4) (leb (q .guaranteed) 4) e))
+  few-bounds e = (
+    leb-true (q .assumed) 4 (and-left (leb (q .assumed) 4) (leb (q .guaranteed) 4) e),
+    leb-true (q .guaranteed) 4
+        (and-right (leb (q .assumed) 4) (leb (q .guaranteed) 4) e),
+  )
 
   bounds-few : q .assumed ≤ 4 → q .guaranteed ≤ 4 → fewSets q ≡ true
   unfolding fewSets
@@ -171,11 +177,13 @@ module _ (q : Requirement) where
 
     fits-in : all 4 (inSetFits q a) ≡ true
     fits-in =
-        places-in a (λ j h. place-fits (getD (q .assumptions) j noInput .0) (q .assumed) j a (λ l s m. f .assumption-below j s l m) (λ l. f .assumption-past j l h))
+        places-in a (λ j h. place-fits (getD (q .assumptions) j noInput .0) (q .assumed) j a (λ l s m. f .assumption-below j s l m)
+        (λ l. f .assumption-past j l h))
 
     fits-out : all 4 (outSetFits q b) ≡ true
     fits-out =
-        places-out b (λ j h. place-fits (getD (q .guarantees) j noOutput .0) (q .guaranteed) j b (λ l s m. f .guarantee-below j s l m) (λ l. f .guarantee-past j l h))
+        places-out b (λ j h. place-fits (getD (q .guarantees) j noOutput .0) (q .guaranteed) j b (λ l s m. f .guarantee-below j s l m)
+        (λ l. f .guarantee-past j l h))
 
 -- ---- a game
 

@@ -86,11 +86,13 @@ pub few-next : (q : Requirement) → q .assumed ≤ 4 → leb (q .guaranteed) 4 
 unfolding fewSets
 few-next q l = and-next (le-leb (q .assumed) 4 l) refl
 
-pub in-set-fits : (q : Requirement) (n j l : ℕ) (r : Bool) → l ≡ limit (q .assumed) j n → r ≡ within (getD (q .assumptions) j noInput .0) l → r ≡ inSetFits q n j
+pub in-set-fits : (q : Requirement) (n j l : ℕ) (r : Bool) → l ≡ limit (q .assumed) j n → r ≡ within (getD (q .assumptions) j noInput .0) l
+    → r ≡ inSetFits q n j
 unfolding inSetFits
 in-set-fits q n j l r e p = p ∙ ap (within (getD (q .assumptions) j noInput .0)) e
 
-pub out-set-fits : (q : Requirement) (n j l : ℕ) (r : Bool) → l ≡ limit (q .guaranteed) j n → r ≡ within (getD (q .guarantees) j noOutput .0) l → r ≡ outSetFits q n j
+pub out-set-fits : (q : Requirement) (n j l : ℕ) (r : Bool) → l ≡ limit (q .guaranteed) j n → r ≡ within (getD (q .guarantees) j noOutput .0) l
+    → r ≡ outSetFits q n j
 unfolding outSetFits
 out-set-fits q n j l r e p = p ∙ ap (within (getD (q .guarantees) j noOutput .0)) e
 
@@ -115,7 +117,8 @@ module _ (g : Game) (r : ℕ) (q : Requirement) where
   unfolding requirementFits
   fits-in u e = and-next u (and-stop (all 4 (outSetFits q (g .output .states))) e)
 
-  pub fits-out : (b : Bool) → inUse g r q ≡ true → all 4 (inSetFits q (g .input .states)) ≡ true → b ≡ all 4 (outSetFits q (g .output .states)) → b ≡ requirementFits g r q
+  pub fits-out : (b : Bool) → inUse g r q ≡ true → all 4 (inSetFits q (g .input .states)) ≡ true → b ≡ all 4 (outSetFits q (g .output .states))
+      → b ≡ requirementFits g r q
   unfolding requirementFits
   fits-out b u i e = and-next u (and-next i e)
 

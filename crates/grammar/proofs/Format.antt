@@ -36,7 +36,7 @@ module _ {R : Type 0} (ok : ℕ → Bool) (next : ℕ → Format R) (w : ℕ →
   run-stop h = rw (h, run)
 
 -- a fault lies at the start or past it
-pub run-past : {R : Type 0} (f : Format R) (w : ℕ → ℕ) (i : ℕ) {p : ℕ} → run f w i ≡ fault p → i ≤ p
+run-past : {R : Type 0} (f : Format R) (w : ℕ → ℕ) (i : ℕ) {p : ℕ} → run f w i ≡ fault p → i ≤ p
 unfolding run
 run-past (done x) w i h = not-fault (sym h)
 run-past (node ok next) w i {p} h =
@@ -83,7 +83,7 @@ pub record Some {R : Type 0} (f : Format R) : Type 0 where
   pub value : R
   pub is-text : TextOf f text value
 
-pub live-text : {R : Type 0} (f : Format R) → Live f → Some f
+live-text : {R : Type 0} (f : Format R) → Live f → Some f
 unfolding TextOf Live
 live-text (done x) l = record { text = []; value = x; is-text = refl }
 live-text (node ok next) l =
@@ -168,7 +168,15 @@ bind-parts (done x) k t r p = record { front = []; back = t; value = x; whole = 
 bind-parts (node ok next) k [] r p = absurd p
 bind-parts (node ok next) k (b ∷ t) r p =
     let q = bind-parts (next b) k t r (p .1) in
-    record { front = b ∷ q .front; back = q .back; value = q .value; whole = ap (λ (l : List ℕ). b ∷ l) (q .whole); is-front = (p .0, q .is-front); is-back = q .is-back }
+    record {
+      front =
+          b ∷ q .front;
+      back = q .back;
+      value = q .value;
+      whole = ap (λ (l : List ℕ). b ∷ l) (q .whole);
+      is-front = (p .0, q .is-front);
+      is-back = q .is-back;
+    }
 
 pub bind-live : {A B : Type 0} (f : Format A) (k : A → Format B) → Live f → ((t : List ℕ) (a : A) → TextOf f t a → Live (k a)) → Live (bind f k)
 unfolding bind Live TextOf

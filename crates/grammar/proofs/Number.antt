@@ -19,11 +19,11 @@ pub digit-bounds : (b : ℕ) → digit b ≡ true → (48 ≤ b) × (b ≤ 57)
 unfolding digit
 digit-bounds b h = (leb-true 48 b (and-left (leb 48 b) (leb b 57) h), leb-true b 57 (and-right (leb 48 b) (leb b 57) h))
 
-pub digit-intro : (b : ℕ) → 48 ≤ b → b ≤ 57 → digit b ≡ true
+digit-intro : (b : ℕ) → 48 ≤ b → b ≤ 57 → digit b ≡ true
 unfolding digit
 digit-intro b p q = rw (le-leb 48 b p) (le-leb b 57 q)
 
-pub inside-bounds : (lo hi v : ℕ) → inside lo hi v ≡ true → (lo ≤ v) × (v ≤ hi)
+inside-bounds : (lo hi v : ℕ) → inside lo hi v ≡ true → (lo ≤ v) × (v ≤ hi)
 unfolding inside
 inside-bounds lo hi v h = (leb-true lo v (and-left (leb lo v) (leb v hi) h), leb-true v hi (and-right (leb lo v) (leb v hi) h))
 
@@ -188,7 +188,8 @@ digits-more (suc n) zero v p q = absurd (omega arith)
 digits-more (suc n) (suc m) v p q =
     by-cases (ltb v 10)
     (λ e. rw (e, digits))
-    (λ e. let l : 10 ≤ v = ltb-false v 10 e in rw (e, digits) (ap (λ (l : List ℕ). l ++ (48 + v % 10) ∷ []) (digits-more n m (v / 10) (omega arith) (omega arith))))
+    (λ e. let l : 10 ≤ v = ltb-false v 10 e in rw (e, digits)
+    (ap (λ (l : List ℕ). l ++ (48 + v % 10) ∷ []) (digits-more n m (v / 10) (omega arith) (omega arith))))
 
 pub decimal-one : (v : ℕ) → v < 10 → decimal v ≡ (48 + v) ∷ []
 unfolding decimal digits
@@ -224,20 +225,21 @@ pub number-out : (lo hi v j : ℕ) → inside lo hi v ≡ false → numberEnd lo
 unfolding numberEnd
 number-out lo hi v j h = rw (h, numberEnd)
 
-pub number-more : (n lo hi v : ℕ) (w : ℕ → ℕ) (j : ℕ) → extends lo hi v (w j) ≡ true → digitsAt (suc n) lo hi v w j ≡ digitsAt n lo hi (tenfold v (w j)) w (suc j)
+number-more : (n lo hi v : ℕ) (w : ℕ → ℕ) (j : ℕ) → extends lo hi v (w j) ≡ true
+    → digitsAt (suc n) lo hi v w j ≡ digitsAt n lo hi (tenfold v (w j)) w (suc j)
 unfolding digitsAt
 number-more n lo hi v w j h = rw (h, digitsAt)
 
-pub number-stop : (n lo hi v : ℕ) (w : ℕ → ℕ) (j : ℕ) → extends lo hi v (w j) ≡ false → digitsAt n lo hi v w j ≡ numberEnd lo hi v j
+number-stop : (n lo hi v : ℕ) (w : ℕ → ℕ) (j : ℕ) → extends lo hi v (w j) ≡ false → digitsAt n lo hi v w j ≡ numberEnd lo hi v j
 unfolding digitsAt
 number-stop zero lo hi v w j h = refl
 number-stop (suc n) lo hi v w j h = rw (h, digitsAt)
 
-pub number-start : (lo hi : ℕ) (w : ℕ → ℕ) (i : ℕ) → starts lo hi (w i) ≡ true → numberAt lo hi w i ≡ digitsAt 2 lo hi (w i - 48) w (suc i)
+number-start : (lo hi : ℕ) (w : ℕ → ℕ) (i : ℕ) → starts lo hi (w i) ≡ true → numberAt lo hi w i ≡ digitsAt 2 lo hi (w i - 48) w (suc i)
 unfolding numberAt
 number-start lo hi w i h = rw (h, numberAt)
 
-pub number-none : (lo hi : ℕ) (w : ℕ → ℕ) (i : ℕ) → starts lo hi (w i) ≡ false → numberAt lo hi w i ≡ fault i
+number-none : (lo hi : ℕ) (w : ℕ → ℕ) (i : ℕ) → starts lo hi (w i) ≡ false → numberAt lo hi w i ≡ fault i
 unfolding numberAt
 number-none lo hi w i h = rw (h, numberAt)
 
@@ -435,7 +437,8 @@ module _ {R : Type 0} (lo hi : ℕ) (k : ℕ → Format R) where
       let q = text-open (k v) b t r p in
       rw (extends-digit lo hi v b (E .plain b (q .0))) (rw i q)
 
-  after-more : (n v b : ℕ) (t : List ℕ) (r : R) → extends lo hi v b ≡ true → TextOf (after n lo hi k (tenfold v b)) t r → TextOf (after (suc n) lo hi k v) (b ∷ t) r
+  after-more : (n v b : ℕ) (t : List ℕ) (r : R) → extends lo hi v b ≡ true → TextOf (after n lo hi k (tenfold v b)) t r
+      → TextOf (after (suc n) lo hi k v) (b ∷ t) r
   unfolding after TextOf
   after-more n v b t r e p = rw e (refl, p)
 
@@ -572,7 +575,9 @@ module _ {R : Type 0} (lo hi : ℕ) (k : ℕ → Format R) where
       one v h l = after-live-step 0 v K h (λ b e. let x = extends-elim lo hi v b e in none (tenfold v b) (x .goes) (omega (arith, tenfold-le v b)))
 
       two : (v : ℕ) → begins lo hi v ≡ true → Live (after 2 lo hi k v)
-      two v h = after-live-step 1 v K h (λ b e. let x = extends-elim lo hi v b e in let pos : 0 < v = x .pos in one (tenfold v b) (x .goes) (omega (arith, tenfold-le v b)))
+      two v h =
+          after-live-step 1 v K h (λ b e. let x = extends-elim lo hi v b e in let pos : 0 < v = x .pos in one (tenfold v b) (x .goes)
+          (omega (arith, tenfold-le v b)))
 
       with-first : (v : ℕ) → v < 10 → begins lo hi v ≡ true → (b : ℕ) × ((digit b && begins lo hi (b - 48)) ≡ true)
       with-first v l h =

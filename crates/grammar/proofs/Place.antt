@@ -75,7 +75,7 @@ unfolding atEnd
 end-before s r j h = rw (ne-eqb j (length s) h, atEnd)
 
 -- a text is read, with its value
-pub read-text : {R : Type 0} (f : Format R) (s : List ℕ) (r : R) → TextOf f s r → reading f s ≡ got r (length s)
+read-text : {R : Type 0} (f : Format R) (s : List ℕ) (r : R) → TextOf f s r → reading f s ≡ got r (length s)
 unfolding reading
 read-text f s r p =
     ap (atEnd s) (run-text f (bytes s) 0 s p (whole-stands s))

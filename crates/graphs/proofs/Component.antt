@@ -5,7 +5,19 @@ use mathlib.Core.Bool.{Bool, true, false, _&&_, not}
 use native.Mathlib.Omega.{arith}
 use Rattle.finite.specs.Bounded.{any}
 use Rattle.finite.proofs.Truth.{clash, false-of, and-intro, and-left, and-right, not-true, same-test}
-use Rattle.finite.proofs.Bounded.{any-intro, any-elim, any-same, least-below, least-member, least-same, least-at-most, count-le, count-less, count-mono, count-pos}
+use Rattle.finite.proofs.Bounded.{
+  any-intro,
+  any-elim,
+  any-same,
+  least-below,
+  least-member,
+  least-same,
+  least-at-most,
+  count-le,
+  count-less,
+  count-mono,
+  count-pos,
+}
 use Rattle.graphs.specs.Graph.{Graph, edge}
 use Rattle.graphs.specs.Closure.{reaches}
 use Rattle.graphs.specs.Component.{joined, number, nontrivial, leaves, meetsAt, rank}
@@ -133,7 +145,7 @@ module _ (G : Graph) where
   unfolding rank
   rank-pos s a = count-pos (G .states) (reaches G s) s a (reaches-self G s a)
 
-  pub rank-mono : (s t : ℕ) → reaches G s t ≡ true → rank G t ≤ rank G s
+  rank-mono : (s t : ℕ) → reaches G s t ≡ true → rank G t ≤ rank G s
   unfolding rank
   rank-mono s t h = count-mono (G .states) (reaches G t) (reaches G s) (λ u b a. reaches-trans G s t u h a)
 

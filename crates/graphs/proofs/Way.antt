@@ -52,7 +52,7 @@ pub prefer-past : (n s : ℕ) (p : ℕ → Bool) → n ≤ s → prefer n s p �
 unfolding prefer
 prefer-past n s p b = rw (and-false-left (p s) (le-ltb s n b), prefer) refl
 
-pub prefer-cases : (n s : ℕ) (p : ℕ → Bool) → ((s < n) × (p s ≡ true) × (prefer n s p ≡ s)) ⊎ (prefer n s p ≡ least n p)
+prefer-cases : (n s : ℕ) (p : ℕ → Bool) → ((s < n) × (p s ≡ true) × (prefer n s p ≡ s)) ⊎ (prefer n s p ≡ least n p)
 unfolding prefer
 prefer-cases n s p =
     elim (decide (ltb s n && p s)) [
@@ -168,7 +168,12 @@ module _ (n : ℕ) (r : ℕ → ℕ → Bool) (p : ℕ → Bool) where
           let first : (j : ℕ) → j < k → near n r p j (w .0) ≡ false =
           λ j b. false-of (near n r p j (w .0))
           (λ a. clash (near-step j s (w .0) (near-below (suc k) s h) (w .2) a) (f (suc j) (omega arith))) in
-          omega (arith, rec (w .0) (w .3) first, count-less n (near n r p k) (near n r p (suc k)) (λ u b a. near-more k u a) s (near-below (suc k) s h) (f k (omega arith)) h)
+          omega (
+            arith,
+            rec (w .0) (w .3) first,
+            count-less n (near n r p k) (near n r p (suc k)) (λ u b a. near-more k u a) s (near-below (suc k) s h)
+                (f k (omega arith)) h,
+          )
 
   pub near-short : (k s : ℕ) → near n r p k s ≡ true → (j : ℕ) × (j < n) × (near n r p j s ≡ true)
   near-short k s h =

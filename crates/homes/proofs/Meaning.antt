@@ -37,17 +37,20 @@ module _ (g : Game) (F : Fits g) where
   -- what is read from scratch l
   module _ (l : List ℕ) (L : Laid g l) (cores i : ℕ) (b : i < g .input .states)
       (c : cores ≡ pack (g .input .states) (nontrivial (graphOf (g .input))))
-      (below : (j : ℕ) → j < g .input .states → rank (graphOf (g .input)) j < rank (graphOf (g .input)) i → getD l (g .input .states + j) 0 ≡ storedRow (separatedOf g) j) where
+      (below : (j : ℕ) → j < g .input .states → rank (graphOf (g .input)) j < rank (graphOf (g .input)) i → getD l (g .input .states + j) 0 ≡ storedRow
+      (separatedOf g) j) where
     won-means : (j o : ℕ) → j < g .input .states → o < g .output .states → rank (graphOf (g .input)) j < rank (graphOf (g .input)) i
         → wonAt l (g .input .states) cores j o ≡ region (separatedOf g) j o
     won-means j o lj lo r = won-region g l cores j o (F .output .most) lj lo c (below j lj r) (L .outputs o lo)
 
     -- every exit is won with d, and then with all of d's component
-    exits-won : (j d : ℕ) → d < g .output .states → all (g .output .states) (λ e. not (joined (graphOf (g .output)) d e) || region (separatedOf g) j e) ≡ region (separatedOf g) j d
+    exits-won : (j d : ℕ) → d < g .output .states
+        → all (g .output .states) (λ e. not (joined (graphOf (g .output)) d e) || region (separatedOf g) j e) ≡ region (separatedOf g) j d
     unfolding separatedOf
     exits-won j d ld =
         same-test (all (g .output .states) (λ e. not (joined (graphOf (g .output)) d e) || region (separatedOf g) j e)) (region (separatedOf g) j d)
-        (λ h. implies-elim (joined (graphOf (g .output)) d d) (region (separatedOf g) j d) (all-elim (g .output .states) (λ e. not (joined (graphOf (g .output)) d e) || region (separatedOf g) j e) h d ld) (self d ld))
+        (λ h. implies-elim (joined (graphOf (g .output)) d d) (region (separatedOf g) j d)
+        (all-elim (g .output .states) (λ e. not (joined (graphOf (g .output)) d e) || region (separatedOf g) j e) h d ld) (self d ld))
         (λ h. all-intro (g .output .states) (λ e. not (joined (graphOf (g .output)) d e) || region (separatedOf g) j e)
         (λ e le. implies-intro (joined (graphOf (g .output)) d e) (region (separatedOf g) j e) (λ k. sym (region-output (separatedOf g) j d e k) ∙ h)))
       where
@@ -63,7 +66,8 @@ module _ (g : Game) (F : Fits g) where
         (λ j lj. one j lj (decide (leaves (graphOf (g .input)) i j)))
       where
         one : (j : ℕ) → j < g .input .states → (leaves (graphOf (g .input)) i j ≡ true) ⊎ (leaves (graphOf (g .input)) i j ≡ false)
-            → (not (has x j) || wonAt l (g .input .states) cores j d) ≡ (not (leaves (graphOf (g .input)) i j) || all (g .output .states) (λ u. not (joined (graphOf (g .output)) d u) || region (separatedOf g) j u))
+            → (not (has x j) || wonAt l (g .input .states) cores j d) ≡
+            (not (leaves (graphOf (g .input)) i j) || all (g .output .states) (λ u. not (joined (graphOf (g .output)) d u) || region (separatedOf g) j u))
         one j lj (inl h) = rw (e j, h) (won-means j d lj ld (rank-leaves (graphOf (g .input)) i j h) ∙ sym (exits-won j d ld))
         one j lj (inr h) = rw (e j, h) refl
 
@@ -76,11 +80,13 @@ module _ (g : Game) (F : Fits g) where
       unfolding homeAt homeFor separatedOf
       home-means d ld =
           ap₂ _&&_
-          (h d ∙ ap₂ _&&_ (ap (λ (y : ℕ). has y d) o ∙ has-pack-below (g .output .states) (nontrivial (graphOf (g .output))) d ld) (accepted-means g F served i d S ld))
+          (h d ∙ ap₂ _&&_ (ap (λ (y : ℕ). has y d) o ∙ has-pack-below (g .output .states) (nontrivial (graphOf (g .output))) d ld)
+          (accepted-means g F served i d S ld))
           (safe-means x d ld e)
           ∙ and-assoc (nontrivial (graphOf (g .output)) d) (accepting (separatedOf g) i d) (safe (separatedOf g) (region (separatedOf g)) i d)
 
-      pub home-row-means : nontrivial (graphOf (g .input)) i ≡ true → pack (g .output .states) (homeAt l (g .input .states) cores x among) ≡ storedRow (separatedOf g) i
+      pub home-row-means : nontrivial (graphOf (g .input)) i ≡ true
+          → pack (g .output .states) (homeAt l (g .input .states) cores x among) ≡ storedRow (separatedOf g) i
       unfolding separatedOf graphOf
       home-row-means k =
           pack-ext (g .output .states) (homeAt l (g .input .states) cores x among) (homeFor (separatedOf g) (region (separatedOf g)) i) home-means

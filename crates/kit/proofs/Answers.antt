@@ -224,7 +224,9 @@ module _ (k : Kit) (s c e t : List ℕ) where
           front = ap (take (kitLength k)) filled ∙ front-of (kitEntries k E) (drop (kitLength k) t) (kitLength k) (sym (entries-long k E (modes-in k)))
 
           wins : ControllerWins (playOf (gameFrom k)) (controllerOf (gameFrom k) E)
-          wins = system-holds (playOf (gameFrom k)) (controllerOf (gameFrom k) E) (subst (λ (l : List ℕ). DemandThree (playOf (gameFrom k)) (system (controllerOf (gameFrom k) l))) (handed n s′ c′ e′ S) (S .demand))
+          wins =
+              system-holds (playOf (gameFrom k)) (controllerOf (gameFrom k) E)
+              (subst (λ (l : List ℕ). DemandThree (playOf (gameFrom k)) (system (controllerOf (gameFrom k) l))) (handed n s′ c′ e′ S) (S .demand))
 
           exchanged : Exchanged k (kitEntries k E)
           exchanged = kit-exchanged k (kit-fitting k a) E (kitEntries k E) (kit-reads k E (modes-in k)) wins

@@ -41,7 +41,8 @@ pub counters-of : (k : Kit) (g : Game) (m : ℕ) → g ≡ gameFrom k → m ≡ 
 unfolding counters
 counters-of k g m q e = e ∙ ap (λ (x : Game). controllerCounters (separatedOf x)) q
 
-module _ (k : Kit) (g : Game) (l : ℕ) (s s′ c c′ e e′ t : List ℕ) (P : Roomy k g l (length s) (length c) (length t)) {v : Verdict} (S : Solved g s s′ c c′ e e′ v) where
+module _ (k : Kit) (g : Game) (l : ℕ) (s s′ c c′ e e′ t : List ℕ) (P : Roomy k g l (length s) (length c) (length t)) {v : Verdict}
+    (S : Solved g s s′ c c′ e e′ v) where
   of-kit : (w : Verdict) → v ≡ w → Solved (gameFrom k) s s′ c c′ e e′ w
   of-kit w q = subst (Solved (gameFrom k) s s′ c c′ e e′) q (subst (λ (h : Game). Solved h s s′ c c′ e e′ v) (P .game) S)
 

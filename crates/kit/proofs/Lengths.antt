@@ -32,7 +32,7 @@ module _ (k : Kit) (a : kitAcceptance k ≡ Accepted) where
   pub both-small : Small (k .old) × Small (k .new)
   both-small = kit-small k (kit-fitting k a .modes) (kit-fitting k a .commands)
 
-  pub few-counters : counters k ≤ 32
+  few-counters : counters k ≤ 32
   unfolding counters
   few-counters = controller-few (gameFrom k) (accepted-fits (gameFrom k) (kit-fitting k a .game))
 

@@ -31,7 +31,8 @@ fn solve_fitting(
     room: &mut [u16],
 ) -> Verdict
     requires { ⌜ Roomy k g t (length (now scratch)) (length (now controller)) (length (now room)) ⌝ }
-    ensures { λ r. ⌜ KitSolved k (now (scratch .entry)) (now (scratch .exit)) (now (controller .entry)) (now (controller .exit)) (now (panel .entry)) (now (panel .exit)) (now (room .entry)) (now (room .exit)) r ⌝ }
+    ensures { λ r. ⌜ KitSolved k (now (scratch .entry)) (now (scratch .exit)) (now (controller .entry)) (now (controller .exit)) (now (panel .entry))
+        (now (panel .exit)) (now (room .entry)) (now (room .exit)) r ⌝ }
 {
     let answer = solver::solve_into(g, scratch, controller, panel);
     match answer {
@@ -53,7 +54,8 @@ fn solve_accepted(
     room: &mut [u16],
 ) -> Verdict
     requires { ⌜ kitAcceptance k ≡ Accepted ⌝ }
-    ensures { λ r. ⌜ KitSolved k (now (scratch .entry)) (now (scratch .exit)) (now (controller .entry)) (now (controller .exit)) (now (panel .entry)) (now (panel .exit)) (now (room .entry)) (now (room .exit)) r ⌝ }
+    ensures { λ r. ⌜ KitSolved k (now (scratch .entry)) (now (scratch .exit)) (now (controller .entry)) (now (controller .exit)) (now (panel .entry))
+        (now (panel .exit)) (now (room .entry)) (now (room .exit)) r ⌝ }
 {
     let g = drives::game_of(k);
     if scratch.len() < scratch::length(g) {
@@ -77,7 +79,8 @@ pub fn solve_kit(
     panel: &mut [u16],
     room: &mut [u16],
 ) -> Verdict
-    ensures { λ r. ⌜ KitSolved k (now (scratch .entry)) (now (scratch .exit)) (now (controller .entry)) (now (controller .exit)) (now (panel .entry)) (now (panel .exit)) (now (room .entry)) (now (room .exit)) r ⌝ }
+    ensures { λ r. ⌜ KitSolved k (now (scratch .entry)) (now (scratch .exit)) (now (controller .entry)) (now (controller .exit)) (now (panel .entry))
+        (now (panel .exit)) (now (room .entry)) (now (room .exit)) r ⌝ }
 {
     let accepted = kit_checks::accept_kit(k);
     match accepted {

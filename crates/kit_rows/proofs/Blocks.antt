@@ -41,7 +41,7 @@ module _ (E : List ℕ) where
       the-one : (k : ℕ) → b ≤ k → k < c → k ≡ b
       the-one k x y = omega arith
 
-  pub into-next : {l m : List ℕ} {a b : ℕ} (c v : ℕ) → c ≡ b + 1 → b < length E → b < length m → v ≡ getD E b 0 → Into E l m a b → Into E l (set m b v) a c
+  into-next : {l m : List ℕ} {a b : ℕ} (c v : ℕ) → c ≡ b + 1 → b < length E → b < length m → v ≡ getD E b 0 → Into E l m a b → Into E l (set m b v) a c
   into-next {l} {m} {a} {b} c v d s t e p = into-join p (into-one m b c v d s t e)
 
   pub into-done : (l m : List ℕ) → length E ≤ length l → Into E l m 0 (length E) → m ≡ E ++ drop (length E) l

@@ -106,7 +106,8 @@ module _ (k : Kit) (T : List ℕ) (M n : ℕ) (R : KitReady k M (length T) n) wh
   -- a row as it is worked out
   row-commands : (o c i u : ℕ) (to : List ℕ) → Commands (k .new .next) (k .new .commands) o 64 to → o < k .new .modes → c < counters k
       → i < k .old .modes → u < k .old .commands
-      → commandRow (k .old .next) to T (k .old .modes + (o * counters k + c) * k .old .modes) i u ≡ kitRow k (controllerTable (k .old .modes) (counters k) T) o c i u
+      → commandRow (k .old .next) to T (k .old .modes + (o * counters k + c) * k .old .modes) i u ≡ kitRow k
+      (controllerTable (k .old .modes) (counters k) T) o c i u
   unfolding commandRow kitRow controllerTable
   row-commands o c i u to C lo lc li lu = go (decide (eqb (nextIn (k .old .next) i u) 255))
     where
@@ -136,7 +137,8 @@ module _ (k : Kit) (T : List ℕ) (M n : ℕ) (R : KitReady k M (length T) n) wh
     unfolding kitLength
     blocks-below x b =
         let most : x ≤ k .new .modes * M = omega (arith, next-row o M, mul-le-mul-right {m = o + 1} {n = k .new .modes} M (omega arith)) in
-        subst (λ (y : ℕ). k .old .modes + x * k .old .modes * k .old .commands ≤ k .old .modes + k .new .modes * y * k .old .modes * k .old .commands) (R .counters)
+        subst (λ (y : ℕ). k .old .modes + x * k .old .modes * k .old .commands ≤ k .old .modes + k .new .modes * y * k .old .modes * k .old .commands)
+        (R .counters)
         (omega (arith, mul-le-mul-right (k .old .commands) (mul-le-mul-right (k .old .modes) most)))
 
     block-end : (c : ℕ) → c < M → k .old .modes + ((o * M + c) * k .old .modes + k .old .modes) * k .old .commands ≤ kitLength k

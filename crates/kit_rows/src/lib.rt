@@ -7,7 +7,8 @@ ghost use mathlib.Core.List.{_++_};
 ghost use Prim.Native.Nat.{_+_, _<_, _≤_};
 ghost use lib.ListN.{length, drop};
 ghost use Rattle.kit_rows.specs.Rows.{kitLength, kitEntries, KitReady};
-ghost use Rattle.kit_rows.specs.Writing.{lowestIn, Commands, translated as translatedOf, commandRow, ReadsIn, ModeFits, Moded, CountFits, Counted, Outputs, Started};
+ghost use Rattle.kit_rows.specs.Writing.{lowestIn, Commands, translated as translatedOf, commandRow, ReadsIn, ModeFits};
+ghost use Rattle.kit_rows.specs.Writing.{Moded, CountFits, Counted, Outputs, Started};
 
 // For each mode the lowest command of the new drive that leads there from one output, the count of commands where none does.
 struct Lowest {
@@ -84,7 +85,8 @@ fn mode_rows(
     at: usize,
 )
     requires { ⌜ ModeFits (now next) commands base i at (length (now controller)) (length (now room)) ⌝ }
-    ensures { λ r. ⌜ Moded (now (next .entry)) commands (now (to .entry)) (now (controller .entry)) base i at commands (now (room .entry)) (now (room .exit)) ⌝ }
+    ensures { λ r. ⌜ Moded (now (next .entry)) commands (now (to .entry)) (now (controller .entry)) base i at commands (now (room .entry))
+        (now (room .exit)) ⌝ }
 {
     let mut u: usize = 0;
     while u < commands {
@@ -104,7 +106,8 @@ fn counter_rows(
     room: &mut [u16],
 )
     requires { ⌜ CountFits (now next) modes commands first (length (now controller)) (length (now room)) ⌝ }
-    ensures { λ r. ⌜ Counted (now (next .entry)) modes commands (now (to .entry)) (now (controller .entry)) first modes (now (room .entry)) (now (room .exit)) ⌝ }
+    ensures { λ r. ⌜ Counted (now (next .entry)) modes commands (now (to .entry)) (now (controller .entry)) first modes (now (room .entry))
+        (now (room .exit)) ⌝ }
 {
     let mut i: usize = 0;
     while i < modes {

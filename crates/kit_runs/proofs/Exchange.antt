@@ -98,7 +98,8 @@ module _ (k : Kit) (F : Fitting k) (l t : List ℕ) (R : Reads k l t) (W : Contr
       subst (λ (m : ℕ). Come k F l t R W (f m)) (add-one n)
       (onward k F l t R W (f n) (f (n + 1)) (E .turn n .command) (come-along f E n) (E .turn n .turn))
 
-  kit-meets : (f : ℕ → Configuration) → Endless (KitFirst k t) (KitMove k t) f → (q : Requirement) → List·Memᴰ q (requirementsOf (gameFrom k)) → RecurringMeet q f
+  kit-meets : (f : ℕ → Configuration) → Endless (KitFirst k t) (KitMove k t) f → (q : Requirement) → List·Memᴰ q (requirementsOf (gameFrom k))
+      → RecurringMeet q f
   unfolding playOf arenaOf separatedOf
   kit-meets f E q h =
       endless-meets (playOf (gameFrom k)) (bounded-arenaOf (separatedOf (gameFrom k))) (controllerOf (gameFrom k) l) W f

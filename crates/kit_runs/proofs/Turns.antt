@@ -75,7 +75,8 @@ module _ (k : Kit) (F : Fitting k) (l t : List ℕ) (R : Reads k l t) (W : Contr
   few = controller-few (gameFrom k) (accepted-fits (gameFrom k) (F .game))
 
   abbrev pub Come : Configuration → Type 0
-  Come x = Reachable (ControllerFirst (playOf (gameFrom k)) (controllerOf (gameFrom k) l)) (ControllerTurn (playOf (gameFrom k)) (controllerOf (gameFrom k) l)) x
+  Come x =
+      Reachable (ControllerFirst (playOf (gameFrom k)) (controllerOf (gameFrom k) l)) (ControllerTurn (playOf (gameFrom k)) (controllerOf (gameFrom k) l)) x
 
   come-in : (x : Configuration) → Come x → (x .input < k .old .modes) × (x .output < k .new .modes) × (x .memory < counters k)
   unfolding playOf arenaOf separatedOf graphOf gameFrom graphFrom controllerOf controllerTable counters
@@ -89,7 +90,8 @@ module _ (k : Kit) (F : Fitting k) (l t : List ℕ) (R : Reads k l t) (W : Contr
     pub move : playOf (gameFrom k) .inMove (x .input) (nextMode (k .old) (x .input) u) ≡ true
     pub names : Names (controllerOf (gameFrom k) l .memories) (playOf (gameFrom k) .reply (nextMode (k .old) (x .input) u) (x .output))
         (controllerOf (gameFrom k) l .step (x .memory) (x .output) (nextMode (k .old) (x .input) u)) memory output
-    pub row : Names (counters k) (allows (k .new) (x .output)) (reply (getD t (kitPlace k (x .output) (x .memory) (x .input) u) 65535)) memory (commandFor (k .new) (x .output) output)
+    pub row : Names (counters k) (allows (k .new) (x .output)) (reply (getD t (kitPlace k (x .output) (x .memory) (x .input) u) 65535)) memory
+        (commandFor (k .new) (x .output) output)
     pub leads : nextMode (k .new) (x .output) (commandFor (k .new) (x .output) output) ≡ output
 
   pub step-at : (x : Configuration) → Come x → (u : ℕ) → allows (k .old) (x .input) u ≡ true → StepAt x u
@@ -110,7 +112,8 @@ module _ (k : Kit) (F : Fitting k) (l t : List ℕ) (R : Reads k l t) (W : Contr
         row = record {
           is = ap reply (R .rows (x .output) (x .memory) (x .input) u (b .1) (b .2) (b .0) below
               ∙ row-open k (controllerTable (k .old .modes) (counters k) l) (x .output) (x .memory) (x .input) u (w .memory) (w .state) free (w .names .is))
-              ∙ reply-read (commandFor (k .new) (x .output) (w .state)) (w .memory) (omega (arith, v, small-new .commands)) (omega (arith, few, w .names .memory));
+              ∙ reply-read (commandFor (k .new) (x .output) (w .state)) (w .memory) (omega (arith, v, small-new .commands))
+              (omega (arith, few, w .names .memory));
           memory = w .names .memory;
           state = allowed-intro (k .new) small-new (x .output) (commandFor (k .new) (x .output) (w .state)) v
               (λ h. omega (arith, h, leads, edge-mode (k .new) small-new (x .output) (w .state) (w .names .state), small-new .modes));
@@ -151,7 +154,9 @@ module _ (k : Kit) (F : Fitting k) (l t : List ℕ) (R : Reads k l t) (W : Contr
   unfolding playOf arenaOf separatedOf graphOf gameFrom graphFrom controllerOf controllerTable counters startsIn begins
   first-controller x f = record {
     initial = f .initial;
-    start = subst (λ (e : ℕ). Names (counters k) (startsIn (k .new)) (answer e) (x .memory) (x .output)) (R .starts (x .input) (start-below (k .old) (x .input) (f .initial))) (f .start);
+    start =
+        subst (λ (e : ℕ). Names (counters k) (startsIn (k .new)) (answer e) (x .memory) (x .output))
+        (R .starts (x .input) (start-below (k .old) (x .input) (f .initial))) (f .start);
   }
 
   pub first-kit : (i : ℕ) → startsIn (k .old) i ≡ true → (x : Configuration) × KitFirst k t x × (x .input ≡ i)
@@ -161,7 +166,9 @@ module _ (k : Kit) (F : Fitting k) (l t : List ℕ) (R : Reads k l t) (W : Contr
         record { input = i; output = w .state; memory = w .memory },
         record {
           initial = e;
-          start = subst (λ (n : ℕ). Names (counters k) (startsIn (k .new)) (answer n) (w .memory) (w .state)) (sym (R .starts i (start-below (k .old) i e))) (w .names);
+          start =
+              subst (λ (n : ℕ). Names (counters k) (startsIn (k .new)) (answer n) (w .memory) (w .state)) (sym (R .starts i (start-below (k .old) i e)))
+              (w .names);
         },
         refl,
       )

@@ -25,7 +25,8 @@ chars-turn x l k w at b e h f g =
     ∙ lit-on (getD l k 0) (chars (drop (suc k) l)) w at (g ∙ f)
     ∙ ap (λ (n : ℕ). run (chars (drop n l)) w (at + 1)) (sym (add-one k))
 
-pub chars-miss : (x : Run (Unit {0})) (l : List ℕ) (k : ℕ) (w : ℕ → ℕ) (at b : ℕ) → x ≡ run (chars (drop k l)) w at → k < length l → b ≡ getD l k 0 → (w at ≡ b → ⊥)
+pub chars-miss : (x : Run (Unit {0})) (l : List ℕ) (k : ℕ) (w : ℕ → ℕ) (at b : ℕ) → x ≡ run (chars (drop k l)) w at → k < length l → b ≡ getD l k 0
+    → (w at ≡ b → ⊥)
     → x ≡ fault at
 unfolding chars
 chars-miss x l k w at b e h f g =

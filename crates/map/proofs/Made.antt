@@ -85,7 +85,8 @@ pub map-faulty : (g : Game) (s m : List ℕ) (n : ℕ) → acceptance g ≡ Faul
 unfolding mapAnswer
 map-faulty g s m n e = map-refused g s m n (rw (e, mapAnswer) refl)
 
-map-room : (g : Game) (s m : ℕ) (b : Bool) {r : Mapped} → acceptance g ≡ Accepted → mapFits g s m ≡ b → r ≡ elim b as (λ x. Mapped) [ true ↦ Done | false ↦ NotMapped 8 ] → r ≡ mapAnswer g s m
+map-room : (g : Game) (s m : ℕ) (b : Bool) {r : Mapped} → acceptance g ≡ Accepted → mapFits g s m ≡ b
+    → r ≡ elim b as (λ x. Mapped) [ true ↦ Done | false ↦ NotMapped 8 ] → r ≡ mapAnswer g s m
 unfolding mapAnswer mapRoom
 map-room g s m b a e h = rw (a, mapAnswer) (rw (e, mapRoom) h)
 

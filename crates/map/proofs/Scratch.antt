@@ -17,7 +17,8 @@ use Rattle.stored.proofs.Read.{won-region}
 use Rattle.map.specs.Read.{Reading, mapRow}
 
 module _ {g : Game} {l : List ℕ} {cores : ℕ} (R : Reading g l cores) where
-  pub reading-won : (i o : ℕ) → i < g .input .states → o < g .output .states → {r : Bool} → r ≡ wonAt l (g .input .states) cores i o → r ≡ region (separatedOf g) i o
+  pub reading-won : (i o : ℕ) → i < g .input .states → o < g .output .states → {r : Bool} → r ≡ wonAt l (g .input .states) cores i o
+      → r ≡ region (separatedOf g) i o
   reading-won i o a b e =
       e ∙ won-region g l cores i o (R .fits .output .most) a b (R .inner) (R .ready .rows i a) (R .ready .laid .outputs o b)
 
@@ -31,7 +32,8 @@ map-row-read {g} {l} {cores} R i a e =
 pub filled-length : (f : ℕ → ℕ) (d l : List ℕ) (i : ℕ) → i ≤ length d → l ≡ tabulate i f ++ drop i d → length l ≡ length d
 filled-length f d l i b e = ap length e ∙ front-length f d i b
 
-pub filled-more : (f : ℕ → ℕ) (d l : List ℕ) (i v : ℕ) → i < length d → l ≡ tabulate i f ++ drop i d → v ≡ f i → set l i v ≡ tabulate (i + 1) f ++ drop (i + 1) d
+pub filled-more : (f : ℕ → ℕ) (d l : List ℕ) (i v : ℕ) → i < length d → l ≡ tabulate i f ++ drop i d → v ≡ f i
+    → set l i v ≡ tabulate (i + 1) f ++ drop (i + 1) d
 filled-more f d l i v b e h = ap (λ (x : List ℕ). set x i v) e ∙ front-next f d i v b h
 
 pub filled-end : (f : ℕ → ℕ) (d l : List ℕ) (i n : ℕ) → i ≤ n → n ≤ i → l ≡ tabulate i f ++ drop i d → l ≡ tabulate n f ++ drop n d

@@ -43,7 +43,8 @@ pub extern "C" fn nanpuwiq_solve(
     controller: &mut [u16],
     panel: &mut [u16],
 ) -> SolveResult
-    ensures { λ r. ⌜ SolveCalled g (now (scratch .entry)) (now (scratch .exit)) (now (controller .entry)) (now (controller .exit)) (now (panel .entry)) (now (panel .exit)) r ⌝ }
+    ensures { λ r. ⌜ SolveCalled g (now (scratch .entry)) (now (scratch .exit)) (now (controller .entry)) (now (controller .exit)) (now (panel .entry))
+        (now (panel .exit)) r ⌝ }
 {
     results::solve_result(solver::solve_into(g, scratch, controller, panel))
 }
@@ -65,7 +66,8 @@ pub extern "C" fn nanpuwiq_solve_kit(
     panel: &mut [u16],
     room: &mut [u16],
 ) -> SolveResult
-    ensures { λ r. ⌜ KitCalled k (now (scratch .entry)) (now (scratch .exit)) (now (controller .entry)) (now (controller .exit)) (now (panel .entry)) (now (panel .exit)) (now (room .entry)) (now (room .exit)) r ⌝ }
+    ensures { λ r. ⌜ KitCalled k (now (scratch .entry)) (now (scratch .exit)) (now (controller .entry)) (now (controller .exit)) (now (panel .entry))
+        (now (panel .exit)) (now (room .entry)) (now (room .exit)) r ⌝ }
 {
     results::solve_result(kit::solve_kit(k, scratch, controller, panel, room))
 }

@@ -37,10 +37,10 @@ bind-fault f k w i p h = run-bind f k w i ∙ follow-fault (λ b n. run (k b) w 
 
 -- numbers
 module _ {R : Type 0} (lo hi : ℕ) (k : ℕ → Format R) (K : (v : ℕ) → IsNode (k v)) (w : ℕ → ℕ) (i : ℕ) where
-  pub num-got : (v j : ℕ) → numberAt lo hi w i ≡ got v j → run (num lo hi k) w i ≡ run (k v) w j
+  num-got : (v j : ℕ) → numberAt lo hi w i ≡ got v j → run (num lo hi k) w i ≡ run (k v) w j
   num-got v j h = run-num lo hi k K w i ∙ follow-got (λ b n. run (k b) w n) v j h
 
-  pub num-fault : (p : ℕ) → numberAt lo hi w i ≡ fault p → run (num lo hi k) w i ≡ fault p
+  num-fault : (p : ℕ) → numberAt lo hi w i ≡ fault p → run (num lo hi k) w i ≡ fault p
   num-fault p h = run-num lo hi k K w i ∙ follow-fault (λ b n. run (k b) w n) p h
 
 pub then-got : (lo hi b : ℕ) (w : ℕ → ℕ) (i v j : ℕ) → numberAt lo hi w i ≡ got v j → w j ≡ b → run (numThen lo hi b) w i ≡ got v (j + 1)
@@ -125,7 +125,8 @@ module _ (x : Run ℕ) (left lo acc : ℕ) (w : ℕ → ℕ) (i : ℕ) (e : x �
         less : (n : ℕ) → n ≡ suc n - 1
         less n = omega arith
 
-        go : (n : ℕ) → 0 < n → x ≡ run (moreMembers n lo acc) w i → x ≡ run (alt 41 (done acc) (lit 32 (num lo 63 (λ v. moreMembers (n - 1) (suc v) (insert acc v))))) w i
+        go : (n : ℕ) → 0 < n → x ≡ run (moreMembers n lo acc) w i
+            → x ≡ run (alt 41 (done acc) (lit 32 (num lo 63 (λ v. moreMembers (n - 1) (suc v) (insert acc v))))) w i
         go zero q f = absurd (omega arith)
         go (suc n) q f =
             f ∙ ap (λ (g : Format ℕ). run g w i) (more-on n lo acc h)
@@ -196,7 +197,8 @@ members-none w i h = run-alt-left 41 (done 0) _ w i h ∙ run-done 0 w (suc i) �
 first-wants : (v : ℕ) → IsNode (moreMembers 63 (suc v) (insert 0 v))
 first-wants v = more-ends 63 (suc v) (insert 0 v) .wants
 
-pub members-first : (w : ℕ → ℕ) (i v j : ℕ) → (w i ≡ 41 → ⊥) → numberAt 0 63 w i ≡ got v j → run membersFormat w i ≡ run (moreMembers 63 (v + 1) (insert 0 v)) w j
+pub members-first : (w : ℕ → ℕ) (i v j : ℕ) → (w i ≡ 41 → ⊥) → numberAt 0 63 w i ≡ got v j
+    → run membersFormat w i ≡ run (moreMembers 63 (v + 1) (insert 0 v)) w j
 unfolding membersFormat
 members-first w i v j h e =
     run-alt-right 41 (done 0) _ w i h (num-node 0 63 _) ∙ num-got 0 63 (λ u. moreMembers 63 (suc u) (insert 0 u)) first-wants w i v j e

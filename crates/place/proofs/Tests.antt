@@ -74,7 +74,8 @@ module _ (g : Game) (M : ℕ) (p : Position) where
   unfolding hasPosition
   position-in h =
       let q = and-right (ltb (p .input .0) (g .input .states)) (ltb (p .output .0) (g .output .states) && ltb (p .counter) M) h in (
-        ltb-true (p .input .0) (g .input .states) (and-left (ltb (p .input .0) (g .input .states)) (ltb (p .output .0) (g .output .states) && ltb (p .counter) M) h),
+        ltb-true (p .input .0) (g .input .states) (and-left (ltb (p .input .0) (g .input .states))
+            (ltb (p .output .0) (g .output .states) && ltb (p .counter) M) h),
         ltb-true (p .output .0) (g .output .states) (and-left (ltb (p .output .0) (g .output .states)) (ltb (p .counter) M) q),
         ltb-true (p .counter) M (and-right (ltb (p .output .0) (g .output .states)) (ltb (p .counter) M) q),
       )

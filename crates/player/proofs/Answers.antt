@@ -78,7 +78,8 @@ module _ (g : Game) (l : List ℕ) (i : InState) where
 module _ (g : Game) (l : List ℕ) (p : Position) (j : InState) where
   -- the answer where the input is a move
   unfoldable answered : Played
-  answered = arrives (controllerCounters (separatedOf g)) (edge (graphOf (g .output)) (p .output .0)) j (controllerOf g l .step (p .counter) (p .output .0) (j .0))
+  answered =
+      arrives (controllerCounters (separatedOf g)) (edge (graphOf (g .output)) (p .output .0)) j (controllerOf g l .step (p .counter) (p .output .0) (j .0))
 
   -- the answer where the table and the position fit
   unfoldable placed : Played
@@ -108,7 +109,8 @@ module _ (g : Game) (l : List ℕ) (p : Position) (j : InState) where
     row-of a h b =
         let q = position-in g M p h in
         ap answer
-        (sym (row-read (g .input .states) M (p .output .0) (p .counter) (j .0) l (getD l (g .input .states + ((p .output .0 * M + p .counter) * g .input .states + j .0)) 65535)
+        (sym (row-read (g .input .states) M (p .output .0) (p .counter) (j .0) l
+        (getD l (g .input .states + ((p .output .0 * M + p .counter) * g .input .states + j .0)) 65535)
         (in-range (g .input .states) M (p .output .0) (p .counter) (j .0) (inputs-most g a) (controller-most g a M m) (omega (arith, outputs-most g a)) (q .2)
         (edge-to (graphOf (g .input)) (p .input .0) (j .0) b))
         refl)
@@ -125,7 +127,8 @@ module _ (g : Game) (l : List ℕ) (p : Position) (j : InState) where
         ∙ ap (λ (y : OutSet). arrives M (has (y .0)) j (answer e)) t
         ∙ ap (λ (k : ℕ). arrives k (has (getD (g .output .moves) (p .output .0) 0)) j (answer e)) m
         ∙ ap (λ (ok : ℕ → Bool). arrives (controllerCounters (separatedOf g)) ok j (answer e)) (output-moves g a (p .output .0) (position-in g M p h .1))
-        ∙ ap (arrives (controllerCounters (separatedOf g)) (edge (graphOf (g .output)) (p .output .0)) j) (ap answer (q ∙ ap (λ (y : RowIndex). rowEntry l (g .input .states) M (y .output .0) (y .counter) (y .input .0)) z) ∙ row-of a h b)
+        ∙ ap (arrives (controllerCounters (separatedOf g)) (edge (graphOf (g .output)) (p .output .0)) j)
+        (ap answer (q ∙ ap (λ (y : RowIndex). rowEntry l (g .input .states) M (y .output .0) (y .counter) (y .input .0)) z) ∙ row-of a h b)
         ∙ held 14 answered b
         ∙ held 16 placed (both-hold f h)
 

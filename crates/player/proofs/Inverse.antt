@@ -96,7 +96,8 @@ module _ (g : Game) (l : List ℕ) where
     pub fits : fitting g l ≡ true
     pub position : hasPosition g (controllerCounters (separatedOf g)) p ≡ true
     pub move : edge (graphOf (g .input)) (p .input .0) (j .0) ≡ true
-    pub arrived : Arrived (controllerCounters (separatedOf g)) (edge (graphOf (g .output)) (p .output .0)) j (controllerOf g l .step (p .counter) (p .output .0) (j .0)) q
+    pub arrived : Arrived (controllerCounters (separatedOf g)) (edge (graphOf (g .output)) (p .output .0)) j
+        (controllerOf g l .step (p .counter) (p .output .0) (j .0)) q
 
   pub turned : (p : Position) (j : InState) (q : Position) → stepping g l p j ≡ At q → Turned p j q
   unfolding stepping stepped

@@ -54,7 +54,7 @@ module _ (g : Game) (l : List ℕ) where
       let v = began g l i p e in
       record { initial = rw (v .arrived .input) (v .initial); start = rw (v .arrived .input) (v .arrived .names) }
 
-  pub turn-of : (p : Position) (j : InState) (q : Position) → stepping g l p j ≡ At q
+  turn-of : (p : Position) (j : InState) (q : Position) → stepping g l p j ≡ At q
       → ControllerTurn (playOf g) (controllerOf g l) (configuration p) (configuration q)
   unfolding playOf arenaOf separatedOf controllerOf controllerTable configuration
   turn-of p j q e =
@@ -70,7 +70,7 @@ module _ (g : Game) (l : List ℕ) where
   unfolding passed
   alone p = record { walk = stay; passes = refl }
 
-  pub walk-of : (js : List InState) (p q : Position) → runOf g l js (At p) ≡ At q → Passes (trailOf g l js (At p)) p q
+  walk-of : (js : List InState) (p q : Position) → runOf g l js (At p) ≡ At q → Passes (trailOf g l js (At p)) p q
   unfolding runOf trailOf positionOf next passed
   walk-of [] p q e = let h : p ≡ q = cc in subst (Passes (p ∷ []) p) h (alone p)
   walk-of (j ∷ js) p q e = go (stepping g l p j) refl e (walk-of js)
@@ -99,7 +99,7 @@ module _ (g : Game) (l : List ℕ) where
       }
 
   -- Whatever the table: the positions of a run that is not refused are a walk of it from a first configuration.
-  pub ran : (i : InState) (js : List InState) (q : Position) → run g l i js ≡ At q → Ran g l i js
+  ran : (i : InState) (js : List InState) (q : Position) → run g l i js ≡ At q → Ran g l i js
   unfolding run
   ran i js q e = go (beginning g l i) refl e
     where
@@ -116,7 +116,7 @@ module _ (g : Game) (l : List ℕ) where
       subst (Reached g l) h (record { origin = configuration (v .first); first = v .starts; walk = v .walk })
 
   module _ (a : acceptance g ≡ Accepted) (f : fitting g l ≡ true) (W : ControllerWins (playOf g) (controllerOf g l)) where
-    pub wins-begin : (i : InState) → begins (graphOf (g .input)) (i .0) ≡ true → (p : Position) × (beginning g l i ≡ At p)
+    wins-begin : (i : InState) → begins (graphOf (g .input)) (i .0) ≡ true → (p : Position) × (beginning g l i ≡ At p)
     unfolding playOf arenaOf separatedOf controllerOf controllerTable begun
     wins-begin i b =
         let M = controllerCounters (separatedOf g) in
@@ -130,16 +130,18 @@ module _ (g : Game) (l : List ℕ) where
     unfolding playOf arenaOf separatedOf graphOf controllerOf controllerTable configuration
     in-game p r =
         let b = inside-controller (bounded-arenaOf (separatedOf g)) (controllerOf g l) (configuration p) r in
-        sym (counter-last g (controllerCounters (separatedOf g)) p (b .input) (b .output)) ∙ lt-ltb (p .counter) (controllerCounters (separatedOf g)) (b .memory)
+        sym (counter-last g (controllerCounters (separatedOf g)) p (b .input) (b .output)) ∙ lt-ltb (p .counter) (controllerCounters (separatedOf g))
+        (b .memory)
 
-    pub wins-step : (p : Position) (j : InState)
+    wins-step : (p : Position) (j : InState)
         → Reached g l p
         → edge (graphOf (g .input)) (p .input .0) (j .0) ≡ true → (q : Position) × (stepping g l p j ≡ At q)
     unfolding playOf arenaOf separatedOf controllerOf controllerTable configuration stepped
     wins-step p j r m =
         let M = controllerCounters (separatedOf g) in
         let row = arrives M (edge (graphOf (g .output)) (p .output .0)) j (controllerOf g l .step (p .counter) (p .output .0) (j .0)) in
-        let v = arrives-some M (edge (graphOf (g .output)) (p .output .0)) j (controllerOf g l .step (p .counter) (p .output .0) (j .0)) (W .steps (configuration p) r (j .0) m) in (
+        let v = arrives-some M (edge (graphOf (g .output)) (p .output .0)) j (controllerOf g l .step (p .counter) (p .output .0) (j .0))
+        (W .steps (configuration p) r (j .0) m) in (
           v .0,
           sym
               (stepping-accepted g l p j (At (v .0)) a

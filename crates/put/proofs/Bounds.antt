@@ -16,7 +16,22 @@ use Rattle.game.specs.Access.{noRequirement}
 use Rattle.game.specs.declared.Graph.{Graph}
 use Rattle.game.specs.declared.Requirement.{Requirement}
 use Rattle.game.specs.declared.Game.{Game}
-use Rattle.shape.specs.Text.{gapText, items, members, setText, cells, setsText, stateLine, stateLines, inWords, outWords, requirementLine, requirementLines, gameText, emptyRequirement}
+use Rattle.shape.specs.Text.{
+  gapText,
+  items,
+  members,
+  setText,
+  cells,
+  setsText,
+  stateLine,
+  stateLines,
+  inWords,
+  outWords,
+  requirementLine,
+  requirementLines,
+  gameText,
+  emptyRequirement,
+}
 use Rattle.shape.specs.Shape.{opening}
 use Rattle.shape.proofs.Members.{members-take, members-skip}
 use Rattle.shape.proofs.Opening.{opening-length}
@@ -24,7 +39,7 @@ use Rattle.shape.proofs.WordTable.{word-short}
 use Rattle.put.specs.Put.{Few, Writable}
 use Rattle.put.proofs.Pieces.{set-open, setRest, sets-open, setsRest, header-length, state-length, requirement-length, game-length, requirement-past}
 
-pub decimal-short : (v : ℕ) → v < 100 → length (decimal v) ≤ 2
+decimal-short : (v : ℕ) → v < 100 → length (decimal v) ≤ 2
 decimal-short v h =
     by-cases (ltb v 10)
     (λ b. omega (arith, ap length (decimal-one v (ltb-true v 10 b))))
@@ -47,10 +62,16 @@ members-short zero lo x gap h = omega arith
 members-short (suc n) lo x gap h =
     by-cases (has x lo)
     (λ b. rw (members-take n lo x b)
-    (omega (arith, item-short gap (decimal lo) (map decimal (members n (suc lo) x)), decimal-short lo (omega arith), members-short n (suc lo) x true (omega arith))))
+    (omega (
+      arith,
+      item-short gap (decimal lo) (map decimal (members n (suc lo) x)),
+      decimal-short lo (omega arith),
+      members-short n (suc lo) x true
+          (omega arith),
+    )))
     (λ b. rw (members-skip n lo x b) (omega (arith, members-short n (suc lo) x gap (omega arith))))
 
-pub set-short : (x : ℕ) → length (setText x) ≤ 194
+set-short : (x : ℕ) → length (setText x) ≤ 194
 unfolding setRest
 set-short x =
     omega (arith, ap length (set-open x), length-append (items false (map decimal (members 64 0 x))) (41 ∷ []), members-short 64 0 x false (omega arith))
@@ -105,7 +126,8 @@ requirement-short q F =
       sets-short (q .guaranteed) (outWords (q .guarantees)) (F .guaranteed),
     )
 
-requirements-short : (n r : ℕ) (qs : List Requirement) → ((i : ℕ) → r ≤ i → i < r + n → Few (getD qs i noRequirement)) → length (requirementLines n r qs) ≤ 1580 * n
+requirements-short : (n r : ℕ) (qs : List Requirement) → ((i : ℕ) → r ≤ i → i < r + n → Few (getD qs i noRequirement))
+    → length (requirementLines n r qs) ≤ 1580 * n
 unfolding requirementLines
 requirements-short zero r qs F = omega arith
 requirements-short (suc n) r qs F =

@@ -11,7 +11,7 @@ use Rattle.grammar.specs.Number.{decimal}
 use Rattle.grammar.proofs.Number.{decimal-one, decimal-step}
 use Rattle.put.specs.Put.{overlay, Puts}
 
-pub overlay-append : (d : List ℕ) (at : ℕ) (t u : List ℕ) → overlay (overlay d at t) (at + length t) u ≡ overlay d at (t ++ u)
+overlay-append : (d : List ℕ) (at : ℕ) (t u : List ℕ) → overlay (overlay d at t) (at + length t) u ≡ overlay d at (t ++ u)
 unfolding overlay
 overlay-append d at [] u = ap (λ (i : ℕ). overlay d i u) (omega arith)
 overlay-append d at (b ∷ t) u =
@@ -20,7 +20,7 @@ overlay-append d at (b ∷ t) u =
     shift : (a n : ℕ) → a + suc n ≡ a + 1 + n
     shift a n = omega arith
 
-pub overlay-length : (d : List ℕ) (at : ℕ) (t : List ℕ) → length (overlay d at t) ≡ length d
+overlay-length : (d : List ℕ) (at : ℕ) (t : List ℕ) → length (overlay d at t) ≡ length d
 unfolding overlay
 overlay-length d at [] = refl
 overlay-length d at (b ∷ t) = overlay-length (set d at b) (at + 1) t ∙ length-set d at b

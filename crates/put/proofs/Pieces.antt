@@ -17,7 +17,25 @@ use Rattle.game.specs.declared.OutSet.{OutSet}
 use Rattle.game.specs.declared.Graph.{Graph}
 use Rattle.game.specs.declared.Requirement.{Requirement}
 use Rattle.game.specs.declared.Game.{Game}
-use Rattle.shape.specs.Text.{gapText, items, bracket, line, members, setText, cells, setsText, headerLine, stateLine, stateLines, inWords, outWords, requirementLine, requirementLines, gameText, emptyRequirement}
+use Rattle.shape.specs.Text.{
+  gapText,
+  items,
+  bracket,
+  line,
+  members,
+  setText,
+  cells,
+  setsText,
+  headerLine,
+  stateLine,
+  stateLines,
+  inWords,
+  outWords,
+  requirementLine,
+  requirementLines,
+  gameText,
+  emptyRequirement,
+}
 use Rattle.shape.specs.Shape.{opening}
 use Rattle.shape.proofs.Members.{members-take, members-skip}
 use Rattle.shape.proofs.SetLists.{part-cons, item-text}
@@ -25,11 +43,13 @@ use Rattle.put.specs.Put.{Puts}
 use Rattle.put.proofs.Buffer.{Remains, remains-step, remains-none, remains-room}
 
 -- fixed bytes, one at a time
-pub bytes-step : {d : List ℕ} {i : ℕ} {e : List ℕ} {at : ℕ} (l : List ℕ) (k b : ℕ) {r : ℕ} {f : List ℕ} → Remains d i l e at (drop k l) → k < length l → b ≡ getD l k 0
+pub bytes-step : {d : List ℕ} {i : ℕ} {e : List ℕ} {at : ℕ} (l : List ℕ) (k b : ℕ) {r : ℕ} {f : List ℕ} → Remains d i l e at (drop k l) → k < length l
+    → b ≡ getD l k 0
     → Puts e at (b ∷ []) r f → Remains d i l f r (drop (k + 1) l)
 bytes-step l k b R h g P = remains-step (b ∷ []) (drop (k + 1) l) R (drop-cons l k 0 h ∙ (λ n. sym g n ∷ drop (sym (add-one k) n) l)) P
 
-pub bytes-room : {d : List ℕ} {i : ℕ} {e : List ℕ} {at : ℕ} (l : List ℕ) (k n : ℕ) → Remains d i l e at (drop k l) → k < length l → i + length l ≤ n → at + 1 ≤ n
+pub bytes-room : {d : List ℕ} {i : ℕ} {e : List ℕ} {at : ℕ} (l : List ℕ) (k n : ℕ) → Remains d i l e at (drop k l) → k < length l → i + length l ≤ n
+    → at + 1 ≤ n
 bytes-room l k n R h g = remains-room (getD l k 0 ∷ []) (drop (suc k) l) n R (drop-cons l k 0 h) g
 
 pub bytes-end : {d : List ℕ} {i : ℕ} {e : List ℕ} {at : ℕ} (l : List ℕ) (k : ℕ) → Remains d i l e at (drop k l) → length l ≤ k → Puts d i l at e
@@ -110,7 +130,8 @@ unfolding stateLine line bracket items gapText opening
 state-pieces w s f x = simp (append-assoc, append-nil)
 
 pub requirement-pieces : (q : Requirement)
-    → opening 3 ++ (setsText (q .assumed) (inWords (q .assumptions)) ++ (32 ∷ [] ++ (setsText (q .guaranteed) (outWords (q .guarantees)) ++ 41 ∷ 10 ∷ []))) ≡ requirementLine q
+    → opening 3 ++ (setsText (q .assumed) (inWords (q .assumptions)) ++ (32 ∷ [] ++ (setsText (q .guaranteed) (outWords (q .guarantees)) ++ 41 ∷ 10 ∷ [])))
+    ≡ requirementLine q
 unfolding requirementLine line bracket items gapText opening
 requirement-pieces q = simp (append-assoc, append-nil)
 
@@ -181,7 +202,8 @@ module _ {d : List ℕ} {i : ℕ} {all e : List ℕ} {at : ℕ} where
       → at + length (gapText gap ++ setText x) ≤ n
   item-room gap j k ws x n R l h g = remains-room (gapText gap ++ setText x) (setsRest true (j + 1) k ws) n R (sets-take gap j k ws x l h) g
 
-  pub state-room : (w k s : ℕ) (h : Graph) (f x n : ℕ) → Remains d i all e at (stateLines w (k - s) s h) → s < k → f ≡ one (has (h .initial) s) → x ≡ getD (h .moves) s 0
+  pub state-room : (w k s : ℕ) (h : Graph) (f x n : ℕ) → Remains d i all e at (stateLines w (k - s) s h) → s < k → f ≡ one (has (h .initial) s)
+      → x ≡ getD (h .moves) s 0
       → i + length all ≤ n → at + length (stateLine w s f x) ≤ n
   state-room w k s h f x n R l p q g = remains-room (stateLine w s f x) (stateLines w (k - (s + 1)) (s + 1) h) n R (states-take w k s h f x l p q) g
 
@@ -209,17 +231,20 @@ state-length w s f x =
 
 pub requirement-length : (q : Requirement)
     → length (requirementLine q)
-    ≡ length (opening 3) + (length (setsText (q .assumed) (inWords (q .assumptions))) + (1 + (length (setsText (q .guaranteed) (outWords (q .guarantees))) + 2)))
+    ≡ length (opening 3) + (length (setsText (q .assumed) (inWords (q .assumptions))) +
+    (1 + (length (setsText (q .guaranteed) (outWords (q .guarantees))) + 2)))
 requirement-length q =
     ap length (sym (requirement-pieces q)) ∙ length-append (opening 3) _
     ∙ ap (λ (n : ℕ). length (opening 3) + n) (length-append (setsText (q .assumed) (inWords (q .assumptions))) _
-    ∙ ap (λ (n : ℕ). length (setsText (q .assumed) (inWords (q .assumptions))) + n) (length-append {A = ℕ} (32 ∷ []) (setsText (q .guaranteed) (outWords (q .guarantees)) ++ 41 ∷ 10 ∷ [])
+    ∙ ap (λ (n : ℕ). length (setsText (q .assumed) (inWords (q .assumptions))) + n)
+    (length-append {A = ℕ} (32 ∷ []) (setsText (q .guaranteed) (outWords (q .guarantees)) ++ 41 ∷ 10 ∷ [])
     ∙ ap (λ (n : ℕ). 1 + n) (length-append (setsText (q .guaranteed) (outWords (q .guarantees))) (41 ∷ 10 ∷ []))))
 
 pub game-length : (g : Game)
     → length (gameText g)
     ≡ length (headerLine (g .input .states) (g .output .states) (g .k))
-    + (length (stateLines 1 (g .input .states) 0 (g .input)) + (length (stateLines 2 (g .output .states) 0 (g .output)) + length (requirementLines (g .k) 0 (g .requirements))))
+    + (length (stateLines 1 (g .input .states) 0 (g .input)) +
+    (length (stateLines 2 (g .output .states) 0 (g .output)) + length (requirementLines (g .k) 0 (g .requirements))))
 unfolding gameText
 game-length g =
     length-append (headerLine (g .input .states) (g .output .states) (g .k)) _

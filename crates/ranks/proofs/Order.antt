@@ -85,7 +85,8 @@ stored-same S i f j = go (decide (nontrivial (S .input) i))
         ∙ sym (stored-trivial S i t)
 
 pub row-taken : {g : Game} {l : List ℕ} {cores turning i : ℕ} → RowReady g l cores turning i → EarlierReady g l i → (a f : ℕ)
-    → a ≡ pack (g .input .states) (together l i) → f ≡ least 64 (has a) → f < i → (f < g .input .states) × (getD l (g .input .states + f) 0 ≡ storedRow (separatedOf g) i)
+    → a ≡ pack (g .input .states) (together l i) → f ≡ least 64 (has a) → f < i → (f < g .input .states) ×
+    (getD l (g .input .states + f) 0 ≡ storedRow (separatedOf g) i)
 unfolding separatedOf graphOf
 row-taken {g} {l} {cores} {turning} {i} R E a f e q b =
     (omega (arith, R .here), E .same f b (sym (rank-same (graphOf (g .input)) i f together-f)) ∙ stored-same (separatedOf g) i f together-f)
@@ -119,7 +120,8 @@ pub filling-long : {g : Game} {cores turning : ℕ} {l : List ℕ} {k i : ℕ} �
 filling-long P = omega (arith, P .laid .long)
 
 -- the inputs between two that reach k states need nothing
-pub filling-skips : {g : Game} {cores turning : ℕ} {l : List ℕ} {k i r : ℕ} → Filling g cores turning l k i → NextAt l (g .input .states) k i r → Filling g cores turning l k r
+pub filling-skips : {g : Game} {cores turning : ℕ} {l : List ℕ} {k i r : ℕ} → Filling g cores turning l k i → NextAt l (g .input .states) k i r
+    → Filling g cores turning l k r
 filling-skips {g} {cores} {turning} {l} {k} {i} {r} P N = record {
   fits = P .fits;
   laid = P .laid;
@@ -172,7 +174,8 @@ module _ {g : Game} {cores turning : ℕ} {l : List ℕ} {k i : ℕ} (P : Fillin
       new : getD (set l (g .input .states + i) v) (g .input .states + i) 0 ≡ storedRow (separatedOf g) i
       new = getD-set-same l (g .input .states + i) v 0 inside ∙ e
 
-      row : (j : ℕ) → getD l (g .input .states + j) 0 ≡ storedRow (separatedOf g) j → getD (set l (g .input .states + i) v) (g .input .states + j) 0 ≡ storedRow (separatedOf g) j
+      row : (j : ℕ) → getD l (g .input .states + j) 0 ≡ storedRow (separatedOf g) j
+          → getD (set l (g .input .states + i) v) (g .input .states + j) 0 ≡ storedRow (separatedOf g) j
       row j r = elim (ℕ-discrete j i) [
         | yes d ↦ subst⁻¹ (λ (t : ℕ). getD (set l (g .input .states + i) v) (g .input .states + t) 0 ≡ storedRow (separatedOf g) t) d new
         | no d ↦ getD-set-other l (g .input .states + i) (g .input .states + j) v 0 (omega arith) ∙ r
@@ -191,7 +194,8 @@ pub kept-more : {g : Game} {l m n : List ℕ} → Kept g l m → Kept g m n → 
 kept-more p q = record { long = q .long ∙ p .long; rest = q .rest ∙ p .rest }
 
 -- all inputs that reach k states are done
-pub filling-next : {g : Game} {cores turning : ℕ} {l : List ℕ} {k i : ℕ} → Filling g cores turning l k i → g .input .states ≤ i → Filling g cores turning l (k + 1) 0
+pub filling-next : {g : Game} {cores turning : ℕ} {l : List ℕ} {k i : ℕ} → Filling g cores turning l k i → g .input .states ≤ i
+    → Filling g cores turning l (k + 1) 0
 filling-next {g} {cores} {turning} {l} {k} {i} P b = record {
   fits = P .fits;
   laid = P .laid;

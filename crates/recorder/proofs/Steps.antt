@@ -70,7 +70,8 @@ module _ (g : Game) (l is os : List ℕ) (n : ℕ) (p : Position) where
     unfolding recorded
     shows =
         ap (λ (x : List ℕ). recorded g l x (drop n os) n p) (drop-cons is n 0 b)
-        ∙ ap (λ (x : Played). judged x (drop n os) n (recorded g l (drop (suc n) is) (drop 1 (drop n os)) (suc n))) (sym (e ∙ ap (λ (i : ℕ). answerAt g l n p (inputOf i)) h))
+        ∙ ap (λ (x : Played). judged x (drop n os) n (recorded g l (drop (suc n) is) (drop 1 (drop n os)) (suc n)))
+        (sym (e ∙ ap (λ (i : ℕ). answerAt g l n p (inputOf i)) h))
 
     pub step-fault : (c : ℕ) → a ≡ Stopped c → Fault n c ≡ recorded g l (drop n is) (drop n os) n p
     unfolding judged

@@ -27,7 +27,8 @@ module _ (g : Game) (F : Fits g) where
   -- what is read from scratch l
   module _ (l : List ℕ) (L : Laid g l) (cores i : ℕ) (b : i < g .input .states)
       (c : cores ≡ pack (g .input .states) (nontrivial (graphOf (g .input))))
-      (below : (j : ℕ) → j < g .input .states → rank (graphOf (g .input)) j < rank (graphOf (g .input)) i → getD l (g .input .states + j) 0 ≡ storedRow (separatedOf g) j) where
+      (below : (j : ℕ) → j < g .input .states → rank (graphOf (g .input)) j < rank (graphOf (g .input)) i → getD l (g .input .states + j) 0 ≡ storedRow
+      (separatedOf g) j) where
     won-means : (j o : ℕ) → j < g .input .states → o < g .output .states → rank (graphOf (g .input)) j < rank (graphOf (g .input)) i
         → wonAt l (g .input .states) cores j o ≡ region (separatedOf g) j o
     won-means j o lj lo r = won-region g l cores j o (F .output .most) lj lo c (below j lj r) (L .outputs o lo)
@@ -37,20 +38,23 @@ module _ (g : Game) (F : Fits g) where
     one-answered true p q k h = refl
     one-answered false p q k h = any-intro k (λ j. true) 0 h refl
 
-    reply-means : (o : ℕ) → o < g .output .states → nontrivial (graphOf (g .input)) i ≡ false → replyAt g l cores i o ≡ replies (separatedOf g) (region (separatedOf g)) i o
+    reply-means : (o : ℕ) → o < g .output .states → nontrivial (graphOf (g .input)) i ≡ false
+        → replyAt g l cores i o ≡ replies (separatedOf g) (region (separatedOf g)) i o
     unfolding replyAt replyWith repliesAt replied excused replies answers separatedOf graphOf
     reply-means o lo t =
         all-same (g .input .states) (replied l (g .input .states) cores (getD (g .input .moves) i 0) (getD (g .output .moves) o 0) (g .output .states))
         (λ j. not (edge (graphOf (g .input)) i j) || any (g .output .states) (λ p. edge (graphOf (g .output)) o p && region (separatedOf g) j p))
         (λ j lj.
-        one-answered (has (getD (g .input .moves) i 0) j) (has (getD (g .output .moves) o 0)) (λ p. wonAt l (g .input .states) cores j p) (g .output .states) (F .output .some)
+        one-answered (has (getD (g .input .moves) i 0) j) (has (getD (g .output .moves) o 0)) (λ p. wonAt l (g .input .states) cores j p)
+        (g .output .states) (F .output .some)
         ∙ one j lj (decide (edge (graphOf (g .input)) i j)))
       where
         moved : (j : ℕ) → has (getD (g .input .moves) i 0) j ≡ edge (graphOf (g .input)) i j
         moved j = moved-edge (g .input) (F .input) i j b
 
         one : (j : ℕ) → j < g .input .states → (edge (graphOf (g .input)) i j ≡ true) ⊎ (edge (graphOf (g .input)) i j ≡ false)
-            → (not (has (getD (g .input .moves) i 0) j) || any (g .output .states) (λ p. has (getD (g .output .moves) o 0) p && wonAt l (g .input .states) cores j p))
+            → (not (has (getD (g .input .moves) i 0) j) || any (g .output .states)
+            (λ p. has (getD (g .output .moves) o 0) p && wonAt l (g .input .states) cores j p))
             ≡ (not (edge (graphOf (g .input)) i j) || any (g .output .states) (λ p. edge (graphOf (g .output)) o p && region (separatedOf g) j p))
         one j lj (inl h) =
             rw (moved j, h)

@@ -107,11 +107,13 @@ module _ (l : List ℕ) (n m moves : ℕ) (t : Tried) (T : Trying l n m moves t)
 
 -- ---- an input answered
 
-pub answered-in : (l : List ℕ) (n cores j : ℕ) (t : Tried) {r : Bool} → has cores j ≡ true → r ≡ meets 64 (getD l (n + j) 0) (t .reach) → r ≡ answeredAt l n cores j t
+pub answered-in : (l : List ℕ) (n cores j : ℕ) (t : Tried) {r : Bool} → has cores j ≡ true → r ≡ meets 64 (getD l (n + j) 0) (t .reach)
+    → r ≡ answeredAt l n cores j t
 unfolding answeredAt
 answered-in l n cores j t c e = rw (c, answeredAt) e
 
-pub answered-out : (l : List ℕ) (n cores j : ℕ) (t : Tried) {r : Bool} → has cores j ≡ false → r ≡ meets 64 (getD l (n + j) 0) (t .seen) → r ≡ answeredAt l n cores j t
+pub answered-out : (l : List ℕ) (n cores j : ℕ) (t : Tried) {r : Bool} → has cores j ≡ false → r ≡ meets 64 (getD l (n + j) 0) (t .seen)
+    → r ≡ answeredAt l n cores j t
 unfolding answeredAt
 answered-out l n cores j t c e = rw (c, answeredAt) e
 
@@ -157,7 +159,7 @@ module _ (l : List ℕ) (n m cores moves j : ℕ) (t : Tried) (T : Trying l n m 
       any-intro m (excused l n cores next moves j) (w .0) (w .1) (or-right (not (has next j)) (and-intro (w .2) (w .3)))
 
   -- all moves are seen, and none is won
-  pub unanswered-not : (next : ℕ) → m ≤ 64 → has next j ≡ true → t .left ≡ 0 → answeredAt l n cores j t ≡ false → replied l n cores next moves m j ≡ false
+  unanswered-not : (next : ℕ) → m ≤ 64 → has next j ≡ true → t .left ≡ 0 → answeredAt l n cores j t ≡ false → replied l n cores next moves m j ≡ false
   unfolding replied excused
   unanswered-not next most a z h = any-none m (excused l n cores next moves j) (λ p b. rw a (none p b))
     where

@@ -23,7 +23,8 @@ use Rattle.shape.proofs.Members.{set-node}
 use Rattle.pieces.proofs.Steps.{lit-got, lit-on, bind-got, bind-fault}
 
 -- four words as sets
-pub four-in : (w : List ℕ) → length w ≡ 4 → _≡_ {A = List InSet} (record { 0 = getD w 0 0 } ∷ record { 0 = getD w 1 0 } ∷ record { 0 = getD w 2 0 } ∷ record { 0 = getD w 3 0 } ∷ []) (inSets w)
+pub four-in : (w : List ℕ) → length w ≡ 4
+    → _≡_ {A = List InSet} (record { 0 = getD w 0 0 } ∷ record { 0 = getD w 1 0 } ∷ record { 0 = getD w 2 0 } ∷ record { 0 = getD w 3 0 } ∷ []) (inSets w)
 four-in [] h = absurd (omega arith)
 four-in (a ∷ []) h = absurd (omega arith)
 four-in (a ∷ b ∷ []) h = absurd (omega arith)
@@ -31,7 +32,8 @@ four-in (a ∷ b ∷ c ∷ []) h = absurd (omega arith)
 four-in (a ∷ b ∷ c ∷ d ∷ []) h = refl
 four-in (a ∷ b ∷ c ∷ d ∷ e ∷ w) h = absurd (omega arith)
 
-pub four-out : (w : List ℕ) → length w ≡ 4 → _≡_ {A = List OutSet} (record { 0 = getD w 0 0 } ∷ record { 0 = getD w 1 0 } ∷ record { 0 = getD w 2 0 } ∷ record { 0 = getD w 3 0 } ∷ []) (outSets w)
+pub four-out : (w : List ℕ) → length w ≡ 4
+    → _≡_ {A = List OutSet} (record { 0 = getD w 0 0 } ∷ record { 0 = getD w 1 0 } ∷ record { 0 = getD w 2 0 } ∷ record { 0 = getD w 3 0 } ∷ []) (outSets w)
 four-out [] h = absurd (omega arith)
 four-out (a ∷ []) h = absurd (omega arith)
 four-out (a ∷ b ∷ []) h = absurd (omega arith)
@@ -40,7 +42,8 @@ four-out (a ∷ b ∷ c ∷ d ∷ []) h = refl
 four-out (a ∷ b ∷ c ∷ d ∷ e ∷ w) h = absurd (omega arith)
 
 -- the answers
-pub list-got : {x : Run Sets} {ws : List ℕ} {n j : ℕ} → x ≡ got (record { words = ws; count = n }) j → _≡_ {A = SetList} (record { words = ws; count = n; end = At j }) (setsOf x)
+pub list-got : {x : Run Sets} {ws : List ℕ} {n j : ℕ} → x ≡ got (record { words = ws; count = n }) j
+    → _≡_ {A = SetList} (record { words = ws; count = n; end = At j }) (setsOf x)
 unfolding setsOf
 list-got e = sym (ap setsOf e)
 
@@ -120,7 +123,8 @@ sets-turn x ws count w at e l h y j g =
     ∙ ap (λ (m : ℕ). run (moreSets m (record { words = set ws count y; count = suc count })) w j) fewer
     ∙ ap (λ (c : ℕ). run (moreSets (4 - (count + 1)) (record { words = set ws count y; count = c })) w j) (sym (add-one count))
 
-pub sets-first : (x : ℕ) (w : ℕ → ℕ) (i : ℕ) → run (moreSets 3 (push noSets x)) w i ≡ run (moreSets (4 - 1) (record { words = x ∷ 0 ∷ 0 ∷ 0 ∷ []; count = 1 })) w i
+pub sets-first : (x : ℕ) (w : ℕ → ℕ) (i : ℕ)
+    → run (moreSets 3 (push noSets x)) w i ≡ run (moreSets (4 - 1) (record { words = x ∷ 0 ∷ 0 ∷ 0 ∷ []; count = 1 })) w i
 unfolding push noSets
 sets-first x w i = refl
 
@@ -150,7 +154,8 @@ module _ (w : ℕ → ℕ) (i : ℕ) where
         ∙ bind-got setFormat (λ x. moreSets 3 (push noSets x)) w (i + 1) x j f
 
 -- requirements
-pub requirement-got : {x : Run Requirement} {q : Requirement} {j : ℕ} → x ≡ got q j → _≡_ {A = RequirementScan} (record { requirement = q; end = At j }) (requirementOf x)
+pub requirement-got : {x : Run Requirement} {q : Requirement} {j : ℕ} → x ≡ got q j
+    → _≡_ {A = RequirementScan} (record { requirement = q; end = At j }) (requirementOf x)
 unfolding requirementOf
 requirement-got e = sym (ap requirementOf e)
 
@@ -163,11 +168,13 @@ got-requirement (got q i) r j e f =
     let same : At i ≡ At j = sym (ap (λ (y : RequirementScan). y .end) e) ∙ f in
     let k : i ≡ j = cc in
     ap (λ (y : RequirementScan). got (y .requirement) i) (sym e) ∙ ap (got (r .requirement)) k
-got-requirement (fault p) r j e f = let same : Fault p ≡ At j = sym (ap (λ (y : RequirementScan). y .end) e) ∙ f in let z : _≡_ {A = ℕ} 0 1 = cc in absurd (omega arith)
+got-requirement (fault p) r j e f = let same : Fault p ≡ At j = sym (ap (λ (y : RequirementScan). y .end) e) ∙ f in let z : _≡_ {A = ℕ} 0 1 = cc in absurd
+    (omega arith)
 
 pub fault-requirement : (x : Run Requirement) (r : RequirementScan) (p : ℕ) → r ≡ requirementOf x → r .end ≡ Fault p → x ≡ fault p
 unfolding requirementOf
-fault-requirement (got a i) r p e f = let same : At i ≡ Fault p = sym (ap (λ (y : RequirementScan). y .end) e) ∙ f in let z : _≡_ {A = ℕ} 0 1 = cc in absurd (omega arith)
+fault-requirement (got a i) r p e f = let same : At i ≡ Fault p = sym (ap (λ (y : RequirementScan). y .end) e) ∙ f in let z : _≡_ {A = ℕ} 0 1 = cc in
+    absurd (omega arith)
 fault-requirement (fault q) r p e f = let same : Fault q ≡ Fault p = sym (ap (λ (y : RequirementScan). y .end) e) ∙ f in cc
 
 -- a list that is read has four words
@@ -182,7 +189,8 @@ module _ (a : Sets) (w : ℕ → ℕ) (i : ℕ) where
   module _ (h : w i ≡ 32) where
     if-open : run (guaranteesFormat a) w i ≡ run (bind setsFormat (λ b. bind (chars (41 ∷ 10 ∷ [])) (λ _. done (requirement a b)))) w (i + 1)
     unfolding guaranteesFormat chars
-    if-open = bind-got (chars (32 ∷ [])) (λ _. bind setsFormat (λ b. bind (chars (41 ∷ 10 ∷ [])) (λ _. done (requirement a b)))) w i tt (i + 1) (lit-got 32 tt w i h)
+    if-open =
+        bind-got (chars (32 ∷ [])) (λ _. bind setsFormat (λ b. bind (chars (41 ∷ 10 ∷ [])) (λ _. done (requirement a b)))) w i tt (i + 1) (lit-got 32 tt w i h)
 
     pub if-no-list : (p : ℕ) → run setsFormat w (i + 1) ≡ fault p → run (guaranteesFormat a) w i ≡ fault p
     if-no-list p e = if-open ∙ bind-fault setsFormat _ w (i + 1) p e

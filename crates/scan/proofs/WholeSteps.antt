@@ -12,7 +12,20 @@ use Rattle.game.specs.declared.Graph.{Graph}
 use Rattle.game.specs.declared.Requirement.{Requirement}
 use Rattle.game.specs.declared.Game.{Game}
 use Rattle.shape.specs.Text.{emptyRequirement}
-use Rattle.shape.specs.Shape.{mark, store, Header, headerFormat, StateRow, stateFormat, statesFormat, emptyGraph, requirementFormat, requirementsFormat, outputFormat, gameFormat}
+use Rattle.shape.specs.Shape.{
+  mark,
+  store,
+  Header,
+  headerFormat,
+  StateRow,
+  stateFormat,
+  statesFormat,
+  emptyGraph,
+  requirementFormat,
+  requirementsFormat,
+  outputFormat,
+  gameFormat,
+}
 use Rattle.lines.specs.Lines.{headerOf, stateOf}
 use Rattle.scan.specs.Scan.{graphOf, requirementsOf, gameOf}
 use Rattle.pieces.specs.declared.Step.{Step}
@@ -60,7 +73,8 @@ unfolding graphOf
 fault-graph (got a i) r p e f = let same : At i ≡ Fault p = sym (ap (λ (y : GraphScan). y .end) e) ∙ f in let z : _≡_ {A = ℕ} 0 1 = cc in absurd (omega arith)
 fault-graph (fault q) r p e f = let same : Fault q ≡ Fault p = sym (ap (λ (y : GraphScan). y .end) e) ∙ f in cc
 
-pub requirements-got : {x : Run (List Requirement)} {qs : List Requirement} {j : ℕ} → x ≡ got qs j → _≡_ {A = RequirementsScan} (record { requirements = qs; end = At j }) (requirementsOf x)
+pub requirements-got : {x : Run (List Requirement)} {qs : List Requirement} {j : ℕ} → x ≡ got qs j
+    → _≡_ {A = RequirementsScan} (record { requirements = qs; end = At j }) (requirementsOf x)
 unfolding requirementsOf
 requirements-got e = sym (ap requirementsOf e)
 
@@ -75,16 +89,20 @@ got-requirements (got q i) r j e f =
     let same : At i ≡ At j = sym (ap (λ (y : RequirementsScan). y .end) e) ∙ f in
     let k : i ≡ j = cc in
     ap (λ (y : RequirementsScan). got (y .requirements) i) (sym e) ∙ ap (got (r .requirements)) k
-got-requirements (fault p) r j e f = let same : Fault p ≡ At j = sym (ap (λ (y : RequirementsScan). y .end) e) ∙ f in let z : _≡_ {A = ℕ} 0 1 = cc in absurd (omega arith)
+got-requirements (fault p) r j e f = let same : Fault p ≡ At j = sym (ap (λ (y : RequirementsScan). y .end) e) ∙ f in let z : _≡_ {A = ℕ} 0 1 = cc in
+    absurd (omega arith)
 
 pub fault-requirements : (x : Run (List Requirement)) (r : RequirementsScan) (p : ℕ) → r ≡ requirementsOf x → r .end ≡ Fault p → x ≡ fault p
 unfolding requirementsOf
-fault-requirements (got a i) r p e f = let same : At i ≡ Fault p = sym (ap (λ (y : RequirementsScan). y .end) e) ∙ f in let z : _≡_ {A = ℕ} 0 1 = cc in absurd (omega arith)
+fault-requirements (got a i) r p e f = let same : At i ≡ Fault p = sym (ap (λ (y : RequirementsScan). y .end) e) ∙ f in let z : _≡_ {A = ℕ} 0 1 = cc in
+    absurd (omega arith)
 fault-requirements (fault q) r p e f = let same : Fault q ≡ Fault p = sym (ap (λ (y : RequirementsScan). y .end) e) ∙ f in cc
 
 -- one state
-module _ (x : Run Graph) (v n t m : ℕ) (ms : List ℕ) (w : ℕ → ℕ) (at : ℕ) (e : x ≡ run (statesFormat v (n - t) t (record { states = n; initial = m; moves = ms })) w at) where
-  states-open : t < n → x ≡ run (bind (stateFormat v t) (λ q. statesFormat v (n - t - 1) (suc t) (store (record { states = n; initial = m; moves = ms }) t q))) w at
+module _ (x : Run Graph) (v n t m : ℕ) (ms : List ℕ) (w : ℕ → ℕ) (at : ℕ)
+    (e : x ≡ run (statesFormat v (n - t) t (record { states = n; initial = m; moves = ms })) w at) where
+  states-open : t < n → x ≡ run (bind (stateFormat v t) (λ q. statesFormat v (n - t - 1) (suc t)
+      (store (record { states = n; initial = m; moves = ms }) t q))) w at
   unfolding statesFormat
   states-open l = go (n - t) (omega arith) e
     where
@@ -94,7 +112,8 @@ module _ (x : Run Graph) (v n t m : ℕ) (ms : List ℕ) (w : ℕ → ℕ) (at :
       go : (k : ℕ) → 0 < k → x ≡ run (statesFormat v k t (record { states = n; initial = m; moves = ms })) w at
           → x ≡ run (bind (stateFormat v t) (λ q. statesFormat v (k - 1) (suc t) (store (record { states = n; initial = m; moves = ms }) t q))) w at
       go zero p f = absurd (omega arith)
-      go (suc k) p f = f ∙ ap (λ (i : ℕ). run (bind (stateFormat v t) (λ q. statesFormat v i (suc t) (store (record { states = n; initial = m; moves = ms }) t q))) w at) (less k)
+      go (suc k) p f = f ∙ ap (λ (i : ℕ). run (bind (stateFormat v t)
+          (λ q. statesFormat v i (suc t) (store (record { states = n; initial = m; moves = ms }) t q))) w at) (less k)
 
   pub states-fault : t < n → (p : ℕ) → run (stateFormat v t) w at ≡ fault p → x ≡ fault p
   states-fault l p f = states-open l ∙ bind-fault (stateFormat v t) _ w at p f
@@ -113,7 +132,8 @@ module _ (x : Run Graph) (v n t m : ℕ) (ms : List ℕ) (w : ℕ → ℕ) (at :
   unfolding statesFormat
   states-end l = go (n - t) (omega arith) e
     where
-      go : (k : ℕ) → k ≡ 0 → x ≡ run (statesFormat v k t (record { states = n; initial = m; moves = ms })) w at → x ≡ got (record { states = n; initial = m; moves = ms }) at
+      go : (k : ℕ) → k ≡ 0 → x ≡ run (statesFormat v k t (record { states = n; initial = m; moves = ms })) w at
+          → x ≡ got (record { states = n; initial = m; moves = ms }) at
       go zero z f = f ∙ run-done _ w at
       go (suc k) z f = absurd (omega arith)
 
@@ -134,14 +154,16 @@ module _ (x : Run (List Requirement)) (n t : ℕ) (qs : List Requirement) (w : �
       less : (k : ℕ) → k ≡ suc k - 1
       less k = omega arith
 
-      go : (k : ℕ) → 0 < k → x ≡ run (requirementsFormat k t qs) w at → x ≡ run (bind requirementFormat (λ q. requirementsFormat (k - 1) (suc t) (set qs t q))) w at
+      go : (k : ℕ) → 0 < k → x ≡ run (requirementsFormat k t qs) w at
+          → x ≡ run (bind requirementFormat (λ q. requirementsFormat (k - 1) (suc t) (set qs t q))) w at
       go zero p f = absurd (omega arith)
       go (suc k) p f = f ∙ ap (λ (i : ℕ). run (bind requirementFormat (λ q. requirementsFormat i (suc t) (set qs t q))) w at) (less k)
 
   pub requirements-bad : t < n → (p : ℕ) → run requirementFormat w at ≡ fault p → x ≡ fault p
   requirements-bad l p f = requirements-open l ∙ bind-fault requirementFormat _ w at p f
 
-  pub requirements-turn : t < n → (q : Requirement) (j : ℕ) → run requirementFormat w at ≡ got q j → x ≡ run (requirementsFormat (n - (t + 1)) (t + 1) (set qs t q)) w j
+  pub requirements-turn : t < n → (q : Requirement) (j : ℕ) → run requirementFormat w at ≡ got q j
+      → x ≡ run (requirementsFormat (n - (t + 1)) (t + 1) (set qs t q)) w j
   requirements-turn l q j g =
       let fewer : n - t - 1 ≡ n - (t + 1) = omega arith in
       requirements-open l ∙ bind-got requirementFormat _ w at q j g
@@ -160,7 +182,8 @@ pub requirements-begin : (n : ℕ) (qs : List Requirement) (w : ℕ → ℕ) (i 
     → run (requirementsFormat n 0 (replicate 8 emptyRequirement)) w i ≡ run (requirementsFormat (n - 0) 0 qs) w i
 requirements-begin n qs w i h =
     let all : n ≡ n - 0 = omega arith in
-    ap (λ (k : ℕ). run (requirementsFormat k 0 (replicate 8 emptyRequirement)) w i) all ∙ ap (λ (l : List Requirement). run (requirementsFormat (n - 0) 0 l) w i) (sym h)
+    ap (λ (k : ℕ). run (requirementsFormat k 0 (replicate 8 emptyRequirement)) w i) all ∙ ap
+    (λ (l : List Requirement). run (requirementsFormat (n - 0) 0 l) w i) (sym h)
 
 -- the whole text
 pub counts-header : (x : Run Header) {a o k j : ℕ} → Counts a o k j ≡ headerOf x → x ≡ got (record { inputs = a; outputs = o; k = k }) j

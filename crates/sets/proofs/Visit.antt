@@ -33,7 +33,8 @@ module _ (x h : ℕ) (small : x < 2 ^ 64) (ne : x ≢ 0) (e : h ≡ least 64 (ha
   pub lowest-in : has x h ≡ true
   lowest-in = let b = lowest-below in rw e (least-member 64 (has x) (rw e at b))
 
-pub lowest-less : (x h r : ℕ) → h ≡ least 64 (has x) → ((s : ℕ) → has r s ≡ (has x s && not (eqb s (least 64 (has x))))) → (s : ℕ) → has r s ≡ (has x s && not (eqb s h))
+pub lowest-less : (x h r : ℕ) → h ≡ least 64 (has x) → ((s : ℕ) → has r s ≡ (has x s && not (eqb s (least 64 (has x))))) → (s : ℕ)
+    → has r s ≡ (has x s && not (eqb s h))
 lowest-less x h r e d s = rw e (d s)
 
 module _ (x b y n : ℕ) (f : (s : ℕ) → has b s ≡ ltb s n) (i : (s : ℕ) → has y s ≡ (has x s && has b s)) where
@@ -51,7 +52,8 @@ pub record Collected (x n : ℕ) (p : ℕ → Bool) (rest c : ℕ) : Type 0 wher
 
 module _ (x n : ℕ) (p : ℕ → Bool) where
   -- before the first visit nothing is collected, and all members are left
-  all-left : (y : ℕ) → y < 2 ^ 64 → ((s : ℕ) → has y s ≡ true → (s < n) × (has x s ≡ true)) → ((s : ℕ) → s < n → has x s ≡ true → has y s ≡ true) → Collected x n p y 0
+  all-left : (y : ℕ) → y < 2 ^ 64 → ((s : ℕ) → has y s ≡ true → (s < n) × (has x s ≡ true)) → ((s : ℕ) → s < n → has x s ≡ true → has y s ≡ true)
+      → Collected x n p y 0
   all-left y small f g = record {
     small = small;
     inside = f;

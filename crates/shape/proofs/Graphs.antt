@@ -86,7 +86,8 @@ grown-none w s h O =
       text = refl;
     }
 
-grown-step : (w n s : ℕ) (h : Graph) (q : StateRow) (t u : List ℕ) (g : Graph) → s < 64 → OpenGraph s h → StateParts w s t q → Grown w n (suc s) (store h s q) u g
+grown-step : (w n s : ℕ) (h : Graph) (q : StateRow) (t u : List ℕ) (g : Graph) → s < 64 → OpenGraph s h → StateParts w s t q
+    → Grown w n (suc s) (store h s q) u g
     → Grown w (suc n) s h (t ++ u) g
 unfolding store stateLines
 grown-step w n s h q t u g l O S G =
@@ -186,7 +187,8 @@ graph-end s h g e O S R =
     let moves = fill-end 0 s (h .moves) (g .moves) (R .fill) (O .blank) (λ i l. S .unused i (omega arith)) in
     λ i. record { states = R .count i; initial = starts i; moves = moves i }
 
-states-complete : (w n s : ℕ) (h g : Graph) → s + n ≡ g .states → OpenGraph s h → ShapedGraph g → GraphRest s h g → TextOf (statesFormat w n s h) (stateLines w n s g) g
+states-complete : (w n s : ℕ) (h g : Graph) → s + n ≡ g .states → OpenGraph s h → ShapedGraph g → GraphRest s h g
+    → TextOf (statesFormat w n s h) (stateLines w n s g) g
 unfolding statesFormat stateLines rowOf
 states-complete w zero s h g e O S R = subst (λ (x : Graph). TextOf (done h) [] x) (graph-end s h g (omega arith) O S R) (done-text h)
 states-complete w (suc n) s h g e O S R =
@@ -264,7 +266,8 @@ grown-list-step n r qs q t u ps l O S e G =
           ∙ sym (ap (λ (p : Requirement). requirementLine p ++ requirementLines n (suc r) ps) (back .1));
     }
 
-requirements-grow : (n r : ℕ) (qs : List Requirement) (t : List ℕ) (ps : List Requirement) → r + n ≤ 8 → OpenList r qs → TextOf (requirementsFormat n r qs) t ps → GrownList n r qs t ps
+requirements-grow : (n r : ℕ) (qs : List Requirement) (t : List ℕ) (ps : List Requirement) → r + n ≤ 8 → OpenList r qs
+    → TextOf (requirementsFormat n r qs) t ps → GrownList n r qs t ps
 unfolding requirementsFormat
 requirements-grow zero r qs t ps l O p =
     let d = done-parts qs t ps p in
@@ -273,7 +276,8 @@ requirements-grow (suc n) r qs t ps l O p =
     let P = bind-parts requirementFormat (λ q. requirementsFormat n (suc r) (set qs r q)) t ps p in
     let S = requirement-sound (P .front) (P .value) (P .is-front) in
     let G = requirements-grow n (suc r) (set qs r (P .value)) (P .back) ps (omega arith) (open-put r qs (P .value) O) (P .is-back) in
-    subst (λ (x : List ℕ). GrownList (suc n) r qs x ps) (sym (P .whole)) (grown-list-step n r qs (P .value) (P .front) (P .back) ps (omega arith) O (S .0) (S .1) G)
+    subst (λ (x : List ℕ). GrownList (suc n) r qs x ps) (sym (P .whole))
+    (grown-list-step n r qs (P .value) (P .front) (P .back) ps (omega arith) O (S .0) (S .1) G)
 
 none-open : OpenList 0 (replicate 8 emptyRequirement)
 none-open = record { cells = length-replicate 8 emptyRequirement; blank = blank-replicate emptyRequirement 0 8 }
@@ -284,7 +288,8 @@ pub record RequirementsParts (n : ℕ) (t : List ℕ) (ps : List Requirement) : 
   pub unused : (i : ℕ) → n ≤ i → getD ps i emptyRequirement ≡ emptyRequirement
   pub text : t ≡ requirementLines n 0 ps
 
-pub requirements-sound : (n : ℕ) (t : List ℕ) (ps : List Requirement) → n ≤ 8 → TextOf (requirementsFormat n 0 (replicate 8 emptyRequirement)) t ps → RequirementsParts n t ps
+pub requirements-sound : (n : ℕ) (t : List ℕ) (ps : List Requirement) → n ≤ 8 → TextOf (requirementsFormat n 0 (replicate 8 emptyRequirement)) t ps
+    → RequirementsParts n t ps
 requirements-sound n t ps l h =
     let G = requirements-grow n 0 (replicate 8 emptyRequirement) t ps (omega arith) none-open h in
     record {

@@ -8,13 +8,58 @@ use Rattle.sets.specs.Member.{within}
 use Rattle.grammar.specs.Format.{Format, TextOf, Live, lit, bind, chars, Bytes}
 use Rattle.grammar.specs.Format.Format.{done}
 use Rattle.grammar.specs.Number.{decimal, digit}
-use Rattle.grammar.proofs.Format.{lit-text, lit-parts, lit-live, lit-node, bind-text, bind-parts, bind-live, chars-text, chars-only, chars-live, done-text, done-parts, done-live}
+use Rattle.grammar.proofs.Format.{
+  lit-text,
+  lit-parts,
+  lit-live,
+  lit-node,
+  bind-text,
+  bind-parts,
+  bind-live,
+  chars-text,
+  chars-only,
+  chars-live,
+  done-text,
+  done-parts,
+  done-live,
+}
 use Rattle.grammar.proofs.Number.{num-text, num-parts, num-live, ends-lit}
 use Rattle.game.specs.declared.InSet.{InSet}
 use Rattle.game.specs.declared.OutSet.{OutSet}
 use Rattle.game.specs.declared.Requirement.{Requirement}
-use Rattle.shape.specs.Text.{words, word, items, gapText, bracket, line, setText, setsText, headerLine, stateLine, inWords, outWords, requirementLine, ShapedSets, ShapedRequirement}
-use Rattle.shape.specs.Shape.{setFormat, Sets, setsFormat, opening, numThen, Header, outputsFormat, headerFormat, StateRow, rowFormat, stateFormat, requirement, guaranteesFormat, requirementFormat}
+use Rattle.shape.specs.Text.{
+  words,
+  word,
+  items,
+  gapText,
+  bracket,
+  line,
+  setText,
+  setsText,
+  headerLine,
+  stateLine,
+  inWords,
+  outWords,
+  requirementLine,
+  ShapedSets,
+  ShapedRequirement,
+}
+use Rattle.shape.specs.Shape.{
+  setFormat,
+  Sets,
+  setsFormat,
+  opening,
+  numThen,
+  Header,
+  outputsFormat,
+  headerFormat,
+  StateRow,
+  rowFormat,
+  stateFormat,
+  requirement,
+  guaranteesFormat,
+  requirementFormat,
+}
 use Rattle.shape.proofs.Members.{set-sound, set-complete, set-live}
 use Rattle.shape.proofs.SetLists.{list-sound, list-complete, sets-live}
 
@@ -112,7 +157,8 @@ header-complete h a b c d e =
     let o = h .outputs in
     let k = h .k in
     let end = lit-text 10 (done h) [] h (done-text h) in
-    let K = bind-text (numThen 0 8 41) (λ u. header-end i o u) (decimal k ++ 41 ∷ []) (10 ∷ []) k h (number-text 0 8 41 (omega arith) refl k (omega arith) e) end in
+    let K = bind-text (numThen 0 8 41) (λ u. header-end i o u) (decimal k ++ 41 ∷ []) (10 ∷ []) k h
+    (number-text 0 8 41 (omega arith) refl k (omega arith) e) end in
     let O = bind-text (numThen 1 64 32) (λ u. header-k i u) (decimal o ++ 32 ∷ []) _ o h (number-text 1 64 32 (omega arith) refl o c d) K in
     let I = bind-text (numThen 1 64 32) (λ u. header-o u) (decimal i ++ 32 ∷ []) _ i h (number-text 1 64 32 (omega arith) refl i a b) O in
     rw header-is (rw (← header-words i o k) (chars-then (opening 0) header-i _ h I))
@@ -289,7 +335,8 @@ guarantee-sets q = record { words = outWords (q .guarantees); count = q .guarant
 
 requirement-again : (q : Requirement) → requirement (assumption-sets q) (guarantee-sets q) ≡ q
 unfolding requirement assumption-sets guarantee-sets
-requirement-again q = λ i. record { assumptions = in-in (q .assumptions) i; assumed = q .assumed; guarantees = out-in (q .guarantees) i; guaranteed = q .guaranteed }
+requirement-again q =
+    λ i. record { assumptions = in-in (q .assumptions) i; assumed = q .assumed; guarantees = out-in (q .guarantees) i; guaranteed = q .guaranteed }
 
 requirement-text : (a b : Sets) → ShapedSets (a .count) (a .words) → ShapedSets (b .count) (b .words)
     → TextOf requirementFormat (requirementLine (requirement a b)) (requirement a b)

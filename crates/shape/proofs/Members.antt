@@ -14,7 +14,21 @@ use Rattle.sets.proofs.Membership.{has-or, has-single, has-zero, ext, has-withi
 use Rattle.grammar.specs.Format.{Format, TextOf, Live, lit, alt, IsNode}
 use Rattle.grammar.specs.Format.Format.{done}
 use Rattle.grammar.specs.Number.{decimal, num, digit}
-use Rattle.grammar.proofs.Format.{by-cases, lit-text, lit-parts, lit-live, lit-node, alt-left, alt-right, alt-parts, alt-live, done-text, done-parts, done-live, opens-lit}
+use Rattle.grammar.proofs.Format.{
+  by-cases,
+  lit-text,
+  lit-parts,
+  lit-live,
+  lit-node,
+  alt-left,
+  alt-right,
+  alt-parts,
+  alt-live,
+  done-text,
+  done-parts,
+  done-live,
+  opens-lit,
+}
 use Rattle.grammar.proofs.Number.{num-text, num-parts, num-live, num-node, Ends, ends-lit, ends-alt, opens-num}
 use Rattle.shape.specs.Text.{items, gapText, bracket, members, setText}
 use Rattle.shape.specs.Shape.{insert, moreMembers, membersFormat, setFormat}
@@ -144,7 +158,8 @@ first-member lo acc v n t x f l h M =
       before = λ s p q. M .below s (omega arith) ∙ insert-other acc v s (λ (i : s ≡ v). omega arith) ∙ h s p;
     }
 
-member-text : (gap : Bool) (v : ℕ) (ms : List ℕ) → items gap (map decimal (v ∷ ms)) ++ 41 ∷ [] ≡ gapText gap ++ (decimal v ++ (items true (map decimal ms) ++ 41 ∷ []))
+member-text : (gap : Bool) (v : ℕ) (ms : List ℕ)
+    → items gap (map decimal (v ∷ ms)) ++ 41 ∷ [] ≡ gapText gap ++ (decimal v ++ (items true (map decimal ms) ++ 41 ∷ []))
 unfolding items
 member-text gap v ms = append-assoc (gapText gap) _ _ ∙ ap (λ (l : List ℕ). gapText gap ++ l) (append-assoc (decimal v) _ _)
 
@@ -216,7 +231,8 @@ more-close (suc n) lo acc =
     (λ b. rw (more-off (suc n) lo acc (leb-false lo 63 b)) (lit-text 41 (done acc) [] acc (done-text acc)))
 
 -- a member and what follows it
-member-complete : (lo : ℕ) (k : ℕ → Format ℕ) (v : ℕ) (t : List ℕ) (x : ℕ) → lo ≤ v → v ≤ 63 → Ends (k v) → TextOf (k v) t x → TextOf (num lo 63 k) (decimal v ++ t) x
+member-complete : (lo : ℕ) (k : ℕ → Format ℕ) (v : ℕ) (t : List ℕ) (x : ℕ) → lo ≤ v → v ≤ 63 → Ends (k v) → TextOf (k v) t x
+    → TextOf (num lo 63 k) (decimal v ++ t) x
 member-complete lo k v t x p q E h = num-text lo 63 k v t x (omega arith) p q E h
 
 -- no member is left
@@ -275,7 +291,8 @@ more-live (suc n) lo acc =
     by-cases (leb lo 63)
     (λ b.
     let k : ℕ → Format ℕ = λ u. moreMembers n (suc u) (insert acc u) in
-    let rest : Live (num lo 63 k) = num-live lo 63 k (leb-true lo 63 b) (omega arith) (λ u p q. (more-live n (suc u) (insert acc u), more-ends n (suc u) (insert acc u) .wants)) in
+    let rest : Live (num lo 63 k) = num-live lo 63 k (leb-true lo 63 b) (omega arith)
+    (λ u p q. (more-live n (suc u) (insert acc u), more-ends n (suc u) (insert acc u) .wants)) in
     rw (more-on n lo acc (leb-true lo 63 b))
     (alt-live 41 (done acc) (lit 32 (num lo 63 k)) (omega arith) (done-live acc) (lit-live 32 (num lo 63 k) (omega arith) rest) (lit-node 32 (num lo 63 k))))
     (λ b. rw (more-off (suc n) lo acc (leb-false lo 63 b)) (lit-live 41 (done acc) (omega arith) (done-live acc)))
@@ -298,7 +315,8 @@ unfolding setFormat membersFormat
 set-live =
     lit-live 40 (alt 41 (done 0) (num 0 63 (λ v. moreMembers 63 (suc v) (insert 0 v)))) (omega arith)
     (alt-live 41 (done 0) (num 0 63 (λ v. moreMembers 63 (suc v) (insert 0 v))) (omega arith) (done-live 0)
-    (num-live 0 63 (λ v. moreMembers 63 (suc v) (insert 0 v)) (omega arith) (omega arith) (λ u p q. (more-live 63 (suc u) (insert 0 u), more-ends 63 (suc u) (insert 0 u) .wants)))
+    (num-live 0 63 (λ v. moreMembers 63 (suc v) (insert 0 v)) (omega arith) (omega arith)
+    (λ u p q. (more-live 63 (suc u) (insert 0 u), more-ends 63 (suc u) (insert 0 u) .wants)))
     (num-node 0 63 (λ v. moreMembers 63 (suc v) (insert 0 v))))
 
 pub set-sound : (t : List ℕ) (x : ℕ) → TextOf setFormat t x → (within x 64 ≡ true) × (t ≡ setText x)
@@ -312,7 +330,8 @@ set-sound t x p =
           let N = num-parts 0 63 k (o .0) x c in
           let v = N .value in
           let high : v ≤ 63 = N .high in
-          let M = more-sound 63 (suc v) (63 - v) (insert 0 v) (N .back) x (omega arith) (omega arith) (insert-fresh 0 v 0 (omega arith) fresh-zero) (N .is-back) in
+          let M = more-sound 63 (suc v) (63 - v) (insert 0 v) (N .back) x (omega arith) (omega arith) (insert-fresh 0 v 0 (omega arith) fresh-zero)
+          (N .is-back) in
           let F = first-member 0 0 v (63 - v) (N .back) x (omega arith) (omega arith) fresh-zero M in (
             has-within x 64 (M .small),
             o .1 ∙ ap (λ (l : List ℕ). 40 ∷ l)
@@ -346,7 +365,8 @@ set-complete x w =
           let F = N .2 in
           let end : suc v + n ≡ 64 = F .end in
           let nothing : Same-below 0 x 0 = none-below x in
-          let rest = more-complete 63 (suc v) n (insert 0 v) x end (omega arith) (insert-fresh 0 v 0 (omega arith) fresh-zero) (same-insert 0 0 x v n fresh-zero nothing F) w in
+          let rest = more-complete 63 (suc v) n (insert 0 v) x end (omega arith) (insert-fresh 0 v 0 (omega arith) fresh-zero)
+          (same-insert 0 0 x v n fresh-zero nothing F) w in
           let t = items true (map decimal (members n (suc v) x)) ++ 41 ∷ [] in
           let number = member-complete 0 k v t x (omega arith) (omega arith) (more-ends 63 (suc v) (insert 0 v)) rest in
           rw (members-first 64 0 x v n refl F, member-text false v)

@@ -13,7 +13,27 @@ use Rattle.sets.proofs.Membership.{zero-within}
 use Rattle.sets.specs.Member.{within}
 use Rattle.grammar.specs.Format.{Format, TextOf, Live, lit, alt, bind, opens, IsNode}
 use Rattle.grammar.specs.Format.Format.{done}
-use Rattle.grammar.proofs.Format.{by-cases, lit-text, lit-parts, lit-live, lit-node, alt-left, alt-right, alt-parts, alt-live, alt-node, bind-text, bind-parts, bind-live, bind-node, done-text, done-parts, done-live, opens-lit, opens-bind}
+use Rattle.grammar.proofs.Format.{
+  by-cases,
+  lit-text,
+  lit-parts,
+  lit-live,
+  lit-node,
+  alt-left,
+  alt-right,
+  alt-parts,
+  alt-live,
+  alt-node,
+  bind-text,
+  bind-parts,
+  bind-live,
+  bind-node,
+  done-text,
+  done-parts,
+  done-live,
+  opens-lit,
+  opens-bind,
+}
 use Rattle.shape.specs.Text.{items, gapText, bracket, setText, cells, setsText, ShapedSets}
 use Rattle.shape.specs.Shape.{setFormat, Sets, noSets, push, moreSets, setsFormat}
 use Rattle.shape.proofs.Members.{set-sound, set-complete, set-live, set-node}
@@ -26,7 +46,8 @@ part-cons m c ws = refl
 
 pub item-text : (gap : Bool) (w : List ℕ) (ws : List (List ℕ)) → items gap (w ∷ ws) ++ 41 ∷ [] ≡ gapText gap ++ (w ++ (items true ws ++ 41 ∷ []))
 unfolding items
-item-text gap w ws = append-assoc (gapText gap) (w ++ items true ws) (41 ∷ []) ∙ ap (λ (l : List ℕ). gapText gap ++ l) (append-assoc w (items true ws) (41 ∷ []))
+item-text gap w ws =
+    append-assoc (gapText gap) (w ++ items true ws) (41 ∷ []) ∙ ap (λ (l : List ℕ). gapText gap ++ l) (append-assoc w (items true ws) (41 ∷ []))
 
 -- a list under way: c sets are stored, and n may follow
 record Open (n : ℕ) (a : Sets) : Type 0 where
@@ -230,7 +251,8 @@ unfolding gapText noSets push items cells
 list-rest zero b e S =
     let R = none-rest b S in
     let none : Rest 0 noSets b = subst (λ (n : ℕ). Rest n noSets b) e R in
-    subst (λ (c : Sets). TextOf (alt 41 (done noSets) (bind setFormat (λ x. moreSets 3 (push noSets x)))) (41 ∷ []) c) (rest-none 4 noSets b no-sets-open S none)
+    subst (λ (c : Sets). TextOf (alt 41 (done noSets) (bind setFormat (λ x. moreSets 3 (push noSets x)))) (41 ∷ []) c)
+    (rest-none 4 noSets b no-sets-open S none)
     (alt-left 41 (done noSets) (bind setFormat (λ x. moreSets 3 (push noSets x))) [] noSets (done-text noSets))
 list-rest (suc m) b e S =
     let k : ℕ → Format Sets = λ x. moreSets 3 (push noSets x) in
@@ -239,7 +261,8 @@ list-rest (suc m) b e S =
     let R : Rest (suc m) noSets b = subst (λ (n : ℕ). Rest n noSets b) e (none-rest b S) in
     let all : length (b .words) ≡ 4 = S .all in
     let whole : items false (map setText (cells (suc m) 0 (b .words))) ++ 41 ∷ [] ≡ setText x ++ u =
-    ap (λ (ws : List ℕ). items false (map setText ws) ++ 41 ∷ []) (part-cons m 0 (b .words)) ∙ item-text false (setText x) (map setText (cells m 1 (b .words))) in
+    ap (λ (ws : List ℕ). items false (map setText ws) ++ 41 ∷ []) (part-cons m 0 (b .words)) ∙ item-text false (setText x)
+    (map setText (cells m 1 (b .words))) in
     let rest : TextOf (k x) u b = sets-complete 3 m (push noSets x) b (open-push 3 noSets x no-sets-open) S (rest-push 3 m noSets b no-sets-open R) in
     subst (λ (l : List ℕ). TextOf (alt 41 (done noSets) (bind setFormat k)) l b) (sym whole)
     (alt-right 41 (done noSets) (bind setFormat k) (setText x ++ u) b (opens-bind setFormat k 41 set-node ∙ opens-set)
@@ -248,5 +271,6 @@ list-rest (suc m) b e S =
 pub list-complete : (b : Sets) → ShapedSets (b .count) (b .words) → TextOf setsFormat (setsText (b .count) (b .words)) b
 unfolding setsFormat setsText bracket
 list-complete b S =
-    lit-text 40 (alt 41 (done noSets) (bind setFormat (λ x. moreSets 3 (push noSets x)))) (items false (map setText (cells (b .count) 0 (b .words))) ++ 41 ∷ []) b
+    lit-text 40 (alt 41 (done noSets) (bind setFormat (λ x. moreSets 3 (push noSets x))))
+    (items false (map setText (cells (b .count) 0 (b .words))) ++ 41 ∷ []) b
     (list-rest (b .count) b refl S)

@@ -47,7 +47,8 @@ game-sound t g p =
     let qs = Q .value in
     let qp = requirements-sound (h .k) (Q .front) qs (hp .most-k) (Q .is-front) in
     let D = done-parts (whole a b (h .k) qs) (Q .back) g (Q .is-back) in
-    let all : t ≡ headerLine (a .states) (b .states) (h .k) ++ (stateLines 1 (a .states) 0 a ++ (stateLines 2 (b .states) 0 b ++ requirementLines (h .k) 0 qs)) =
+    let all : t ≡ headerLine (a .states) (b .states) (h .k) ++
+    (stateLines 1 (a .states) 0 a ++ (stateLines 2 (b .states) 0 b ++ requirementLines (h .k) 0 qs)) =
     H .whole ∙ ap (λ (l : List ℕ). l ++ H .back) (hp .text)
     ∙ ap (λ (n : ℕ). headerLine n (h .outputs) (h .k) ++ H .back) (sym (ap′ .1))
     ∙ ap (λ (n : ℕ). headerLine (a .states) n (h .k) ++ H .back) (sym (bp .1))
@@ -73,7 +74,8 @@ game-complete g S =
     let q′ : TextOf (game-end h (g .input) (g .output)) (requirementLines (g .k) 0 (g .requirements)) g =
     subst (λ (l : List ℕ). TextOf (game-end h (g .input) (g .output)) l g) (append-nil (requirementLines (g .k) 0 (g .requirements))) q in
     let b = bind-text (statesFormat 2 (h .outputs) 0 (emptyGraph (h .outputs))) (λ b. game-end h (g .input) b)
-    (stateLines 2 (g .output .states) 0 (g .output)) (requirementLines (g .k) 0 (g .requirements)) (g .output) g (graph-complete 2 (g .output) (S .output)) q′ in
+    (stateLines 2 (g .output .states) 0 (g .output)) (requirementLines (g .k) 0 (g .requirements)) (g .output) g (graph-complete 2 (g .output) (S .output))
+    q′ in
     let a = bind-text (statesFormat 1 (h .inputs) 0 (emptyGraph (h .inputs))) (λ a. game-output h a)
     (stateLines 1 (g .input .states) 0 (g .input)) _ (g .input) g (graph-complete 1 (g .input) (S .input)) b in
     rw game-is
@@ -89,7 +91,10 @@ game-live =
     let H = header-sound t h p in
     let i = H .most-inputs in
     let o = H .most-outputs in
-    bind-live (statesFormat 1 (h .inputs) 0 (emptyGraph (h .inputs))) (λ a. game-output h a) (states-live 1 (h .inputs) 0 (emptyGraph (h .inputs)) (omega arith) in-bytes)
-    (λ t a p. bind-live (statesFormat 2 (h .outputs) 0 (emptyGraph (h .outputs))) (λ b. game-end h a b) (states-live 2 (h .outputs) 0 (emptyGraph (h .outputs)) (omega arith) out-bytes)
-    (λ t b p. bind-live (requirementsFormat (h .k) 0 (replicate 8 emptyRequirement)) (λ qs. done (whole a b (h .k) qs)) (requirements-live (h .k) 0 (replicate 8 emptyRequirement))
+    bind-live (statesFormat 1 (h .inputs) 0 (emptyGraph (h .inputs))) (λ a. game-output h a)
+    (states-live 1 (h .inputs) 0 (emptyGraph (h .inputs)) (omega arith) in-bytes)
+    (λ t a p. bind-live (statesFormat 2 (h .outputs) 0 (emptyGraph (h .outputs))) (λ b. game-end h a b)
+    (states-live 2 (h .outputs) 0 (emptyGraph (h .outputs)) (omega arith) out-bytes)
+    (λ t b p. bind-live (requirementsFormat (h .k) 0 (replicate 8 emptyRequirement)) (λ qs. done (whole a b (h .k) qs))
+    (requirements-live (h .k) 0 (replicate 8 emptyRequirement))
     (λ t qs p. done-live (whole a b (h .k) qs))))))

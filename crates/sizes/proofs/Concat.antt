@@ -19,7 +19,7 @@ module _ (f : Requirement → List (ℕ → Bool)) (h : ℕ → Requirement) whe
       ap (_++_ (f (h s))) (more-from (suc s) n ∙ ap (λ (k : ℕ). setsOf f (tabulateFrom (suc s) n h) ++ f (h k)) (omega arith))
       ∙ sym (append-assoc (f (h s)) (setsOf f (tabulateFrom (suc s) n h)) (f (h (s + suc n))))
 
-  pub sets-more : (n : ℕ) → setsOf f (tabulate (suc n) h) ≡ setsOf f (tabulate n h) ++ f (h n)
+  sets-more : (n : ℕ) → setsOf f (tabulate (suc n) h) ≡ setsOf f (tabulate n h) ++ f (h n)
   unfolding tabulate
   sets-more n = more-from 0 n ∙ ap (λ (k : ℕ). setsOf f (tabulateFrom 0 n h) ++ f (h k)) (zero-add n)
 
@@ -27,7 +27,8 @@ module _ (f : Requirement → List (ℕ → Bool)) (h : ℕ → Requirement) whe
   length-more n = ap length (sets-more n) ∙ length-append (setsOf f (tabulate n h)) (f (h n))
 
   getD-last : (n j : ℕ) (d : ℕ → Bool) → getD (setsOf f (tabulate (suc n) h)) (length (setsOf f (tabulate n h)) + j) d ≡ getD (f (h n)) j d
-  getD-last n j d = ap (λ (l : List (ℕ → Bool)). getD l (length (setsOf f (tabulate n h)) + j) d) (sets-more n) ∙ getD-append-add (setsOf f (tabulate n h)) (f (h n)) j d
+  getD-last n j d =
+      ap (λ (l : List (ℕ → Bool)). getD l (length (setsOf f (tabulate n h)) + j) d) (sets-more n) ∙ getD-append-add (setsOf f (tabulate n h)) (f (h n)) j d
 
   front-more : (n e a : ℕ) (d : ℕ → Bool) → a < length (setsOf f (tabulate n h))
       → (a < length (setsOf f (tabulate (e + n) h))) × (getD (setsOf f (tabulate (e + n) h)) a d ≡ getD (setsOf f (tabulate n h)) a d)

@@ -37,7 +37,7 @@ module _ (g : Game) (a : acceptance g ≡ Accepted) (m : ℕ) where
   pub controller-most : m ≡ controllerCounters (separatedOf g) → m ≤ 32
   controller-most e = omega (arith, controller-few g (accepted-fits g a))
 
-  pub environment-most : m ≡ environmentCounters (separatedOf g) → m ≤ 32
+  environment-most : m ≡ environmentCounters (separatedOf g) → m ≤ 32
   environment-most e = omega (arith, environment-few g (accepted-fits g a))
 
   pub controller-rows : m ≡ controllerCounters (separatedOf g) → g .output .states * m ≤ 2048

@@ -82,7 +82,7 @@ module _ (g : Game) (s c e : ℕ) where
   acceptance-number Accepted = eighth-number (leb (scratchLength g) s)
   acceptance-number (Faulty n) = refl
 
-  pub verdict-number : numberOf (verdictAnswer g s c e) ≡ firstOf (solveTests g s c e)
+  verdict-number : numberOf (verdictAnswer g s c e) ≡ firstOf (solveTests g s c e)
   unfolding verdictAnswer solveTests
   verdict-number = acceptance-number (acceptance g) ∙ sym (game-after g (rooms (leb (scratchLength g) s)))
 
@@ -138,7 +138,7 @@ module _ (g : Game) (s c e : List ℕ) where
       unfolding tenth
       at-named = at-tenth h k ∙ rw (le-leb (environmentLength g) (length e) l, tenth) refl
 
-      pub solved-system : (s′ c′ : List ℕ) → verdict (separatedOf g) ≡ true → s′ ≡ cleared (scratchLength g) s
+      solved-system : (s′ c′ : List ℕ) → verdict (separatedOf g) ≡ true → s′ ≡ cleared (scratchLength g) s
           → c′ ≡ controllerEntries (separatedOf g) ++ drop (controllerLength g) c → Solved g s s′ c c′ e e (System (controllerLength g))
       unfolding verdictScratch controllerAfter environmentAfter Decided named
       solved-system s′ c′ v p q = record {
@@ -159,7 +159,7 @@ module _ (g : Game) (s c e : List ℕ) where
               ∙ ap (λ (n : ℕ). take n (controllerEntries (separatedOf g) ++ drop (controllerLength g) c)) (sym (controller-long g))
               ∙ take-append-seam (controllerEntries (separatedOf g)) (drop (controllerLength g) c)
 
-      pub solved-environment : (s′ e′ : List ℕ) → verdict (separatedOf g) ≡ false → s′ ≡ cleared (scratchLength g) s
+      solved-environment : (s′ e′ : List ℕ) → verdict (separatedOf g) ≡ false → s′ ≡ cleared (scratchLength g) s
           → e′ ≡ environmentEntries (separatedOf g) ++ drop (environmentLength g) e → Solved g s s′ c c e e′ (Environment (environmentLength g))
       unfolding verdictScratch controllerAfter environmentAfter Decided named
       solved-environment s′ e′ v p q = record {
@@ -183,7 +183,8 @@ module _ (g : Game) (s c e : List ℕ) where
 -- ---- from what was written
 
 module _ (g : Game) (s s′ c c′ e e′ : List ℕ) {r : Bool} (W : Written g s s′ c c′ e e′ r) (a : acceptance g ≡ Accepted) (h : scratchLength g ≤ length s)
-    (x y : ℕ) (p : x ≡ length (controllerEntries (separatedOf g))) (q : y ≡ length (environmentEntries (separatedOf g))) (k : x ≤ length c) (l : y ≤ length e) where
+    (x y : ℕ) (p : x ≡ length (controllerEntries (separatedOf g))) (q : y ≡ length (environmentEntries (separatedOf g))) (k : x ≤ length c)
+    (l : y ≤ length e) where
   lc : x ≡ controllerLength g
   lc = p ∙ controller-long g
 
@@ -197,27 +198,40 @@ module _ (g : Game) (s s′ c c′ e e′ : List ℕ) {r : Bool} (W : Written g 
       (solved-system g s c e a h (subst (λ (n : ℕ). n ≤ length c) lc k) (subst (λ (n : ℕ). n ≤ length e) le l) s′ c′ (sym (W .wins) ∙ v) (W .scratch) front))
     where
       same : e′ ≡ e
-      same = W .environment ∙ ap (λ (b : Bool). elim b as (λ t. List ℕ) [ true ↦ e | false ↦ environmentEntries (separatedOf g) ++ drop (length (environmentEntries (separatedOf g))) e ]) v
+      same =
+          W .environment ∙ ap (λ (b : Bool). elim b as (λ t. List ℕ)
+          [ true ↦ e | false ↦ environmentEntries (separatedOf g) ++ drop (length (environmentEntries (separatedOf g))) e ]) v
 
       front : c′ ≡ controllerEntries (separatedOf g) ++ drop (controllerLength g) c
       front =
           W .controller
-          ∙ ap (λ (b : Bool). elim b as (λ t. List ℕ) [ true ↦ controllerEntries (separatedOf g) ++ drop (length (controllerEntries (separatedOf g))) c | false ↦ c ]) v
+          ∙ ap (λ (b : Bool). elim b as (λ t. List ℕ) [
+            | true ↦ controllerEntries (separatedOf g) ++ drop (length (controllerEntries (separatedOf g))) c
+            | false ↦ c
+          ]) v
           ∙ ap (λ (n : ℕ). controllerEntries (separatedOf g) ++ drop n c) (controller-long g)
 
   pub written-environment : r ≡ false → Solved g s s′ c c′ e e′ (Environment y)
   written-environment v =
       subst⁻¹ (λ (n : ℕ). Solved g s s′ c c′ e e′ (Environment n)) le
       (subst⁻¹ (λ (t : List ℕ). Solved g s s′ c t e e′ (Environment (environmentLength g))) same
-      (solved-environment g s c e a h (subst (λ (n : ℕ). n ≤ length c) lc k) (subst (λ (n : ℕ). n ≤ length e) le l) s′ e′ (sym (W .wins) ∙ v) (W .scratch) front))
+      (solved-environment g s c e a h (subst (λ (n : ℕ). n ≤ length c) lc k) (subst (λ (n : ℕ). n ≤ length e) le l) s′ e′ (sym (W .wins) ∙ v) (W .scratch)
+      front))
     where
       same : c′ ≡ c
       same =
           W .controller
-          ∙ ap (λ (b : Bool). elim b as (λ t. List ℕ) [ true ↦ controllerEntries (separatedOf g) ++ drop (length (controllerEntries (separatedOf g))) c | false ↦ c ]) v
+          ∙ ap (λ (b : Bool). elim b as (λ t. List ℕ) [
+            | true ↦ controllerEntries (separatedOf g) ++ drop (length (controllerEntries (separatedOf g))) c
+            | false ↦ c
+          ]) v
 
       front : e′ ≡ environmentEntries (separatedOf g) ++ drop (environmentLength g) e
       front =
           W .environment
-          ∙ ap (λ (b : Bool). elim b as (λ t. List ℕ) [ true ↦ e | false ↦ environmentEntries (separatedOf g) ++ drop (length (environmentEntries (separatedOf g))) e ]) v
+          ∙ ap (λ (b : Bool). elim b as (λ t. List ℕ) [
+            | true ↦ e
+            | false ↦ environmentEntries (separatedOf g) ++ drop
+                (length (environmentEntries (separatedOf g))) e
+          ]) v
           ∙ ap (λ (n : ℕ). environmentEntries (separatedOf g) ++ drop n e) (environment-long g)

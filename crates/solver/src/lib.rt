@@ -21,7 +21,8 @@ fn solve_accepted(
     panel: &mut [u16],
 ) -> Verdict
     requires { ⌜ acceptance g ≡ Accepted ⌝ }
-    ensures { λ r. ⌜ Solved g (now (scratch .entry)) (now (scratch .exit)) (now (controller .entry)) (now (controller .exit)) (now (panel .entry)) (now (panel .exit)) r ⌝ }
+    ensures { λ r. ⌜ Solved g (now (scratch .entry)) (now (scratch .exit)) (now (controller .entry)) (now (controller .exit)) (now (panel .entry))
+        (now (panel .exit)) r ⌝ }
 {
     if scratch.len() < scratch::length(g) {
         return Verdict::Refused(8);
@@ -47,7 +48,8 @@ pub fn solve_into(
     controller: &mut [u16],
     panel: &mut [u16],
 ) -> Verdict
-    ensures { λ r. ⌜ Solved g (now (scratch .entry)) (now (scratch .exit)) (now (controller .entry)) (now (controller .exit)) (now (panel .entry)) (now (panel .exit)) r ⌝ }
+    ensures { λ r. ⌜ Solved g (now (scratch .entry)) (now (scratch .exit)) (now (controller .entry)) (now (controller .exit)) (now (panel .entry))
+        (now (panel .exit)) r ⌝ }
 {
     let accepted = acceptance::accept(g);
     match accepted {

@@ -88,7 +88,8 @@ in-zero x h = λ i. record { 0 = h i }
 out-zero : (x : OutSet) → x .0 ≡ 0 → x ≡ noOutput
 out-zero x h = λ i. record { 0 = h i }
 
-requirement-shaped : (q : Requirement) (a b : ℕ) → a ≤ 64 → b ≤ 64 → RequirementFits q a b → length (q .assumptions) ≡ 4 → length (q .guarantees) ≡ 4 → ShapedRequirement q
+requirement-shaped : (q : Requirement) (a b : ℕ) → a ≤ 64 → b ≤ 64 → RequirementFits q a b → length (q .assumptions) ≡ 4 → length (q .guarantees) ≡ 4
+    → ShapedRequirement q
 requirement-shaped q a b la lb F m n =
     record {
       assumptions =
@@ -102,7 +103,8 @@ requirement-shaped q a b la lb F m n =
     }
 
 -- a requirement without sets
-unused-empty : (q : Requirement) (a b : ℕ) → RequirementFits q a b → length (q .assumptions) ≡ 4 → length (q .guarantees) ≡ 4 → q .assumed ≡ 0 → q .guaranteed ≡ 0 → q ≡ emptyRequirement
+unused-empty : (q : Requirement) (a b : ℕ) → RequirementFits q a b → length (q .assumptions) ≡ 4 → length (q .guarantees) ≡ 4 → q .assumed ≡ 0
+    → q .guaranteed ≡ 0 → q ≡ emptyRequirement
 unfolding emptyRequirement
 unused-empty q a b F m n e f =
     let ins : q .assumptions ≡ replicate 4 noInput =
@@ -129,12 +131,14 @@ accepted-shaped g h A =
       all = A .requirements;
       requirement = λ r. by-cases (ltb r 8)
           (λ b. let l = ltb-true r 8 b in
-          rw (same r l) (requirement-shaped (requirementAt g r) (g .input .states) (g .output .states) (F .input .most) (F .output .most) (F .requirement r l) (A .assumptions r l) (A .guarantees r l)))
+          rw (same r l) (requirement-shaped (requirementAt g r) (g .input .states) (g .output .states) (F .input .most) (F .output .most)
+          (F .requirement r l) (A .assumptions r l) (A .guarantees r l)))
           (λ b. rw (past r (ltb-false r 8 b)) empty-shaped);
       unused = λ r u. by-cases (ltb r 8)
           (λ b. let l = ltb-true r 8 b in
           same r l
-          ∙ unused-empty (requirementAt g r) (g .input .states) (g .output .states) (F .requirement r l) (A .assumptions r l) (A .guarantees r l) (F .unused r u l .0) (F .unused r u l .1))
+          ∙ unused-empty (requirementAt g r) (g .input .states) (g .output .states) (F .requirement r l) (A .assumptions r l) (A .guarantees r l)
+          (F .unused r u l .0) (F .unused r u l .1))
           (λ b. past r (ltb-false r 8 b));
     }
   where
@@ -149,7 +153,8 @@ read-written : (g : Game) (r : Reading) → acceptance g ≡ Accepted → Arrays
 read-written g r h A R = R .text (game-short g (accepted-writable g h)) g (accepted-shaped g h A) refl ∙ judged-accepted g h
 
 -- what is read as a game is that game's text, byte for byte
-judged-read : (s : List ℕ) (g : Game) (r : Reading) (a : Acceptance) → acceptance g ≡ a → Shaped g → s ≡ gameText g → r ≡ judged g → r .answer ≡ Read → IsText s (r .game)
+judged-read : (s : List ℕ) (g : Game) (r : Reading) (a : Acceptance) → acceptance g ≡ a → Shaped g → s ≡ gameText g → r ≡ judged g → r .answer ≡ Read
+    → IsText s (r .game)
 unfolding refused
 judged-read s g r Accepted h S t e f =
     let same : g ≡ r .game = sym (ap (λ (x : Reading). x .game) (e ∙ judged-accepted g h)) in

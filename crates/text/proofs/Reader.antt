@@ -83,11 +83,13 @@ pub reads-place : (s : List ℕ) (r : Reading) (p : ℕ) → length s ≤ 40960 
 unfolding reading atEnd
 reads-place s r p h f e = reads-fault s r p h (ap (atEnd s) f) e
 
-pub reads-extra : (s : List ℕ) (r : Reading) (g : Game) (j : ℕ) → length s ≤ 40960 → run gameFormat (bytes s) 0 ≡ got g j → (j ≡ length s → ⊥) → r ≡ misshapen j → Reads s r
+pub reads-extra : (s : List ℕ) (r : Reading) (g : Game) (j : ℕ) → length s ≤ 40960 → run gameFormat (bytes s) 0 ≡ got g j → (j ≡ length s → ⊥)
+    → r ≡ misshapen j → Reads s r
 unfolding reading
 reads-extra s r g j h f n e = reads-fault s r j h (ap (atEnd s) f ∙ end-before s g j n) e
 
-pub reads-game : (s : List ℕ) (r : Reading) (g : Game) (j : ℕ) → length s ≤ 40960 → run gameFormat (bytes s) 0 ≡ got g j → j ≡ length s → r ≡ judged g → Reads s r
+pub reads-game : (s : List ℕ) (r : Reading) (g : Game) (j : ℕ) → length s ≤ 40960 → run gameFormat (bytes s) 0 ≡ got g j → j ≡ length s → r ≡ judged g
+    → Reads s r
 unfolding reading
 reads-game s r g j h f n e =
     let t = read-got gameFormat game-live s (ap (atEnd s) f ∙ end-here s g j n) in

@@ -32,7 +32,8 @@ module _ (S : Separated) (j k : ℕ) (e : joined (S .input) j k ≡ true) where
   settled-agree : (o g : ℕ) → o < S .output .states → settled S o g j ≡ settled S o g k
   unfolding settled replies-won
   settled-agree o g b =
-      ap (λ (x : Bool). elim x as (λ y. Answer) [ true ↦ homeward S (home S j o) o g | false ↦ gives g (least (S .output .states) (replies-won o j)) ]) (nontrivial-same (S .input) j k e)
+      ap (λ (x : Bool). elim x as (λ y. Answer) [ true ↦ homeward S (home S j o) o g | false ↦ gives g (least (S .output .states) (replies-won o j)) ])
+      (nontrivial-same (S .input) j k e)
       ∙ ap₂ (λ (d p : ℕ). elim (nontrivial (S .input) k) as (λ y. Answer) [ true ↦ homeward S d o g | false ↦ gives g p ])
       (home-same S j k o o e (joined-self (S .output) o b)) (least-agree o)
 

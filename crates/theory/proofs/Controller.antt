@@ -41,7 +41,20 @@ use Rattle.theory.proofs.Tour.{Toured, toured, toGo}
 use Rattle.arena.proofs.Meets.{meets-intro}
 use Rattle.theory.proofs.Sets.{guarantee-at}
 use Rattle.theory.proofs.Loop.{Along, along-first, along-turn, nontrivial-input, nontrivial-along, cycle-lands, cycle-finds, nowhere}
-use Rattle.theory.proofs.ControllerRow.{same-counter, same-state, home-leads, home-reached, home-homeFor, home-same, row-answers, settled-nontrivial, homeward-at, homeward-away, Replied, replied}
+use Rattle.theory.proofs.ControllerRow.{
+  same-counter,
+  same-state,
+  home-leads,
+  home-reached,
+  home-homeFor,
+  home-same,
+  row-answers,
+  settled-nontrivial,
+  homeward-at,
+  homeward-away,
+  Replied,
+  replied,
+}
 
 -- A table that does what the rows say wherever some reply is won.
 pub record Follows (S : Separated) (T : ControllerTable) : Type 0 where
@@ -70,7 +83,8 @@ module _ (S : Separated) (T : ControllerTable) (F : Follows S T) where
   turn-answers x j k e = reply S (x .input) (x .output) j (k .won) e
 
   -- the table's step at a kept configuration is the row
-  step-row : (x : Configuration) (j : ℕ) → Kept S x → edge (S .input) (x .input) j ≡ true → T .step (x .memory) (x .output) j ≡ controllerRow S (x .output) (x .memory) j
+  step-row : (x : Configuration) (j : ℕ) → Kept S x → edge (S .input) (x .input) j ≡ true
+      → T .step (x .memory) (x .output) j ≡ controllerRow S (x .output) (x .memory) j
   step-row x j k e =
       F .rows (x .memory) (x .output) j (k .range) (region-out S (x .input) (x .output) (k .won)) (edge-to (S .input) (x .input) j e)
       (turn-answers x j k e)
@@ -171,7 +185,9 @@ module _ (S : Separated) (T : ControllerTable) (F : Follows S T) where
         is = same-state (sym (homeward-away S d (x .output) (x .memory) x-away) ∙ turn-homeward x y a t b)
 
         go : (joined O d (toward (O .states) (edge O) (joined O d) (x .output)) ≡ true)
-            ⊎ (Leads (O .states) (edge O) (joined O d) (toward (O .states) (edge O) (joined O d) (x .output)) × (approach (O .states) (edge O) (joined O d) (toward (O .states) (edge O) (joined O d) (x .output)) < approach (O .states) (edge O) (joined O d) (x .output)))
+            ⊎ (Leads (O .states) (edge O) (joined O d) (toward (O .states) (edge O) (joined O d) (x .output)) ×
+            (approach (O .states) (edge O) (joined O d) (toward (O .states) (edge O) (joined O d) (x .output)) < approach (O .states) (edge O) (joined O d)
+            (x .output)))
             → approach (O .states) (edge O) (joined O d) (y .output) < approach (O .states) (edge O) (joined O d) (x .output)
         go (inl h) = clash (joined-trans O d (y .output) o (rw is at h) (joined-sym O o (y .output) (b .along .outputs))) n
         go (inr h) = subst (λ (p : ℕ). approach (O .states) (edge O) (joined O d) p < approach (O .states) (edge O) (joined O d) (x .output)) is (h .1)
@@ -190,7 +206,8 @@ module _ (S : Separated) (T : ControllerTable) (F : Follows S T) where
     tour-turn k l m x y a t b =
         subst (λ (p : ℕ). (goalAt (guarantees S) k p ≡ true) ⊎ (toGo O d (guarantees S) k p (y .memory) < toGo O d (guarantees S) k (x .output) (x .memory)))
         (same-state is)
-        (subst (λ (g : ℕ). (goalAt (guarantees S) k (v .state) ≡ true) ⊎ (toGo O d (guarantees S) k (v .state) g < toGo O d (guarantees S) k (x .output) (x .memory)))
+        (subst (λ (g : ℕ). (goalAt (guarantees S) k (v .state) ≡ true) ⊎
+        (toGo O d (guarantees S) k (v .state) g < toGo O d (guarantees S) k (x .output) (x .memory)))
         (same-counter is) (v .lands k l m))
       where
         x-home : joined O d (x .output) ≡ true
@@ -203,7 +220,8 @@ module _ (S : Separated) (T : ControllerTable) (F : Follows S T) where
         is : gives (v .counter) (v .state) ≡ gives (y .memory) (y .output)
         is = sym (v .is) ∙ sym (homeward-at S d (x .output) (x .memory) x-home) ∙ turn-homeward x y a t b
 
-    visits-goal : (k : ℕ) → k < length (guarantees S) → meetsAt O d (goalAt (guarantees S) k) ≡ true → visitsOutput (goalAt (guarantees S) k) (configurations First Turn r) ≡ true
+    visits-goal : (k : ℕ) → k < length (guarantees S) → meetsAt O d (goalAt (guarantees S) k) ≡ true
+        → visitsOutput (goalAt (guarantees S) k) (configurations First Turn r) ≡ true
     unfolding visitsOutput
     visits-goal k l m =
         cycle-lands S First Turn turn-in turn-out r Round (λ c. goalAt (guarantees S) k (c .output)) (λ c. toGo O d (guarantees S) k (c .output) (c .memory))

@@ -56,7 +56,8 @@ near-reaches G d (suc k) s h =
 pub home-leads : (G : Graph) (d o : ℕ) → reaches G o d ≡ true → nontrivial G d ≡ true → Leads (G .states) (edge G) (joined G d) o
 home-leads G d o r t =
     let v = first-move G o d (reaches-path G o d r) t in
-    let k = near-some (G .states) (edge G) (joined G d) (edge-from G) (reaches-path G (v .0) d (v .2)) (reaches-to G o d r) (joined-self G d (reaches-to G o d r)) in
+    let k = near-some (G .states) (edge G) (joined G d) (edge-from G) (reaches-path G (v .0) d (v .2)) (reaches-to G o d r)
+    (joined-self G d (reaches-to G o d r)) in
     record { next = v .0; moves = k .0; move = v .1; way = k .1 }
 
 module _ (S : Separated) where
@@ -221,7 +222,9 @@ module _ (S : Separated) where
             state = p;
             is = row-is ∙ homeward-away d o g a;
             move = e;
-            won = still-won p e (near-reaches (S .output) d (approach n (edge (S .output)) (joined (S .output) d) o) p (toward-near n (edge (S .output)) (joined (S .output) d) o w));
+            won =
+                still-won p e (near-reaches (S .output) d (approach n (edge (S .output)) (joined (S .output) d) o) p
+                (toward-near n (edge (S .output)) (joined (S .output) d) o w));
             range = r;
           }
 

@@ -86,7 +86,7 @@ module _ (S : Separated) where
   output-delay i o′ o r h = output-path i o′ o (reaches-path (S .output) o′ o r) h
 
   -- inside the component the conditions are the same; by an exit the home makes a won position, and o reaches it; elsewhere a reply makes one
-  pub input-on : (i i′ o : ℕ) → edge (S .input) i i′ ≡ true → region S i o ≡ true → region S i′ o ≡ true
+  input-on : (i i′ o : ℕ) → edge (S .input) i i′ ≡ true → region S i o ≡ true → region S i′ o ≡ true
   input-on i i′ o e h = go (decide (nontrivial (S .input) i))
     where
       a : i < S .input .states

@@ -88,7 +88,8 @@ module _ (S : Separated) where
   unfolding completed
   completed-follows = record { counters = refl; rows = λ g o j lg lo lj h. completed-won g o j h }
 
-  completed-steps : (g o j p : ℕ) → g < controllerCounters S → edge (S .output) o p ≡ true → Some (controllerCounters S) (edge (S .output) o) (completed .step g o j)
+  completed-steps : (g o j p : ℕ) → g < controllerCounters S → edge (S .output) o p ≡ true
+      → Some (controllerCounters S) (edge (S .output) o) (completed .step g o j)
   completed-steps g o j p r e = go (decide (answers S (region S) j o))
     where
       go : (answers S (region S) j o ≡ true) ⊎ (answers S (region S) j o ≡ false) → Some (controllerCounters S) (edge (S .output) o) (completed .step g o j)
@@ -124,7 +125,7 @@ module _ (S : Separated) where
     steps = λ m o j p r e. completed-steps m o j p r e;
   }
 
-  pub region-won : (i o : ℕ) → region S i o ≡ true → Won (arenaOf S) i o
+  region-won : (i o : ℕ) → region S i o ≡ true → Won (arenaOf S) i o
   unfolding arenaOf completed
   region-won i o h = record { table = completed; controller = completed-controller; memory = 0; keeps = keeps }
     where
@@ -174,7 +175,7 @@ module _ (S : Separated) where
 
   -- ---- the verdict
 
-  pub verdict-wins : verdict S ≡ true → SystemWins (arenaOf S)
+  verdict-wins : verdict S ≡ true → SystemWins (arenaOf S)
   unfolding arenaOf opens
   verdict-wins v = record { openings = λ i e. opening i (verdict-elim S v i e) }
     where

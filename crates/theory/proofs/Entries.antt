@@ -62,7 +62,7 @@ unfolding entry
 entry-below none small-none = inl refl
 entry-below (gives c s) (small-gives counter state a b) = inr (omega arith)
 
-pub answer-entry : (a : Answer) → Small a → answer (entry a) ≡ a
+answer-entry : (a : Answer) → Small a → answer (entry a) ≡ a
 unfolding answer entry
 answer-entry none small-none = refl
 answer-entry (gives c s) (small-gives counter state a b) =
@@ -131,7 +131,8 @@ module _ (S : Separated) (d : ℕ) where
   unfolding environmentEntries
   environment-row-at i h o li lh lo =
       let r : ℕ = (i * environmentCounters S + h) * S .output .states + o in
-      let rows : List ℕ = tabulate (S .input .states * environmentCounters S * S .output .states) (rowOf (environmentCounters S) (S .output .states) (environmentRow S)) in
+      let rows : List ℕ = tabulate (S .input .states * environmentCounters S * S .output .states)
+      (rowOf (environmentCounters S) (S .output .states) (environmentRow S)) in
       ap (λ (k : ℕ). getD (entry (environmentStart S) ∷ rows) k d) (one-add r)
       ∙ getD-tabulate (rowOf (environmentCounters S) (S .output .states) (environmentRow S)) (S .input .states * environmentCounters S * S .output .states) r d
       (place-below (S .input .states) (environmentCounters S) (S .output .states) i h o li lh lo)
@@ -167,7 +168,7 @@ module _ (S : Separated) (Z : Sized S) where
   unfolding controllerTable
   controller-start i b = ap answer (controller-start-at S 65535 i b) ∙ answer-entry (controllerStart S i) (small-start i)
 
-  pub controller-step : (g o j : ℕ) → g < controllerCounters S → o < S .output .states → j < S .input .states
+  controller-step : (g o j : ℕ) → g < controllerCounters S → o < S .output .states → j < S .input .states
       → controllerTable (S .input .states) (controllerCounters S) (controllerEntries S) .step g o j ≡ controllerRow S o g j
   unfolding controllerTable
   controller-step g o j lg lo lj = ap answer (controller-row-at S 65535 o g j lo lg lj) ∙ answer-entry (controllerRow S o g j) (small-row o g j lg)
@@ -203,7 +204,7 @@ module _ (S : Separated) (Z : Sized S) where
   unfolding environmentTable environmentEntries
   environment-start = answer-entry (environmentStart S) small-refused
 
-  pub environment-step : (h i o : ℕ) → h < environmentCounters S → i < S .input .states → o < S .output .states
+  environment-step : (h i o : ℕ) → h < environmentCounters S → i < S .input .states → o < S .output .states
       → environmentTable (S .output .states) (environmentCounters S) (environmentEntries S) .step h i o ≡ environmentRow S i h o
   unfolding environmentTable
   environment-step h i o lh li lo = ap answer (environment-row-at S 65535 i h o li lh lo) ∙ answer-entry (environmentRow S i h o) (small-push i h o lh li lo)

@@ -18,7 +18,18 @@ use Rattle.graphs.specs.Component.{joined, number, meetsAt}
 use Rattle.graphs.specs.Way.{approach, toward}
 use Rattle.graphs.proofs.Graph.{edge-to, stuck-not}
 use Rattle.graphs.proofs.Closure.{reaches-self}
-use Rattle.graphs.proofs.Component.{joined-back, joined-sym, joined-trans, joined-same, number-joined, number-same, leaves-elim, leaves-apart, meetsAt-intro, meetsAt-same}
+use Rattle.graphs.proofs.Component.{
+  joined-back,
+  joined-sym,
+  joined-trans,
+  joined-same,
+  number-joined,
+  number-same,
+  leaves-elim,
+  leaves-apart,
+  meetsAt-intro,
+  meetsAt-same,
+}
 use Rattle.graphs.proofs.Measure.{first-step}
 use Rattle.graphs.proofs.Way.{Leads, toward-falls}
 use Rattle.arena.specs.Arena.{Separated, arenaOf}
@@ -160,9 +171,11 @@ module _ (S : Separated) (P : EnvironmentTable) (F : Presses S P) where
     no-way x y a t b e =
         false-of (wayOut S (x .output) (x .input))
         (λ w.
-        let is = same-state (sym (outward-here S (x .input) (x .memory) (x .output) w) ∙ sym (pressing-escapes S (x .input) (x .memory) (x .output) e) ∙ turn-pressing x y a t) in
+        let is = same-state (sym (outward-here S (x .input) (x .memory) (x .output) w) ∙ sym (pressing-escapes S (x .input) (x .memory) (x .output) e) ∙
+        turn-pressing x y a t) in
         clash (joined-trans I (x .input) i (y .input) (joined-sym I i (x .input) (a .along .inputs)) (b .along .inputs))
-        (subst (λ (j : ℕ). joined I (x .input) j ≡ false) is (lost-apart S (x .output) (x .input) (least (I .states) (lost S (x .output) (x .input))) (wayOut-lost S (x .output) (x .input) w))))
+        (subst (λ (j : ℕ). joined I (x .input) j ≡ false) is
+        (lost-apart S (x .output) (x .input) (least (I .states) (lost S (x .output) (x .input))) (wayOut-lost S (x .output) (x .input) w))))
 
     escapes-along : (x : Configuration) → Round x → escapes S (x .input) (x .output) ≡ escapes S i o
     escapes-along x a =
@@ -212,7 +225,9 @@ module _ (S : Separated) (P : EnvironmentTable) (F : Presses S P) where
               ∙ sym (pressing-escapes S (x .input) (x .memory) (x .output) (escapes-at x a)) ∙ turn-pressing x y a t)
 
           go : (gate S o c (toward (I .states) (inside I c) (gate S o c) (x .input)) ≡ true)
-              ⊎ (Leads (I .states) (inside I c) (gate S o c) (toward (I .states) (inside I c) (gate S o c) (x .input)) × (approach (I .states) (inside I c) (gate S o c) (toward (I .states) (inside I c) (gate S o c) (x .input)) < approach (I .states) (inside I c) (gate S o c) (x .input)))
+              ⊎ (Leads (I .states) (inside I c) (gate S o c) (toward (I .states) (inside I c) (gate S o c) (x .input)) ×
+              (approach (I .states) (inside I c) (gate S o c) (toward (I .states) (inside I c) (gate S o c) (x .input)) < approach (I .states) (inside I c)
+              (gate S o c) (x .input)))
               → approach (I .states) (inside I c) (gate S o c) (y .input) < approach (I .states) (inside I c) (gate S o c) (x .input)
           go (inl h) = clash (gate-out S o c (y .input) (rw is at h)) n
           go (inr h) = subst (λ (j : ℕ). approach (I .states) (inside I c) (gate S o c) j < approach (I .states) (inside I c) (gate S o c) (x .input)) is (h .1)
@@ -233,11 +248,14 @@ module _ (S : Separated) (P : EnvironmentTable) (F : Presses S P) where
     tour-turn k l m x y a t =
         subst (λ (p : ℕ). (goalAt (assumptions S) k p ≡ true) ⊎ (toGo I c (assumptions S) k p (y .memory) < toGo I c (assumptions S) k (x .input) (x .memory)))
         (same-state is)
-        (subst (λ (g : ℕ). (goalAt (assumptions S) k (v .state) ≡ true) ⊎ (toGo I c (assumptions S) k (v .state) g < toGo I c (assumptions S) k (x .input) (x .memory)))
+        (subst (λ (g : ℕ). (goalAt (assumptions S) k (v .state) ≡ true) ⊎
+        (toGo I c (assumptions S) k (v .state) g < toGo I c (assumptions S) k (x .input) (x .memory)))
         (same-counter is) (v .lands k l m))
       where
         v : Toured I c (assumptions S) (x .input) (x .memory)
-        v = toured I c (assumptions S) (x .input) (x .memory) (joined-along x a) (nontrivial-along S First Turn turn-in turn-out r x (a .along)) (a .keeps .range)
+        v =
+            toured I c (assumptions S) (x .input) (x .memory) (joined-along x a) (nontrivial-along S First Turn turn-in turn-out r x (a .along))
+            (a .keeps .range)
 
         is : gives (v .counter) (v .state) ≡ gives (y .memory) (y .input)
         is =
@@ -245,7 +263,8 @@ module _ (S : Separated) (P : EnvironmentTable) (F : Presses S P) where
             ∙ sym (ap (λ (n : ℕ). tour I n (assumptions S) (x .input) (x .memory)) (number-along x a))
             ∙ sym (pressing-tours S (x .input) (x .memory) (x .output) (escapes-along x a ∙ stays-in)) ∙ turn-pressing x y a t
 
-    visits-goal : (k : ℕ) → k < length (assumptions S) → meetsAt I c (goalAt (assumptions S) k) ≡ true → visitsInput (goalAt (assumptions S) k) (configurations First Turn r) ≡ true
+    visits-goal : (k : ℕ) → k < length (assumptions S) → meetsAt I c (goalAt (assumptions S) k) ≡ true
+        → visitsInput (goalAt (assumptions S) k) (configurations First Turn r) ≡ true
     unfolding visitsInput
     visits-goal k l m =
         cycle-lands S First Turn turn-in turn-out r Round (λ x. goalAt (assumptions S) k (x .input)) (λ x. toGo I c (assumptions S) k (x .input) (x .memory))

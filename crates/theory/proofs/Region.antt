@@ -82,7 +82,8 @@ module _ (S : Separated) where
       fails-right true b e = e
       fails-right false b e = clash refl e
 
-  pub safe-intro : (w : ℕ → ℕ → Bool) (i d : ℕ) → ((j e : ℕ) → leaves (S .input) i j ≡ true → joined (S .output) d e ≡ true → w j e ≡ true) → safe S w i d ≡ true
+  pub safe-intro : (w : ℕ → ℕ → Bool) (i d : ℕ) → ((j e : ℕ) → leaves (S .input) i j ≡ true → joined (S .output) d e ≡ true → w j e ≡ true)
+      → safe S w i d ≡ true
   unfolding safe
   safe-intro w i d f =
       all-intro (S .input .states) (λ j. not (leaves (S .input) i j) || all (S .output .states) (λ e. not (joined (S .output) d e) || w j e))
@@ -99,7 +100,8 @@ module _ (S : Separated) where
       implies-elim (joined (S .output) d e) (w j e)
       (all-elim (S .output .states) (λ k. not (joined (S .output) d k) || w j k)
       (implies-elim (leaves (S .input) i j) (all (S .output .states) (λ k. not (joined (S .output) d k) || w j k))
-      (all-elim (S .input .states) (λ u. not (leaves (S .input) i u) || all (S .output .states) (λ k. not (joined (S .output) d k) || w u k)) h j (leaves-below i j l)) l)
+      (all-elim (S .input .states) (λ u. not (leaves (S .input) i u) || all (S .output .states) (λ k. not (joined (S .output) d k) || w u k)) h j
+      (leaves-below i j l)) l)
       e (joined-to (S .output) d e a)) a
 
   pub homeFor-intro : (w : ℕ → ℕ → Bool) (i d : ℕ) → nontrivial (S .output) d ≡ true → accepting S i d ≡ true → safe S w i d ≡ true → homeFor S w i d ≡ true
@@ -131,24 +133,24 @@ module _ (S : Separated) where
       let v = any-elim (S .output .states) (λ k. reaches (S .output) o k && homeFor S w i k) h in
       (v .0, and-left (reaches (S .output) o (v .0)) (homeFor S w i (v .0)) (v .2), and-right (reaches (S .output) o (v .0)) (homeFor S w i (v .0)) (v .2))
 
-  pub rule-nontrivial : (w : ℕ → ℕ → Bool) (i o : ℕ) → nontrivial (S .input) i ≡ true → rule S w i o ≡ settles S w i o
+  rule-nontrivial : (w : ℕ → ℕ → Bool) (i o : ℕ) → nontrivial (S .input) i ≡ true → rule S w i o ≡ settles S w i o
   unfolding rule
   rule-nontrivial w i o h = rw (h, rule) refl
 
-  pub rule-trivial : (w : ℕ → ℕ → Bool) (i o : ℕ) → nontrivial (S .input) i ≡ false → rule S w i o ≡ replies S w i o
+  rule-trivial : (w : ℕ → ℕ → Bool) (i o : ℕ) → nontrivial (S .input) i ≡ false → rule S w i o ≡ replies S w i o
   unfolding rule
   rule-trivial w i o h = rw (h, rule) refl
 
   -- what is due, and served, at a state is so in all of its component
 
-  pub accepting-same : (i i′ d : ℕ) → joined (S .input) i i′ ≡ true → accepting S i d ≡ accepting S i′ d
+  accepting-same : (i i′ d : ℕ) → joined (S .input) i i′ ≡ true → accepting S i d ≡ accepting S i′ d
   unfolding accepting due
   accepting-same i i′ d h =
       allOf-same (λ q. not (due S i q) || served S d q) (λ q. not (due S i′ q) || served S d q) (S .requirements)
       (λ q e. ap (λ (b : Bool). not b || served S d q)
       (allOf-same (meetsAt (S .input) i) (meetsAt (S .input) i′) (q .assumptions) (λ p e′. meetsAt-same (S .input) i i′ p h)))
 
-  pub safe-same : (w : ℕ → ℕ → Bool) (i i′ d : ℕ) → joined (S .input) i i′ ≡ true → safe S w i d ≡ true → safe S w i′ d ≡ true
+  safe-same : (w : ℕ → ℕ → Bool) (i i′ d : ℕ) → joined (S .input) i i′ ≡ true → safe S w i d ≡ true → safe S w i′ d ≡ true
   safe-same w i i′ d h a = safe-intro w i′ d (λ j e l b. safe-elim w i d j e a (leaves-same (S .input) i i′ j h ∙ l) b)
 
   pub homeFor-same : (w : ℕ → ℕ → Bool) (i i′ d : ℕ) → joined (S .input) i i′ ≡ true → homeFor S w i d ≡ true → homeFor S w i′ d ≡ true
@@ -204,7 +206,7 @@ module _ (S : Separated) where
       ∙ sym (rows-suc k i o a b)
 
   -- the region obeys the rule
-  pub region-rule : (i o : ℕ) → i < S .input .states → o < S .output .states → region S i o ≡ rule S (region S) i o
+  region-rule : (i o : ℕ) → i < S .input .states → o < S .output .states → region S i o ≡ rule S (region S) i o
   unfolding region
   region-rule i o a b =
       sym (rows-stable (S .input .states) i o a b (rank-le (S .input) i)) ∙ rows-suc (S .input .states) i o a b

@@ -23,7 +23,8 @@ place {A} {a} (x ∷ l) d m = go (List·Memᴰ·cases-cons m) (λ n. place l d n
     go (inl e) rec = (zero, omega arith, sym e)
     go (inr n) rec = let v = rec n in (suc (v .0), omega (arith, v .1), v .2)
 
-in-sets : (f : Requirement → List (ℕ → Bool)) (l : List Requirement) (q : Requirement) (s : ℕ → Bool) → List·Memᴰ q l → List·Memᴰ s (f q) → List·Memᴰ s (setsOf f l)
+in-sets : (f : Requirement → List (ℕ → Bool)) (l : List Requirement) (q : Requirement) (s : ℕ → Bool) → List·Memᴰ q l → List·Memᴰ s (f q)
+    → List·Memᴰ s (setsOf f l)
 unfolding setsOf
 in-sets f [] q s m n = absurd (List·Memᴰ·not-nil m)
 in-sets f (x ∷ l) q s m n = go (List·Memᴰ·cases-cons m) (λ k. in-sets f l q s k n)

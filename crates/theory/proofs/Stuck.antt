@@ -27,13 +27,13 @@ stuck-trivial G s h = false-of (nontrivial G s) (λ n. let v = nontrivial-move G
 
 module _ (S : Separated) where
   -- "A play that stops for want of an input move is won"
-  pub stuck-won : (i o : ℕ) → i < S .input .states → o < S .output .states → stuck (S .input) i ≡ true → region S i o ≡ true
+  stuck-won : (i o : ℕ) → i < S .input .states → o < S .output .states → stuck (S .input) i ≡ true → region S i o ≡ true
   stuck-won i o a b h =
       region-replies S i o a b (stuck-trivial (S .input) i h)
       ∙ replies-intro S (region S) i o (λ j e. clash e (stuck-none (S .input) i j h))
 
   -- "and one that stops for want of an output move is lost"
-  pub stuck-lost : (i o : ℕ) → stuck (S .output) o ≡ true → stuck (S .input) i ≡ false → region S i o ≡ false
+  stuck-lost : (i o : ℕ) → stuck (S .output) o ≡ true → stuck (S .input) i ≡ false → region S i o ≡ false
   stuck-lost i o h n =
       let v = stuck-moves (S .input) i n in
       false-of (region S i o) (λ w. clash (reply S i o (v .0) w (v .1)) (answers-stuck S (region S) (v .0) o h))

@@ -20,7 +20,17 @@ use Rattle.graphs.specs.Component.{joined, nontrivial, meetsAt}
 use Rattle.graphs.specs.Way.{approach, prefer, toward}
 use Rattle.graphs.proofs.Graph.{edge-from, edge-to}
 use Rattle.graphs.proofs.Closure.{Path, reaches-edge, reaches-trans, reaches-path, path-reaches}
-use Rattle.graphs.proofs.Component.{joined-intro, joined-there, joined-back, joined-sym, joined-trans, joined-to, nontrivial-move, nontrivial-same, meetsAt-elim}
+use Rattle.graphs.proofs.Component.{
+  joined-intro,
+  joined-there,
+  joined-back,
+  joined-sym,
+  joined-trans,
+  joined-to,
+  nontrivial-move,
+  nontrivial-same,
+  meetsAt-elim,
+}
 use Rattle.graphs.proofs.Way.{Leads, near-some, prefer-member, approach-below, toward-move, toward-falls}
 use Rattle.arena.specs.Table.{gives}
 use Rattle.theory.specs.Tour.{goalAt, around, inside, ahead, goal, hasGoal, target, arrive, tour}
@@ -67,7 +77,8 @@ module _ (G : Graph) (c : ℕ) where
       (v .0, inside-intro s (v .0) (v .1) a (joined-trans G c s (v .0) a (v .2)))
 
   -- every state of the component has a way inside it to every other
-  pub inside-leads : (p : ℕ → Bool) (s t : ℕ) → joined G c s ≡ true → nontrivial G s ≡ true → p t ≡ true → joined G c t ≡ true → Leads (G .states) (inside G c) p s
+  pub inside-leads : (p : ℕ → Bool) (s t : ℕ) → joined G c s ≡ true → nontrivial G s ≡ true → p t ≡ true → joined G c t ≡ true
+      → Leads (G .states) (inside G c) p s
   inside-leads p s t a n h b =
       let v = inside-move s a n in
       let d = inside-to s (v .0) (v .1) in
@@ -172,7 +183,8 @@ module _ (G : Graph) (c : ℕ) (l : List (ℕ → Bool)) where
       omega (arith, suc-mul (distance (length l) g′ q) (G .states), mul-le-mul-right (G .states) d)
 
   nearer-state : (q s g s′ g′ : ℕ) → distance (length l) g′ q ≤ distance (length l) g q
-      → approach (G .states) (inside G c) (target G c l (goal G c l g′)) s′ < approach (G .states) (inside G c) (target G c l (goal G c l g)) s → toGo q s′ g′ < toGo q s g
+      → approach (G .states) (inside G c) (target G c l (goal G c l g′)) s′ < approach (G .states) (inside G c) (target G c l (goal G c l g)) s → toGo q s′
+      g′ < toGo q s g
   unfolding toGo
   nearer-state q s g s′ g′ d h = omega (arith, mul-le-mul-right (G .states) d)
 
@@ -255,7 +267,8 @@ module _ (G : Graph) (c : ℕ) (l : List (ℕ → Bool)) where
       unfolding aim next
       passes-goal h q b m = go (toward-falls (G .states) (inside G c) (target G c l aim) s leads)
         where
-          go : (target G c l aim next ≡ true) ⊎ (Leads (G .states) (inside G c) (target G c l aim) next × (approach (G .states) (inside G c) (target G c l aim) next < approach (G .states) (inside G c) (target G c l aim) s))
+          go : (target G c l aim next ≡ true) ⊎ (Leads (G .states) (inside G c) (target G c l aim) next ×
+              (approach (G .states) (inside G c) (target G c l aim) next < approach (G .states) (inside G c) (target G c l aim) s))
               → toGo q next aim < toGo q s g
           go (inl t) = clash (target-joined aim next t) h
           go (inr t) =

@@ -80,33 +80,34 @@ module _ (m q h a t : ℕ) (G : Goals q m h) (e : firstFrom m q h ≡ a) (n : ha
   t-below = within-has q m t (G .members) n
 
   -- ahead of h without going round, and a further ahead
-  pub not-between : h ≤ t → t < a → ⊥
+  not-between : h ≤ t → t < a → ⊥
   not-between l b =
       steps-none (t - h)
       (elim (around-cases m h steps) [ inl c ↦ omega (arith, steps-at) | inr c ↦ omega (arith, steps-at, t-below) ])
       (elim (around-cases m h (t - h)) [ inl c ↦ omega arith | inr c ↦ omega (arith, t-below) ])
 
   -- ahead of h, and a behind it
-  pub not-ahead : a < h → h ≤ t → ⊥
+  not-ahead : a < h → h ≤ t → ⊥
   not-ahead l b =
       steps-none (t - h)
       (elim (around-cases m h steps) [ inl c ↦ omega (arith, steps-at) | inr c ↦ omega (arith, steps-at, t-below) ])
       (elim (around-cases m h (t - h)) [ inl c ↦ omega arith | inr c ↦ omega (arith, t-below) ])
 
   -- behind h, and a between
-  pub not-behind : a < h → t < a → ⊥
+  not-behind : a < h → t < a → ⊥
   not-behind l b =
       steps-none (t + m - h)
       (elim (around-cases m h steps) [ inl c ↦ omega (arith, steps-at) | inr c ↦ omega (arith, steps-at, G .below) ])
       (elim (around-cases m h (t + m - h)) [ inl c ↦ omega (arith, G .below) | inr c ↦ omega (arith, G .below) ])
 
 -- the goal of h is a, where that is a member and none lies between
-pub first-upto : (m q h a : ℕ) → h ≤ a → a < m → has q a ≡ true → ((t : ℕ) → h ≤ t → t < a → has q t ≡ false) → firstFrom m q h ≡ a
+first-upto : (m q h a : ℕ) → h ≤ a → a < m → has q a ≡ true → ((t : ℕ) → h ≤ t → t < a → has q t ≡ false) → firstFrom m q h ≡ a
 first-upto m q h a l b n f =
     first-is m q h a (a - h) (omega arith) (elim (around-cases m h (a - h)) [ inl c ↦ omega arith | inr c ↦ omega arith ]) n
     (λ k d. elim (around-cases m h k) [ inl c ↦ f (around m h k) (omega arith) (omega arith) | inr c ↦ absurd (omega arith) ])
 
-pub first-round : (m q h a : ℕ) → a < h → h < m → has q a ≡ true → ((t : ℕ) → h ≤ t → has q t ≡ false) → ((t : ℕ) → t < a → has q t ≡ false) → firstFrom m q h ≡ a
+first-round : (m q h a : ℕ) → a < h → h < m → has q a ≡ true → ((t : ℕ) → h ≤ t → has q t ≡ false) → ((t : ℕ) → t < a → has q t ≡ false)
+    → firstFrom m q h ≡ a
 first-round m q h a l b n f g =
     first-is m q h a (a + m - h) (omega arith) (elim (around-cases m h (a + m - h)) [ inl c ↦ omega arith | inr c ↦ omega arith ]) n
     (λ k d. elim (around-cases m h k) [ inl c ↦ f (around m h k) (omega arith) | inr c ↦ g (around m h k) (omega arith) ])
@@ -172,8 +173,16 @@ module _ (m q a : ℕ) (G : Goals q m 0) where
         of s l e =
             d s
             ∙ and-intro
-            (u s ∙ lt-ltb s (a + 1) (elim (decLt a s) [ yes c ↦ absurd (not-behind m q s a (p - 1) (goals-at q m 0 s G l) e (last .0) c (last .1)) | no c ↦ omega arith ]))
-            (ap not (bp s ∙ le-ltb s p (elim (decLt s p) [ yes c ↦ absurd (not-between m q s a (p - 1) (goals-at q m 0 s G l) e (last .0) (omega arith) (last .1)) | no c ↦ omega arith ])))
+            (u s ∙ lt-ltb s (a + 1) (elim (decLt a s) [
+              | yes c ↦ absurd (not-behind m q s a (p - 1) (goals-at q m 0 s G l) e (last .0) c (last .1))
+              | no c ↦
+                  omega arith
+            ]))
+            (ap not (bp s ∙ le-ltb s p (elim (decLt s p) [
+              | yes c ↦ absurd
+                  (not-between m q s a (p - 1) (goals-at q m 0 s G l) e (last .0) (omega arith) (last .1))
+              | no c ↦ omega arith
+            ])))
 
     pub aimed-round : (p all round r : ℕ) → earlier ≡ 0 → Past q p → ((s : ℕ) → has b s ≡ ltb s p) → ((s : ℕ) → has all s ≡ ltb s m)
         → ((s : ℕ) → has round s ≡ (has all s && not (has b s))) → ((s : ℕ) → has r s ≡ (has upto s || has round s)) → r ≡ pack m (aimedAt m q a)

@@ -44,7 +44,8 @@ unfolding metIn
 met-meets G c x few f l a =
     same-test (any 64 (λ t. goalAt l a t && has x t)) (meetsAt G c (goalAt l a))
     (λ h. let v = any-elim 64 (λ t. goalAt l a t && has x t) h in
-    meetsAt-intro G c (goalAt l a) (v .0) (and-left (goalAt l a (v .0)) (has x (v .0)) (v .2)) (sym (f (v .0)) ∙ and-right (goalAt l a (v .0)) (has x (v .0)) (v .2)))
+    meetsAt-intro G c (goalAt l a) (v .0) (and-left (goalAt l a (v .0)) (has x (v .0)) (v .2))
+    (sym (f (v .0)) ∙ and-right (goalAt l a (v .0)) (has x (v .0)) (v .2)))
     (λ h. let v = meetsAt-elim G c (goalAt l a) h in
     any-intro 64 (λ t. goalAt l a t && has x t) (v .0) (omega (arith, joined-to G c (v .0) (v .2))) (and-intro (v .1) (f (v .0) ∙ v .2)))
 
@@ -91,7 +92,8 @@ arrive-passed : (l : List (ℕ → Bool)) (a t : ℕ) → arrive l a t ≡ gives
 unfolding arrive passed
 arrive-passed l a t = go (goalAt l a t)
   where
-    go : (b : Bool) → elim b as (λ x. Answer) [ true ↦ gives (around (length l) a 1) t | false ↦ gives a t ] ≡ gives (elim b [ true ↦ around (length l) a 1 | false ↦ a ]) t
+    go : (b : Bool) → elim b as (λ x. Answer) [ true ↦ gives (around (length l) a 1) t | false ↦ gives a t ] ≡ gives
+        (elim b [ true ↦ around (length l) a 1 | false ↦ a ]) t
     go true = refl
     go false = refl
 
@@ -126,14 +128,16 @@ module _ (G : Graph) (c : ℕ) (rows : List ℕ) (comp : ℕ)
       of : (t : ℕ) → inside G c s t ≡ true → has y t ≡ true
       of t h =
           let d = inside-to G c s t h in
-          f t ∙ and-intro (sym (same s t (joined-to G c s a) (joined-to G c t d)) ∙ edge-moves G s t (inside-edge G c s t h)) (ap (λ (p : ℕ → Bool). p t) comp-has ∙ d)
+          f t ∙ and-intro (sym (same s t (joined-to G c s a) (joined-to G c t d)) ∙ edge-moves G s t (inside-edge G c s t h))
+          (ap (λ (p : ℕ → Bool). p t) comp-has ∙ d)
 
   module _ (l : List (ℕ → Bool)) (a x y : ℕ) (set : has x ≡ goalAt l a) (f : (t : ℕ) → has y t ≡ (has x t && has comp t)) where
     pub target-word : has y ≡ target G c l a
     unfolding target
     target-word = fun-ext (λ t. f t ∙ ap₂ _&&_ (ap (λ (p : ℕ → Bool). p t) set) (ap (λ (p : ℕ → Bool). p t) comp-has))
 
-    pub target-leads : meetsAt G c (goalAt l a) ≡ true → (s : ℕ) → joined G c s ≡ true → nontrivial G s ≡ true → Leads (G .states) (inside G c) (target G c l a) s
+    pub target-leads : meetsAt G c (goalAt l a) ≡ true → (s : ℕ) → joined G c s ≡ true → nontrivial G s ≡ true
+        → Leads (G .states) (inside G c) (target G c l a) s
     unfolding target
     target-leads m s j n =
         let v = meetsAt-elim G c (goalAt l a) m in
@@ -141,7 +145,8 @@ module _ (G : Graph) (c : ℕ) (rows : List ℕ) (comp : ℕ)
 
 -- the moves of a tour
 
-pub tour-rests : (G : Graph) (c : ℕ) (l : List (ℕ → Bool)) (s g p : ℕ) → hasGoal G c l ≡ false → p ≡ prefer (G .states) s (inside G c s) → tour G c l s g ≡ gives g p
+pub tour-rests : (G : Graph) (c : ℕ) (l : List (ℕ → Bool)) (s g p : ℕ) → hasGoal G c l ≡ false → p ≡ prefer (G .states) s (inside G c s)
+    → tour G c l s g ≡ gives g p
 unfolding tour
 tour-rests G c l s g p h e = rw (h, tour) (ap (gives g) (sym e))
 

@@ -35,7 +35,19 @@ use Rattle.theory.specs.Entries.{controllerCounters}
 use Rattle.theory.proofs.Region.{homeFor-same, homeFor-nontrivial, region-in, region-out, region-settles}
 use Rattle.theory.proofs.Delay.{reply}
 use Rattle.theory.proofs.Tour.{Toured, toured, toGo, toGo-most, inside-to}
-use Rattle.theory.proofs.ControllerRow.{same-counter, same-state, near-reaches, home-leads, home-reached, home-homeFor, home-same, row-answers, settled-nontrivial, homeward-at, homeward-away}
+use Rattle.theory.proofs.ControllerRow.{
+  same-counter,
+  same-state,
+  near-reaches,
+  home-leads,
+  home-reached,
+  home-homeFor,
+  home-same,
+  row-answers,
+  settled-nontrivial,
+  homeward-at,
+  homeward-away,
+}
 use Rattle.theory.proofs.Controller.{Follows, Kept, turn-kept}
 
 module _ (S : Separated) (T : ControllerTable) (F : Follows S T) (x : Configuration) (K : Kept S x) (n : nontrivial (S .input) (x .input) ≡ true) where
@@ -63,7 +75,8 @@ module _ (S : Separated) (T : ControllerTable) (F : Follows S T) (x : Configurat
     pub ahead : reaches O (y .output) d ≡ true
 
   x-settles : settles S (region S) (x .input) (x .output) ≡ true
-  x-settles = sym (region-settles S (x .input) (x .output) (region-in S (x .input) (x .output) (K .won)) (region-out S (x .input) (x .output) (K .won)) n) ∙ K .won
+  x-settles =
+      sym (region-settles S (x .input) (x .output) (region-in S (x .input) (x .output) (K .won)) (region-out S (x .input) (x .output) (K .won)) n) ∙ K .won
 
   d-home : homeFor S (region S) c d ≡ true
   d-home = home-homeFor S (x .input) (x .output) x-settles
@@ -141,7 +154,8 @@ module _ (S : Separated) (T : ControllerTable) (F : Follows S T) (x : Configurat
         | inr f ↦
             elim (away-turn a b s t f) [
               | inl h ↦ joined-back O d (b .output) h
-              | inr v ↦ reaches-trans O (b .output) (v .0 .next) d (reaches-edge O (b .output) (v .0 .next) (v .0 .move)) (near-reaches O d (v .0 .moves) (v .0 .next) (v .0 .way))
+              | inr v ↦ reaches-trans O (b .output) (v .0 .next) d (reaches-edge O (b .output) (v .0 .next) (v .0 .move))
+                  (near-reaches O d (v .0 .moves) (v .0 .next) (v .0 .way))
             ]
       ]
 
@@ -162,7 +176,8 @@ module _ (S : Separated) (T : ControllerTable) (F : Follows S T) (x : Configurat
           (and-intro
           (reaches-trans O (a .output) (b .output) e (reaches-edge O (a .output) (b .output) (reply-edge a b t))
           (and-left (reaches O (b .output) e) (homeFor S (region S) (b .input) e) h))
-          (homeFor-same S (region S) (b .input) (a .input) e (inputs-joined a b s t) (and-right (reaches O (b .output) e) (homeFor S (region S) (b .input) e) h)))
+          (homeFor-same S (region S) (b .input) (a .input) e (inputs-joined a b s t)
+          (and-right (reaches O (b .output) e) (homeFor S (region S) (b .input) e) h)))
 
   pub stays-turn : (a b : Configuration) → Stays a → Turn a b → Stays b
   stays-turn a b s t = record {
@@ -227,7 +242,8 @@ module _ (S : Separated) (T : ControllerTable) (F : Follows S T) (x : Configurat
     visits {y} {z} v h w l =
         let s = keep Stays stays-turn v stays-first in
         let k : max 1 (length (guarantees S)) ≡ length (guarantees S) = max-eq-right (omega arith) in
-        elim (lands z Homed (λ e. goalAt (guarantees S) q (e .output)) ν (λ a e i t u. (homed-turn a e i t, visit-turn a e i t)) w (record { stays = s; home = h })) [
+        elim (lands z Homed (λ e. goalAt (guarantees S) q (e .output)) ν (λ a e i t u. (homed-turn a e i t, visit-turn a e i t)) w
+        (record { stays = s; home = h })) [
           | inl r ↦ r
           | inr r ↦ absurd (omega (
             arith,

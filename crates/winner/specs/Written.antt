@@ -18,4 +18,8 @@ pub record Written (g : Game) (s s′ c c′ e e′ : List ℕ) (r : Bool) : Typ
   pub wins : r ≡ verdict (separatedOf g)
   pub scratch : s′ ≡ cleared (scratchLength g) s
   pub controller : c′ ≡ elim r as (λ x. List ℕ) [ true ↦ controllerEntries (separatedOf g) ++ drop (length (controllerEntries (separatedOf g))) c | false ↦ c ]
-  pub environment : e′ ≡ elim r as (λ x. List ℕ) [ true ↦ e | false ↦ environmentEntries (separatedOf g) ++ drop (length (environmentEntries (separatedOf g))) e ]
+  pub environment : e′ ≡ elim r as (λ x. List ℕ) [
+    | true ↦ e
+    | false ↦ environmentEntries (separatedOf g) ++ drop
+        (length (environmentEntries (separatedOf g))) e
+  ]

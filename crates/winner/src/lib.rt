@@ -14,7 +14,8 @@ use game::Game;
 pub fn write_winner(g: Game, scratch: &mut [u64], controller: &mut [u16], panel: &mut [u16]) -> bool
     requires { ⌜ (acceptance g ≡ Accepted) × (scratchLength g ≤ length (now scratch)) × (length (controllerEntries (separatedOf g)) ≤ length (now controller))
         × (length (environmentEntries (separatedOf g)) ≤ length (now panel)) ⌝ }
-    ensures { λ r. ⌜ Written g (now (scratch .entry)) (now (scratch .exit)) (now (controller .entry)) (now (controller .exit)) (now (panel .entry)) (now (panel .exit)) r ⌝ }
+    ensures { λ r. ⌜ Written g (now (scratch .entry)) (now (scratch .exit)) (now (controller .entry)) (now (controller .exit)) (now (panel .entry))
+        (now (panel .exit)) r ⌝ }
 {
     let used = scratch::length(g);
     region::prepare(g, scratch);

@@ -39,7 +39,8 @@ loop-less : tie.Need-loop-less Inv-loop μ-loop
 loop-less c = omega arith
 
 loop-again : tie.Need-loop-again Inv-loop μ-loop
-loop-again c = (omega arith, all-turn _ _ (c .before .before .before .before .loop .inv .1) (passed (c .before .requirement-fits .ensures ∙ fits-at _ _) (c .if1 .left)))
+loop-again c =
+    (omega arith, all-turn _ _ (c .before .before .before .before .loop .inv .1) (passed (c .before .requirement-fits .ensures ∙ fits-at _ _) (c .if1 .left)))
 
 returns-2 : tie.Need-returns-2 Inv-loop μ-loop
 returns-2 c = sets-end _ _ (c .before .loop .inv .0) (c .loop-test .left) (c .before .loop .inv .1)

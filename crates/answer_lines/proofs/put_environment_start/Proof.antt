@@ -16,16 +16,36 @@ put-opening-requires : tie.Need-put-opening-requires
 put-opening-requires c κs = (omega arith, omega (arith, opening-short 5))
 
 put-number-then-requires : tie.Need-put-number-then-requires
-put-number-then-requires c κs = omega (arith, c .before .before .before .put-opening .ensures .next, opening-short 5, number-short (c .before .before .before .before .before .before .before .args .entry % 64) 41 (omega arith))
+put-number-then-requires c κs =
+    let at-put-opening = c .before .before .before in
+    let at-start = at-put-opening .before .before .before .before in
+    omega (arith, at-put-opening .put-opening .ensures .next, opening-short 5, number-short (at-start .args .entry % 64) 41 (omega arith))
 
 put-byte-requires : tie.Need-put-byte-requires
-put-byte-requires c κs = omega (arith, c .before .before .before .before .before .before .before .put-opening .ensures .next, c .before .before .before .put-number-then .ensures .next, opening-short 5, number-short (c .before .before .before .before .before .before .before .before .before .before .before .args .entry % 64) 41 (omega arith))
+put-byte-requires c κs =
+    let at-put-number-then = c .before .before .before in
+    let at-put-opening = at-put-number-then .before .before .before .before in
+    let at-start = at-put-opening .before .before .before .before in
+    omega (
+      arith,
+      at-put-opening .put-opening .ensures .next,
+      at-put-number-then .put-number-then .ensures .next,
+      opening-short 5,
+      number-short
+          (at-start .args .entry % 64) 41 (omega arith),
+    )
 
 same-length : tie.Need-same-length
 same-length c = search needs
 
 returns-2 : tie.Need-returns-2
-returns-2 c = puts-as (environment-pieces _ (c .before .before .before .before .before .before .before .before .before .before .before .before .if1 .left)) (puts-then (c .before .before .before .before .before .before .before .before .before .before .put-opening .ensures) (puts-then (c .before .before .before .before .before .before .put-number-then .ensures) (c .before .before .put-byte .ensures)))
+returns-2 c =
+    let at-put-byte = c .before .before in
+    let at-put-number-then = at-put-byte .before .before .before .before in
+    let at-put-opening = at-put-number-then .before .before .before .before in
+    let at-if1 = at-put-opening .before .before in
+    puts-as (environment-pieces _ (at-if1 .if1 .left)) (puts-then (at-put-opening .put-opening .ensures)
+    (puts-then (at-put-number-then .put-number-then .ensures) (at-put-byte .put-byte .ensures)))
 
 pub put-environment-start-spec : {M : Type 1} → statement M
 put-environment-start-spec =

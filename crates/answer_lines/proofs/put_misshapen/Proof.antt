@@ -13,16 +13,48 @@ put-number-then-requires : tie.Need-put-number-then-requires
 put-number-then-requires c κs = omega (arith, c .before .before .before .put-opening .ensures .next, opening-short 7, number-short 11 32 (omega arith))
 
 put-number-then-requires-2 : tie.Need-put-number-then-requires-2
-put-number-then-requires-2 c κs = omega (arith, c .before .before .before .before .before .before .before .put-opening .ensures .next, c .before .before .before .put-number-then .ensures .next, opening-short 7, number-short 11 32 (omega arith), number-short (c .before .before .before .before .before .before .before .before .before .before .args .p) 41 (c .before .before .before .before .before .before .before .before .before .before .fits .p .fits))
+put-number-then-requires-2 c κs =
+    let at-put-number-then = c .before .before .before in
+    let at-put-opening = at-put-number-then .before .before .before .before in
+    let at-start = at-put-opening .before .before .before in
+    omega (
+      arith,
+      at-put-opening .put-opening .ensures .next,
+      at-put-number-then .put-number-then .ensures .next,
+      opening-short 7,
+      number-short 11 32
+          (omega arith),
+      number-short (at-start .args .p) 41 (at-start .fits .p .fits),
+    )
 
 put-byte-requires : tie.Need-put-byte-requires
-put-byte-requires c κs = omega (arith, c .before .before .before .before .before .before .before .before .before .before .before .put-opening .ensures .next, c .before .before .before .before .before .before .before .put-number-then .ensures .next, c .before .before .before .put-number-then2 .ensures .next, opening-short 7, number-short 11 32 (omega arith), number-short (c .before .before .before .before .before .before .before .before .before .before .before .before .before .before .args .p) 41 (c .before .before .before .before .before .before .before .before .before .before .before .before .before .before .fits .p .fits))
+put-byte-requires c κs =
+    let at-put-number-then2 = c .before .before .before in
+    let at-put-number-then = at-put-number-then2 .before .before .before .before in
+    let at-put-opening = at-put-number-then .before .before .before .before in
+    let at-start = at-put-opening .before .before .before in
+    omega (
+      arith,
+      at-put-opening .put-opening .ensures .next,
+      at-put-number-then .put-number-then .ensures .next,
+      at-put-number-then2 .put-number-then2 .ensures .next,
+      opening-short 7,
+      number-short 11 32 (omega arith),
+      number-short (at-start .args .p) 41
+          (at-start .fits .p .fits),
+    )
 
 same-length : tie.Need-same-length
 same-length c = search needs
 
 returns : tie.Need-returns
-returns c = puts-as (misshapen-pieces _) (puts-then (c .before .before .before .before .before .before .before .before .before .before .before .before .before .before .put-opening .ensures) (puts-then (c .before .before .before .before .before .before .before .before .before .before .put-number-then .ensures) (puts-then (c .before .before .before .before .before .before .put-number-then2 .ensures) (c .before .before .put-byte .ensures))))
+returns c =
+    let at-put-byte = c .before .before in
+    let at-put-number-then2 = at-put-byte .before .before .before .before in
+    let at-put-number-then = at-put-number-then2 .before .before .before .before in
+    let at-put-opening = at-put-number-then .before .before .before .before in
+    puts-as (misshapen-pieces _) (puts-then (at-put-opening .put-opening .ensures)
+    (puts-then (at-put-number-then .put-number-then .ensures) (puts-then (at-put-number-then2 .put-number-then2 .ensures) (at-put-byte .put-byte .ensures))))
 
 pub put-misshapen-spec : {M : Type 1} → statement M
 put-misshapen-spec =

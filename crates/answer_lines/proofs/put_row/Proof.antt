@@ -11,28 +11,137 @@ put-opening-requires : tie.Need-put-opening-requires
 put-opening-requires c κs = (omega arith, omega (arith, opening-short 6))
 
 put-number-then-requires : tie.Need-put-number-then-requires
-put-number-then-requires c κs = omega (arith, c .before .before .before .put-opening .ensures .next, opening-short 6, number-short (c .before .before .before .before .before .before .args .a) 32 (c .before .before .before .before .before .before .fits .a .fits))
+put-number-then-requires c κs =
+    let at-put-opening = c .before .before .before in
+    let at-start = at-put-opening .before .before .before in
+    omega (arith, at-put-opening .put-opening .ensures .next, opening-short 6, number-short (at-start .args .a) 32 (at-start .fits .a .fits))
 
 put-number-then-requires-2 : tie.Need-put-number-then-requires-2
-put-number-then-requires-2 c κs = omega (arith, c .before .before .before .before .before .before .before .put-opening .ensures .next, c .before .before .before .put-number-then .ensures .next, opening-short 6, number-short (c .before .before .before .before .before .before .before .before .before .before .args .a) 32 (c .before .before .before .before .before .before .before .before .before .before .fits .a .fits), number-short (c .before .before .before .before .before .before .before .before .before .before .args .g) 32 (c .before .before .before .before .before .before .before .before .before .before .fits .g .fits))
+put-number-then-requires-2 c κs =
+    let at-put-number-then = c .before .before .before in
+    let at-put-opening = at-put-number-then .before .before .before .before in
+    let at-start = at-put-opening .before .before .before in
+    omega (
+      arith,
+      at-put-opening .put-opening .ensures .next,
+      at-put-number-then .put-number-then .ensures .next,
+      opening-short 6,
+      number-short
+          (at-start .args .a) 32 (at-start .fits .a .fits),
+      number-short (at-start .args .g) 32 (at-start .fits .g .fits),
+    )
 
 put-number-then-requires-3 : tie.Need-put-number-then-requires-3
-put-number-then-requires-3 c κs = omega (arith, c .before .before .before .before .before .before .before .before .before .before .before .put-opening .ensures .next, c .before .before .before .before .before .before .before .put-number-then .ensures .next, c .before .before .before .put-number-then2 .ensures .next, opening-short 6, number-short (c .before .before .before .before .before .before .before .before .before .before .before .before .before .before .args .a) 32 (c .before .before .before .before .before .before .before .before .before .before .before .before .before .before .fits .a .fits), number-short (c .before .before .before .before .before .before .before .before .before .before .before .before .before .before .args .g) 32 (c .before .before .before .before .before .before .before .before .before .before .before .before .before .before .fits .g .fits), number-short (c .before .before .before .before .before .before .before .before .before .before .before .before .before .before .args .b) 32 (c .before .before .before .before .before .before .before .before .before .before .before .before .before .before .fits .b .fits))
+put-number-then-requires-3 c κs =
+    let at-put-number-then2 = c .before .before .before in
+    let at-put-number-then = at-put-number-then2 .before .before .before .before in
+    let at-put-opening = at-put-number-then .before .before .before .before in
+    let at-start = at-put-opening .before .before .before in
+    omega (
+      arith,
+      at-put-opening .put-opening .ensures .next,
+      at-put-number-then .put-number-then .ensures .next,
+      at-put-number-then2 .put-number-then2 .ensures .next,
+      opening-short 6,
+      number-short (at-start .args .a) 32 (at-start .fits .a .fits),
+      number-short
+          (at-start .args .g) 32 (at-start .fits .g .fits),
+      number-short (at-start .args .b) 32 (at-start .fits .b .fits),
+    )
 
 put-number-then-requires-4 : tie.Need-put-number-then-requires-4
-put-number-then-requires-4 c κs = omega (arith, c .before .before .before .before .before .before .before .before .before .before .before .before .before .before .before .put-opening .ensures .next, c .before .before .before .before .before .before .before .before .before .before .before .put-number-then .ensures .next, c .before .before .before .before .before .before .before .put-number-then2 .ensures .next, c .before .before .before .put-number-then3 .ensures .next, opening-short 6, number-short (c .before .before .before .before .before .before .before .before .before .before .before .before .before .before .before .before .before .before .args .a) 32 (c .before .before .before .before .before .before .before .before .before .before .before .before .before .before .before .before .before .before .fits .a .fits), number-short (c .before .before .before .before .before .before .before .before .before .before .before .before .before .before .before .before .before .before .args .g) 32 (c .before .before .before .before .before .before .before .before .before .before .before .before .before .before .before .before .before .before .fits .g .fits), number-short (c .before .before .before .before .before .before .before .before .before .before .before .before .before .before .before .before .before .before .args .b) 32 (c .before .before .before .before .before .before .before .before .before .before .before .before .before .before .before .before .before .before .fits .b .fits), number-short (c .before .before .before .before .before .before .before .before .before .before .before .before .before .before .before .before .before .before .args .entry % 64) 32 (omega arith))
+put-number-then-requires-4 c κs =
+    let at-put-number-then3 = c .before .before .before in
+    let at-put-number-then2 = at-put-number-then3 .before .before .before .before in
+    let at-put-number-then = at-put-number-then2 .before .before .before .before in
+    let at-put-opening = at-put-number-then .before .before .before .before in
+    let at-start = at-put-opening .before .before .before in
+    omega (
+      arith,
+      at-put-opening .put-opening .ensures .next,
+      at-put-number-then .put-number-then .ensures .next,
+      at-put-number-then2 .put-number-then2 .ensures .next,
+      at-put-number-then3 .put-number-then3 .ensures .next,
+      opening-short 6,
+      number-short
+          (at-start .args .a) 32 (at-start .fits .a .fits),
+      number-short (at-start .args .g) 32 (at-start .fits .g .fits),
+      number-short (at-start .args .b) 32
+          (at-start .fits .b .fits),
+      number-short (at-start .args .entry % 64) 32 (omega arith),
+    )
 
 put-number-then-requires-5 : tie.Need-put-number-then-requires-5
-put-number-then-requires-5 c κs = omega (arith, c .before .before .before .before .before .before .before .before .before .before .before .before .before .before .before .before .before .before .before .put-opening .ensures .next, c .before .before .before .before .before .before .before .before .before .before .before .before .before .before .before .put-number-then .ensures .next, c .before .before .before .before .before .before .before .before .before .before .before .put-number-then2 .ensures .next, c .before .before .before .before .before .before .before .put-number-then3 .ensures .next, c .before .before .before .put-number-then4 .ensures .next, opening-short 6, number-short (c .before .before .before .before .before .before .before .before .before .before .before .before .before .before .before .before .before .before .before .before .before .before .args .a) 32 (c .before .before .before .before .before .before .before .before .before .before .before .before .before .before .before .before .before .before .before .before .before .before .fits .a .fits), number-short (c .before .before .before .before .before .before .before .before .before .before .before .before .before .before .before .before .before .before .before .before .before .before .args .g) 32 (c .before .before .before .before .before .before .before .before .before .before .before .before .before .before .before .before .before .before .before .before .before .before .fits .g .fits), number-short (c .before .before .before .before .before .before .before .before .before .before .before .before .before .before .before .before .before .before .before .before .before .before .args .b) 32 (c .before .before .before .before .before .before .before .before .before .before .before .before .before .before .before .before .before .before .before .before .before .before .fits .b .fits), number-short (c .before .before .before .before .before .before .before .before .before .before .before .before .before .before .before .before .before .before .before .before .before .before .args .entry % 64) 32 (omega arith), number-short (c .before .before .before .before .before .before .before .before .before .before .before .before .before .before .before .before .before .before .before .before .before .before .args .entry / 64) 41 (omega (arith, c .before .before .before .before .before .before .before .before .before .before .before .before .before .before .before .before .before .before .before .before .before .before .fits .entry .fits)))
+put-number-then-requires-5 c κs =
+    let at-put-number-then4 = c .before .before .before in
+    let at-put-number-then3 = at-put-number-then4 .before .before .before .before in
+    let at-put-number-then2 = at-put-number-then3 .before .before .before .before in
+    let at-put-number-then = at-put-number-then2 .before .before .before .before in
+    let at-put-opening = at-put-number-then .before .before .before .before in
+    let at-start = at-put-opening .before .before .before in
+    omega (
+      arith,
+      at-put-opening .put-opening .ensures .next,
+      at-put-number-then .put-number-then .ensures .next,
+      at-put-number-then2 .put-number-then2 .ensures .next,
+      at-put-number-then3 .put-number-then3 .ensures .next,
+      at-put-number-then4 .put-number-then4 .ensures .next,
+      opening-short 6,
+      number-short (at-start .args .a) 32 (at-start .fits .a .fits),
+      number-short
+          (at-start .args .g) 32 (at-start .fits .g .fits),
+      number-short (at-start .args .b) 32 (at-start .fits .b .fits),
+      number-short
+          (at-start .args .entry % 64) 32 (omega arith),
+      number-short (at-start .args .entry / 64) 41 (omega (arith, at-start .fits .entry .fits)),
+    )
 
 put-byte-requires : tie.Need-put-byte-requires
-put-byte-requires c κs = omega (arith, c .before .before .before .before .before .before .before .before .before .before .before .before .before .before .before .before .before .before .before .before .before .before .before .put-opening .ensures .next, c .before .before .before .before .before .before .before .before .before .before .before .before .before .before .before .before .before .before .before .put-number-then .ensures .next, c .before .before .before .before .before .before .before .before .before .before .before .before .before .before .before .put-number-then2 .ensures .next, c .before .before .before .before .before .before .before .before .before .before .before .put-number-then3 .ensures .next, c .before .before .before .before .before .before .before .put-number-then4 .ensures .next, c .before .before .before .put-number-then5 .ensures .next, opening-short 6, number-short (c .before .before .before .before .before .before .before .before .before .before .before .before .before .before .before .before .before .before .before .before .before .before .before .before .before .before .args .a) 32 (c .before .before .before .before .before .before .before .before .before .before .before .before .before .before .before .before .before .before .before .before .before .before .before .before .before .before .fits .a .fits), number-short (c .before .before .before .before .before .before .before .before .before .before .before .before .before .before .before .before .before .before .before .before .before .before .before .before .before .before .args .g) 32 (c .before .before .before .before .before .before .before .before .before .before .before .before .before .before .before .before .before .before .before .before .before .before .before .before .before .before .fits .g .fits), number-short (c .before .before .before .before .before .before .before .before .before .before .before .before .before .before .before .before .before .before .before .before .before .before .before .before .before .before .args .b) 32 (c .before .before .before .before .before .before .before .before .before .before .before .before .before .before .before .before .before .before .before .before .before .before .before .before .before .before .fits .b .fits), number-short (c .before .before .before .before .before .before .before .before .before .before .before .before .before .before .before .before .before .before .before .before .before .before .before .before .before .before .args .entry % 64) 32 (omega arith), number-short (c .before .before .before .before .before .before .before .before .before .before .before .before .before .before .before .before .before .before .before .before .before .before .before .before .before .before .args .entry / 64) 41 (omega (arith, c .before .before .before .before .before .before .before .before .before .before .before .before .before .before .before .before .before .before .before .before .before .before .before .before .before .before .fits .entry .fits)))
+put-byte-requires c κs =
+    let at-put-number-then5 = c .before .before .before in
+    let at-put-number-then4 = at-put-number-then5 .before .before .before .before in
+    let at-put-number-then3 = at-put-number-then4 .before .before .before .before in
+    let at-put-number-then2 = at-put-number-then3 .before .before .before .before in
+    let at-put-number-then = at-put-number-then2 .before .before .before .before in
+    let at-put-opening = at-put-number-then .before .before .before .before in
+    let at-start = at-put-opening .before .before .before in
+    omega (
+      arith,
+      at-put-opening .put-opening .ensures .next,
+      at-put-number-then .put-number-then .ensures .next,
+      at-put-number-then2 .put-number-then2 .ensures .next,
+      at-put-number-then3 .put-number-then3 .ensures .next,
+      at-put-number-then4 .put-number-then4 .ensures .next,
+      at-put-number-then5 .put-number-then5 .ensures .next,
+      opening-short 6,
+      number-short
+          (at-start .args .a) 32 (at-start .fits .a .fits),
+      number-short (at-start .args .g) 32 (at-start .fits .g .fits),
+      number-short (at-start .args .b) 32
+          (at-start .fits .b .fits),
+      number-short (at-start .args .entry % 64) 32 (omega arith),
+      number-short (at-start .args .entry / 64) 41
+          (omega (arith, at-start .fits .entry .fits)),
+    )
 
 same-length : tie.Need-same-length
 same-length c = search needs
 
 returns : tie.Need-returns
-returns c = puts-as (row-pieces _ _ _ _) (puts-then (c .before .before .before .before .before .before .before .before .before .before .before .before .before .before .before .before .before .before .before .before .before .before .before .before .before .before .put-opening .ensures) (puts-then (c .before .before .before .before .before .before .before .before .before .before .before .before .before .before .before .before .before .before .before .before .before .before .put-number-then .ensures) (puts-then (c .before .before .before .before .before .before .before .before .before .before .before .before .before .before .before .before .before .before .put-number-then2 .ensures) (puts-then (c .before .before .before .before .before .before .before .before .before .before .before .before .before .before .put-number-then3 .ensures) (puts-then (c .before .before .before .before .before .before .before .before .before .before .put-number-then4 .ensures) (puts-then (c .before .before .before .before .before .before .put-number-then5 .ensures) (c .before .before .put-byte .ensures)))))))
+returns c =
+    let at-put-byte = c .before .before in
+    let at-put-number-then5 = at-put-byte .before .before .before .before in
+    let at-put-number-then4 = at-put-number-then5 .before .before .before .before in
+    let at-put-number-then3 = at-put-number-then4 .before .before .before .before in
+    let at-put-number-then2 = at-put-number-then3 .before .before .before .before in
+    let at-put-number-then = at-put-number-then2 .before .before .before .before in
+    let at-put-opening = at-put-number-then .before .before .before .before in
+    puts-as (row-pieces _ _ _ _) (puts-then (at-put-opening .put-opening .ensures)
+    (puts-then (at-put-number-then .put-number-then .ensures)
+    (puts-then (at-put-number-then2 .put-number-then2 .ensures)
+    (puts-then (at-put-number-then3 .put-number-then3 .ensures)
+    (puts-then (at-put-number-then4 .put-number-then4 .ensures)
+    (puts-then (at-put-number-then5 .put-number-then5 .ensures) (at-put-byte .put-byte .ensures)))))))
 
 pub put-row-spec : {M : Type 1} → statement M
 put-row-spec =

@@ -38,7 +38,11 @@ same-length : tie.Need-same-length
 same-length c = search needs
 
 returns-2 : tie.Need-returns-2
-returns-2 c = puts-as (step-row _ _ _ _ _ _ (c .before .before .before .before .before .before .if1 .left) (c .before .before .before .before .before .at-least-one .ensures) (c .before .before .before .before .at-least-one2 .ensures)) (c .before .before .put-row .ensures)
+returns-2 c =
+    let at-at-least-one = c .before .before .before .before .before in
+    let at-if1 = at-at-least-one .before in
+    puts-as (step-row _ _ _ _ _ _ (at-if1 .if1 .left) (at-at-least-one .at-least-one .ensures) (c .before .before .before .before .at-least-one2 .ensures))
+    (c .before .before .put-row .ensures)
 
 pub put-step-spec : {M : Type 1} → statement M
 put-step-spec =

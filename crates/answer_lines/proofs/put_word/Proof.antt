@@ -11,7 +11,8 @@ use Rattle.answer_lines.proofs.put_word.Statement.{statement}
 use Rattle.answer_lines.proofs.put_word.Tie as tie
 
 abbrev Inv-loop : tie.InvT-loop
-Inv-loop buffer₀ at w n to₀ k₀ buffer to k = Remains buffer₀ at (word w) buffer to (drop k (word w)) × (k ≤ length (word w)) × (n ≡ length (word w)) × (w < 10) × (at + length (word w) ≤ 2 ^ 32)
+Inv-loop buffer₀ at w n to₀ k₀ buffer to k =
+    Remains buffer₀ at (word w) buffer to (drop k (word w)) × (k ≤ length (word w)) × (n ≡ length (word w)) × (w < 10) × (at + length (word w) ≤ 2 ^ 32)
 
 abbrev μ-loop : tie.MeasureT-loop
 μ-loop buffer₀ at w n to₀ k₀ buffer to k = n - k
@@ -26,22 +27,45 @@ letter-requires : tie.Need-letter-requires Inv-loop μ-loop
 letter-requires c κs = (c .before .loop .inv .3, omega (arith, c .before .loop .inv, c .loop-test .taken))
 
 put-byte-requires : tie.Need-put-byte-requires Inv-loop μ-loop
-put-byte-requires c κs = bytes-room (word (c .before .before .before .before .before .before .args .w)) (c .before .before .before .loop .k) _ (c .before .before .before .loop .inv .0) (omega (arith, c .before .before .before .loop .inv, c .before .before .loop-test .taken)) (c .before .before .before .loop .inv .4)
+put-byte-requires c κs =
+    let at-loop = c .before .before .before in
+    let at-start = at-loop .before .before .before in
+    bytes-room (word (at-start .args .w)) (at-loop .loop .k) _ (at-loop .loop .inv .0)
+    (omega (arith, at-loop .loop .inv, c .before .before .loop-test .taken)) (at-loop .loop .inv .4)
 
 add-k : tie.Need-add-k Inv-loop μ-loop
-add-k c = omega (arith, c .before .before .before .before .before .before .loop .inv, c .before .before .before .before .before .loop-test .taken, word-short (c .before .before .before .before .before .before .before .before .before .args .w))
+add-k c =
+    let at-loop-test = c .before .before .before .before .before in
+    let at-loop = at-loop-test .before in
+    let at-start = at-loop .before .before .before in
+    omega (arith, at-loop .loop .inv, at-loop-test .loop-test .taken, word-short (at-start .args .w))
 
 loop-less : tie.Need-loop-less Inv-loop μ-loop
 loop-less c = omega (arith, c .before .before .before .before .before .loop-test .taken)
 
 loop-again : tie.Need-loop-again Inv-loop μ-loop
-loop-again c = (bytes-step (word (c .before .before .before .before .before .before .before .before .before .args .w)) (c .before .before .before .before .before .before .loop .k) _ (c .before .before .before .before .before .before .loop .inv .0) (omega (arith, c .before .before .before .before .before .before .loop .inv, c .before .before .before .before .before .loop-test .taken)) (c .before .before .before .before .letter .ensures) (c .before .before .put-byte .ensures), omega (arith, c .before .before .before .before .before .before .loop .inv, c .before .before .before .before .before .loop-test .taken), c .before .before .before .before .before .before .loop .inv .2, c .before .before .before .before .before .before .loop .inv .3, c .before .before .before .before .before .before .loop .inv .4)
+loop-again c =
+    let at-loop-test = c .before .before .before .before .before in
+    let at-loop = at-loop-test .before in
+    let at-start = at-loop .before .before .before in (
+      bytes-step (word (at-start .args .w)) (at-loop .loop .k) _ (at-loop .loop .inv .0) (omega (arith, at-loop .loop .inv, at-loop-test .loop-test .taken))
+          (c .before .before .before .before .letter .ensures) (c .before .before .put-byte .ensures),
+      omega
+          (arith, at-loop .loop .inv, at-loop-test .loop-test .taken),
+      at-loop .loop .inv .2,
+      at-loop .loop .inv .3,
+      at-loop .loop .inv .4,
+    )
 
 same-length : tie.Need-same-length Inv-loop μ-loop
-same-length c = puts-length (bytes-end (word (c .before .before .before .before .args .w)) (c .before .loop .k) (c .before .loop .inv .0) (omega (arith, c .before .loop .inv, c .loop-test .left)))
+same-length c =
+    puts-length (bytes-end (word (c .before .before .before .before .args .w)) (c .before .loop .k) (c .before .loop .inv .0)
+    (omega (arith, c .before .loop .inv, c .loop-test .left)))
 
 returns : tie.Need-returns Inv-loop μ-loop
-returns c = bytes-end (word (c .before .before .before .before .args .w)) (c .before .loop .k) (c .before .loop .inv .0) (omega (arith, c .before .loop .inv, c .loop-test .left))
+returns c =
+    bytes-end (word (c .before .before .before .before .args .w)) (c .before .loop .k) (c .before .loop .inv .0)
+    (omega (arith, c .before .loop .inv, c .loop-test .left))
 
 pub put-word-spec : {M : Type 1} → statement M
 put-word-spec =

@@ -20,19 +20,44 @@ put-wins-requires c κs = search needs
 
 put-starts-requires : tie.Need-put-starts-requires
 put-starts-requires c κs =
-    let l = controller-entries _ _ _ _ (passed (c .before .before .before .before .before .before .controller-fits .ensures) (c .before .before .before .before .before .if1 .left)) in
+    let at-if1 = c .before .before .before .before .before in
+    let at-controller-fits = at-if1 .before in
+    let l = controller-entries _ _ _ _ (passed (at-controller-fits .controller-fits .ensures) (at-if1 .if1 .left)) in
     (omega (arith, c .before .before .before .put-wins .ensures .next, wins-short true), l .0, omega (arith, l))
 
 put-steps-requires : tie.Need-put-steps-requires
 put-steps-requires c κs =
-    let l = controller-entries _ _ _ _ (passed (c .before .before .before .before .before .before .before .before .before .before .controller-fits .ensures) (c .before .before .before .before .before .before .before .before .before .if1 .left)) in
-    (omega (arith, l, c .before .before .before .put-starts .ensures .next, c .before .before .before .before .before .before .before .put-wins .ensures .next, wins-short true, starts-short (c .before .before .before .before .before .before .before .before .before .before .before .before .before .args .inputs) 0 (c .before .before .before .before .before .before .before .before .before .before .before .before .before .args .table .now) (omega (arith, l))), omega (arith, l), l .2)
+    let at-put-starts = c .before .before .before in
+    let at-put-wins = at-put-starts .before .before .before .before in
+    let at-if1 = at-put-wins .before .before in
+    let at-controller-fits = at-if1 .before in
+    let at-start = at-controller-fits .before .before .before in
+    let l = controller-entries _ _ _ _ (passed (at-controller-fits .controller-fits .ensures) (at-if1 .if1 .left)) in (
+      omega (
+        arith,
+        l,
+        at-put-starts .put-starts .ensures .next,
+        at-put-wins .put-wins .ensures .next,
+        wins-short true,
+        starts-short
+            (at-start .args .inputs) 0 (at-start .args .table .now) (omega (arith, l)),
+      ),
+      omega (arith, l),
+      l .2,
+    )
 
 same-length : tie.Need-same-length
 same-length c = search needs
 
 returns-2 : tie.Need-returns-2
-returns-2 c = controller-whole _ _ _ _ (passed (c .before .before .before .before .before .before .before .before .before .before .before .before .before .controller-fits .ensures) (c .before .before .before .before .before .before .before .before .before .before .before .before .if1 .left)) (c .before .before .before .before .before .before .before .before .before .before .put-wins .ensures) (c .before .before .before .before .before .before .put-starts .ensures) (c .before .before .put-steps .ensures)
+returns-2 c =
+    let at-put-steps = c .before .before in
+    let at-put-starts = at-put-steps .before .before .before .before in
+    let at-put-wins = at-put-starts .before .before .before .before in
+    let at-if1 = at-put-wins .before .before in
+    let at-controller-fits = at-if1 .before in
+    controller-whole _ _ _ _ (passed (at-controller-fits .controller-fits .ensures) (at-if1 .if1 .left)) (at-put-wins .put-wins .ensures)
+    (at-put-starts .put-starts .ensures) (at-put-steps .put-steps .ensures)
 
 pub put-controller-spec : {M : Type 1} → statement M
 put-controller-spec =

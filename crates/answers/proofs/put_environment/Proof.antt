@@ -19,21 +19,46 @@ put-wins-requires : tie.Need-put-wins-requires
 put-wins-requires c κs = search needs
 
 shared-slice-read-put-environment-start : tie.Need-shared-slice-read-put-environment-start
-shared-slice-read-put-environment-start c = omega (arith, environment-entries _ _ _ _ (passed (c .before .before .before .before .before .before .before .environment-fits .ensures) (c .before .before .before .before .before .before .if1 .left)))
+shared-slice-read-put-environment-start c =
+    let at-step = c .before .before .before .before .before in
+    let at-if1 = at-step .before in
+    let at-environment-fits = at-if1 .before in
+    omega (arith, environment-entries _ _ _ _ (passed (at-environment-fits .environment-fits .ensures) (at-if1 .if1 .left)))
 
 put-environment-start-requires : tie.Need-put-environment-start-requires
 put-environment-start-requires c κs = omega (arith, c .before .before .before .before .put-wins .ensures .next, wins-short false)
 
 put-steps-requires : tie.Need-put-steps-requires
 put-steps-requires c κs =
-    let l = environment-entries _ _ _ _ (passed (c .before .before .before .before .before .before .before .before .before .before .before .environment-fits .ensures) (c .before .before .before .before .before .before .before .before .before .before .if1 .left)) in
-    (omega (arith, c .before .before .before .put-environment-start .ensures .next, c .before .before .before .before .before .before .before .before .put-wins .ensures .next, wins-short false, environment-short (getD (c .before .before .before .before .before .before .before .before .before .before .before .before .before .before .args .table .now) 0 0)), omega (arith, l), l .1)
+    let at-put-environment-start = c .before .before .before in
+    let at-put-wins = at-put-environment-start .before .before .before .before .before in
+    let at-if1 = at-put-wins .before .before in
+    let at-environment-fits = at-if1 .before in
+    let at-start = at-environment-fits .before .before .before in
+    let l = environment-entries _ _ _ _ (passed (at-environment-fits .environment-fits .ensures) (at-if1 .if1 .left)) in (
+      omega (
+        arith,
+        at-put-environment-start .put-environment-start .ensures .next,
+        at-put-wins .put-wins .ensures .next,
+        wins-short false,
+        environment-short (getD (at-start .args .table .now) 0 0),
+      ),
+      omega (arith, l),
+      l .1,
+    )
 
 same-length : tie.Need-same-length
 same-length c = search needs
 
 returns-2 : tie.Need-returns-2
-returns-2 c = environment-whole _ _ _ _ (passed (c .before .before .before .before .before .before .before .before .before .before .before .before .before .before .environment-fits .ensures) (c .before .before .before .before .before .before .before .before .before .before .before .before .before .if1 .left)) (c .before .before .before .before .before .before .before .before .before .before .before .put-wins .ensures) (c .before .before .before .before .before .before .put-environment-start .ensures) (c .before .before .put-steps .ensures)
+returns-2 c =
+    let at-put-steps = c .before .before in
+    let at-put-environment-start = at-put-steps .before .before .before .before in
+    let at-put-wins = at-put-environment-start .before .before .before .before .before in
+    let at-if1 = at-put-wins .before .before in
+    let at-environment-fits = at-if1 .before in
+    environment-whole _ _ _ _ (passed (at-environment-fits .environment-fits .ensures) (at-if1 .if1 .left)) (at-put-wins .put-wins .ensures)
+    (at-put-environment-start .put-environment-start .ensures) (at-put-steps .put-steps .ensures)
 
 pub put-environment-spec : {M : Type 1} → statement M
 put-environment-spec =

@@ -25,16 +25,30 @@ shared-slice-read-put-start : tie.Need-shared-slice-read-put-start Inv-loop μ-l
 shared-slice-read-put-start c = omega (arith, c .before .before .before .loop .inv, c .before .before .loop-test .taken)
 
 put-start-requires : tie.Need-put-start-requires Inv-loop μ-loop
-put-start-requires c κs = omega (arith, c .before .before .before .loop .inv .0 .next, starts-short (c .before .before .before .loop .i) 0 (c .before .before .before .before .before .before .args .table .now) (omega arith), c .before .before .before .loop .inv)
+put-start-requires c κs =
+    let at-loop = c .before .before .before in
+    let at-start = at-loop .before .before .before in
+    omega (arith, at-loop .loop .inv .0 .next, starts-short (at-loop .loop .i) 0 (at-start .args .table .now) (omega arith), at-loop .loop .inv)
 
 add-i : tie.Need-add-i Inv-loop μ-loop
-add-i c = omega (arith, c .before .before .before .before .before .before .loop .inv)
+add-i c =
+    let at-step = c .before .before .before .before .before in
+    let at-loop = at-step .before in
+    omega (arith, at-loop .loop .inv)
 
 loop-less : tie.Need-loop-less Inv-loop μ-loop
 loop-less c = omega (arith, c .before .before .before .before .before .loop-test .taken)
 
 loop-again : tie.Need-loop-again Inv-loop μ-loop
-loop-again c = (starts-on _ _ (omega arith) (c .before .before .before .before .before .before .loop .inv .0) (c .before .before .put-start .ensures), omega arith, c .before .before .before .before .before .before .loop .inv .2, c .before .before .before .before .before .before .loop .inv .3, c .before .before .before .before .before .before .loop .inv .4)
+loop-again c =
+    let at-put-start = c .before .before in
+    let at-loop = at-put-start .before .before .before .before in (
+      starts-on _ _ (omega arith) (at-loop .loop .inv .0) (at-put-start .put-start .ensures),
+      omega arith,
+      at-loop .loop .inv .2,
+      at-loop .loop .inv .3,
+      at-loop .loop .inv .4,
+    )
 
 same-length : tie.Need-same-length Inv-loop μ-loop
 same-length c = puts-length (c .before .loop .inv .0)

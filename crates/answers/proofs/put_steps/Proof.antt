@@ -12,7 +12,9 @@ use Rattle.answers.proofs.put_steps.Statement.{statement}
 use Rattle.answers.proofs.put_steps.Tie as tie
 
 abbrev Inv-loop : tie.InvT-loop
-Inv-loop buffer₀ at sets last first table n to₀ k₀ buffer to k = Puts buffer₀ at (stepLines k 0 sets last first table) to buffer × (to ≤ 160 * (65 + k)) × (k ≤ n) × (n ≡ length table - first) × (first ≤ length table) × (length table ≤ 2 ^ 18)
+Inv-loop buffer₀ at sets last first table n to₀ k₀ buffer to k =
+    Puts buffer₀ at (stepLines k 0 sets last first table) to buffer × (to ≤ 160 * (65 + k)) × (k ≤ n) × (n ≡ length table - first) × (first ≤ length table)
+    × (length table ≤ 2 ^ 18)
 
 abbrev μ-loop : tie.MeasureT-loop
 μ-loop buffer₀ at sets last first table n to₀ k₀ buffer to k = n - k
@@ -36,19 +38,34 @@ put-step-requires : tie.Need-put-step-requires Inv-loop μ-loop
 put-step-requires c κs = omega (arith, c .before .before .before .loop .inv)
 
 add-k : tie.Need-add-k Inv-loop μ-loop
-add-k c = omega (arith, c .before .before .before .before .before .before .loop .inv)
+add-k c =
+    let at-step = c .before .before .before .before .before in
+    let at-loop = at-step .before in
+    omega (arith, at-loop .loop .inv)
 
 loop-less : tie.Need-loop-less Inv-loop μ-loop
 loop-less c = omega (arith, c .before .before .before .before .before .loop-test .taken)
 
 loop-again : tie.Need-loop-again Inv-loop μ-loop
 loop-again c =
-    let k = c .before .before .before .before .before .before .loop .k in
-    let first = c .before .before .before .before .before .before .before .before .before .args .first in
-    let table = c .before .before .before .before .before .before .before .before .before .args .table .now in
-    let entry = c .before .before .before .before .before .before .before .shared-slice-known .given (first + k) in
-    let short = step-short (c .before .before .before .before .before .before .before .before .before .args .sets) (c .before .before .before .before .before .before .before .before .before .args .last) k (getD table (first + k) 0) (omega (arith, c .before .before .before .before .before .before .loop .inv, c .before .before .before .before .before .loop-test .taken)) (omega (arith, entry)) in
-    (steps-on _ _ _ _ _ (omega arith) (c .before .before .before .before .before .before .loop .inv .0) (c .before .before .put-step .ensures), omega (arith, short, c .before .before .put-step .ensures .next, c .before .before .before .before .before .before .loop .inv), omega arith, refl, c .before .before .before .before .before .before .loop .inv .4, c .before .before .before .before .before .before .loop .inv .5)
+    let at-loop-test = c .before .before .before .before .before in
+    let at-loop = at-loop-test .before in
+    let at-shared-slice-known = at-loop .before in
+    let at-start = at-shared-slice-known .before .before in
+    let k = at-loop .loop .k in
+    let first = at-start .args .first in
+    let table = at-start .args .table .now in
+    let entry = at-shared-slice-known .shared-slice-known .given (first + k) in
+    let short = step-short (at-start .args .sets) (at-start .args .last) k (getD table (first + k) 0)
+    (omega (arith, at-loop .loop .inv, at-loop-test .loop-test .taken)) (omega (arith, entry)) in (
+      steps-on _ _ _ _ _ (omega arith) (at-loop .loop .inv .0) (c .before .before .put-step .ensures),
+      omega
+          (arith, short, c .before .before .put-step .ensures .next, at-loop .loop .inv),
+      omega arith,
+      refl,
+      at-loop .loop .inv .4,
+      at-loop .loop .inv .5,
+    )
 
 same-length : tie.Need-same-length Inv-loop μ-loop
 same-length c = puts-length (c .before .loop .inv .0)

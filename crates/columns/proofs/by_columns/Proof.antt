@@ -28,16 +28,24 @@ loop-holds c =
 lowest-requires : tie.Need-lowest-requires Inv-loop μ-loop
 lowest-requires c κs = search needs
 
-inside : (c : tie.After-lowest Inv-loop μ-loop) → c .lowest .result < c .before .before .before .before .before .before .args .width
+inside : (c : tie.After-lowest Inv-loop μ-loop)
+    → let at-step = c .before .before .before .before .before in
+    let at-start = at-step .before in
+    c .lowest .result < at-start .args .width
 inside c = let b = c .before .before in block-column _ _ _ _ _ _ _ _ (b .loop .left) _ (b .loop .inv) (c .before .loop-test .taken) (c .lowest .ensures) .0
 
 add-column : tie.Need-add-column Inv-loop μ-loop
-add-column c = omega (arith, inside (c .before), c .before .before .before .before .before .before .before .pre .inside)
+add-column c =
+    let at-step = c .before .before .before .before .before in
+    let at-start = at-step .before .before in
+    omega (arith, inside (c .before), at-start .pre .inside)
 
 column-requires : tie.Need-column-requires Inv-loop μ-loop
 column-requires c κs =
+    let at-loop-test = c .before .before in
+    let at-start = at-loop-test .before .before .before .before .before in
     let b = c .before .before .before in
-    block-fits _ _ _ _ _ _ _ _ (b .loop .left) _ (b .loop .inv) (c .before .before .loop-test .taken) (c .before .lowest .ensures) (c .before .before .before .before .before .before .before .pre)
+    block-fits _ _ _ _ _ _ _ _ (b .loop .left) _ (b .loop .inv) (at-loop-test .loop-test .taken) (c .before .lowest .ensures) (at-start .pre)
 
 without-lowest-requires : tie.Need-without-lowest-requires Inv-loop μ-loop
 without-lowest-requires c κs = c .before .before .before .before .before .loop-test .taken

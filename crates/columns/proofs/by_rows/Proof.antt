@@ -58,18 +58,31 @@ below c =
     let b = c .before .before in
     lowest-below (b .loop .left) _ (b .loop .inv .1 .small) (c .before .loop-test .taken) (c .lowest .ensures)
 
-member : (c : tie.After-lowest Inv-loop μ-loop) → has (c .before .before .before .before .before .before .before .args .which) (c .lowest .result) ≡ true
+member : (c : tie.After-lowest Inv-loop μ-loop)
+    → let at-step = c .before .before .before .before .before in
+    let at-start = at-step .before .before in
+    has (at-start .args .which) (c .lowest .result) ≡ true
 member c =
     let b = c .before .before in
     b .loop .inv .1 .inside _ (lowest-in (b .loop .left) _ (b .loop .inv .1 .small) (c .before .loop-test .taken) (c .lowest .ensures))
 
-entry : (c : tie.After-lowest Inv-loop μ-loop) → c .before .before .before .before .before .before .before .args .first + c .before .before .before .before .before .before .before .args .more * c .lowest .result < 65536
-entry c = row-entry _ _ _ _ _ _ _ _ (c .before .before .before .before .before .before .before .pre) (c .before .before .loop .inv .0) _ (member c)
+entry : (c : tie.After-lowest Inv-loop μ-loop)
+    → let at-step = c .before .before .before .before .before in
+    let at-start = at-step .before .before in
+    at-start .args .first + at-start .args .more * c .lowest .result < 65536
+entry c =
+    let at-loop = c .before .before in
+    let at-start = at-loop .before .before .before .before .before in
+    row-entry _ _ _ _ _ _ _ _ (at-start .pre) (at-loop .loop .inv .0) _ (member c)
 
 place : (c : tie.After-lowest Inv-loop μ-loop)
-    → c .before .before .before .before .before .before .before .args .base + c .before .before .before .before .before .before .before .args .width * c .lowest .result < length (c .before .before .loop .room)
+    → let at-loop = c .before .before in
+    let at-start = at-loop .before .before .before .before .before in
+    at-start .args .base + at-start .args .width * c .lowest .result < length (at-loop .loop .room)
 place c =
-    omega (arith, row-place _ _ _ _ _ _ _ _ (c .before .before .before .before .before .before .before .pre) (c .before .before .loop .inv .0) _ (member c), c .before .before .loop .inv .1 .long)
+    let at-loop = c .before .before in
+    let at-start = at-loop .before .before .before .before .before in
+    omega (arith, row-place _ _ _ _ _ _ _ _ (at-start .pre) (at-loop .loop .inv .0) _ (member c), at-loop .loop .inv .1 .long)
 
 mul-row : tie.Need-mul-row Inv-loop μ-loop
 mul-row c = omega (arith, place (c .before))
@@ -87,7 +100,10 @@ add-row-2 : tie.Need-add-row-2 Inv-loop μ-loop
 add-row-2 c = omega (arith, entry (c .before))
 
 row-requires : tie.Need-row-requires Inv-loop μ-loop
-row-requires c κs = row-fits _ _ _ _ _ _ _ _ (c .before .before .before .before .before .before .before .before .pre) (c .before .before .before .loop .inv .0) _ (member (c .before)) _ (c .before .before .before .loop .inv .1 .long)
+row-requires c κs =
+    let at-loop = c .before .before .before in
+    let at-start = at-loop .before .before .before .before .before in
+    row-fits _ _ _ _ _ _ _ _ (at-start .pre) (at-loop .loop .inv .0) _ (member (c .before)) _ (at-loop .loop .inv .1 .long)
 
 without-lowest-requires : tie.Need-without-lowest-requires Inv-loop μ-loop
 without-lowest-requires c κs = c .before .before .before .before .before .loop-test .taken

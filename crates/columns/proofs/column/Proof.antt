@@ -22,13 +22,18 @@ below-requires-2 : tie.Need-below-requires-2
 below-requires-2 c κs = few c
 
 front-requires : tie.Need-front-requires
-front-requires c κs = front-fits _ _ _ (c .before .if1 .taken) (c .before .before .below2 .ensures) _ _ _ _ _ (c .before .before .before .before .before .before .before .pre) (few (c .before .before .before))
+front-requires c κs =
+    let at-below2 = c .before .before in
+    let at-start = at-below2 .before .before .before .before .before in
+    front-fits _ _ _ (c .before .if1 .taken) (at-below2 .below2 .ensures) _ _ _ _ _ (at-start .pre) (few (c .before .before .before))
 
 same-length : tie.Need-same-length
 same-length c = search needs
 
 returns : tie.Need-returns
-returns c = front-column _ _ _ (c .before .before .before .before .if1 .taken) (c .before .before .before .before .before .below2 .ensures) _ _ _ _ _ _ (c .before .before .front .ensures)
+returns c =
+    front-column _ _ _ (c .before .before .before .before .if1 .taken) (c .before .before .before .before .before .below2 .ensures) _ _ _ _ _ _
+    (c .before .before .front .ensures)
 
 members-requires : tie.Need-members-requires
 members-requires c κs = search needs

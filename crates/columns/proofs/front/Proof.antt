@@ -19,7 +19,8 @@ loop-holds c = (omega arith, front-start _ _ _ _ _ _)
 entry-small : (c : tie.In-loop Inv-loop μ-loop) → c .before .before .args .first + c .before .before .args .more * c .before .loop .h < 65536
 entry-small c = c .before .before .pre .small (c .before .loop .h) (c .loop-test .taken)
 
-place-below : (c : tie.In-loop Inv-loop μ-loop) → c .before .before .args .base + c .before .before .args .step * c .before .loop .h < length (c .before .loop .room)
+place-below : (c : tie.In-loop Inv-loop μ-loop)
+    → c .before .before .args .base + c .before .before .args .step * c .before .loop .h < length (c .before .loop .room)
 place-below c = omega (arith, c .before .before .pre .below (c .before .loop .h) (c .loop-test .taken), c .before .loop .inv .1 .long)
 
 cast-room : tie.Need-cast-room Inv-loop μ-loop

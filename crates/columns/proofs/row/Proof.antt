@@ -15,7 +15,9 @@ same-length : tie.Need-same-length
 same-length c = search needs
 
 returns : tie.Need-returns
-returns c = run-row _ _ _ (c .before .before .before .before .if1 .taken) (c .before .before .before .before .before .below .ensures) _ _ _ _ (c .before .before .run .ensures)
+returns c =
+    run-row _ _ _ (c .before .before .before .before .if1 .taken) (c .before .before .before .before .before .below .ensures) _ _ _ _
+    (c .before .before .run .ensures)
 
 members-requires : tie.Need-members-requires
 members-requires c κs = column-fits _ _ _ _ _ (omega arith) (c .before .before .before .before .pre)

@@ -31,7 +31,11 @@ loop-less : tie.Need-loop-less Inv-loop μ-loop
 loop-less c = omega arith
 
 loop-again : tie.Need-loop-again Inv-loop μ-loop
-loop-again c = (omega arith, run-next _ _ _ _ _ _ (c .before .loop .inv .1) (c .loop-test .taken) (omega (arith, c .before .before .pre (c .before .loop .x) (c .loop-test .taken), c .before .loop .inv .1 .long)))
+loop-again c = (
+  omega arith,
+  run-next _ _ _ _ _ _ (c .before .loop .inv .1) (c .loop-test .taken)
+      (omega (arith, c .before .before .pre (c .before .loop .x) (c .loop-test .taken), c .before .loop .inv .1 .long)),
+)
 
 same-length : tie.Need-same-length Inv-loop μ-loop
 same-length c = c .before .loop .inv .1 .long

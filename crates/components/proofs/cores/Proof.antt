@@ -46,7 +46,8 @@ loop-again c =
     let a = b .before .before .args in (
       omega arith,
       collect-next _ (b .loop .s) (b .loop .c) (c .insert-if .result) (c .before .meets .result) (b .loop .inv .1)
-          (turns-at (a .t1 .moves) (a .rows .now) (a .t1 .states) (b .loop .s) (c .before .before .component .result) (c .before .before .component .ensures) (c .before .meets .ensures))
+          (turns-at (a .t1 .moves) (a .rows .now) (a .t1 .states) (b .loop .s) (c .before .before .component .result)
+          (c .before .before .component .ensures) (c .before .meets .ensures))
           (c .insert-if .ensures),
     )
 

@@ -16,7 +16,8 @@ returns : tie.Need-returns
 unfolding gameFrom
 returns c =
     let k = c .before .before .before .args .k in
-    ap₂ (λ (x y : Graph). record { input = x; output = y; k = k .k; requirements = k .requirements }) (c .before .before .graph-of .ensures) (c .before .graph-of2 .ensures)
+    ap₂ (λ (x y : Graph). record { input = x; output = y; k = k .k; requirements = k .requirements }) (c .before .before .graph-of .ensures)
+    (c .before .graph-of2 .ensures)
 
 pub game-of-spec : {M : Type 1} → statement M
 game-of-spec = tie.close (tie.spec graph-of-requires graph-of-requires-2 returns)

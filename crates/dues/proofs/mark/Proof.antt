@@ -52,8 +52,11 @@ loop-again : tie.Need-loop-again Inv-loop μ-loop
 unfolding servedIn
 loop-again c =
     let b = c .before .before .before .before .before in
-    let F = b .before .pre in
-    (omega arith, marked-next _ _ _ _ (b .loop .r) _ (c .insert-if .result) (c .before .all-guaranteed .result) (omega (arith, F .0 .requirements, F .2)) (b .loop .inv .1) (c .before .all-guaranteed .ensures) (c .insert-if .ensures))
+    let F = b .before .pre in (
+      omega arith,
+      marked-next _ _ _ _ (b .loop .r) _ (c .insert-if .result) (c .before .all-guaranteed .result) (omega (arith, F .0 .requirements, F .2))
+          (b .loop .inv .1) (c .before .all-guaranteed .ensures) (c .insert-if .ensures),
+    )
 
 returns : tie.Need-returns Inv-loop μ-loop
 returns c = marked-end _ _ _ _ (c .before .loop .r) _ _ (omega arith) (omega arith) (c .before .loop .inv .1)

@@ -9,16 +9,24 @@ use Rattle.environment_table.proofs.Walked.{component-word, skip-trivial, skip-
 use Rattle.environment.proofs.component_rows.Statement.{statement}
 use Rattle.environment.proofs.component_rows.Tie as tie
 
-whole : (c : tie.Else2) → Whole (c .before .before .before .before .before .before .before .before .args .g) (c .before .before .before .component .result) (c .before .before .before .before .before .before .before .before .args .i .0)
+whole : (c : tie.Else2)
+    → let at-component = c .before .before .before in
+    let at-start = at-component .before .before .before .before .before in
+    Whole (at-start .args .g) (at-component .component .result) (at-start .args .i .0)
 whole c =
-    whole-of-number _ _ _ (c .before .before .before .before .before .before .before .before .pre .0) _ (c .before .before .before .before .before .before .before .before .pre .2) _ (component-word _ _ _ (c .before .before .before .before .before .before .before .before .pre .0) _ (c .before .before .before .before .before .before .before .before .pre .2) (c .before .before .before .component .ensures))
-    (sym (c .before .before .before .before .before .member .ensures) ∙ not-false _ (c .before .before .before .before .if1 .left)) (c .before .before .lowest .ensures) (c .if2 .left)
+    let at-member = c .before .before .before .before .before in
+    let at-start = at-member .before .before .before in
+    whole-of-number _ _ _ (at-start .pre .0) _ (at-start .pre .2) _
+    (component-word _ _ _ (at-start .pre .0) _ (at-start .pre .2) (c .before .before .before .component .ensures))
+    (sym (at-member .member .ensures) ∙ not-false _ (c .before .before .before .before .if1 .left)) (c .before .before .lowest .ensures) (c .if2 .left)
 
 member-requires : tie.Need-member-requires
 member-requires c κs = omega arith
 
 returns : tie.Need-returns
-returns c = skip-trivial _ _ _ (c .before .before .before .before .pre .0) _ (c .before .before .before .before .pre .2) _ (sym (c .before .member .ensures) ∙ not-true _ (c .if1 .taken))
+returns c =
+    skip-trivial _ _ _ (c .before .before .before .before .pre .0) _ (c .before .before .before .before .pre .2) _
+    (sym (c .before .member .ensures) ∙ not-true _ (c .if1 .taken))
 
 component-requires : tie.Need-component-requires
 component-requires c κs = omega arith
@@ -27,19 +35,41 @@ lowest-requires : tie.Need-lowest-requires
 lowest-requires c κs = search needs
 
 returns-2 : tie.Need-returns-2
-returns-2 c = skip-other _ _ _ (c .before .before .before .before .before .before .before .before .pre .0) _ (c .before .before .before .before .before .before .before .before .pre .2) _ (component-word _ _ _ (c .before .before .before .before .before .before .before .before .pre .0) _ (c .before .before .before .before .before .before .before .before .pre .2) (c .before .before .before .component .ensures)) _ (c .before .before .lowest .ensures) (c .if2 .taken)
+returns-2 c =
+    let at-component = c .before .before .before in
+    let at-start = at-component .before .before .before .before .before in
+    skip-other _ _ _ (at-start .pre .0) _ (at-start .pre .2) _
+    (component-word _ _ _ (at-start .pre .0) _ (at-start .pre .2) (at-component .component .ensures)) _ (c .before .before .lowest .ensures) (c .if2 .taken)
 
 escapes-requires : tie.Need-escapes-requires
-escapes-requires c κs = (c .before .before .before .before .before .before .before .before .before .pre .0, c .before .before .before .before .before .before .before .before .before .pre .1, whole (c .before))
+escapes-requires c κs =
+    let at-step = c .before .before .before .before .before in
+    let at-start = at-step .before .before .before .before in
+    (at-start .pre .0, at-start .pre .1, whole (c .before))
 
 tours-requires : tie.Need-tours-requires
-tours-requires c κs = (roomy-more _ (c .before .before .before .before .before .before .before .before .before .before .before .before .before .pre .1) (c .before .before .before .escapes .ensures .filled), left-of _ _ _ (c .before .before .before .before .before .before .before .before .before .before .before .before .before .pre .0) _ (c .before .before .before .before .before .before .before .before .before .before .before .before .before .pre .2) (whole (c .before .before .before .before .before)) (c .before .before .before .escapes .ensures))
+tours-requires c κs =
+    let at-escapes = c .before .before .before in
+    let at-step = at-escapes .before .before .before .before .before in
+    let at-start = at-step .before .before .before .before .before in (
+      roomy-more _ (at-start .pre .1) (at-escapes .escapes .ensures .filled),
+      left-of _ _ _ (at-start .pre .0) _ (at-start .pre .2)
+          (whole (c .before .before .before .before .before)) (at-escapes .escapes .ensures),
+    )
 
 same-length : tie.Need-same-length
 same-length c = search needs
 
 returns-3 : tie.Need-returns-3
-returns-3 c = walked-join _ _ _ (c .before .before .before .before .before .before .before .before .before .before .before .before .before .before .before .before .pre .0) _ (c .before .before .before .before .before .before .before .before .before .before .before .before .before .before .before .before .pre .2) _ (component-word _ _ _ (c .before .before .before .before .before .before .before .before .before .before .before .before .before .before .before .before .pre .0) _ (c .before .before .before .before .before .before .before .before .before .before .before .before .before .before .before .before .pre .2) (c .before .before .before .before .before .before .before .before .before .before .before .component .ensures)) (whole (c .before .before .before .before .before .before .before .before)) (c .before .before .before .before .before .before .escapes .ensures) (c .before .before .tours .ensures)
+returns-3 c =
+    let at-tours = c .before .before in
+    let at-escapes = at-tours .before .before .before .before in
+    let at-step = at-escapes .before .before in
+    let at-component = at-step .before .before .before in
+    let at-start = at-component .before .before .before .before .before in
+    walked-join _ _ _ (at-start .pre .0) _ (at-start .pre .2) _
+    (component-word _ _ _ (at-start .pre .0) _ (at-start .pre .2) (at-component .component .ensures)) (whole at-step) (at-escapes .escapes .ensures)
+    (at-tours .tours .ensures)
 
 pub component-rows-spec : {M : Type 1} → statement M
 component-rows-spec =

@@ -22,7 +22,11 @@ loop-holds : tie.Need-loop-holds Inv-loop μ-loop
 loop-holds c = (omega arith, filled-none _ _ (λ a h b p. omega (arith, p .0)))
 
 component-rows-requires : tie.Need-component-rows-requires Inv-loop μ-loop
-component-rows-requires c κs = (c .before .before .before .before .before .pre .0, roomy-more _ (c .before .before .before .before .before .pre .1) (c .before .before .loop .inv .1), c .before .loop-test .taken)
+component-rows-requires c κs = (
+  c .before .before .before .before .before .pre .0,
+  roomy-more _ (c .before .before .before .before .before .pre .1) (c .before .before .loop .inv .1),
+  c .before .loop-test .taken,
+)
 
 add-i : tie.Need-add-i Inv-loop μ-loop
 add-i c = omega arith
@@ -31,13 +35,19 @@ loop-less : tie.Need-loop-less Inv-loop μ-loop
 loop-less c = omega arith
 
 loop-again : tie.Need-loop-again Inv-loop μ-loop
-loop-again c = (omega arith, filled-join _ (c .before .before .before .before .before .loop .inv .1) (c .before .before .component-rows .ensures) (λ a h b x y z p. below-next (number _ a) (c .before .before .before .before .before .loop .i) (p .0) (λ q. (q, p .1)) (λ q. (q, p .1))))
+loop-again c = (
+  omega arith,
+  filled-join _ (c .before .before .before .before .before .loop .inv .1) (c .before .before .component-rows .ensures)
+      (λ a h b x y z p. below-next (number _ a) (c .before .before .before .before .before .loop .i) (p .0) (λ q. (q, p .1)) (λ q. (q, p .1))),
+)
 
 same-length : tie.Need-same-length Inv-loop μ-loop
 same-length c = c .before .loop .inv .1 .grows .long
 
 returns : tie.Need-returns Inv-loop μ-loop
-returns c = filled-same _ (c .before .loop .inv .1) (λ a h b x y z p. (omega (arith, number-within (c .before .before .before .before .args .g) a x, c .loop-test .left), p))
+returns c =
+    filled-same _ (c .before .loop .inv .1) (λ a h b x y z p.
+    (omega (arith, number-within (c .before .before .before .before .args .g) a x, c .loop-test .left), p))
 
 pub walked-rows-spec : {M : Type 1} → statement M
 walked-rows-spec =

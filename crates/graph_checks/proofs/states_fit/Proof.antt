@@ -37,8 +37,10 @@ row-fits-requires c κs = search needs
 
 returns-2 : tie.Need-returns-2 Inv-loop μ-loop
 returns-2 c =
+    let at-if1 = c .before .before .before .before .before in
+    let at-within = at-if1 .before in
     states-row _ _
-    (passed (c .before .before .before .before .before .before .within .ensures) (c .before .before .before .before .before .if1 .left))
+    (passed (at-within .within .ensures) (at-if1 .if1 .left))
     (c .before .before .before .loop-test .taken)
     (failed (row-fits _ _ _ (c .before .row-fits .ensures)) (c .if2 .taken))
 
@@ -49,7 +51,8 @@ loop-less : tie.Need-loop-less Inv-loop μ-loop
 loop-less c = omega arith
 
 loop-again : tie.Need-loop-again Inv-loop μ-loop
-loop-again c = (omega arith, all-turn _ _ (c .before .before .before .before .loop .inv .1) (passed (row-fits _ _ _ (c .before .row-fits .ensures)) (c .if2 .left)))
+loop-again c =
+    (omega arith, all-turn _ _ (c .before .before .before .before .loop .inv .1) (passed (row-fits _ _ _ (c .before .row-fits .ensures)) (c .if2 .left)))
 
 returns-3 : tie.Need-returns-3 Inv-loop μ-loop
 returns-3 c =

@@ -50,14 +50,16 @@ loop-less : tie.Need-loop-less Inv-loop μ-loop
 loop-less c =
     let a = c .before .before .before .before in
     let b = a .before .before in
-    collected-falls _ _ _ (b .loop .rest) (b .loop .c) (b .loop .inv) (a .before .loop-test .taken) _ (a .lowest .ensures) _ _ (c .before .insert .ensures) (c .difference .ensures)
+    collected-falls _ _ _ (b .loop .rest) (b .loop .c) (b .loop .inv) (a .before .loop-test .taken) _ (a .lowest .ensures) _ _ (c .before .insert .ensures)
+    (c .difference .ensures)
 
 loop-again : tie.Need-loop-again Inv-loop μ-loop
 loop-again c =
     let w = c .before .before .before in
     let a = w .before in
     let b = a .before .before in
-    collected-next _ _ _ (b .loop .rest) (b .loop .c) (b .loop .inv) (a .before .loop-test .taken) _ (a .lowest .ensures) _ _ (c .before .insert .ensures) (c .difference .ensures)
+    collected-next _ _ _ (b .loop .rest) (b .loop .c) (b .loop .inv) (a .before .loop-test .taken) _ (a .lowest .ensures) _ _ (c .before .insert .ensures)
+    (c .difference .ensures)
     (omega (arith, c .difference .ok)) (w .safe .ensures) (c .before .before .insert-if .ensures)
 
 returns : tie.Need-returns Inv-loop μ-loop

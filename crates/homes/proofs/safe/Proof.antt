@@ -53,14 +53,16 @@ loop-less : tie.Need-loop-less Inv-loop μ-loop
 loop-less c =
     let a = c .before .before .before .before in
     let b = a .before .before in
-    passing-falls _ _ _ (b .loop .rest) (b .loop .inv) (a .before .loop-test .taken) _ (a .lowest .ensures) _ (rest-less _ _ _ _ (c .before .insert .ensures) (c .difference .ensures))
+    passing-falls _ _ _ (b .loop .rest) (b .loop .inv) (a .before .loop-test .taken) _ (a .lowest .ensures) _
+    (rest-less _ _ _ _ (c .before .insert .ensures) (c .difference .ensures))
 
 loop-again : tie.Need-loop-again Inv-loop μ-loop
 loop-again c =
     let w = c .before .before .before in
     let a = w .before in
     let b = a .before .before in
-    passing-next _ _ _ (b .loop .rest) (b .loop .inv) (a .before .loop-test .taken) _ (a .lowest .ensures) _ (rest-less _ _ _ _ (c .before .insert .ensures) (c .difference .ensures))
+    passing-next _ _ _ (b .loop .rest) (b .loop .inv) (a .before .loop-test .taken) _ (a .lowest .ensures) _
+    (rest-less _ _ _ _ (c .before .insert .ensures) (c .difference .ensures))
     (omega (arith, c .difference .ok)) (passed (w .won .ensures) (c .before .before .if1 .left))
 
 returns-2 : tie.Need-returns-2 Inv-loop μ-loop

@@ -74,19 +74,34 @@ solve-fitting-requires c κs =
     }
 
 same-length : tie.Need-same-length
-same-length c = c .before .before .before .before .before .before .before .before .solve-fitting .kept .1 .1 .1 .0
+same-length c =
+    let at-step = c .before .before .before .before .before in
+    let at-solve-fitting = at-step .before .before .before in
+    at-solve-fitting .solve-fitting .kept .1 .1 .1 .0
 
 same-length-2 : tie.Need-same-length-2
-same-length-2 c = c .before .before .before .before .before .before .before .before .solve-fitting .kept .1 .1 .1 .1 .0
+same-length-2 c =
+    let at-step = c .before .before .before .before .before in
+    let at-solve-fitting = at-step .before .before .before in
+    at-solve-fitting .solve-fitting .kept .1 .1 .1 .1 .0
 
 same-length-3 : tie.Need-same-length-3
-same-length-3 c = c .before .before .before .before .before .before .before .before .solve-fitting .kept .1 .1 .1 .1 .1 .0
+same-length-3 c =
+    let at-step = c .before .before .before .before .before in
+    let at-solve-fitting = at-step .before .before .before in
+    at-solve-fitting .solve-fitting .kept .1 .1 .1 .1 .1 .0
 
 same-length-4 : tie.Need-same-length-4
-same-length-4 c = c .before .before .before .before .before .before .before .before .solve-fitting .kept .1 .1 .1 .1 .1 .1 .0
+same-length-4 c =
+    let at-step = c .before .before .before .before .before in
+    let at-solve-fitting = at-step .before .before .before in
+    at-solve-fitting .solve-fitting .kept .1 .1 .1 .1 .1 .1 .0
 
 returns-4 : tie.Need-returns-4
-returns-4 c = c .before .before .before .before .before .before .before .before .solve-fitting .ensures
+returns-4 c =
+    let at-step = c .before .before .before .before .before in
+    let at-solve-fitting = at-step .before .before .before in
+    at-solve-fitting .solve-fitting .ensures
 
 pub solve-accepted-spec : {M : Type 1} → statement M
 solve-accepted-spec =

@@ -23,19 +23,34 @@ returns : tie.Need-returns
 returns c = kit-faulty _ _ _ _ _ _ (sym (c .before .before .before .accept-kit .ensures .answer) ∙ c .before .accepted .given .1)
 
 same-length : tie.Need-same-length
-same-length c = c .before .before .before .before .before .before .before .before .solve-accepted .kept .1 .0
+same-length c =
+    let at-step = c .before .before .before .before .before in
+    let at-solve-accepted = at-step .before .before .before in
+    at-solve-accepted .solve-accepted .kept .1 .0
 
 same-length-2 : tie.Need-same-length-2
-same-length-2 c = c .before .before .before .before .before .before .before .before .solve-accepted .kept .1 .1 .0
+same-length-2 c =
+    let at-step = c .before .before .before .before .before in
+    let at-solve-accepted = at-step .before .before .before in
+    at-solve-accepted .solve-accepted .kept .1 .1 .0
 
 same-length-3 : tie.Need-same-length-3
-same-length-3 c = c .before .before .before .before .before .before .before .before .solve-accepted .kept .1 .1 .1 .0
+same-length-3 c =
+    let at-step = c .before .before .before .before .before in
+    let at-solve-accepted = at-step .before .before .before in
+    at-solve-accepted .solve-accepted .kept .1 .1 .1 .0
 
 same-length-4 : tie.Need-same-length-4
-same-length-4 c = c .before .before .before .before .before .before .before .before .solve-accepted .kept .1 .1 .1 .1 .0
+same-length-4 c =
+    let at-step = c .before .before .before .before .before in
+    let at-solve-accepted = at-step .before .before .before in
+    at-solve-accepted .solve-accepted .kept .1 .1 .1 .1 .0
 
 returns-2 : tie.Need-returns-2
-returns-2 c = c .before .before .before .before .before .before .before .before .solve-accepted .ensures
+returns-2 c =
+    let at-step = c .before .before .before .before .before in
+    let at-solve-accepted = at-step .before .before .before in
+    at-solve-accepted .solve-accepted .ensures
 
 pub solve-kit-spec : {M : Type 1} → statement M
 solve-kit-spec =

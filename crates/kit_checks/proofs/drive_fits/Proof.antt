@@ -23,7 +23,9 @@ mode-fits-requires c κs = c .before .before .loop-test .taken
 
 returns : tie.Need-returns Inv-loop μ-loop
 unfolding entriesFit
-returns c = all-stop 64 _ (λ j. all 16 (entryFits _ _ _ j)) (c .before .before .before .before .loop-test .taken) (failed (c .before .mode-fits .ensures) (c .if1 .taken))
+returns c =
+    all-stop 64 _ (λ j. all 16 (entryFits _ _ _ j)) (c .before .before .before .before .loop-test .taken)
+    (failed (c .before .mode-fits .ensures) (c .if1 .taken))
 
 add-m : tie.Need-add-m Inv-loop μ-loop
 add-m c = omega arith

@@ -14,7 +14,8 @@ returns-2 : tie.Need-returns-2
 returns-2 c = entry-past-modes _ _ _ _ _ _ (c .before .before .next-mode .ensures) (c .before .if1 .left) (c .if2 .taken)
 
 returns-3 : tie.Need-returns-3
-returns-3 c = entry-past-commands _ _ _ _ _ _ (c .before .before .before .next-mode .ensures) (c .before .before .if1 .left) (c .before .if2 .left) (c .if3 .taken)
+returns-3 c =
+    entry-past-commands _ _ _ _ _ _ (c .before .before .before .next-mode .ensures) (c .before .before .if1 .left) (c .before .if2 .left) (c .if3 .taken)
 
 returns-4 : tie.Need-returns-4
 returns-4 c = entry-names _ _ _ _ _ _ (c .before .before .before .next-mode .ensures) (c .before .before .if1 .left) (c .before .if2 .left) (c .if3 .left)

@@ -23,7 +23,8 @@ add-mode-rows-2 : tie.Need-add-mode-rows-2 Inv-loop μ-loop
 add-mode-rows-2 c = omega (arith, c .before .before .before .before .before .pre .small)
 
 product : (c : tie.After-mode-rows-arg Inv-loop μ-loop)
-    → (c .before .before .before .before .before .args .first + c .before .before .loop .i) * c .before .before .before .before .before .args .commands ≤ 2097152
+    → (c .before .before .before .before .before .args .first + c .before .before .loop .i) * c .before .before .before .before .before .args .commands ≤
+    2097152
 product c =
     let p = c .before .before .before .before .before .pre in
     block-small _ _ (omega (arith, p .small, c .before .loop-test .taken)) (p .few)
@@ -35,7 +36,8 @@ add-mode-rows-3 : tie.Need-add-mode-rows-3 Inv-loop μ-loop
 add-mode-rows-3 c = omega (arith, product c, c .before .before .before .before .before .pre .modes)
 
 mode-rows-requires : tie.Need-mode-rows-requires Inv-loop μ-loop
-mode-rows-requires c κs = mode-fits _ _ _ _ _ _ _ _ (c .before .before .before .before .before .pre) (c .before .loop-test .taken) (c .before .before .loop .inv .1 .long)
+mode-rows-requires c κs =
+    mode-fits _ _ _ _ _ _ _ _ (c .before .before .before .before .before .pre) (c .before .loop-test .taken) (c .before .before .loop .inv .1 .long)
 
 add-i : tie.Need-add-i Inv-loop μ-loop
 add-i c = omega arith

@@ -14,16 +14,23 @@ abbrev μ-loop : tie.MeasureT-loop
 μ-loop k M controller room₀ outputs o₀ room o = outputs - o
 
 starts-requires : tie.Need-starts-requires Inv-loop μ-loop
-starts-requires c κs = let b = c .before .before .before in (modes-in _ (b .args .controller .now) _ _ (b .pre), modes-room _ (b .args .controller .now) _ _ (b .pre))
+starts-requires c κs =
+    let b = c .before .before .before in (modes-in _ (b .args .controller .now) _ _ (b .pre), modes-room _ (b .args .controller .now) _ _ (b .pre))
 
 loop-holds : tie.Need-loop-holds Inv-loop μ-loop
-loop-holds c = let b = c .before .before .before .before .before .before in (omega arith, outputs-none _ (b .args .controller .now) _ _ (b .pre) _)
+loop-holds c =
+    let at-step = c .before .before .before .before .before in
+    let at-step2 = at-step .before in
+    let b = at-step2 in (omega arith, outputs-none _ (b .args .controller .now) _ _ (b .pre) _)
 
 output-rows-requires : tie.Need-output-rows-requires Inv-loop μ-loop
 output-rows-requires c κs =
-    let b = c .before .before .before .before .before .before .before .before .before in
+    let at-starts = c .before .before .before .before .before in
+    let at-step = at-starts .before .before .before .before in
+    let b = at-step in
     let l = c .before .before in (
-      ready-long _ (b .args .controller .now) _ _ (b .pre) _ (outputs-long _ (b .args .controller .now) _ _ (b .pre) (l .loop .inv .1) ∙ c .before .before .before .before .before .starts .ensures .long),
+      ready-long _ (b .args .controller .now) _ _ (b .pre) _
+          (outputs-long _ (b .args .controller .now) _ _ (b .pre) (l .loop .inv .1) ∙ at-starts .starts .ensures .long),
       c .before .loop-test .taken,
     )
 
@@ -35,19 +42,30 @@ loop-less c = omega (arith, c .before .before .before .before .loop-test .taken)
 
 loop-again : tie.Need-loop-again Inv-loop μ-loop
 loop-again c =
-    let b = c .before .before .before .before .before .before .before .before .before .before .before .before in
-    let l = c .before .before .before .before .before in
-    (omega (arith, c .before .before .before .before .loop-test .taken), outputs-next _ (b .args .controller .now) _ _ (b .pre) _ (l .loop .inv .1) (c .before .before .output-rows .ensures) refl)
+    let at-loop-test = c .before .before .before .before in
+    let at-step = at-loop-test .before .before .before .before .before in
+    let at-step2 = at-step .before .before .before in
+    let b = at-step2 in
+    let l = c .before .before .before .before .before in (
+      omega (arith, at-loop-test .loop-test .taken),
+      outputs-next _ (b .args .controller .now) _ _ (b .pre) _ (l .loop .inv .1)
+          (c .before .before .output-rows .ensures) refl,
+    )
 
 same-length : tie.Need-same-length Inv-loop μ-loop
 same-length c =
-    let b = c .before .before .before .before .before .before .before .before in
-    outputs-long _ (b .args .controller .now) _ _ (b .pre) (c .before .loop .inv .1) ∙ c .before .before .before .before .starts .ensures .long
+    let at-starts = c .before .before .before .before in
+    let at-step = at-starts .before .before .before .before in
+    let b = at-step in
+    outputs-long _ (b .args .controller .now) _ _ (b .pre) (c .before .loop .inv .1) ∙ at-starts .starts .ensures .long
 
 returns : tie.Need-returns Inv-loop μ-loop
 returns c =
-    let b = c .before .before .before .before .before .before .before .before in
-    outputs-all _ (b .args .controller .now) _ _ (b .pre) _ refl (c .before .loop .inv .0) (c .loop-test .left) (c .before .before .before .before .starts .ensures) refl (c .before .loop .inv .1)
+    let at-starts = c .before .before .before .before in
+    let at-step = at-starts .before .before .before .before in
+    let b = at-step in
+    outputs-all _ (b .args .controller .now) _ _ (b .pre) _ refl (c .before .loop .inv .0) (c .loop-test .left) (at-starts .starts .ensures) refl
+    (c .before .loop .inv .1)
 
 pub fill-spec : {M : Type 1} → statement M
 fill-spec =

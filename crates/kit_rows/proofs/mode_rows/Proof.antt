@@ -21,7 +21,8 @@ row-requires c κs =
     let p = c .before .before .before .before .pre in
     (p .mode, omega (arith, p .few), p .reads (c .before .loop .u) (c .loop-test .taken))
 
-place : (c : tie.After-row Inv-loop μ-loop) → c .before .before .before .before .before .args .at + c .before .before .loop .u < length (c .before .before .loop .room)
+place : (c : tie.After-row Inv-loop μ-loop)
+    → c .before .before .before .before .before .args .at + c .before .before .loop .u < length (c .before .before .loop .room)
 place c = omega (arith, c .before .before .before .before .before .pre .room, c .before .before .loop .inv .1 .long)
 
 add-room : tie.Need-add-room Inv-loop μ-loop

@@ -14,16 +14,25 @@ abbrev μ-loop : tie.MeasureT-loop
 μ-loop counters o controller room₀ old to c₀ room c = counters - c
 
 lowest-commands-requires : tie.Need-lowest-commands-requires Inv-loop μ-loop
-lowest-commands-requires c κs = let p = c .before .before .before .before .before .before .pre in (p .0 .new .commands, omega (arith, p .1, p .0 .new .modes))
+lowest-commands-requires c κs =
+    let at-step = c .before .before .before .before .before in
+    let at-start = at-step .before in
+    let p = at-start .pre in (p .0 .new .commands, omega (arith, p .1, p .0 .new .modes))
 
 loop-holds : tie.Need-loop-holds Inv-loop μ-loop
 loop-holds c = (omega arith, rounds-none _ _ _ _ _ _)
 
 small : (c : tie.After-to2 Inv-loop μ-loop)
-    → c .before .before .before .before .before .before .before .before .before .before .before .before .before .args .o * c .before .before .before .before .before .before .before .before .before .before .before .before .before .args .counters + c .before .before .before .before .loop .c < 2048
+    → let at-loop = c .before .before .before .before in
+    let at-step = at-loop .before .before .before .before .before in
+    let at-start = at-step .before .before .before .before in
+    at-start .args .o * at-start .args .counters + at-loop .loop .c < 2048
 small c =
-    let b = c .before .before .before .before .before .before .before .before .before .before .before .before .before in
-    counters-small _ (b .args .controller .now) _ _ (b .pre .0) _ (b .pre .1) _ (c .before .before .before .loop-test .taken)
+    let at-loop-test = c .before .before .before in
+    let at-step = at-loop-test .before .before .before .before .before in
+    let at-step2 = at-step .before .before .before .before .before in
+    let b = at-step2 in
+    counters-small _ (b .args .controller .now) _ _ (b .pre .0) _ (b .pre .1) _ (at-loop-test .loop-test .taken)
 
 mul-counter-rows : tie.Need-mul-counter-rows Inv-loop μ-loop
 mul-counter-rows c = omega (arith, small c)
@@ -33,32 +42,50 @@ add-counter-rows c = omega (arith, small c)
 
 mul-counter-rows-2 : tie.Need-mul-counter-rows-2 Inv-loop μ-loop
 mul-counter-rows-2 c =
-    let b = c .before .before .before .before .before .before .before .before .before .before .before .before .before in
-    omega (arith, first-small _ (b .args .controller .now) _ _ (b .pre .0) _ (b .pre .1) _ (c .before .before .before .loop-test .taken))
+    let at-loop-test = c .before .before .before in
+    let at-step = at-loop-test .before .before .before .before .before in
+    let at-step2 = at-step .before .before .before .before .before in
+    let b = at-step2 in
+    omega (arith, first-small _ (b .args .controller .now) _ _ (b .pre .0) _ (b .pre .1) _ (at-loop-test .loop-test .taken))
 
 counter-rows-requires : tie.Need-counter-rows-requires Inv-loop μ-loop
 counter-rows-requires c κs =
-    let b = c .before .before .before .before .before .before .before .before .before .before .before .before .before .before in
-    count-fits _ (b .args .controller .now) _ _ (b .pre .0) _ (b .pre .1) _ _ (c .before .before .before .before .loop-test .taken) (c .before .before .before .before .before .loop .inv .1 .long)
+    let at-loop = c .before .before .before .before .before in
+    let at-step = at-loop .before .before .before .before .before in
+    let at-step2 = at-step .before .before .before .before in
+    let b = at-step2 in
+    count-fits _ (b .args .controller .now) _ _ (b .pre .0) _ (b .pre .1) _ _ (c .before .before .before .before .loop-test .taken)
+    (at-loop .loop .inv .1 .long)
 
 add-c : tie.Need-add-c Inv-loop μ-loop
 add-c c = omega (arith, c .before .before .before .before .before .before .before .loop-test .taken)
 
 loop-less : tie.Need-loop-less Inv-loop μ-loop
-loop-less c = omega (arith, c .before .before .before .before .before .before .before .loop-test .taken)
+loop-less c =
+    let at-step = c .before .before .before .before .before in
+    let at-loop-test = at-step .before .before in
+    omega (arith, at-loop-test .loop-test .taken)
 
 loop-again : tie.Need-loop-again Inv-loop μ-loop
 loop-again c =
-    let a = c .before .before .before .before .before .before .before in
-    (omega (arith, a .loop-test .taken), rounds-next _ _ _ _ _ (a .before .loop .c) (a .loop-test .taken) (a .before .loop .inv .1) (c .before .before .counter-rows .ensures) refl)
+    let at-counter-rows = c .before .before in
+    let at-step = at-counter-rows .before .before .before .before .before in
+    let a = at-step in (
+      omega (arith, a .loop-test .taken),
+      rounds-next _ _ _ _ _ (a .before .loop .c) (a .loop-test .taken) (a .before .loop .inv .1)
+          (at-counter-rows .counter-rows .ensures) refl,
+    )
 
 same-length : tie.Need-same-length Inv-loop μ-loop
 same-length c = c .before .loop .inv .1 .long
 
 returns : tie.Need-returns Inv-loop μ-loop
 returns c =
-    let b = c .before .before .before .before .before .before .before .before .before .before in
-    outputs-one _ (b .args .controller .now) _ _ (b .pre .0) _ (b .pre .1) _ (c .before .before .before .lowest-commands .ensures)
+    let at-lowest-commands = c .before .before .before in
+    let at-step = at-lowest-commands .before .before .before .before .before in
+    let at-step2 = at-step .before .before in
+    let b = at-step2 in
+    outputs-one _ (b .args .controller .now) _ _ (b .pre .0) _ (b .pre .1) _ (at-lowest-commands .lowest-commands .ensures)
     (rounds-end _ _ _ _ _ (c .before .loop .c) (c .before .loop .inv .0) (c .loop-test .left) (c .before .loop .inv .1))
 
 pub output-rows-spec : {M : Type 1} → statement M

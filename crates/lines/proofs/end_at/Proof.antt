@@ -21,13 +21,17 @@ byte-at-requires-2 : tie.Need-byte-at-requires-2
 byte-at-requires-2 c κs = search needs
 
 returns-2 : tie.Need-returns-2
-returns-2 c = step-fault (end-second _ _ (sym (c .before .before .before .byte-at .ensures) ∙ c .before .before .if1 .left) (λ e. c .if2 .taken (c .before .byte-at2 .ensures ∙ e)))
+returns-2 c =
+    step-fault (end-second _ _ (sym (c .before .before .before .byte-at .ensures) ∙ c .before .before .if1 .left)
+    (λ e. c .if2 .taken (c .before .byte-at2 .ensures ∙ e)))
 
 add-t4 : tie.Need-add-t4
 add-t4 c = omega (arith, byte-within _ _ _ (sym (c .before .byte-at2 .ensures) ∙ c .if2 .left) (omega arith))
 
 returns-3 : tie.Need-returns-3
-returns-3 c = step-at (end-both _ _ (sym (c .before .before .before .byte-at .ensures) ∙ c .before .before .if1 .left) (sym (c .before .byte-at2 .ensures) ∙ c .if2 .left))
+returns-3 c =
+    step-at (end-both _ _ (sym (c .before .before .before .byte-at .ensures) ∙ c .before .before .if1 .left)
+    (sym (c .before .byte-at2 .ensures) ∙ c .if2 .left))
 
 pub end-at-spec : {M : Type 1} → statement M
 end-at-spec =

@@ -32,10 +32,19 @@ returns : tie.Need-returns
 returns c = header-fault (header-no-word _ _ _ (fault-step _ (sym (c .before .o .given .1) ∙ c .before .before .before .opening-at .ensures)))
 
 returns-2 : tie.Need-returns-2
-returns-2 c = header-fault (header-no-inputs _ _ _ (at-step _ (sym (c .before .before .before .before .before .o2 .given .1) ∙ c .before .before .before .before .before .before .before .opening-at .ensures)) _ (fault-number _ (sym (c .before .n .given .1) ∙ c .before .before .before .number-then .ensures)))
+returns-2 c =
+    let at-o2 = c .before .before .before .before .before in
+    let at-opening-at = at-o2 .before .before in
+    header-fault (header-no-inputs _ _ _ (at-step _ (sym (at-o2 .o2 .given .1) ∙ at-opening-at .opening-at .ensures)) _
+    (fault-number _ (sym (c .before .n .given .1) ∙ c .before .before .before .number-then .ensures)))
 
 returns-3 : tie.Need-returns-3
-returns-3 c = c .outputs-at .ensures ∙ sym (ap headerOf (header-on _ _ _ (at-step _ (sym (c .before .before .before .before .before .before .o2 .given .1) ∙ c .before .before .before .before .before .before .before .before .opening-at .ensures)) _ _ (value-number _ (sym (c .before .before .n2 .given .1) ∙ c .before .before .before .before .number-then .ensures))))
+returns-3 c =
+    let at-number-then = c .before .before .before .before in
+    let at-o2 = at-number-then .before .before in
+    let at-opening-at = at-o2 .before .before in
+    c .outputs-at .ensures ∙ sym (ap headerOf (header-on _ _ _ (at-step _ (sym (at-o2 .o2 .given .1) ∙ at-opening-at .opening-at .ensures)) _ _
+    (value-number _ (sym (c .before .before .n2 .given .1) ∙ at-number-then .number-then .ensures))))
 
 pub header-at-spec : {M : Type 1} → statement M
 header-at-spec =

@@ -16,7 +16,8 @@ use Rattle.lines.proofs.opening_at.Statement.{statement}
 use Rattle.lines.proofs.opening_at.Tie as tie
 
 abbrev Inv-loop : tie.InvT-loop
-Inv-loop s i w n at₀ k₀ at k = (run (chars (opening w)) (bytes s) i ≡ run (chars (drop k (opening w))) (bytes s) at) × (k ≤ length (opening w)) × (n ≡ length (opening w)) × (w < 10)
+Inv-loop s i w n at₀ k₀ at k =
+    (run (chars (opening w)) (bytes s) i ≡ run (chars (drop k (opening w))) (bytes s) at) × (k ≤ length (opening w)) × (n ≡ length (opening w)) × (w < 10)
 
 abbrev μ-loop : tie.MeasureT-loop
 μ-loop s i w n at₀ k₀ at k = n - k
@@ -40,22 +41,41 @@ cast-if1 : tie.Need-cast-if1 Inv-loop μ-loop
 cast-if1 c = search needs
 
 returns : tie.Need-returns Inv-loop μ-loop
-returns c = step-fault (chars-miss _ (opening (c .before .before .before .before .before .before .before .args .w)) (c .before .before .before .before .loop .k) _ _ _ (c .before .before .before .before .loop .inv .0) (omega (arith, c .before .before .before .before .loop .inv, c .before .before .before .loop-test .taken)) (c .before .before .opening-byte .ensures) (λ e. c .if1 .taken (c .before .byte-at .ensures ∙ e)))
+returns c =
+    let at-loop = c .before .before .before .before in
+    let at-start = at-loop .before .before .before in
+    step-fault (chars-miss _ (opening (at-start .args .w)) (at-loop .loop .k) _ _ _ (at-loop .loop .inv .0)
+    (omega (arith, at-loop .loop .inv, c .before .before .before .loop-test .taken)) (c .before .before .opening-byte .ensures)
+    (λ e. c .if1 .taken (c .before .byte-at .ensures ∙ e)))
 
 add-at : tie.Need-add-at Inv-loop μ-loop
 add-at c = omega (arith, byte-within _ _ _ (sym (c .before .byte-at .ensures) ∙ c .if1 .left) (omega (arith, c .before .before .opening-byte .ok)))
 
 add-k : tie.Need-add-k Inv-loop μ-loop
-add-k c = omega (arith, word-short (c .before .before .before .before .before .before .before .args .w), opening-length (c .before .before .before .before .before .before .before .args .w), c .before .before .before .before .loop .inv, c .before .before .before .loop-test .taken)
+add-k c =
+    let at-loop = c .before .before .before .before in
+    let at-start = at-loop .before .before .before in
+    omega (arith, word-short (at-start .args .w), opening-length (at-start .args .w), at-loop .loop .inv, c .before .before .before .loop-test .taken)
 
 loop-less : tie.Need-loop-less Inv-loop μ-loop
 loop-less c = omega (arith, c .before .before .before .loop-test .taken)
 
 loop-again : tie.Need-loop-again Inv-loop μ-loop
-loop-again c = (chars-turn _ (opening (c .before .before .before .before .before .before .before .args .w)) (c .before .before .before .before .loop .k) _ _ _ (c .before .before .before .before .loop .inv .0) (omega (arith, c .before .before .before .before .loop .inv, c .before .before .before .loop-test .taken)) (c .before .before .opening-byte .ensures) (sym (c .before .byte-at .ensures) ∙ c .if1 .left), omega (arith, c .before .before .before .before .loop .inv, c .before .before .before .loop-test .taken), c .before .before .before .before .loop .inv .2, c .before .before .before .before .loop .inv .3)
+loop-again c =
+    let at-loop = c .before .before .before .before in
+    let at-start = at-loop .before .before .before in (
+      chars-turn _ (opening (at-start .args .w)) (at-loop .loop .k) _ _ _ (at-loop .loop .inv .0)
+          (omega (arith, at-loop .loop .inv, c .before .before .before .loop-test .taken)) (c .before .before .opening-byte .ensures)
+          (sym (c .before .byte-at .ensures) ∙ c .if1 .left),
+      omega (arith, at-loop .loop .inv, c .before .before .before .loop-test .taken),
+      at-loop .loop .inv .2,
+      at-loop .loop .inv .3,
+    )
 
 returns-2 : tie.Need-returns-2 Inv-loop μ-loop
-returns-2 c = step-at (chars-end _ (opening (c .before .before .before .before .args .w)) (c .before .loop .k) _ _ (c .before .loop .inv .0) (omega (arith, c .before .loop .inv, c .loop-test .left)))
+returns-2 c =
+    step-at (chars-end _ (opening (c .before .before .before .before .args .w)) (c .before .loop .k) _ _ (c .before .loop .inv .0)
+    (omega (arith, c .before .loop .inv, c .loop-test .left)))
 
 pub opening-at-spec : {M : Type 1} → statement M
 opening-at-spec =

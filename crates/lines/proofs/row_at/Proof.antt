@@ -37,13 +37,31 @@ returns : tie.Need-returns
 returns c = state-fault (row-no-flag _ _ _ (fault-number _ (sym (c .before .n .given .1) ∙ c .before .before .before .number-then .ensures)))
 
 returns-2 : tie.Need-returns-2
-returns-2 c = state-fault (row-no-set _ _ _ _ (value-number _ (sym (c .before .before .before .before .before .n2 .given .1) ∙ c .before .before .before .before .before .before .before .number-then .ensures)) _ (fault-set _ (sym (c .before .t .given .1) ∙ c .before .before .before .set-at .ensures)))
+returns-2 c =
+    let at-n2 = c .before .before .before .before .before in
+    let at-number-then = at-n2 .before .before in
+    state-fault (row-no-set _ _ _ _ (value-number _ (sym (at-n2 .n2 .given .1) ∙ at-number-then .number-then .ensures)) _
+    (fault-set _ (sym (c .before .t .given .1) ∙ c .before .before .before .set-at .ensures)))
 
 returns-3 : tie.Need-returns-3
-returns-3 c = state-fault (row-no-end _ _ _ _ (value-number _ (sym (c .before .before .before .before .before .before .before .before .before .n2 .given .1) ∙ c .before .before .before .before .before .before .before .before .before .before .before .number-then .ensures)) _ _ (members-set _ (sym (c .before .before .before .before .before .t2 .given .1) ∙ c .before .before .before .before .before .before .before .set-at .ensures)) _ (fault-step _ (sym (c .before .e .given .1) ∙ c .before .before .before .end-at .ensures)))
+returns-3 c =
+    let at-t2 = c .before .before .before .before .before in
+    let at-set-at = at-t2 .before .before in
+    let at-n2 = at-set-at .before .before in
+    let at-number-then = at-n2 .before .before in
+    state-fault (row-no-end _ _ _ _ (value-number _ (sym (at-n2 .n2 .given .1) ∙ at-number-then .number-then .ensures)) _ _
+    (members-set _ (sym (at-t2 .t2 .given .1) ∙ at-set-at .set-at .ensures)) _
+    (fault-step _ (sym (c .before .e .given .1) ∙ c .before .before .before .end-at .ensures)))
 
 returns-4 : tie.Need-returns-4
-returns-4 c = state-moves (row-got _ _ _ _ (value-number _ (sym (c .before .before .before .before .before .before .before .before .before .n2 .given .1) ∙ c .before .before .before .before .before .before .before .before .before .before .before .number-then .ensures)) _ _ (members-set _ (sym (c .before .before .before .before .before .t2 .given .1) ∙ c .before .before .before .before .before .before .before .set-at .ensures)) _ (at-step _ (sym (c .before .e2 .given .1) ∙ c .before .before .before .end-at .ensures)))
+returns-4 c =
+    let at-t2 = c .before .before .before .before .before in
+    let at-set-at = at-t2 .before .before in
+    let at-n2 = at-set-at .before .before in
+    let at-number-then = at-n2 .before .before in
+    state-moves (row-got _ _ _ _ (value-number _ (sym (at-n2 .n2 .given .1) ∙ at-number-then .number-then .ensures)) _ _
+    (members-set _ (sym (at-t2 .t2 .given .1) ∙ at-set-at .set-at .ensures)) _
+    (at-step _ (sym (c .before .e2 .given .1) ∙ c .before .before .before .end-at .ensures)))
 
 pub row-at-spec : {M : Type 1} → statement M
 row-at-spec =

@@ -32,10 +32,19 @@ returns : tie.Need-returns
 returns c = state-fault (state-no-word _ _ _ _ _ (fault-step _ (sym (c .before .o .given .1) ∙ c .before .before .before .opening-at .ensures)))
 
 returns-2 : tie.Need-returns-2
-returns-2 c = state-fault (state-no-number _ _ _ _ _ (at-step _ (sym (c .before .before .before .before .before .o2 .given .1) ∙ c .before .before .before .before .before .before .before .opening-at .ensures)) _ (fault-number _ (sym (c .before .n .given .1) ∙ c .before .before .before .number-then .ensures)))
+returns-2 c =
+    let at-o2 = c .before .before .before .before .before in
+    let at-opening-at = at-o2 .before .before in
+    state-fault (state-no-number _ _ _ _ _ (at-step _ (sym (at-o2 .o2 .given .1) ∙ at-opening-at .opening-at .ensures)) _
+    (fault-number _ (sym (c .before .n .given .1) ∙ c .before .before .before .number-then .ensures)))
 
 returns-3 : tie.Need-returns-3
-returns-3 c = c .row-at .ensures ∙ sym (ap stateOf (state-on _ _ _ _ _ (at-step _ (sym (c .before .before .before .before .before .before .o2 .given .1) ∙ c .before .before .before .before .before .before .before .before .opening-at .ensures)) _ _ (value-number _ (sym (c .before .before .n2 .given .1) ∙ c .before .before .before .before .number-then .ensures))))
+returns-3 c =
+    let at-number-then = c .before .before .before .before in
+    let at-o2 = at-number-then .before .before in
+    let at-opening-at = at-o2 .before .before in
+    c .row-at .ensures ∙ sym (ap stateOf (state-on _ _ _ _ _ (at-step _ (sym (at-o2 .o2 .given .1) ∙ at-opening-at .opening-at .ensures)) _ _
+    (value-number _ (sym (c .before .before .n2 .given .1) ∙ at-number-then .number-then .ensures))))
 
 pub state-at-spec : {M : Type 1} → statement M
 state-at-spec =

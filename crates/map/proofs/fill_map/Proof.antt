@@ -41,8 +41,11 @@ loop-less c = omega arith
 loop-again : tie.Need-loop-again Inv-loop μ-loop
 loop-again c =
     let b = c .before .before .before in
-    let s = b .before .before .before in
-    (omega arith, filled-more (mapRow (s .args .g)) (s .args .map .now) (b .loop .map) (b .loop .i) (c .map-row .result) (omega (arith, s .pre .1)) (b .loop .inv .1) (c .map-row .ensures))
+    let s = b .before .before .before in (
+      omega arith,
+      filled-more (mapRow (s .args .g)) (s .args .map .now) (b .loop .map) (b .loop .i) (c .map-row .result) (omega (arith, s .pre .1))
+          (b .loop .inv .1) (c .map-row .ensures),
+    )
 
 same-length : tie.Need-same-length Inv-loop μ-loop
 same-length c =

@@ -11,16 +11,28 @@ solve-result-requires : tie.Need-solve-result-requires
 solve-result-requires c κs = search needs
 
 same-length : tie.Need-same-length
-same-length c = c .before .before .before .before .before .before .before .solve-into .kept .1 .0
+same-length c =
+    let at-step = c .before .before .before .before .before in
+    let at-solve-into = at-step .before .before in
+    at-solve-into .solve-into .kept .1 .0
 
 same-length-2 : tie.Need-same-length-2
-same-length-2 c = c .before .before .before .before .before .before .before .solve-into .kept .1 .1 .0
+same-length-2 c =
+    let at-step = c .before .before .before .before .before in
+    let at-solve-into = at-step .before .before in
+    at-solve-into .solve-into .kept .1 .1 .0
 
 same-length-3 : tie.Need-same-length-3
-same-length-3 c = c .before .before .before .before .before .before .before .solve-into .kept .1 .1 .1 .0
+same-length-3 c =
+    let at-step = c .before .before .before .before .before in
+    let at-solve-into = at-step .before .before in
+    at-solve-into .solve-into .kept .1 .1 .1 .0
 
 returns : tie.Need-returns
-returns c = solve-called (c .before .before .before .before .before .before .before .solve-into .ensures) (c .solve-result .ensures)
+returns c =
+    let at-step = c .before .before .before .before .before in
+    let at-solve-into = at-step .before .before in
+    solve-called (at-solve-into .solve-into .ensures) (c .solve-result .ensures)
 
 pub nanpuwiq-solve-spec : {M : Type 1} → statement M
 nanpuwiq-solve-spec =

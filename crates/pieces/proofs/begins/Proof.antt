@@ -42,7 +42,9 @@ meets-requires-2 : tie.Need-meets-requires-2
 meets-requires-2 c κs = search needs
 
 returns-4 : tie.Need-returns-4
-returns-4 c = c .meets2 .ensures ∙ sym (begins-hundred _ _ _ (sym (c .before .before .before .before .before .inside .ensures) ∙ c .before .before .before .before .if1 .left) (c .before .before .before .if2 .left) (sym (c .before .before .meets .ensures) ∙ c .before .if3 .left))
+returns-4 c =
+    c .meets2 .ensures ∙ sym (begins-hundred _ _ _ (sym (c .before .before .before .before .before .inside .ensures) ∙
+    c .before .before .before .before .if1 .left) (c .before .before .before .if2 .left) (sym (c .before .before .meets .ensures) ∙ c .before .if3 .left))
 
 pub begins-spec : {M : Type 1} → statement M
 begins-spec =

@@ -25,7 +25,8 @@ begins-requires : tie.Need-begins-requires
 begins-requires c κs = omega (arith, digit-bounds _ (sym (c .before .is-digit .ensures) ∙ c .if2 .taken), c .before .before .before .pre)
 
 returns-2 : tie.Need-returns-2
-returns-2 c = c .begins .ensures ∙ sym (extends-by _ _ _ _ (c .before .before .before .if1 .left) (sym (c .before .before .is-digit .ensures) ∙ c .before .if2 .taken))
+returns-2 c =
+    c .begins .ensures ∙ sym (extends-by _ _ _ _ (c .before .before .before .if1 .left) (sym (c .before .before .is-digit .ensures) ∙ c .before .if2 .taken))
 
 returns-3 : tie.Need-returns-3
 returns-3 c = sym (extends-digit _ _ _ _ (sym (c .before .is-digit .ensures) ∙ c .if2 .left))

@@ -35,13 +35,21 @@ insert-requires : tie.Need-insert-requires
 insert-requires c κs = omega (arith, number-range _ _ _ _ _ _ (value-number _ (sym (c .before .n2 .given .1) ∙ c .before .before .before .number-at .ensures)))
 
 more-members-requires : tie.Need-more-members-requires
-more-members-requires c κs = omega (arith, number-range _ _ _ _ _ _ (value-number _ (sym (c .before .before .n2 .given .1) ∙ c .before .before .before .before .number-at .ensures)))
+more-members-requires c κs =
+    omega (arith, number-range _ _ _ _ _ _ (value-number _ (sym (c .before .before .n2 .given .1) ∙ c .before .before .before .before .number-at .ensures)))
 
 returns-2 : tie.Need-returns-2
-returns-2 c = set-fault (members-wrong _ _ _ (λ e. c .before .before .before .before .if1 .left (c .before .before .before .before .before .byte-at .ensures ∙ e)) (fault-number _ (sym (c .before .n .given .1) ∙ c .before .before .before .number-at .ensures)))
+returns-2 c =
+    set-fault (members-wrong _ _ _ (λ e. c .before .before .before .before .if1 .left (c .before .before .before .before .before .byte-at .ensures ∙ e))
+    (fault-number _ (sym (c .before .n .given .1) ∙ c .before .before .before .number-at .ensures)))
 
 returns-3 : tie.Need-returns-3
-returns-3 c = c .more-members .ensures ∙ sym (ap setOf (members-begun _ _ _ _ _ (λ e. c .before .before .before .before .before .before .if1 .left (c .before .before .before .before .before .before .before .byte-at .ensures ∙ e)) (value-number _ (sym (c .before .before .before .n2 .given .1) ∙ c .before .before .before .before .before .number-at .ensures)) (c .before .insert .ensures)))
+returns-3 c =
+    let at-number-at = c .before .before .before .before .before in
+    let at-if1 = at-number-at .before in
+    let at-byte-at = at-if1 .before in
+    c .more-members .ensures ∙ sym (ap setOf (members-begun _ _ _ _ _ (λ e. at-if1 .if1 .left (at-byte-at .byte-at .ensures ∙ e))
+    (value-number _ (sym (c .before .before .before .n2 .given .1) ∙ at-number-at .number-at .ensures)) (c .before .insert .ensures)))
 
 pub members-at-spec : {M : Type 1} → statement M
 members-at-spec =

@@ -35,7 +35,12 @@ add-value : tie.Need-add-value Inv-loop μ-loop
 add-value c = omega (arith, extended-digit _ _ _ _ (sym (c .before .extends .ensures) ∙ c .if1 .taken), c .before .before .before .before .loop .inv)
 
 add-at : tie.Need-add-at Inv-loop μ-loop
-add-at c = omega (arith, byte-within _ _ _ (sym (c .before .before .byte-at .ensures)) (omega (arith, extended-digit _ _ _ _ (sym (c .before .extends .ensures) ∙ c .if1 .taken))))
+add-at c =
+    omega (
+      arith,
+      byte-within _ _ _ (sym (c .before .before .byte-at .ensures))
+          (omega (arith, extended-digit _ _ _ _ (sym (c .before .extends .ensures) ∙ c .if1 .taken))),
+    )
 
 sub-left : tie.Need-sub-left Inv-loop μ-loop
 sub-left c = omega arith
@@ -44,13 +49,22 @@ loop-less : tie.Need-loop-less Inv-loop μ-loop
 loop-less c = omega arith
 
 loop-again : tie.Need-loop-again Inv-loop μ-loop
-loop-again c = (digits-go _ _ _ _ _ _ _ _ (c .before .before .before .before .loop .inv .0) (c .before .before .before .loop-test .taken) (c .before .before .byte-at .ensures) (sym (c .before .extends .ensures) ∙ c .if1 .taken), omega (arith, extended-small _ _ _ _ (sym (c .before .extends .ensures) ∙ c .if1 .taken), c .before .before .before .before .before .before .pre))
+loop-again c =
+    let at-loop = c .before .before .before .before in
+    let at-start = at-loop .before .before in (
+      digits-go _ _ _ _ _ _ _ _ (at-loop .loop .inv .0) (c .before .before .before .loop-test .taken) (c .before .before .byte-at .ensures)
+          (sym (c .before .extends .ensures) ∙ c .if1 .taken),
+      omega
+          (arith, extended-small _ _ _ _ (sym (c .before .extends .ensures) ∙ c .if1 .taken), at-start .pre),
+    )
 
 number-end-requires : tie.Need-number-end-requires Inv-loop μ-loop
 number-end-requires c κs = tt
 
 returns : tie.Need-returns Inv-loop μ-loop
-returns c = c .number-end .ensures ∙ sym (ap numberOf (digits-stop _ _ _ _ _ _ _ _ (c .before .before .before .before .before .loop .inv .0) (c .before .before .before .byte-at .ensures) (sym (c .before .before .extends .ensures) ∙ c .before .if1 .left)))
+returns c =
+    c .number-end .ensures ∙ sym (ap numberOf (digits-stop _ _ _ _ _ _ _ _ (c .before .before .before .before .before .loop .inv .0)
+    (c .before .before .before .byte-at .ensures) (sym (c .before .before .extends .ensures) ∙ c .before .if1 .left)))
 
 number-end-requires-2 : tie.Need-number-end-requires-2 Inv-loop μ-loop
 number-end-requires-2 c κs = tt

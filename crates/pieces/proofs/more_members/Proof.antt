@@ -13,7 +13,8 @@ use Rattle.pieces.proofs.more_members.Statement.{statement}
 use Rattle.pieces.proofs.more_members.Tie as tie
 
 abbrev Inv-loop : tie.InvT-loop
-Inv-loop s i lo x at₀ low₀ set₀ left₀ at low set left = (run (moreMembers 63 low₀ set₀) (bytes s) at₀ ≡ run (moreMembers left low set) (bytes s) at) × (low ≤ 64)
+Inv-loop s i lo x at₀ low₀ set₀ left₀ at low set left =
+    (run (moreMembers 63 low₀ set₀) (bytes s) at₀ ≡ run (moreMembers left low set) (bytes s) at) × (low ≤ 64)
 
 abbrev μ-loop : tie.MeasureT-loop
 μ-loop s i lo x at₀ low₀ set₀ left₀ at low set left = left
@@ -34,31 +35,65 @@ enum-known-n : tie.Need-enum-known-n Inv-loop μ-loop
 enum-known-n c = search needs
 
 returns-2 : tie.Need-returns-2 Inv-loop μ-loop
-returns-2 c = set-members (members-closed _ _ _ _ _ _ (c .before .before .before .before .before .before .loop .inv .0) (c .before .before .before .before .before .loop-test .taken) (c .before .before .before .before .if1 .left) _ (sym (c .before .n .given .1) ∙ c .before .before .before .next-member .ensures))
+returns-2 c =
+    let at-loop-test = c .before .before .before .before .before in
+    let at-loop = at-loop-test .before in
+    set-members (members-closed _ _ _ _ _ _ (at-loop .loop .inv .0) (at-loop-test .loop-test .taken) (c .before .before .before .before .if1 .left) _
+    (sym (c .before .n .given .1) ∙ c .before .before .before .next-member .ensures))
 
 enum-known-n-2 : tie.Need-enum-known-n-2 Inv-loop μ-loop
 enum-known-n-2 c = search needs
 
 returns-3 : tie.Need-returns-3 Inv-loop μ-loop
-returns-3 c = set-fault (members-fault _ _ _ _ _ _ (c .before .before .before .before .before .before .loop .inv .0) (c .before .before .before .before .before .loop-test .taken) (c .before .before .before .before .if1 .left) _ (sym (c .before .n2 .given .1) ∙ c .before .before .before .next-member .ensures))
+returns-3 c =
+    let at-loop-test = c .before .before .before .before .before in
+    let at-loop = at-loop-test .before in
+    set-fault (members-fault _ _ _ _ _ _ (at-loop .loop .inv .0) (at-loop-test .loop-test .taken) (c .before .before .before .before .if1 .left) _
+    (sym (c .before .n2 .given .1) ∙ c .before .before .before .next-member .ensures))
 
 enum-known-n-3 : tie.Need-enum-known-n-3 Inv-loop μ-loop
 enum-known-n-3 c = search needs
 
 insert-requires : tie.Need-insert-requires Inv-loop μ-loop
-insert-requires c κs = omega (arith, (members-more _ _ _ _ _ _ (c .before .before .before .before .before .before .loop .inv .0) (c .before .before .before .before .before .loop-test .taken) (c .before .before .before .before .if1 .left) _ _ (sym (c .before .n3 .given .1) ∙ c .before .before .before .next-member .ensures)))
+insert-requires c κs =
+    let at-loop-test = c .before .before .before .before .before in
+    let at-loop = at-loop-test .before in
+    omega (
+      arith,
+      (members-more _ _ _ _ _ _ (at-loop .loop .inv .0) (at-loop-test .loop-test .taken) (c .before .before .before .before .if1 .left) _ _
+          (sym (c .before .n3 .given .1) ∙ c .before .before .before .next-member .ensures)),
+    )
 
 add-low : tie.Need-add-low Inv-loop μ-loop
-add-low c = omega (arith, (members-more _ _ _ _ _ _ (c .before .before .before .before .before .before .before .loop .inv .0) (c .before .before .before .before .before .before .loop-test .taken) (c .before .before .before .before .before .if1 .left) _ _ (sym (c .before .before .n3 .given .1) ∙ c .before .before .before .before .next-member .ensures)))
+add-low c =
+    let at-if1 = c .before .before .before .before .before in
+    let at-loop-test = at-if1 .before in
+    let at-loop = at-loop-test .before in
+    omega (
+      arith,
+      (members-more _ _ _ _ _ _ (at-loop .loop .inv .0) (at-loop-test .loop-test .taken) (at-if1 .if1 .left) _ _
+          (sym (c .before .before .n3 .given .1) ∙ c .before .before .before .before .next-member .ensures)),
+    )
 
 sub-left : tie.Need-sub-left Inv-loop μ-loop
-sub-left c = omega (arith, c .before .before .before .before .before .before .loop-test .taken)
+sub-left c =
+    let at-step = c .before .before .before .before .before in
+    let at-loop-test = at-step .before in
+    omega (arith, at-loop-test .loop-test .taken)
 
 loop-less : tie.Need-loop-less Inv-loop μ-loop
-loop-less c = omega (arith, c .before .before .before .before .before .before .loop-test .taken)
+loop-less c =
+    let at-step = c .before .before .before .before .before in
+    let at-loop-test = at-step .before in
+    omega (arith, at-loop-test .loop-test .taken)
 
 loop-again : tie.Need-loop-again Inv-loop μ-loop
-loop-again c = members-next _ _ _ _ _ _ (c .before .before .before .before .before .before .before .loop .inv .0) (c .before .before .before .before .before .before .loop-test .taken) (c .before .before .before .before .before .if1 .left) _ _ _ (sym (c .before .before .n3 .given .1) ∙ c .before .before .before .before .next-member .ensures) (c .insert .ensures)
+loop-again c =
+    let at-if1 = c .before .before .before .before .before in
+    let at-loop-test = at-if1 .before in
+    let at-loop = at-loop-test .before in
+    members-next _ _ _ _ _ _ (at-loop .loop .inv .0) (at-loop-test .loop-test .taken) (at-if1 .if1 .left) _ _ _
+    (sym (c .before .before .n3 .given .1) ∙ c .before .before .before .before .next-member .ensures) (c .insert .ensures)
 
 closed-set-requires-2 : tie.Need-closed-set-requires-2 Inv-loop μ-loop
 closed-set-requires-2 c κs = tt

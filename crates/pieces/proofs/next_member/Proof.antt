@@ -30,13 +30,22 @@ enum-known-n-2 : tie.Need-enum-known-n-2
 enum-known-n-2 c = search needs
 
 returns-2 : tie.Need-returns-2
-returns-2 c = next-fault _ _ _ _ (sym (c .before .before .before .before .before .before .byte-at .ensures) ∙ c .before .before .before .before .if2 .taken) (fault-number _ (sym (c .before .n .given .1) ∙ c .before .before .before .number-at .ensures))
+returns-2 c =
+    let at-if2 = c .before .before .before .before in
+    let at-byte-at = at-if2 .before .before in
+    next-fault _ _ _ _ (sym (at-byte-at .byte-at .ensures) ∙ at-if2 .if2 .taken)
+    (fault-number _ (sym (c .before .n .given .1) ∙ c .before .before .before .number-at .ensures))
 
 returns-3 : tie.Need-returns-3
-returns-3 c = next-member _ _ _ _ _ (sym (c .before .before .before .before .before .before .byte-at .ensures) ∙ c .before .before .before .before .if2 .taken) (value-number _ (sym (c .before .n2 .given .1) ∙ c .before .before .before .number-at .ensures))
+returns-3 c =
+    let at-if2 = c .before .before .before .before in
+    let at-byte-at = at-if2 .before .before in
+    next-member _ _ _ _ _ (sym (at-byte-at .byte-at .ensures) ∙ at-if2 .if2 .taken)
+    (value-number _ (sym (c .before .n2 .given .1) ∙ c .before .before .before .number-at .ensures))
 
 returns-4 : tie.Need-returns-4
-returns-4 c = next-none _ _ _ (λ e. c .before .if1 .left (c .before .before .byte-at .ensures ∙ e)) (λ e. c .if2 .left (c .before .before .byte-at .ensures ∙ e))
+returns-4 c =
+    next-none _ _ _ (λ e. c .before .if1 .left (c .before .before .byte-at .ensures ∙ e)) (λ e. c .if2 .left (c .before .before .byte-at .ensures ∙ e))
 
 pub next-member-spec : {M : Type 1} → statement M
 next-member-spec =

@@ -16,7 +16,12 @@ starts-requires : tie.Need-starts-requires
 starts-requires c κs = search needs
 
 add-more-digits : tie.Need-add-more-digits
-add-more-digits c = omega (arith, byte-within _ _ _ (sym (c .before .before .byte-at .ensures)) (omega (arith, started-digit _ _ _ (sym (c .before .starts .ensures) ∙ c .if1 .taken))))
+add-more-digits c =
+    omega (
+      arith,
+      byte-within _ _ _ (sym (c .before .before .byte-at .ensures))
+          (omega (arith, started-digit _ _ _ (sym (c .before .starts .ensures) ∙ c .if1 .taken))),
+    )
 
 sub-more-digits : tie.Need-sub-more-digits
 sub-more-digits c = started-digit _ _ _ (sym (c .before .starts .ensures) ∙ c .if1 .taken) .0
@@ -25,7 +30,9 @@ more-digits-requires : tie.Need-more-digits-requires
 more-digits-requires c κs = (search needs, omega (arith, started-digit _ _ _ (sym (c .before .starts .ensures) ∙ c .if1 .taken)))
 
 returns : tie.Need-returns
-returns c = c .more-digits .ensures ∙ sym (ap numberOf (number-first _ _ _ _ _ (c .before .before .before .byte-at .ensures) (sym (c .before .before .starts .ensures) ∙ c .before .if1 .taken)))
+returns c =
+    c .more-digits .ensures ∙ sym (ap numberOf (number-first _ _ _ _ _ (c .before .before .before .byte-at .ensures)
+    (sym (c .before .before .starts .ensures) ∙ c .before .if1 .taken)))
 
 returns-2 : tie.Need-returns-2
 returns-2 c = number-fault (number-never _ _ _ _ _ (c .before .before .byte-at .ensures) (sym (c .before .starts .ensures) ∙ c .if1 .left))

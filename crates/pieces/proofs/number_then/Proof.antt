@@ -24,13 +24,17 @@ add-t14 : tie.Need-add-t14
 add-t14 c = omega (arith, byte-within _ _ _ (sym (c .before .byte-at .ensures) ∙ c .if1 .taken) (search needs))
 
 returns : tie.Need-returns
-returns c = number-value (then-got _ _ _ _ _ _ _ (value-number _ (sym (c .before .before .before .n2 .given .1) ∙ c .before .before .before .before .before .number-at .ensures)) (sym (c .before .byte-at .ensures) ∙ c .if1 .taken))
+returns c =
+    number-value (then-got _ _ _ _ _ _ _ (value-number _ (sym (c .before .before .before .n2 .given .1) ∙
+    c .before .before .before .before .before .number-at .ensures)) (sym (c .before .byte-at .ensures) ∙ c .if1 .taken))
 
 returns-2 : tie.Need-returns-2
 returns-2 c = number-fault (then-fault _ _ _ _ _ _ (fault-number _ (sym (c .before .n .given .1) ∙ c .before .before .before .number-at .ensures)))
 
 returns-3 : tie.Need-returns-3
-returns-3 c = number-fault (then-miss _ _ _ _ _ _ _ (value-number _ (sym (c .before .before .before .n2 .given .1) ∙ c .before .before .before .before .before .number-at .ensures)) (λ e. c .if1 .left (c .before .byte-at .ensures ∙ e)))
+returns-3 c =
+    number-fault (then-miss _ _ _ _ _ _ _ (value-number _ (sym (c .before .before .before .n2 .given .1) ∙
+    c .before .before .before .before .before .number-at .ensures)) (λ e. c .if1 .left (c .before .byte-at .ensures ∙ e)))
 
 pub number-then-spec : {M : Type 1} → statement M
 number-then-spec =

@@ -25,12 +25,15 @@ returns-2 c = stepped-position _ _ _ _ _ (c .before .before .controller-counters
 
 moves-to-requires : tie.Need-moves-to-requires
 moves-to-requires c κs =
-    (position-in _ _ _ (passed (c .before .has-position .ensures) (c .if2 .left)) .0, inputs-most _ (c .before .before .before .before .before .before .pre))
+    let at-has-position = c .before in
+    let at-start = at-has-position .before .before .before .before .before in
+    (position-in _ _ _ (passed (at-has-position .has-position .ensures) (c .if2 .left)) .0, inputs-most _ (at-start .pre))
 
 returns-3 : tie.Need-returns-3
 returns-3 c =
     let b = c .before .before in
-    stepped-input _ _ _ _ _ (b .before .before .controller-counters .ensures) (fits _ _ _ (b .before .before .before .before .controller-length .ensures) (b .before .before .before .if1 .left))
+    stepped-input _ _ _ _ _ (b .before .before .controller-counters .ensures)
+    (fits _ _ _ (b .before .before .before .before .controller-length .ensures) (b .before .before .before .if1 .left))
     (passed (b .before .has-position .ensures) (b .if2 .left)) (failed (c .before .moves-to .ensures) (c .if3 .taken))
 
 row-of-requires : tie.Need-row-of-requires
@@ -42,16 +45,24 @@ read-requires c κs = search needs
 out-moves-requires : tie.Need-out-moves-requires
 out-moves-requires c κs =
     let b = c .before .before .before .before in
-    omega (arith, position-in _ _ _ (passed (b .before .has-position .ensures) (b .if2 .left)) .1, outputs-most _ (b .before .before .before .before .before .before .pre))
+    omega (
+      arith,
+      position-in _ _ _ (passed (b .before .has-position .ensures) (b .if2 .left)) .1,
+      outputs-most _
+          (b .before .before .before .before .before .before .pre),
+    )
 
 arrive-requires : tie.Need-arrive-requires
 arrive-requires c κs = search needs
 
 returns-4 : tie.Need-returns-4
 returns-4 c =
-    let b = c .before .before .before .before .before .before in
-    stepped-at _ _ _ _ _ (b .before .before .controller-counters .ensures) (b .before .before .before .before .before .before .pre) (fits _ _ _ (b .before .before .before .before .controller-length .ensures) (b .before .before .before .if1 .left))
-    (passed (b .before .has-position .ensures) (b .if2 .left)) (passed (c .before .before .before .before .before .moves-to .ensures) (c .before .before .before .before .if3 .left))
+    let at-moves-to = c .before .before .before .before .before in
+    let at-step = at-moves-to .before in
+    let b = at-step in
+    stepped-at _ _ _ _ _ (b .before .before .controller-counters .ensures) (b .before .before .before .before .before .before .pre)
+    (fits _ _ _ (b .before .before .before .before .controller-length .ensures) (b .before .before .before .if1 .left))
+    (passed (b .before .has-position .ensures) (b .if2 .left)) (passed (at-moves-to .moves-to .ensures) (c .before .before .before .before .if3 .left))
     _ _ _ _ (c .before .before .before .row-of .ensures) (c .before .before .read .ensures) (c .before .out-moves .ensures) (c .arrive .ensures)
 
 pub step-accepted-spec : {M : Type 1} → statement M

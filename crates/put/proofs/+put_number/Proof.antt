@@ -71,7 +71,11 @@ put-number-put-number-requires : (t : ℕ) → put-number-lts.Need-put-number-re
   put-number-below t,
   put-number.Post,
 ) (put-number-at t) put-number.Post
-put-number-put-number-requires t c κs = (omega (arith, c .before .if1 .left, c .before .before .before .pre), omega (arith, number-room _ _ _ (c .before .if1 .left) (c .before .before .before .pre .1)))
+put-number-put-number-requires t c κs = (
+  omega (arith, c .before .if1 .left, c .before .before .before .pre),
+  omega
+      (arith, number-room _ _ _ (c .before .if1 .left) (c .before .before .before .pre .1)),
+)
 
 put-number-add-put-byte-2 : (t : ℕ) → put-number-lts.Need-add-put-byte-2 (
   put-byte-reads.Asked,
@@ -95,7 +99,10 @@ put-number-put-byte-requires-2 : (t : ℕ) → put-number-lts.Need-put-byte-requ
   put-number-below t,
   put-number.Post,
 ) (put-number-at t) put-number.Post
-put-number-put-byte-requires-2 t c κs = omega (arith, c .before .before .before .put-number .ensures .next, number-room _ _ _ (c .before .before .before .before .before .if1 .left) (c .before .before .before .before .before .before .before .pre .1))
+put-number-put-byte-requires-2 t c κs =
+    let at-if1 = c .before .before .before .before .before in
+    let at-start = at-if1 .before .before in
+    omega (arith, c .before .before .before .put-number .ensures .next, number-room _ _ _ (at-if1 .if1 .left) (at-start .pre .1))
 
 put-number-same-length-2 : (t : ℕ) → put-number-lts.Need-same-length-2 (
   put-byte-reads.Asked,
@@ -103,7 +110,10 @@ put-number-same-length-2 : (t : ℕ) → put-number-lts.Need-same-length-2 (
   put-number-below t,
   put-number.Post,
 ) (put-number-at t) put-number.Post
-put-number-same-length-2 t c = puts-length (c .before .before .put-byte2 .ensures) ∙ puts-length (c .before .before .before .before .before .before .put-number .ensures)
+put-number-same-length-2 t c =
+    let at-put-byte2 = c .before .before in
+    let at-put-number = at-put-byte2 .before .before .before .before in
+    puts-length (at-put-byte2 .put-byte2 .ensures) ∙ puts-length (at-put-number .put-number .ensures)
 
 put-number-returns-2 : (t : ℕ) → put-number-lts.Need-returns-2 (
   put-byte-reads.Asked,
@@ -111,7 +121,11 @@ put-number-returns-2 : (t : ℕ) → put-number-lts.Need-returns-2 (
   put-number-below t,
   put-number.Post,
 ) (put-number-at t) put-number.Post
-put-number-returns-2 t c = puts-as (sym (decimal-step _ (c .before .before .before .before .before .before .before .before .if1 .left))) (puts-then (c .before .before .before .before .before .before .put-number .ensures) (c .before .before .put-byte2 .ensures))
+put-number-returns-2 t c =
+    let at-put-byte2 = c .before .before in
+    let at-put-number = at-put-byte2 .before .before .before .before in
+    let at-if1 = at-put-number .before .before in
+    puts-as (sym (decimal-step _ (at-if1 .if1 .left))) (puts-then (at-put-number .put-number .ensures) (at-put-byte2 .put-byte2 .ensures))
 
 pub +put-number-spec : {M : Type 1} → statement M
 +put-number-spec = close μ-put-number λ t. put-number-lts.spec (

@@ -10,13 +10,20 @@ put-byte-requires : tie.Need-put-byte-requires
 put-byte-requires c κs = gap-room _ _ _ _ (c .before .if1 .taken) (c .before .before .before .pre)
 
 put-number-requires : tie.Need-put-number-requires
-put-number-requires c κs = omega (arith, c .before .before .before .put-byte .ensures .next, gap-rest _ _ _ _ (c .before .before .before .before .before .if1 .taken) (c .before .before .before .before .before .before .before .pre))
+put-number-requires c κs =
+    let at-if1 = c .before .before .before .before .before in
+    let at-start = at-if1 .before .before in
+    omega (arith, c .before .before .before .put-byte .ensures .next, gap-rest _ _ _ _ (at-if1 .if1 .taken) (at-start .pre))
 
 same-length : tie.Need-same-length
 same-length c = search needs
 
 returns : tie.Need-returns
-returns c = puts-as (gap-on _ _ (c .before .before .before .before .before .before .before .before .if1 .taken)) (puts-then (c .before .before .before .before .before .before .put-byte .ensures) (c .before .before .put-number .ensures))
+returns c =
+    let at-put-number = c .before .before in
+    let at-put-byte = at-put-number .before .before .before .before in
+    let at-if1 = at-put-byte .before .before in
+    puts-as (gap-on _ _ (at-if1 .if1 .taken)) (puts-then (at-put-byte .put-byte .ensures) (at-put-number .put-number .ensures))
 
 put-number-requires-2 : tie.Need-put-number-requires-2
 put-number-requires-2 c κs = gap-none _ _ _ _ (c .before .if1 .left) (c .before .before .before .pre)

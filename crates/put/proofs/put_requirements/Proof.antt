@@ -11,7 +11,9 @@ use Rattle.put.proofs.put_requirements.Statement.{statement}
 use Rattle.put.proofs.put_requirements.Tie as tie
 
 abbrev Inv-loop : tie.InvT-loop
-Inv-loop buffer₀ at g k to₀ r₀ buffer to r = Remains buffer₀ at (requirementLines k 0 (g .requirements)) buffer to (requirementLines (k - r) r (g .requirements)) × Writable g × (k ≡ g .k) × (k ≤ 8) × (at + length (requirementLines k 0 (g .requirements)) ≤ 2 ^ 32)
+Inv-loop buffer₀ at g k to₀ r₀ buffer to r =
+    Remains buffer₀ at (requirementLines k 0 (g .requirements)) buffer to (requirementLines (k - r) r (g .requirements)) × Writable g × (k ≡ g .k) ×
+    (k ≤ 8) × (at + length (requirementLines k 0 (g .requirements)) ≤ 2 ^ 32)
 
 abbrev μ-loop : tie.MeasureT-loop
 μ-loop buffer₀ at g k to₀ r₀ buffer to r = k - r
@@ -26,16 +28,35 @@ element-copy-out-q : tie.Need-element-copy-out-q Inv-loop μ-loop
 element-copy-out-q c = omega (arith, c .before .loop .inv .3, c .loop-test .taken)
 
 put-requirement-requires : tie.Need-put-requirement-requires Inv-loop μ-loop
-put-requirement-requires c κs = (c .before .before .before .loop .inv .1 .sets (c .before .before .before .loop .r) (c .before .before .loop-test .taken), requirement-room _ _ (c .before .before .before .before .before .args .t3 .requirements) _ _ (c .before .before .before .loop .inv .0) (c .before .before .loop-test .taken) (requirement-past (c .before .before .before .before .before .args .t3 .requirements) (c .before .before .before .loop .r)) (c .before .before .before .loop .inv .4))
+put-requirement-requires c κs = (
+  c .before .before .before .loop .inv .1 .sets (c .before .before .before .loop .r) (c .before .before .loop-test .taken),
+  requirement-room _ _
+      (c .before .before .before .before .before .args .t3 .requirements) _ _ (c .before .before .before .loop .inv .0) (c .before .before .loop-test .taken)
+      (requirement-past (c .before .before .before .before .before .args .t3 .requirements) (c .before .before .before .loop .r))
+      (c .before .before .before .loop .inv .4),
+)
 
 add-r : tie.Need-add-r Inv-loop μ-loop
-add-r c = omega (arith, c .before .before .before .before .before .before .loop .inv .3, c .before .before .before .before .before .loop-test .taken)
+add-r c =
+    let at-loop-test = c .before .before .before .before .before in
+    let at-loop = at-loop-test .before in
+    omega (arith, at-loop .loop .inv .3, at-loop-test .loop-test .taken)
 
 loop-less : tie.Need-loop-less Inv-loop μ-loop
 loop-less c = omega (arith, c .before .before .before .before .before .loop-test .taken)
 
 loop-again : tie.Need-loop-again Inv-loop μ-loop
-loop-again c = (remains-step _ _ (c .before .before .before .before .before .before .loop .inv .0) (requirements-take _ _ (c .before .before .before .before .before .before .before .before .args .t3 .requirements) _ (c .before .before .before .before .before .loop-test .taken) (requirement-past (c .before .before .before .before .before .before .before .before .args .t3 .requirements) (c .before .before .before .before .before .before .loop .r))) (c .before .before .put-requirement .ensures), c .before .before .before .before .before .before .loop .inv .1, refl, c .before .before .before .before .before .before .loop .inv .3, c .before .before .before .before .before .before .loop .inv .4)
+loop-again c =
+    let at-loop-test = c .before .before .before .before .before in
+    let at-loop = at-loop-test .before in
+    let at-start = at-loop .before .before in (
+      remains-step _ _ (at-loop .loop .inv .0) (requirements-take _ _ (at-start .args .t3 .requirements) _ (at-loop-test .loop-test .taken)
+          (requirement-past (at-start .args .t3 .requirements) (at-loop .loop .r))) (c .before .before .put-requirement .ensures),
+      at-loop .loop .inv .1,
+      refl,
+      at-loop .loop .inv .3,
+      at-loop .loop .inv .4,
+    )
 
 same-length : tie.Need-same-length Inv-loop μ-loop
 same-length c = puts-length (remains-none (remains-as (c .before .loop .inv .0) (requirements-last _ _ _ (c .loop-test .left))))

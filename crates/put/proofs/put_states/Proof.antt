@@ -10,7 +10,9 @@ use Rattle.put.proofs.put_states.Statement.{statement}
 use Rattle.put.proofs.put_states.Tie as tie
 
 abbrev Inv-loop : tie.InvT-loop
-Inv-loop buffer₀ at w h n initial to₀ s₀ buffer to s = Remains buffer₀ at (stateLines w n 0 h) buffer to (stateLines w (n - s) s h) × (n ≤ 64) × (w < 10) × (n ≡ h .states) × (initial ≡ h .initial) × (at + length (stateLines w n 0 h) ≤ 2 ^ 32)
+Inv-loop buffer₀ at w h n initial to₀ s₀ buffer to s =
+    Remains buffer₀ at (stateLines w n 0 h) buffer to (stateLines w (n - s) s h) × (n ≤ 64) × (w < 10) × (n ≡ h .states) × (initial ≡ h .initial) ×
+    (at + length (stateLines w n 0 h) ≤ 2 ^ 32)
 
 abbrev μ-loop : tie.MeasureT-loop
 μ-loop buffer₀ at w h n initial to₀ s₀ buffer to s = n - s
@@ -28,16 +30,41 @@ flag-requires : tie.Need-flag-requires Inv-loop μ-loop
 flag-requires c κs = omega (arith, c .before .before .loop .inv, c .before .loop-test .taken)
 
 put-state-requires : tie.Need-put-state-requires Inv-loop μ-loop
-put-state-requires c κs = (c .before .before .before .before .loop .inv .2, state-room _ _ _ (c .before .before .before .before .before .before .args .t4) _ _ _ (c .before .before .before .before .loop .inv .0) (c .before .before .before .loop-test .taken) (c .before .flag .ensures) refl (c .before .before .before .before .loop .inv .5))
+put-state-requires c κs =
+    let at-loop = c .before .before .before .before in
+    let at-start = at-loop .before .before in (
+      at-loop .loop .inv .2,
+      state-room _ _ _ (at-start .args .t4) _ _ _ (at-loop .loop .inv .0) (c .before .before .before .loop-test .taken)
+          (c .before .flag .ensures) refl (at-loop .loop .inv .5),
+    )
 
 add-s : tie.Need-add-s Inv-loop μ-loop
-add-s c = omega (arith, c .before .before .before .before .before .before .before .loop .inv, c .before .before .before .before .before .before .loop-test .taken)
+add-s c =
+    let at-step = c .before .before .before .before .before in
+    let at-loop-test = at-step .before in
+    let at-loop = at-loop-test .before in
+    omega (arith, at-loop .loop .inv, at-loop-test .loop-test .taken)
 
 loop-less : tie.Need-loop-less Inv-loop μ-loop
-loop-less c = omega (arith, c .before .before .before .before .before .before .loop-test .taken)
+loop-less c =
+    let at-step = c .before .before .before .before .before in
+    let at-loop-test = at-step .before in
+    omega (arith, at-loop-test .loop-test .taken)
 
 loop-again : tie.Need-loop-again Inv-loop μ-loop
-loop-again c = (remains-step _ _ (c .before .before .before .before .before .before .before .loop .inv .0) (states-take _ _ _ (c .before .before .before .before .before .before .before .before .before .args .t4) _ _ (c .before .before .before .before .before .before .loop-test .taken) (c .before .before .before .before .flag .ensures) refl) (c .before .before .put-state .ensures), c .before .before .before .before .before .before .before .loop .inv .1, c .before .before .before .before .before .before .before .loop .inv .2, refl, refl, c .before .before .before .before .before .before .before .loop .inv .5)
+loop-again c =
+    let at-flag = c .before .before .before .before in
+    let at-loop-test = at-flag .before .before in
+    let at-loop = at-loop-test .before in
+    let at-start = at-loop .before .before in (
+      remains-step _ _ (at-loop .loop .inv .0) (states-take _ _ _ (at-start .args .t4) _ _ (at-loop-test .loop-test .taken) (at-flag .flag .ensures) refl)
+          (c .before .before .put-state .ensures),
+      at-loop .loop .inv .1,
+      at-loop .loop .inv .2,
+      refl,
+      refl,
+      at-loop .loop .inv .5,
+    )
 
 same-length : tie.Need-same-length Inv-loop μ-loop
 same-length c = puts-length (remains-none (remains-as (c .before .loop .inv .0) (states-last _ _ _ _ (c .loop-test .left))))

@@ -40,8 +40,13 @@ loop-again : tie.Need-loop-again Inv-loop μ-loop
 loop-again c =
     let p = c .before .before .before .before in
     let b = p .before .before .before in
-    let N = c .next-at2 .ensures in
-    (N .within, filling-skips (filling-of _ _ (b .loop .inv .3 (p .before .before .loop-test .taken)) (p .place .ensures .0)) N, kept-more (b .loop .inv .2) (p .place .ensures .1), N .hit)
+    let N = c .next-at2 .ensures in (
+      N .within,
+      filling-skips (filling-of _ _ (b .loop .inv .3 (p .before .before .loop-test .taken)) (p .place .ensures .0)) N,
+      kept-more
+          (b .loop .inv .2) (p .place .ensures .1),
+      N .hit,
+    )
 
 same-length : tie.Need-same-length Inv-loop μ-loop
 same-length c = c .before .loop .inv .2 .long

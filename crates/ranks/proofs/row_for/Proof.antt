@@ -26,7 +26,8 @@ shared-slice-read-result c =
 returns : tie.Need-returns
 returns c =
     let b = c .before .before .before in
-    row-taken (b .before .before .pre .0) (b .before .before .pre .1) (b .component .result) (c .before .before .lowest .result) (b .component .ensures) (c .before .before .lowest .ensures) (c .before .if1 .taken) .1
+    row-taken (b .before .before .pre .0) (b .before .before .pre .1) (b .component .result) (c .before .before .lowest .result) (b .component .ensures)
+    (c .before .before .lowest .ensures) (c .before .if1 .taken) .1
 
 stored-row-requires : tie.Need-stored-row-requires
 stored-row-requires c κs =

@@ -24,7 +24,11 @@ slice-relend-prefix-read-full : tie.Need-slice-relend-prefix-read-full
 slice-relend-prefix-read-full c = search needs
 
 slice-aggregate-read-full-2 : tie.Need-slice-aggregate-read-full-2
-slice-aggregate-read-full-2 c = sym (length-take-le (c .before .before .length-of .result) (c .before .before .before .before .before .before .before .before .before .args .file .now) (c .before .if2 .left))
+slice-aggregate-read-full-2 c =
+    let at-length-of = c .before .before in
+    let at-step = at-length-of .before .before .before .before .before in
+    let at-start = at-step .before .before in
+    sym (length-take-le (at-length-of .length-of .result) (at-start .args .file .now) (c .before .if2 .left))
 
 read-full-requires-2 : tie.Need-read-full-requires-2
 read-full-requires-2 c κs = search needs

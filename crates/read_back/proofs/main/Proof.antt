@@ -29,7 +29,10 @@ returns : tie.Need-returns Inv-loop μ-loop
 returns c = tt
 
 slice-aggregate-show : tie.Need-slice-aggregate-show Inv-loop μ-loop
-slice-aggregate-show c = c .before .before .before .before .before .before .loop .inv .1 ∙ sym (c .before .before .before .load .kept .0)
+slice-aggregate-show c =
+    let at-load = c .before .before .before in
+    let at-loop = at-load .before .before .before in
+    at-loop .loop .inv .1 ∙ sym (at-load .load .kept .0)
 
 show-requires : tie.Need-show-requires Inv-loop μ-loop
 show-requires c κs = tt
@@ -41,7 +44,11 @@ loop-less : tie.Need-loop-less Inv-loop μ-loop
 loop-less c = search needs
 
 loop-again : tie.Need-loop-again Inv-loop μ-loop
-loop-again c = (omega (arith, c .before .before .before .before .before .before .loop-test .taken), c .before .before .before .before .before .before .before .loop .inv .1 ∙ sym (c .before .before .before .before .load .kept .0))
+loop-again c =
+    let at-load = c .before .before .before .before in
+    let at-loop-test = at-load .before .before in
+    let at-loop = at-loop-test .before in
+    (omega (arith, at-loop-test .loop-test .taken), at-loop .loop .inv .1 ∙ sym (at-load .load .kept .0))
 
 returns-2 : tie.Need-returns-2 Inv-loop μ-loop
 returns-2 c = tt

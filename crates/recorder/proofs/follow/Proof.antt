@@ -29,19 +29,36 @@ enum-known-answer : tie.Need-enum-known-answer Inv-loop μ-loop
 enum-known-answer c = search needs
 
 returns : tie.Need-returns Inv-loop μ-loop
-returns c = step-fault _ _ _ _ (c .before .before .before .before .before .before .loop .n) _ (c .before .before .before .before .before .loop-test .taken) _ (c .before .before .before .before .state-at .ensures) _ (c .before .before .before .answer-at .ensures) _ (c .before .answer .given .1) ∙ sym (c .before .before .before .before .before .before .loop .inv .2)
+returns c =
+    let at-loop-test = c .before .before .before .before .before in
+    let at-loop = at-loop-test .before in
+    step-fault _ _ _ _ (at-loop .loop .n) _ (at-loop-test .loop-test .taken) _ (c .before .before .before .before .state-at .ensures) _
+    (c .before .before .before .answer-at .ensures) _ (c .before .answer .given .1) ∙ sym (at-loop .loop .inv .2)
 
 enum-known-answer-2 : tie.Need-enum-known-answer-2 Inv-loop μ-loop
 enum-known-answer-2 c = search needs
 
 returns-2 : tie.Need-returns-2 Inv-loop μ-loop
-returns-2 c = step-ended _ _ _ _ (c .before .before .before .before .before .before .before .loop .n) _ (c .before .before .before .before .before .before .loop-test .taken) _ (c .before .before .before .before .before .state-at .ensures) _ (c .before .before .before .before .answer-at .ensures) _ (c .before .before .answer2 .given .1) (c .if1 .taken) ∙ sym (c .before .before .before .before .before .before .before .loop .inv .2)
+returns-2 c =
+    let at-state-at = c .before .before .before .before .before in
+    let at-loop-test = at-state-at .before in
+    let at-loop = at-loop-test .before in
+    step-ended _ _ _ _ (at-loop .loop .n) _ (at-loop-test .loop-test .taken) _ (at-state-at .state-at .ensures) _
+    (c .before .before .before .before .answer-at .ensures) _ (c .before .before .answer2 .given .1) (c .if1 .taken) ∙ sym (at-loop .loop .inv .2)
 
 state-at-requires-2 : tie.Need-state-at-requires-2 Inv-loop μ-loop
 state-at-requires-2 c κs = omega arith
 
 returns-3 : tie.Need-returns-3 Inv-loop μ-loop
-returns-3 c = step-differs _ _ _ _ (c .before .before .before .before .before .before .before .before .before .before .loop .n) _ (c .before .before .before .before .before .before .before .before .before .loop-test .taken) _ (c .before .before .before .before .before .before .before .before .state-at .ensures) _ (c .before .before .before .before .before .before .before .answer-at .ensures) _ (c .before .before .before .before .before .answer2 .given .1) (c .before .before .before .if1 .left) _ (c .before .before .state-at2 .ensures) (c .if2 .taken) ∙ sym (c .before .before .before .before .before .before .before .before .before .before .loop .inv .2)
+returns-3 c =
+    let at-answer2 = c .before .before .before .before .before in
+    let at-answer-at = at-answer2 .before .before in
+    let at-state-at = at-answer-at .before in
+    let at-loop-test = at-state-at .before in
+    let at-loop = at-loop-test .before in
+    step-differs _ _ _ _ (at-loop .loop .n) _ (at-loop-test .loop-test .taken) _ (at-state-at .state-at .ensures) _ (at-answer-at .answer-at .ensures) _
+    (at-answer2 .answer2 .given .1) (c .before .before .before .if1 .left) _ (c .before .before .state-at2 .ensures) (c .if2 .taken) ∙ sym
+    (at-loop .loop .inv .2)
 
 add-n : tie.Need-add-n Inv-loop μ-loop
 add-n c = omega arith
@@ -51,8 +68,18 @@ loop-less c = omega arith
 
 loop-again : tie.Need-loop-again Inv-loop μ-loop
 loop-again c =
-    let l = c .before .before .before .before .before .before .before .before .before .before in
-    (omega arith, omega arith, l .loop .inv .2 ∙ step-same _ _ _ _ (c .before .before .before .before .before .before .before .before .before .before .loop .n) _ (c .before .before .before .before .before .before .before .before .before .loop-test .taken) _ (c .before .before .before .before .before .before .before .before .state-at .ensures) _ (c .before .before .before .before .before .before .before .answer-at .ensures) _ (c .before .before .before .before .before .answer2 .given .1) (c .before .before .before .if1 .left) _ (c .before .before .state-at2 .ensures) (c .if2 .left))
+    let at-answer2 = c .before .before .before .before .before in
+    let at-answer-at = at-answer2 .before .before in
+    let at-state-at = at-answer-at .before in
+    let at-loop-test = at-state-at .before in
+    let at-step = at-loop-test .before in
+    let l = at-step in (
+      omega arith,
+      omega arith,
+      l .loop .inv .2 ∙ step-same _ _ _ _ (at-step .loop .n) _ (at-loop-test .loop-test .taken) _ (at-state-at .state-at .ensures)
+          _ (at-answer-at .answer-at .ensures) _ (at-answer2 .answer2 .given .1) (c .before .before .before .if1 .left) _ (c .before .before .state-at2 .ensures)
+          (c .if2 .left),
+    )
 
 at-end-requires : tie.Need-at-end-requires Inv-loop μ-loop
 at-end-requires c κs = omega arith

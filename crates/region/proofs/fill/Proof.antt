@@ -26,8 +26,10 @@ loop-less c = omega arith
 
 loop-again : tie.Need-loop-again Inv-loop μ-loop
 loop-again c =
-    let b = c .before .before .before .before .before .before in
-    (omega arith, c .before .before .fill-rank .ensures .0, kept-more (b .loop .inv .2) (c .before .before .fill-rank .ensures .1))
+    let at-fill-rank = c .before .before in
+    let at-step = at-fill-rank .before .before .before .before in
+    let b = at-step in
+    (omega arith, at-fill-rank .fill-rank .ensures .0, kept-more (b .loop .inv .2) (at-fill-rank .fill-rank .ensures .1))
 
 same-length : tie.Need-same-length Inv-loop μ-loop
 same-length c = c .before .before .loop .inv .2 .long

@@ -22,7 +22,9 @@ cores-at-requires c κs = search needs
 
 served-at-requires : tie.Need-served-at-requires
 served-at-requires c κs =
-    let d = c .before .before .before .before .before .before .before in
+    let at-step = c .before .before .before .before .before in
+    let at-step2 = at-step .before .before in
+    let d = at-step2 in
     let a = d .before .before .before .before in
     let p = a .before .before .before .before .pre in
     (fits-few _ (p .0), p .0 .output .most, laid-first _ (p .0) _ _ _ (a .close .ensures) (d .close-at .ensures) (p .1) .long)

@@ -47,7 +47,10 @@ next-holds c =
 lowest-requires : tie.Need-lowest-requires Inv-loop μ-loop Inv-next μ-next
 lowest-requires c κs = search needs
 
-below : (c : tie.After-lowest Inv-loop μ-loop Inv-next μ-next) → c .lowest .result < c .before .before .before .before .before .before .before .before .args .n
+below : (c : tie.After-lowest Inv-loop μ-loop Inv-next μ-next)
+    → let at-step = c .before .before .before .before .before in
+    let at-start = at-step .before .before .before in
+    c .lowest .result < at-start .args .n
 below c =
     let b = c .before .before in
     passing-below _ _ _ (b .next .rest) (b .next .inv .1) (c .before .next-test .taken) _ (c .lowest .ensures)
@@ -60,8 +63,11 @@ answers-requires c κs = omega (arith, below (c .before))
 
 take-requires : tie.Need-take-requires Inv-loop μ-loop Inv-next μ-next
 take-requires c κs =
-    let b = c .before .before .before .before .before .before .before .before .before .before .before .before .before in
-    (b .pre .0, b .pre .1, b .pre .3, c .before .before .before .before .loop .inv, c .if2 .left)
+    let at-loop = c .before .before .before .before in
+    let at-step = at-loop .before .before .before .before .before in
+    let at-step2 = at-step .before .before .before .before in
+    let b = at-step2 in
+    (b .pre .0, b .pre .1, b .pre .3, at-loop .loop .inv, c .if2 .left)
 
 loop-less : tie.Need-loop-less Inv-loop μ-loop Inv-next μ-next
 loop-less c = c .take .ensures .1
@@ -76,7 +82,8 @@ next-less : tie.Need-next-less Inv-loop μ-loop Inv-next μ-next
 next-less c =
     let l = c .before .before .before .before in
     let b = l .before .before in
-    passing-falls _ _ _ (b .next .rest) (b .next .inv .1) (l .before .next-test .taken) _ (l .lowest .ensures) _ (lowest-less _ _ _ (l .lowest .ensures) (c .without-lowest .ensures))
+    passing-falls _ _ _ (b .next .rest) (b .next .inv .1) (l .before .next-test .taken) _ (l .lowest .ensures) _
+    (lowest-less _ _ _ (l .lowest .ensures) (c .without-lowest .ensures))
 
 next-again : tie.Need-next-again Inv-loop μ-loop Inv-next μ-next
 next-again c =
@@ -84,7 +91,8 @@ next-again c =
     let l = a .before .before in
     let b = l .before .before in (
       a .before .loop .inv,
-      passing-next _ _ _ (b .next .rest) (b .next .inv .1) (l .before .next-test .taken) _ (l .lowest .ensures) _ (lowest-less _ _ _ (l .lowest .ensures) (c .without-lowest .ensures))
+      passing-next _ _ _ (b .next .rest) (b .next .inv .1) (l .before .next-test .taken) _ (l .lowest .ensures) _
+          (lowest-less _ _ _ (l .lowest .ensures) (c .without-lowest .ensures))
           (omega (arith, c .without-lowest .ok))
           (answered-replied _ _ _ _ _ _ (a .before .loop .tried) (a .before .loop .inv) _ (sym (a .answers .ensures) ∙ c .before .if1 .taken)),
     )
@@ -95,7 +103,8 @@ returns c =
     let s = b .before .before .before .before .before .before in
     ⊎-elim
     (λ w. replies-all _ _ _ _ _ _ (b .next .rest) (b .next .inv .1) (s .pre .2) (w .left))
-    (λ w. replies-not _ _ _ _ _ _ (b .next .rest) (b .next .inv .1) (w .0 .taken) _ (w .1 .ensures) (w .2 .tried) (w .2 .inv) (s .pre .1) (w .6 .taken) (sym (w .3 .ensures) ∙ w .4 .left))
+    (λ w. replies-not _ _ _ _ _ _ (b .next .rest) (b .next .inv .1) (w .0 .taken) _ (w .1 .ensures) (w .2 .tried) (w .2 .inv) (s .pre .1) (w .6 .taken)
+    (sym (w .3 .ensures) ∙ w .4 .left))
     (c .next-test .came)
 
 pub replies-spec : {M : Type 1} → statement M

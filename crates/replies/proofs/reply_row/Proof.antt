@@ -44,8 +44,11 @@ loop-less c = omega arith
 loop-again : tie.Need-loop-again Inv-loop μ-loop
 unfolding replyWith
 loop-again c =
-    let b = c .before .before .before .before in
-    (omega arith, collect-next _ (b .loop .o) (b .loop .c) (c .insert-if .result) (c .before .replies .result) (b .loop .inv .1) (c .before .replies .ensures) (c .insert-if .ensures))
+    let b = c .before .before .before .before in (
+      omega arith,
+      collect-next _ (b .loop .o) (b .loop .c) (c .insert-if .result) (c .before .replies .result) (b .loop .inv .1)
+          (c .before .replies .ensures) (c .insert-if .ensures),
+    )
 
 returns : tie.Need-returns Inv-loop μ-loop
 unfolding replyAt

@@ -44,8 +44,10 @@ returns c =
     let b = l .before .before in
     let x = c .before .before .before .before .insert in
     let d = c .before .before .before .without-lowest in (
-      trying-next _ _ _ _ (b .args .t) (b .pre .3) (b .pre .4) _ (l .lowest .ensures) (x .result) _ (x .ensures) (d .ensures) (omega (arith, d .ok)) (c .before .before .union .ensures) (c .union2 .ensures),
-      trying-falls _ _ _ _ (b .args .t) (b .pre .3) (b .pre .4) _ (l .lowest .ensures) (x .result) (record { left = d .result; seen = 0; reach = 0 }) (x .ensures) (d .ensures),
+      trying-next _ _ _ _ (b .args .t) (b .pre .3) (b .pre .4) _ (l .lowest .ensures) (x .result) _ (x .ensures) (d .ensures) (omega (arith, d .ok))
+          (c .before .before .union .ensures) (c .union2 .ensures),
+      trying-falls _ _ _ _ (b .args .t) (b .pre .3) (b .pre .4) _ (l .lowest .ensures) (x .result) (record { left = d .result; seen = 0; reach = 0 })
+          (x .ensures) (d .ensures),
     )
 
 pub take-spec : {M : Type 1} → statement M

@@ -25,8 +25,10 @@ out-sets-fit-requires c κs = search needs
 
 returns-3 : tie.Need-returns-3
 returns-3 c =
+    let at-if1 = c .before .before .before .before .before in
+    let at-in-use = at-if1 .before in
     fits-out _ _ _ _
-    (passed (c .before .before .before .before .before .before .in-use .ensures) (c .before .before .before .before .before .if1 .left))
+    (passed (at-in-use .in-use .ensures) (at-if1 .if1 .left))
     (passed (c .before .before .before .in-sets-fit .ensures) (c .before .before .if2 .left))
     (c .out-sets-fit .ensures)
 

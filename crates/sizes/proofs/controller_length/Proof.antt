@@ -16,7 +16,12 @@ mul-result-2 c = omega (arith, controller-entries _ (c .before .before .pre) (c 
 
 add-result : tie.Need-add-result
 add-result c =
-    omega (arith, inputs-most _ (c .before .before .pre), controller-entries _ (c .before .before .pre) (c .before .controller-counters .result) (c .before .controller-counters .ensures))
+    omega (
+      arith,
+      inputs-most _ (c .before .before .pre),
+      controller-entries _ (c .before .before .pre) (c .before .controller-counters .result)
+          (c .before .controller-counters .ensures),
+    )
 
 returns : tie.Need-returns
 returns c = controller-length _ (c .before .controller-counters .result) (c .before .controller-counters .ensures)

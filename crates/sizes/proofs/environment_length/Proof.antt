@@ -12,11 +12,17 @@ mul-result : tie.Need-mul-result
 mul-result c = omega (arith, environment-rows _ (c .before .before .pre) (c .before .environment-counters .result) (c .before .environment-counters .ensures))
 
 mul-result-2 : tie.Need-mul-result-2
-mul-result-2 c = omega (arith, environment-entries _ (c .before .before .pre) (c .before .environment-counters .result) (c .before .environment-counters .ensures))
+mul-result-2 c =
+    omega (arith, environment-entries _ (c .before .before .pre) (c .before .environment-counters .result) (c .before .environment-counters .ensures))
 
 add-result : tie.Need-add-result
 add-result c =
-    omega (arith, inputs-most _ (c .before .before .pre), environment-entries _ (c .before .before .pre) (c .before .environment-counters .result) (c .before .environment-counters .ensures))
+    omega (
+      arith,
+      inputs-most _ (c .before .before .pre),
+      environment-entries _ (c .before .before .pre) (c .before .environment-counters .result)
+          (c .before .environment-counters .ensures),
+    )
 
 returns : tie.Need-returns
 returns c = environment-length _ (c .before .environment-counters .result) (c .before .environment-counters .ensures)

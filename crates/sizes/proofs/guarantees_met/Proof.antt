@@ -37,7 +37,8 @@ unfolding guaranteeSide
 add-met-requires c κs =
     let l = c .before .before .before in
     let b = c .before .before .loop-test .taken in
-    stretch-short guaranteeSide guarantees-listed _ (l .loop .r) _ _ b (l .loop .inv .1) (guaranteed-few _ (l .before .pre) (l .loop .r) b) (l .loop .inv .2) (c .guarantees-of .ensures)
+    stretch-short guaranteeSide guarantees-listed _ (l .loop .r) _ _ b (l .loop .inv .1) (guaranteed-few _ (l .before .pre) (l .loop .r) b)
+    (l .loop .inv .2) (c .guarantees-of .ensures)
 
 add-n : tie.Need-add-n Inv-loop μ-loop
 unfolding guaranteeSide
@@ -45,7 +46,12 @@ add-n c =
     let o = c .before .before in
     let l = o .before .before .before in
     let b = o .before .before .loop-test .taken in
-    omega (arith, l .loop .inv .1, upto-next guaranteeSide guarantees-listed _ (l .loop .r) _ _ b (l .loop .inv .1) (guaranteed-few _ (l .before .pre) (l .loop .r) b) (l .loop .inv .2) (o .guarantees-of .ensures) .few)
+    omega (
+      arith,
+      l .loop .inv .1,
+      upto-next guaranteeSide guarantees-listed _ (l .loop .r) _ _ b (l .loop .inv .1)
+          (guaranteed-few _ (l .before .pre) (l .loop .r) b) (l .loop .inv .2) (o .guarantees-of .ensures) .few,
+    )
 
 add-r : tie.Need-add-r Inv-loop μ-loop
 add-r c = omega arith
@@ -63,7 +69,8 @@ loop-again c =
       omega arith,
       l .loop .inv .1,
       upto-next guaranteeSide guarantees-listed _ (l .loop .r) _ _ b (l .loop .inv .1) f (l .loop .inv .2) (o .guarantees-of .ensures),
-      met-further guaranteeSide guarantees-listed _ (l .loop .r) _ _ b (l .loop .inv .1) f (l .loop .inv .2) (o .guarantees-of .ensures) _ _ _ (l .loop .inv .3) (c .before .add-met .ensures),
+      met-further guaranteeSide guarantees-listed _ (l .loop .r) _ _ b (l .loop .inv .1) f (l .loop .inv .2) (o .guarantees-of .ensures) _ _ _
+          (l .loop .inv .3) (c .before .add-met .ensures),
     )
 
 returns : tie.Need-returns Inv-loop μ-loop

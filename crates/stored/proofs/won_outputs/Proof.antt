@@ -31,8 +31,11 @@ loop-less c = omega arith
 
 loop-again : tie.Need-loop-again Inv-loop μ-loop
 loop-again c =
-    let b = c .before .before .before in
-    (omega arith, collect-next _ (b .loop .o) (b .loop .x) (c .insert-if .result) (c .before .won .result) (b .loop .inv .1) (c .before .won .ensures) (c .insert-if .ensures))
+    let b = c .before .before .before in (
+      omega arith,
+      collect-next _ (b .loop .o) (b .loop .x) (c .insert-if .result) (c .before .won .result) (b .loop .inv .1) (c .before .won .ensures)
+          (c .insert-if .ensures),
+    )
 
 returns : tie.Need-returns Inv-loop μ-loop
 returns c = collect-end _ (c .before .loop .o) _ _ (omega arith) (omega arith) (c .before .loop .inv .1)

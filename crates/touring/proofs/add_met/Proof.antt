@@ -39,8 +39,11 @@ loop-less c = omega arith
 
 loop-again : tie.Need-loop-again Inv-loop μ-loop
 loop-again c =
-    let l = c .before .before .before .before in
-    (omega arith, met-next _ _ _ (l .loop .j) _ _ _ (c .before .before .before .loop-test .taken) (l .loop .inv .1) (c .before .meets .ensures) (c .insert-if .ensures))
+    let l = c .before .before .before .before in (
+      omega arith,
+      met-next _ _ _ (l .loop .j) _ _ _ (c .before .before .before .loop-test .taken) (l .loop .inv .1) (c .before .meets .ensures)
+          (c .insert-if .ensures),
+    )
 
 returns : tie.Need-returns Inv-loop μ-loop
 returns c = met-end _ _ _ (c .before .loop .j) _ _ (omega arith) (omega arith) (c .before .loop .inv .1)

@@ -46,7 +46,10 @@ returns-3 c =
     (c .before .before .before .if3 .taken) (c .before .before .past .ensures) (c .before .below3 .ensures) (c .difference .ensures)
 
 below-requires-4 : tie.Need-below-requires-4
-below-requires-4 c κs = c .before .before .before .before .before .before .before .pre .few
+below-requires-4 c κs =
+    let at-step = c .before .before .before .before .before in
+    let at-start = at-step .before .before in
+    at-start .pre .few
 
 past-requires-2 : tie.Need-past-requires-2
 past-requires-2 c κs = search needs
@@ -62,11 +65,13 @@ union-requires c κs = search needs
 
 returns-4 : tie.Need-returns-4
 returns-4 c =
-    let e = c .before .before .before .before .before .before in
+    let at-if3 = c .before .before .before .before .before in
+    let at-step = at-if3 .before in
+    let e = at-step in
     let w = e .before .before in
     let i = sym (w .before .before .member .ensures) ∙ not-false _ (w .before .if2 .left) in
     aimed-round _ _ _ (w .before .before .before .before .pre) _ _ _ _ i (w .below .ensures) (e .before .below2 .ensures) (e .intersection .ensures) _ _ _ _
-    (c .before .before .before .before .before .if3 .left) (c .before .before .before .past2 .ensures) (c .before .before .below5 .ensures)
+    (at-if3 .if3 .left) (c .before .before .before .past2 .ensures) (c .before .before .below5 .ensures)
     (c .before .before .before .before .below4 .ensures) (c .before .difference2 .ensures) (c .union .ensures)
 
 pub counters-toward-spec : {M : Type 1} → statement M

@@ -51,13 +51,35 @@ out-sets-requires : tie.Need-out-sets-requires
 out-sets-requires c κs = search needs
 
 returns-2 : tie.Need-returns-2
-returns-2 c = requirement-fault (c .no-requirement2 .ensures) (if-no-list _ _ _ (sym (c .before .before .before .before .before .before .byte-at .ensures) ∙ c .before .before .before .before .before .if1 .left) _ (fault-list _ (c .before .before .before .before .sets-at .result) _ (c .before .before .before .before .sets-at .ensures) (c .before .before .e .given .1)))
+returns-2 c =
+    let at-if1 = c .before .before .before .before .before in
+    let at-byte-at = at-if1 .before in
+    requirement-fault (c .no-requirement2 .ensures) (if-no-list _ _ _ (sym (at-byte-at .byte-at .ensures) ∙ at-if1 .if1 .left) _
+    (fault-list _ (c .before .before .before .before .sets-at .result) _ (c .before .before .before .before .sets-at .ensures)
+    (c .before .before .e .given .1)))
 
 returns-3 : tie.Need-returns-3
-returns-3 c = requirement-fault (c .no-requirement3 .ensures) (if-no-end _ _ _ (sym (c .before .before .before .before .before .before .before .before .before .before .byte-at .ensures) ∙ c .before .before .before .before .before .before .before .before .before .if1 .left) _ _ (got-list _ (c .before .before .before .before .before .before .before .before .sets-at .result) _ (c .before .before .before .before .before .before .before .before .sets-at .ensures) (c .before .before .before .before .before .before .e2 .given .1)) _ (fault-step _ (sym (c .before .before .t .given .1) ∙ c .before .before .before .before .end-at .ensures)))
+returns-3 c =
+    let at-end-at = c .before .before .before .before in
+    let at-e2 = at-end-at .before .before in
+    let at-sets-at = at-e2 .before .before in
+    let at-if1 = at-sets-at .before in
+    let at-byte-at = at-if1 .before in
+    requirement-fault (c .no-requirement3 .ensures) (if-no-end _ _ _ (sym (at-byte-at .byte-at .ensures) ∙ at-if1 .if1 .left) _ _
+    (got-list _ (at-sets-at .sets-at .result) _ (at-sets-at .sets-at .ensures) (at-e2 .e2 .given .1)) _
+    (fault-step _ (sym (c .before .before .t .given .1) ∙ at-end-at .end-at .ensures)))
 
 returns-4 : tie.Need-returns-4
-returns-4 c = requirement-got (if-got _ _ _ (sym (c .before .before .before .before .before .before .before .before .before .before .before .before .byte-at .ensures) ∙ c .before .before .before .before .before .before .before .before .before .before .before .if1 .left) _ _ (got-list _ (c .before .before .before .before .before .before .before .before .before .before .sets-at .result) _ (c .before .before .before .before .before .before .before .before .before .before .sets-at .ensures) (c .before .before .before .before .before .before .before .before .e2 .given .1)) _ (at-step _ (sym (c .before .before .before .before .t2 .given .1) ∙ c .before .before .before .before .before .before .end-at .ensures)) _ _ (c .before .in-sets .ensures) (c .out-sets .ensures))
+returns-4 c =
+    let at-t2 = c .before .before .before .before in
+    let at-end-at = at-t2 .before .before in
+    let at-e2 = at-end-at .before .before in
+    let at-sets-at = at-e2 .before .before in
+    let at-if1 = at-sets-at .before in
+    let at-byte-at = at-if1 .before in
+    requirement-got (if-got _ _ _ (sym (at-byte-at .byte-at .ensures) ∙ at-if1 .if1 .left) _ _
+    (got-list _ (at-sets-at .sets-at .result) _ (at-sets-at .sets-at .ensures) (at-e2 .e2 .given .1)) _
+    (at-step _ (sym (at-t2 .t2 .given .1) ∙ at-end-at .end-at .ensures)) _ _ (c .before .in-sets .ensures) (c .out-sets .ensures))
 
 pub guarantees-at-spec : {M : Type 1} → statement M
 guarantees-at-spec =

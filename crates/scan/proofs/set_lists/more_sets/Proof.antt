@@ -14,7 +14,9 @@ use Rattle.scan.proofs.set_lists.more_sets.Statement.{statement}
 use Rattle.scan.proofs.set_lists.more_sets.Tie as tie
 
 abbrev Inv-loop : tie.InvT-loop
-Inv-loop s i x words₀ count₀ at₀ words count at = (run (moreSets 3 (push noSets x)) (bytes s) i ≡ run (moreSets (4 - count) (record { words = words; count = count })) (bytes s) at) × (count ≤ 4) × (length words ≡ 4)
+Inv-loop s i x words₀ count₀ at₀ words count at =
+    (run (moreSets 3 (push noSets x)) (bytes s) i ≡ run (moreSets (4 - count) (record { words = words; count = count })) (bytes s) at) × (count ≤ 4) ×
+    (length words ≡ 4)
 
 abbrev μ-loop : tie.MeasureT-loop
 μ-loop s i x words₀ count₀ at₀ words count at = 4 - count
@@ -38,7 +40,10 @@ no-list-requires : tie.Need-no-list-requires Inv-loop μ-loop
 no-list-requires c κs = tt
 
 returns-2 : tie.Need-returns-2 Inv-loop μ-loop
-returns-2 c = list-fault (c .no-list .ensures) (sets-wrong _ _ _ _ _ (c .before .before .before .before .before .loop .inv .0) (λ e. c .before .before .if1 .left (c .before .before .before .byte-at .ensures ∙ e)) (λ e. c .before .if2 .taken (c .before .before .before .byte-at .ensures ∙ e)))
+returns-2 c =
+    list-fault (c .no-list .ensures) (sets-wrong _ _ _ _ _ (c .before .before .before .before .before .loop .inv .0)
+    (λ e. c .before .before .if1 .left (c .before .before .before .byte-at .ensures ∙ e))
+    (λ e. c .before .if2 .taken (c .before .before .before .byte-at .ensures ∙ e)))
 
 add-set-at : tie.Need-add-set-at Inv-loop μ-loop
 add-set-at c = omega (arith, byte-within _ _ _ (sym (c .before .before .byte-at .ensures) ∙ c .if2 .left) (omega arith))
@@ -53,25 +58,54 @@ no-list-requires-2 : tie.Need-no-list-requires-2 Inv-loop μ-loop
 no-list-requires-2 c κs = tt
 
 returns-3 : tie.Need-returns-3 Inv-loop μ-loop
-returns-3 c = list-fault (c .no-list2 .ensures) (sets-bad _ _ _ _ _ (c .before .before .before .before .before .before .before .before .before .loop .inv .0) (omega (arith, c .before .before .before .before .before .before .before .before .loop-test .taken)) (sym (c .before .before .before .before .before .before .before .byte-at .ensures) ∙ c .before .before .before .before .before .if2 .left) _ (fault-set _ (sym (c .before .before .t .given .1) ∙ c .before .before .before .before .set-at .ensures)))
+returns-3 c =
+    let at-if2 = c .before .before .before .before .before in
+    let at-byte-at = at-if2 .before .before in
+    let at-loop-test = at-byte-at .before in
+    let at-loop = at-loop-test .before in
+    list-fault (c .no-list2 .ensures) (sets-bad _ _ _ _ _ (at-loop .loop .inv .0) (omega (arith, at-loop-test .loop-test .taken))
+    (sym (at-byte-at .byte-at .ensures) ∙ at-if2 .if2 .left) _
+    (fault-set _ (sym (c .before .before .t .given .1) ∙ c .before .before .before .before .set-at .ensures)))
 
 enum-known-t-2 : tie.Need-enum-known-t-2 Inv-loop μ-loop
 enum-known-t-2 c = search needs
 
 mul-words : tie.Need-mul-words Inv-loop μ-loop
-mul-words c = omega (arith, c .before .before .before .before .before .before .before .loop-test .taken)
+mul-words c =
+    let at-step = c .before .before .before .before .before in
+    let at-loop-test = at-step .before .before in
+    omega (arith, at-loop-test .loop-test .taken)
 
 array-write-words-2 : tie.Need-array-write-words-2 Inv-loop μ-loop
-array-write-words-2 c = c .before .before .before .before .before .before .before .loop-test .taken
+array-write-words-2 c =
+    let at-step = c .before .before .before .before .before in
+    let at-loop-test = at-step .before .before in
+    at-loop-test .loop-test .taken
 
 add-count : tie.Need-add-count Inv-loop μ-loop
-add-count c = omega (arith, c .before .before .before .before .before .before .before .loop-test .taken)
+add-count c =
+    let at-step = c .before .before .before .before .before in
+    let at-loop-test = at-step .before .before in
+    omega (arith, at-loop-test .loop-test .taken)
 
 loop-less : tie.Need-loop-less Inv-loop μ-loop
-loop-less c = omega (arith, c .before .before .before .before .before .before .before .loop-test .taken)
+loop-less c =
+    let at-step = c .before .before .before .before .before in
+    let at-loop-test = at-step .before .before in
+    omega (arith, at-loop-test .loop-test .taken)
 
 loop-again : tie.Need-loop-again Inv-loop μ-loop
-loop-again c = (sets-turn _ _ _ _ _ (c .before .before .before .before .before .before .before .before .loop .inv .0) (c .before .before .before .before .before .before .before .loop-test .taken) (sym (c .before .before .before .before .before .before .byte-at .ensures) ∙ c .before .before .before .before .if2 .left) _ _ (members-set _ (sym (c .before .t2 .given .1) ∙ c .before .before .before .set-at .ensures)), omega (arith, c .before .before .before .before .before .before .before .loop-test .taken), simp length-set (c .before .before .before .before .before .before .before .before .loop .inv .2))
+loop-again c =
+    let at-if2 = c .before .before .before .before in
+    let at-byte-at = at-if2 .before .before in
+    let at-loop-test = at-byte-at .before in
+    let at-loop = at-loop-test .before in (
+      sets-turn _ _ _ _ _ (at-loop .loop .inv .0) (at-loop-test .loop-test .taken) (sym (at-byte-at .byte-at .ensures) ∙ at-if2 .if2 .left) _ _
+          (members-set _ (sym (c .before .t2 .given .1) ∙ c .before .before .before .set-at .ensures)),
+      omega (arith, at-loop-test .loop-test .taken),
+      simp
+          length-set (at-loop .loop .inv .2),
+    )
 
 byte-at-requires-2 : tie.Need-byte-at-requires-2 Inv-loop μ-loop
 byte-at-requires-2 c κs = tt
@@ -80,7 +114,10 @@ no-list-requires-3 : tie.Need-no-list-requires-3 Inv-loop μ-loop
 no-list-requires-3 c κs = tt
 
 returns-4 : tie.Need-returns-4 Inv-loop μ-loop
-returns-4 c = list-fault (c .no-list3 .ensures) (sets-full _ _ _ _ _ (c .before .before .before .before .loop .inv .0) (omega (arith, c .before .before .before .before .loop .inv, c .before .before .before .loop-test .left)) (λ e. c .before .if3 .taken (c .before .before .byte-at2 .ensures ∙ e)))
+returns-4 c =
+    list-fault (c .no-list3 .ensures) (sets-full _ _ _ _ _ (c .before .before .before .before .loop .inv .0)
+    (omega (arith, c .before .before .before .before .loop .inv, c .before .before .before .loop-test .left))
+    (λ e. c .before .if3 .taken (c .before .before .byte-at2 .ensures ∙ e)))
 
 add-t22 : tie.Need-add-t22 Inv-loop μ-loop
 add-t22 c = omega (arith, byte-within _ _ _ (sym (c .before .byte-at2 .ensures) ∙ c .if3 .left) (omega arith))

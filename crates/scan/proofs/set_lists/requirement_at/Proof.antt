@@ -35,13 +35,25 @@ guarantees-at-requires : tie.Need-guarantees-at-requires
 guarantees-at-requires c κs = search needs
 
 returns : tie.Need-returns
-returns c = requirement-fault (c .no-requirement .ensures) (if-no-word _ _ _ (fault-step _ (sym (c .before .before .o .given .1) ∙ c .before .before .before .before .opening-at .ensures)))
+returns c =
+    requirement-fault (c .no-requirement .ensures) (if-no-word _ _ _
+    (fault-step _ (sym (c .before .before .o .given .1) ∙ c .before .before .before .before .opening-at .ensures)))
 
 returns-2 : tie.Need-returns-2
-returns-2 c = requirement-fault (c .no-requirement2 .ensures) (if-no-first _ _ _ (at-step _ (sym (c .before .before .before .before .before .before .o2 .given .1) ∙ c .before .before .before .before .before .before .before .before .opening-at .ensures)) _ (fault-list _ (c .before .before .before .before .sets-at .result) _ (c .before .before .before .before .sets-at .ensures) (c .before .before .e .given .1)))
+returns-2 c =
+    let at-sets-at = c .before .before .before .before in
+    let at-o2 = at-sets-at .before .before in
+    let at-opening-at = at-o2 .before .before in
+    requirement-fault (c .no-requirement2 .ensures) (if-no-first _ _ _ (at-step _ (sym (at-o2 .o2 .given .1) ∙ at-opening-at .opening-at .ensures)) _
+    (fault-list _ (at-sets-at .sets-at .result) _ (at-sets-at .sets-at .ensures) (c .before .before .e .given .1)))
 
 returns-3 : tie.Need-returns-3
-returns-3 c = c .guarantees-at .ensures ∙ sym (ap requirementOf (if-on _ _ _ (at-step _ (sym (c .before .before .before .before .before .before .before .o2 .given .1) ∙ c .before .before .before .before .before .before .before .before .before .opening-at .ensures)) _ _ (got-list _ (c .before .before .before .before .before .sets-at .result) _ (c .before .before .before .before .before .sets-at .ensures) (c .before .before .before .e2 .given .1))))
+returns-3 c =
+    let at-sets-at = c .before .before .before .before .before in
+    let at-o2 = at-sets-at .before .before in
+    let at-opening-at = at-o2 .before .before in
+    c .guarantees-at .ensures ∙ sym (ap requirementOf (if-on _ _ _ (at-step _ (sym (at-o2 .o2 .given .1) ∙ at-opening-at .opening-at .ensures)) _ _
+    (got-list _ (at-sets-at .sets-at .result) _ (at-sets-at .sets-at .ensures) (c .before .before .before .e2 .given .1))))
 
 pub requirement-at-spec : {M : Type 1} → statement M
 requirement-at-spec =

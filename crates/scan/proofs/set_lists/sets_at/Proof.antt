@@ -28,7 +28,9 @@ add-t11 : tie.Need-add-t11
 add-t11 c = omega (arith, byte-within _ _ _ (sym (c .before .byte-at2 .ensures) ∙ c .if2 .taken) (omega arith))
 
 returns-2 : tie.Need-returns-2
-returns-2 c = list-got (list-empty _ _ (sym (c .before .before .before .byte-at .ensures) ∙ c .before .before .if1 .left) (sym (c .before .byte-at2 .ensures) ∙ c .if2 .taken))
+returns-2 c =
+    list-got (list-empty _ _ (sym (c .before .before .before .byte-at .ensures) ∙ c .before .before .if1 .left)
+    (sym (c .before .byte-at2 .ensures) ∙ c .if2 .taken))
 
 set-at-requires : tie.Need-set-at-requires
 set-at-requires c κs = search needs
@@ -46,10 +48,24 @@ more-sets-requires : tie.Need-more-sets-requires
 more-sets-requires c κs = search needs
 
 returns-3 : tie.Need-returns-3
-returns-3 c = list-fault (c .no-list2 .ensures) (list-bad _ _ (sym (c .before .before .before .before .before .before .before .before .byte-at .ensures) ∙ c .before .before .before .before .before .before .before .if1 .left) (λ e. c .before .before .before .before .before .if2 .left (c .before .before .before .before .before .before .byte-at2 .ensures ∙ e)) _ (fault-set _ (sym (c .before .before .t .given .1) ∙ c .before .before .before .before .set-at .ensures)))
+returns-3 c =
+    let at-if2 = c .before .before .before .before .before in
+    let at-byte-at2 = at-if2 .before in
+    let at-if1 = at-byte-at2 .before in
+    let at-byte-at = at-if1 .before in
+    list-fault (c .no-list2 .ensures) (list-bad _ _ (sym (at-byte-at .byte-at .ensures) ∙ at-if1 .if1 .left)
+    (λ e. at-if2 .if2 .left (at-byte-at2 .byte-at2 .ensures ∙ e)) _
+    (fault-set _ (sym (c .before .before .t .given .1) ∙ c .before .before .before .before .set-at .ensures)))
 
 returns-4 : tie.Need-returns-4
-returns-4 c = c .more-sets .ensures ∙ sym (ap setsOf (list-on _ _ (sym (c .before .before .before .before .before .before .before .before .byte-at .ensures) ∙ c .before .before .before .before .before .before .before .if1 .left) (λ e. c .before .before .before .before .before .if2 .left (c .before .before .before .before .before .before .byte-at2 .ensures ∙ e)) _ _ (members-set _ (sym (c .before .before .t2 .given .1) ∙ c .before .before .before .before .set-at .ensures))))
+returns-4 c =
+    let at-if2 = c .before .before .before .before .before in
+    let at-byte-at2 = at-if2 .before in
+    let at-if1 = at-byte-at2 .before in
+    let at-byte-at = at-if1 .before in
+    c .more-sets .ensures ∙ sym (ap setsOf (list-on _ _ (sym (at-byte-at .byte-at .ensures) ∙ at-if1 .if1 .left)
+    (λ e. at-if2 .if2 .left (at-byte-at2 .byte-at2 .ensures ∙ e)) _ _
+    (members-set _ (sym (c .before .before .t2 .given .1) ∙ c .before .before .before .before .set-at .ensures))))
 
 pub sets-at-spec : {M : Type 1} → statement M
 sets-at-spec =

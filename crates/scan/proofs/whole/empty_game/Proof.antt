@@ -13,7 +13,8 @@ no-requirements-requires c κs = search needs
 
 returns : tie.Need-returns
 unfolding emptyGame emptyGraph
-returns c = λ i. record { input = c .before .empty-graph .ensures i; output = c .before .empty-graph .ensures i; k = 0; requirements = c .no-requirements .ensures i }
+returns c =
+    λ i. record { input = c .before .empty-graph .ensures i; output = c .before .empty-graph .ensures i; k = 0; requirements = c .no-requirements .ensures i }
 
 pub empty-game-spec : {M : Type 1} → statement M
 empty-game-spec = tie.close (tie.spec empty-graph-requires no-requirements-requires returns)

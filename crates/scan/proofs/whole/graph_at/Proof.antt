@@ -11,7 +11,9 @@ use Rattle.scan.proofs.whole.graph_at.Statement.{statement}
 use Rattle.scan.proofs.whole.graph_at.Tie as tie
 
 abbrev Inv-loop : tie.InvT-loop
-Inv-loop s i w n moves₀ initial₀ at₀ t₀ moves initial at t = (run (statesFormat w n 0 (emptyGraph n)) (bytes s) i ≡ run (statesFormat w (n - t) t (record { states = n; initial = initial; moves = moves })) (bytes s) at) × (n ≤ 64) × (w < 10)
+Inv-loop s i w n moves₀ initial₀ at₀ t₀ moves initial at t =
+    (run (statesFormat w n 0 (emptyGraph n)) (bytes s) i ≡ run (statesFormat w (n - t) t (record { states = n; initial = initial; moves = moves }))
+    (bytes s) at) × (n ≤ 64) × (w < 10)
 
 abbrev μ-loop : tie.MeasureT-loop
 μ-loop s i w n moves₀ initial₀ at₀ t₀ moves initial at t = n - t
@@ -29,7 +31,11 @@ no-graph-requires : tie.Need-no-graph-requires Inv-loop μ-loop
 no-graph-requires c κs = tt
 
 returns : tie.Need-returns Inv-loop μ-loop
-returns c = graph-fault (c .no-graph .ensures) (states-fault _ _ _ _ _ _ _ _ (c .before .before .before .before .before .before .loop .inv .0) (c .before .before .before .before .before .loop-test .taken) _ (fault-state _ (sym (c .before .before .q .given .1) ∙ c .before .before .before .before .state-at .ensures)))
+returns c =
+    let at-loop-test = c .before .before .before .before .before in
+    let at-loop = at-loop-test .before in
+    graph-fault (c .no-graph .ensures) (states-fault _ _ _ _ _ _ _ _ (at-loop .loop .inv .0) (at-loop-test .loop-test .taken) _
+    (fault-state _ (sym (c .before .before .q .given .1) ∙ c .before .before .before .before .state-at .ensures)))
 
 enum-known-q-2 : tie.Need-enum-known-q-2 Inv-loop μ-loop
 enum-known-q-2 c = search needs
@@ -44,13 +50,23 @@ marked-requires : tie.Need-marked-requires Inv-loop μ-loop
 marked-requires c κs = omega (arith, c .before .before .before .before .loop-test .taken, c .before .before .before .before .before .loop .inv)
 
 add-t : tie.Need-add-t Inv-loop μ-loop
-add-t c = omega (arith, c .before .before .before .before .before .loop-test .taken, c .before .before .before .before .before .before .loop .inv)
+add-t c =
+    let at-loop-test = c .before .before .before .before .before in
+    let at-loop = at-loop-test .before in
+    omega (arith, at-loop-test .loop-test .taken, at-loop .loop .inv)
 
 loop-less : tie.Need-loop-less Inv-loop μ-loop
 loop-less c = omega (arith, c .before .before .before .before .before .loop-test .taken)
 
 loop-again : tie.Need-loop-again Inv-loop μ-loop
-loop-again c = (states-turn _ _ _ _ _ _ _ _ (c .before .before .before .before .before .before .loop .inv .0) (c .before .before .before .before .before .loop-test .taken) _ _ _ _ (moves-state _ (sym (c .before .before .q2 .given .1) ∙ c .before .before .before .before .state-at .ensures)) (c .marked .ensures), c .before .before .before .before .before .before .loop .inv .1, c .before .before .before .before .before .before .loop .inv .2)
+loop-again c =
+    let at-loop-test = c .before .before .before .before .before in
+    let at-loop = at-loop-test .before in (
+      states-turn _ _ _ _ _ _ _ _ (at-loop .loop .inv .0) (at-loop-test .loop-test .taken) _ _ _ _
+          (moves-state _ (sym (c .before .before .q2 .given .1) ∙ c .before .before .before .before .state-at .ensures)) (c .marked .ensures),
+      at-loop .loop .inv .1,
+      at-loop .loop .inv .2,
+    )
 
 returns-2 : tie.Need-returns-2 Inv-loop μ-loop
 returns-2 c = graph-got (states-end _ _ _ _ _ _ _ _ (c .before .loop .inv .0) (c .loop-test .left))

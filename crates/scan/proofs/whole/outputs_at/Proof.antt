@@ -1,6 +1,16 @@
 -- `outputs_at` meets its contract.
 use borrow.Author.Needs.{needs}
-use Rattle.scan.proofs.WholeSteps.{got-graph, fault-graph, got-requirements, fault-requirements, game-got, game-fault, output-none, output-bad, output-got}
+use Rattle.scan.proofs.WholeSteps.{
+  got-graph,
+  fault-graph,
+  got-requirements,
+  fault-requirements,
+  game-got,
+  game-fault,
+  output-none,
+  output-bad,
+  output-got,
+}
 use Rattle.scan.proofs.whole.outputs_at.Statement.{statement}
 use Rattle.scan.proofs.whole.outputs_at.Tie as tie
 
@@ -29,13 +39,28 @@ enum-known-f-2 : tie.Need-enum-known-f-2
 enum-known-f-2 c = search needs
 
 returns : tie.Need-returns
-returns c = game-fault (c .no-game .ensures) (output-none _ _ _ _ _ _ (fault-graph _ (c .before .before .before .before .graph-at .result) _ (c .before .before .before .before .graph-at .ensures) (c .before .before .e .given .1)))
+returns c =
+    game-fault (c .no-game .ensures) (output-none _ _ _ _ _ _
+    (fault-graph _ (c .before .before .before .before .graph-at .result) _ (c .before .before .before .before .graph-at .ensures)
+    (c .before .before .e .given .1)))
 
 returns-2 : tie.Need-returns-2
-returns-2 c = game-fault (c .no-game2 .ensures) (output-bad _ _ _ _ _ _ _ (got-graph _ (c .before .before .before .before .before .before .before .before .graph-at .result) _ (c .before .before .before .before .before .before .before .before .graph-at .ensures) (c .before .before .before .before .before .before .e2 .given .1)) _ (fault-requirements _ (c .before .before .before .before .requirements-at .result) _ (c .before .before .before .before .requirements-at .ensures) (c .before .before .f .given .1)))
+returns-2 c =
+    let at-requirements-at = c .before .before .before .before in
+    let at-e2 = at-requirements-at .before .before in
+    let at-graph-at = at-e2 .before .before in
+    game-fault (c .no-game2 .ensures) (output-bad _ _ _ _ _ _ _
+    (got-graph _ (at-graph-at .graph-at .result) _ (at-graph-at .graph-at .ensures) (at-e2 .e2 .given .1)) _
+    (fault-requirements _ (at-requirements-at .requirements-at .result) _ (at-requirements-at .requirements-at .ensures) (c .before .before .f .given .1)))
 
 returns-3 : tie.Need-returns-3
-returns-3 c = game-got (output-got _ _ _ _ _ _ _ (got-graph _ (c .before .before .before .before .before .before .before .before .before .graph-at .result) _ (c .before .before .before .before .before .before .before .before .before .graph-at .ensures) (c .before .before .before .before .before .before .before .e2 .given .1)) _ _ (got-requirements _ (c .before .before .before .before .before .requirements-at .result) _ (c .before .before .before .before .before .requirements-at .ensures) (c .before .before .before .f2 .given .1)))
+returns-3 c =
+    let at-requirements-at = c .before .before .before .before .before in
+    let at-e2 = at-requirements-at .before .before in
+    let at-graph-at = at-e2 .before .before in
+    game-got (output-got _ _ _ _ _ _ _ (got-graph _ (at-graph-at .graph-at .result) _ (at-graph-at .graph-at .ensures) (at-e2 .e2 .given .1)) _ _
+    (got-requirements _ (at-requirements-at .requirements-at .result) _ (at-requirements-at .requirements-at .ensures)
+    (c .before .before .before .f2 .given .1)))
 
 pub outputs-at-spec : {M : Type 1} → statement M
 outputs-at-spec =

@@ -14,7 +14,8 @@ use Rattle.scan.proofs.whole.requirements_at.Statement.{statement}
 use Rattle.scan.proofs.whole.requirements_at.Tie as tie
 
 abbrev Inv-loop : tie.InvT-loop
-Inv-loop s i k qs₀ at₀ t₀ qs at t = (run (requirementsFormat k 0 (replicate 8 emptyRequirement)) (bytes s) i ≡ run (requirementsFormat (k - t) t qs) (bytes s) at) × (k ≤ 8)
+Inv-loop s i k qs₀ at₀ t₀ qs at t =
+    (run (requirementsFormat k 0 (replicate 8 emptyRequirement)) (bytes s) i ≡ run (requirementsFormat (k - t) t qs) (bytes s) at) × (k ≤ 8)
 
 abbrev μ-loop : tie.MeasureT-loop
 μ-loop s i k qs₀ at₀ t₀ qs at t = k - t
@@ -35,25 +36,46 @@ no-requirements-requires-2 : tie.Need-no-requirements-requires-2 Inv-loop μ-loo
 no-requirements-requires-2 c κs = tt
 
 returns : tie.Need-returns Inv-loop μ-loop
-returns c = requirements-fault (c .no-requirements2 .ensures) (requirements-bad _ _ _ _ _ _ (c .before .before .before .before .before .before .loop .inv .0) (c .before .before .before .before .before .loop-test .taken) _ (fault-requirement _ (c .before .before .before .before .requirement-at .result) _ (c .before .before .before .before .requirement-at .ensures) (c .before .before .e .given .1)))
+returns c =
+    let at-loop-test = c .before .before .before .before .before in
+    let at-loop = at-loop-test .before in
+    requirements-fault (c .no-requirements2 .ensures) (requirements-bad _ _ _ _ _ _ (at-loop .loop .inv .0) (at-loop-test .loop-test .taken) _
+    (fault-requirement _ (c .before .before .before .before .requirement-at .result) _ (c .before .before .before .before .requirement-at .ensures)
+    (c .before .before .e .given .1)))
 
 enum-known-e-2 : tie.Need-enum-known-e-2 Inv-loop μ-loop
 enum-known-e-2 c = search needs
 
 mul-qs : tie.Need-mul-qs Inv-loop μ-loop
-mul-qs c = omega (arith, c .before .before .before .before .before .loop-test .taken, c .before .before .before .before .before .before .loop .inv)
+mul-qs c =
+    let at-loop-test = c .before .before .before .before .before in
+    let at-loop = at-loop-test .before in
+    omega (arith, at-loop-test .loop-test .taken, at-loop .loop .inv)
 
 array-set-from-qs : tie.Need-array-set-from-qs Inv-loop μ-loop
-array-set-from-qs c = omega (arith, c .before .before .before .before .before .loop-test .taken, c .before .before .before .before .before .before .loop .inv)
+array-set-from-qs c =
+    let at-loop-test = c .before .before .before .before .before in
+    let at-loop = at-loop-test .before in
+    omega (arith, at-loop-test .loop-test .taken, at-loop .loop .inv)
 
 add-t : tie.Need-add-t Inv-loop μ-loop
-add-t c = omega (arith, c .before .before .before .before .before .loop-test .taken, c .before .before .before .before .before .before .loop .inv)
+add-t c =
+    let at-loop-test = c .before .before .before .before .before in
+    let at-loop = at-loop-test .before in
+    omega (arith, at-loop-test .loop-test .taken, at-loop .loop .inv)
 
 loop-less : tie.Need-loop-less Inv-loop μ-loop
 loop-less c = omega (arith, c .before .before .before .before .before .loop-test .taken)
 
 loop-again : tie.Need-loop-again Inv-loop μ-loop
-loop-again c = (requirements-turn _ _ _ _ _ _ (c .before .before .before .before .before .before .loop .inv .0) (c .before .before .before .before .before .loop-test .taken) _ _ (got-requirement _ (c .before .before .before .before .requirement-at .result) _ (c .before .before .before .before .requirement-at .ensures) (c .before .before .e2 .given .1)), c .before .before .before .before .before .before .loop .inv .1)
+loop-again c =
+    let at-loop-test = c .before .before .before .before .before in
+    let at-loop = at-loop-test .before in (
+      requirements-turn _ _ _ _ _ _ (at-loop .loop .inv .0) (at-loop-test .loop-test .taken) _ _
+          (got-requirement _ (c .before .before .before .before .requirement-at .result) _ (c .before .before .before .before .requirement-at .ensures)
+          (c .before .before .e2 .given .1)),
+      at-loop .loop .inv .1,
+    )
 
 returns-2 : tie.Need-returns-2 Inv-loop μ-loop
 returns-2 c = requirements-got (requirements-end _ _ _ _ _ _ (c .before .loop .inv .0) (c .loop-test .left))

@@ -19,7 +19,8 @@ letter-requires : tie.Need-letter-requires
 letter-requires c κs = search needs
 
 returns-2 : tie.Need-returns-2
-returns-2 c = c .letter .ensures ∙ opening-letter _ _ (c .before .before .before .if1 .left) (omega (arith, c .before .if2 .taken, c .before .before .letters .ensures))
+returns-2 c =
+    c .letter .ensures ∙ opening-letter _ _ (c .before .before .before .if1 .left) (omega (arith, c .before .if2 .taken, c .before .before .letters .ensures))
 
 returns-3 : tie.Need-returns-3
 returns-3 c = opening-last _ _ (omega (arith, c .if2 .left, c .before .letters .ensures)) (c .before .before .before .pre .1)
