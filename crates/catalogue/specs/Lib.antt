@@ -1,0 +1,2 @@
+-- What the catalogue program prints.
+pub mod Catalogue

@@ -1,0 +1,110 @@
+-- The pieces of the lines of figures, and their lengths.
+use Prim.Native.Nat.{ℕ, zero, suc, _+_, _*_, _-_, _≤_, _<_}
+use native.Mathlib.Omega.{arith}
+use native.Mathlib.Numerals.{add-one}
+use mathlib.Core.Bool.{Bool, true, false}
+use mathlib.Core.List.{List, [], _∷_, _++_, append-assoc, append-nil}
+use mathlib.Core.Path.{_≡_, refl, sym, _∙_, ap}
+use lib.Dec.{eqb}
+use lib.ListN.{length, getD, length-append}
+use borrow.Author.Tests.{eq-eqb, ne-eqb}
+use Rattle.grammar.specs.Number.{decimal}
+use Rattle.grammar.proofs.Format.{by-cases}
+use Rattle.shape.specs.Text.{word, line, bracket, items, gapText}
+use Rattle.shape.specs.Shape.{opening}
+use Rattle.put.specs.Put.{Puts}
+use Rattle.put.proofs.Buffer.{Remains, remains-room, puts-as}
+use Rattle.answer_lines.proofs.Lines.{number-short, opening-short, puts-nothing}
+use Rattle.catalogue_tally.specs.declared.Tally.{Tally}
+use Rattle.catalogue_lines.specs.Figures.{numberWord, wonWord, countLine, pairText, numberLine, numberLines, wonLine, figuresPrint}
+
+pub count-pieces : (w n : ℕ) → opening w ++ ((decimal n ++ 41 ∷ []) ++ 10 ∷ []) ≡ countLine w n
+unfolding countLine line bracket items gapText opening
+count-pieces w n = simp (append-assoc, append-nil)
+
+-- "(number " and "(won "
+unfoldable pub numberOpening : List ℕ
+numberOpening = 40 ∷ 110 ∷ 117 ∷ 109 ∷ 98 ∷ 101 ∷ 114 ∷ 32 ∷ []
+
+unfoldable pub wonOpening : List ℕ
+wonOpening = 40 ∷ 119 ∷ 111 ∷ 110 ∷ 32 ∷ []
+
+number-text : (r n : ℕ) → numberOpening ++ pairText r n ≡ line (numberWord ∷ decimal r ∷ decimal n ∷ [])
+unfolding numberOpening pairText numberWord line bracket items gapText
+number-text r n = simp (append-assoc, append-nil)
+
+pub won-pieces : (w p : ℕ) → wonOpening ++ pairText w p ≡ wonLine w p
+unfolding wonOpening pairText wonLine wonWord line bracket items gapText
+won-pieces w p = simp (append-assoc, append-nil)
+
+pub number-pieces : (r n : ℕ) → (n ≡ 0 → ⊥) → numberOpening ++ pairText r n ≡ numberLine r n
+unfolding numberLine
+number-pieces r n h = number-text r n ∙ sym (rw (ne-eqb n 0 h, numberLine) refl)
+
+pub number-unmet : (d : List ℕ) (at r n : ℕ) → n ≡ 0 → Puts d at (numberLine r n) at d
+unfolding numberLine
+number-unmet d at r n h =
+    let empty : numberLine r n ≡ [] = rw (eq-eqb n 0 h, numberLine) refl in
+    puts-as (sym empty) (puts-nothing d at)
+
+pub pair-short : (m n : ℕ) → m < 18446744073709551616 → n < 18446744073709551616 → length (pairText m n) ≤ 43
+unfolding pairText
+pair-short m n h k =
+    omega (
+      arith,
+      length-append (decimal m ++ 32 ∷ []) ((decimal n ++ 41 ∷ []) ++ 10 ∷ []),
+      length-append (decimal n ++ 41 ∷ []) (10 ∷ []),
+      number-short m 32 h,
+      number-short n 41 k,
+    )
+
+pub count-short : (w n : ℕ) → n < 18446744073709551616 → length (countLine w n) ≤ 60
+count-short w n h =
+    omega (
+      arith,
+      ap length (count-pieces w n),
+      length-append (opening w) ((decimal n ++ 41 ∷ []) ++ 10 ∷ []),
+      length-append (decimal n ++ 41 ∷ []) (10 ∷ []),
+      opening-short w,
+      number-short n 41 h,
+    )
+
+pub won-short : (w p : ℕ) → w < 18446744073709551616 → p < 18446744073709551616 → length (wonLine w p) ≤ 60
+unfolding wonOpening
+won-short w p h k = omega (arith, ap length (won-pieces w p), length-append wonOpening (pairText w p), pair-short w p h k)
+
+pub number-line-short : (r n : ℕ) → r < 18446744073709551616 → n < 18446744073709551616 → length (numberLine r n) ≤ 60
+unfolding numberLine numberOpening
+number-line-short r n h k =
+    by-cases (eqb n 0)
+    (λ b. let empty : numberLine r n ≡ [] = rw (b, numberLine) refl in omega (arith, ap length empty))
+    (λ b.
+    let whole : numberLine r n ≡ line (numberWord ∷ decimal r ∷ decimal n ∷ []) = rw (b, numberLine) refl in
+    omega (arith, ap length whole, ap length (number-text r n), length-append numberOpening (pairText r n), pair-short r n h k))
+
+-- the lines of the numbers, one after the other
+pub numbers-none : (n : ℕ) (ns : List ℕ) → numberLines n 0 ns ≡ numberLines (n - 0) 0 ns
+numbers-none n ns = let all : n ≡ n - 0 = omega arith in ap (λ (k : ℕ). numberLines k 0 ns) all
+
+module _ (n r : ℕ) (ns : List ℕ) where
+  pub numbers-take : (x : ℕ) → r < n → x ≡ getD ns r 0 → numberLines (n - r) r ns ≡ numberLine r x ++ numberLines (n - (r + 1)) (r + 1) ns
+  unfolding numberLines
+  numbers-take x l q =
+      let split : n - r ≡ suc (n - (r + 1)) = omega arith in
+      ap (λ (k : ℕ). numberLines k r ns) split ∙ (λ i. numberLine r (sym q i) ++ numberLines (n - (r + 1)) (sym (add-one r) i) ns)
+
+  pub numbers-last : n ≤ r → numberLines (n - r) r ns ≡ []
+  unfolding numberLines
+  numbers-last l = let none : n - r ≡ 0 = omega arith in ap (λ (k : ℕ). numberLines k r ns) none
+
+module _ (ns : List ℕ) (small : (r : ℕ) → getD ns r 0 < 18446744073709551616) where
+  pub numbers-short : (k r : ℕ) → r + k ≤ 256 → length (numberLines k r ns) ≤ 60 * k
+  unfolding numberLines
+  numbers-short zero r h = omega arith
+  numbers-short (suc k) r h =
+      omega (
+        arith,
+        length-append (numberLine r (getD ns r 0)) (numberLines k (suc r) ns),
+        number-line-short r (getD ns r 0) (omega arith) (small r),
+        numbers-short k (suc r) (omega arith),
+      )

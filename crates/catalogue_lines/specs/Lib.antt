@@ -1,0 +1,2 @@
+-- The print of a catalogue's figures.
+pub mod Figures

@@ -1,0 +1,2 @@
+-- The names of a list.
+pub mod Names

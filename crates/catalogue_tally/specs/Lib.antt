@@ -1,0 +1,2 @@
+-- The figures of a catalogue.
+pub mod Figures

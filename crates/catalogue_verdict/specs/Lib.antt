@@ -1,0 +1,2 @@
+-- What one file of a catalogue comes to.
+pub mod Judged

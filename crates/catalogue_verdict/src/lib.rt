@@ -1,0 +1,96 @@
+// What one file of a catalogue comes to: the solve program's verdict, with the game's won positions and all its positions.
+use catalogue_tally::Outcome;
+use game::Game;
+use solver::Verdict;
+use text::Answer;
+ghost use mathlib.Core.Path.{_≡_};
+ghost use Prim.Native.Nat.{_≤_, _*_};
+ghost use lib.ListN.{length};
+ghost use Rattle.finite.specs.Bounded.{count};
+ghost use Rattle.sets.specs.Member.{has};
+ghost use Rattle.game.specs.declared.Acceptance.the-variants.{Accepted};
+ghost use Rattle.game.specs.Acceptance.{acceptance};
+ghost use Rattle.scratch.specs.Scratch.{scratchLength};
+ghost use Rattle.solver.specs.Promise.{verdictAnswer};
+ghost use Rattle.catalogue_tally.specs.Figures.{Modest};
+ghost use Rattle.catalogue_verdict.specs.Judged.{marks, Census, Comes, Judged};
+
+// How many of the first m states a set has.
+fn row_count(x: u64, m: usize) -> usize
+    requires { ⌜ m ≤ 64 ⌝ }
+    ensures { λ r. ⌜ r ≡ count m (has x) ⌝ }
+{
+    let mut c: usize = 0;
+    let mut s: usize = 0;
+    while s < m {
+        if sets::member(x, s) {
+            c += 1;
+            s += 1;
+            continue;
+        }
+        s += 1;
+    }
+    c
+}
+
+// How many positions a map of n inputs and m outputs marks.
+fn map_count(map: &[u64], n: usize, m: usize) -> usize
+    requires { ⌜ (n ≤ length (now map)) × (n ≤ 64) × (m ≤ 64) ⌝ }
+    ensures { λ r. ⌜ (r ≡ marks (now (map .entry)) m n) × (r ≤ 4096) ⌝ }
+{
+    let mut c: usize = 0;
+    let mut i: usize = 0;
+    while i < n {
+        let x = map[i];
+        c += row_count(x, m);
+        i += 1;
+    }
+    c
+}
+
+// How many positions of an accepted game are won.
+fn won_count(g: Game) -> usize
+    requires { ⌜ acceptance g ≡ Accepted ⌝ }
+    ensures { λ r. ⌜ Census g r × (r ≤ 4096) ⌝ }
+{
+    let mut scratch = [0u64; 192];
+    let mut map = [0u64; 64];
+    map::won_map(g, &mut scratch, &mut map);
+    map_count(&map, g.input.states, g.output.states)
+}
+
+// What an accepted game comes to, in the two rooms.
+fn solve(g: Game, controller: &mut [u16; 32768], panel: &mut [u16; 32768]) -> Outcome
+    requires { ⌜ acceptance g ≡ Accepted ⌝ }
+    ensures { λ r. ⌜ Comes g (verdictAnswer g (scratchLength g) 32768 32768) r × Modest r ⌝ }
+{
+    let mut scratch = [0u64; 192];
+    let v = solver::solve_into(g, &mut scratch, controller, panel);
+    match v {
+        Verdict::Refused(n) => Outcome::Refused(n),
+        Verdict::System(k) => {
+            let w = won_count(g);
+            Outcome::System(w, g.input.states * g.output.states)
+        }
+        Verdict::Environment(k) => {
+            let w = won_count(g);
+            Outcome::Environment(w, g.input.states * g.output.states)
+        }
+    }
+}
+
+// What a file comes to. The rooms are the solve program's, and what they hold afterwards is nobody's.
+pub fn judge(file: &[u8], controller: &mut [u16; 32768], panel: &mut [u16; 32768]) -> Outcome
+    ensures { λ r. ⌜ Judged (now (file .entry)) r × Modest r ⌝ }
+{
+    let r = text::read(file);
+    let a = r.answer;
+    match a {
+        Answer::Misshapen(p) => Outcome::Refused(11),
+        Answer::Refused(n) => Outcome::Refused(n),
+        Answer::Read => {
+            let g = r.game;
+            solve(g, controller, panel)
+        }
+    }
+}
