@@ -43,7 +43,8 @@ wonLine w p = line (wonWord ∷ decimal w ∷ decimal p ∷ [])
 -- "It prints, a line each, (system N), (environment N), (refused N), then (number R N) for each refusal number met, rising, then (won W P)"
 unfoldable pub figuresPrint : Tally → List ℕ
 figuresPrint t =
-    countLine 8 (t .system) ++ (countLine 9 (t .environment) ++ (countLine 7 (t .refused) ++ (numberLines 256 0 (t .numbers) ++ wonLine (t .won) (t .positions))))
+    countLine 8 (t .system) ++ (countLine 9 (t .environment) ++
+    (countLine 7 (t .refused) ++ (numberLines 256 0 (t .numbers) ++ wonLine (t .won) (t .positions))))
 
 pub record Made (d t : List ℕ) (n : ℕ) (e : List ℕ) : Type 0 where
   pub puts : Puts d 0 t n e

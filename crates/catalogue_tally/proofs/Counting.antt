@@ -13,7 +13,22 @@ use Rattle.finite.specs.Bounded.{one}
 use Rattle.catalogue_tally.specs.declared.Outcome.{Outcome}
 use Rattle.catalogue_tally.specs.declared.Outcome.the-variants.{System, Environment, Refused}
 use Rattle.catalogue_tally.specs.declared.Tally.{Tally}
-use Rattle.catalogue_tally.specs.Figures.{isSystem, isEnvironment, isRefused, hasNumber, wonOf, positionsOf, sumOf, howMany, Tallied, nothing, added, Modest, Roomy, Within}
+use Rattle.catalogue_tally.specs.Figures.{
+  isSystem,
+  isEnvironment,
+  isRefused,
+  hasNumber,
+  wonOf,
+  positionsOf,
+  sumOf,
+  howMany,
+  Tallied,
+  nothing,
+  added,
+  Modest,
+  Roomy,
+  Within,
+}
 
 -- of one outcome
 module _ {o : Outcome} {w p : ℕ} where
@@ -134,9 +149,21 @@ module _ {os : List Outcome} {t : Tally} (T : Tallied os t) where
 
 pub within-add : {os : List Outcome} {t : Tally} (o : Outcome) → Within os t → Modest o → Within (os ++ o ∷ []) (added t o)
 unfolding added wonOf positionsOf
-within-add {os} (System w p) W M = record { won = omega (arith, W .won, M .won, length-snoc os (System w p)); positions = omega (arith, W .positions, M .positions, length-snoc os (System w p)) }
-within-add {os} (Environment w p) W M = record { won = omega (arith, W .won, M .won, length-snoc os (Environment w p)); positions = omega (arith, W .positions, M .positions, length-snoc os (Environment w p)) }
-within-add {os} (Refused n) W M = record { won = omega (arith, W .won, length-snoc os (Refused n)); positions = omega (arith, W .positions, length-snoc os (Refused n)) }
+within-add {os} (System w p) W M = record {
+  won = omega (arith, W .won, M .won, length-snoc os (System w p));
+  positions = omega
+      (arith, W .positions, M .positions, length-snoc os (System w p));
+}
+within-add {os} (Environment w p) W M = record {
+  won = omega (arith, W .won, M .won, length-snoc os (Environment w p));
+  positions = omega
+      (arith, W .positions, M .positions, length-snoc os (Environment w p));
+}
+within-add {os} (Refused n) W M = record {
+  won = omega (arith, W .won, length-snoc os (Refused n));
+  positions = omega
+      (arith, W .positions, length-snoc os (Refused n));
+}
 
 getD-zeros : (n r : ℕ) → getD {A = ℕ} (replicate n 0) r 0 ≡ 0
 getD-zeros zero zero = refl

@@ -109,7 +109,8 @@ module _ {g : Game} {s s′ c c′ e e′ : List ℕ} {v : Verdict} (a : accepta
     comes-system {n} k =
         (comes-as _ (System n) k (w, C, refl), record { won = b; positions = mul-le-mul (inputs-most g a) (outputs-most g a) })
 
-    pub comes-environment : {n : ℕ} → v ≡ Environment n → Comes g (verdictAnswer g (scratchLength g) 32768 32768) (EnvironmentGame w (g .input .states * g .output .states))
+    pub comes-environment : {n : ℕ} → v ≡ Environment n
+        → Comes g (verdictAnswer g (scratchLength g) 32768 32768) (EnvironmentGame w (g .input .states * g .output .states))
         × Modest (EnvironmentGame w (g .input .states * g .output .states))
     unfolding Comes wonOf positionsOf positions
     comes-environment {n} k =

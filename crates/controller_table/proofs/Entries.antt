@@ -100,7 +100,8 @@ module _ (S : Separated) (s : List ℕ) (n cores : ℕ) (rows : List ℕ) (T : T
     moved-below k h = edge-to (S .output) o k (and-left (edge (S .output) o k) (has (getD s (n + j) 0) k) (sym (moved k) ∙ h))
 
     plain-trivial : nontrivial (S .input) j ≡ false → (c : ℕ)
-        → first (least 64 (has (bitAnd (getD rows o 0) (getD s (n + j) 0)))) + more (least 64 (has (bitAnd (getD rows o 0) (getD s (n + j) 0)))) * c ≡ entry (controllerRow S o c j)
+        → first (least 64 (has (bitAnd (getD rows o 0) (getD s (n + j) 0)))) + more (least 64 (has (bitAnd (getD rows o 0) (getD s (n + j) 0)))) * c ≡
+        entry (controllerRow S o c j)
     plain-trivial t c = go (decide (answers S (region S) j o))
       where
         p : ℕ
@@ -113,20 +114,25 @@ module _ (S : Separated) (s : List ℕ) (n cores : ℕ) (rows : List ℕ) (T : T
         same k l = moved k ∙ ap (λ (x : Bool). edge (S .output) o k && x) (T .wins j k a t)
 
         go : (answers S (region S) j o ≡ true) ⊎ (answers S (region S) j o ≡ false)
-            → first (least 64 (has (bitAnd (getD rows o 0) (getD s (n + j) 0)))) + more (least 64 (has (bitAnd (getD rows o 0) (getD s (n + j) 0)))) * c ≡ entry (controllerRow S o c j)
+            → first (least 64 (has (bitAnd (getD rows o 0) (getD s (n + j) 0)))) + more (least 64 (has (bitAnd (getD rows o 0) (getD s (n + j) 0)))) * c ≡
+            entry (controllerRow S o c j)
         go (inl h) =
             let v = answers-elim S (region S) j o h in
             let l = edge-to (S .output) o (v .0) (v .1) in
-            let e = lowest-some (S .output .states) (bitAnd (getD rows o 0) (getD s (n + j) 0)) q (T .few-outputs) same moved-below (v .0) l (and-intro (v .1) (v .2)) in
-            rw (e, row-trivial S o c j h t) (entry-state (least (S .output .states) q) c (omega (arith, least-below (S .output .states) q (v .0) l (and-intro (v .1) (v .2)), T .few-outputs)))
+            let e = lowest-some (S .output .states) (bitAnd (getD rows o 0) (getD s (n + j) 0)) q (T .few-outputs) same moved-below (v .0) l
+            (and-intro (v .1) (v .2)) in
+            rw (e, row-trivial S o c j h t) (entry-state (least (S .output .states) q) c
+            (omega (arith, least-below (S .output .states) q (v .0) l (and-intro (v .1) (v .2)), T .few-outputs)))
         go (inr h) =
             rw (row-none S o c j h)
             (entry-none p c
             (lowest-none (S .output .states) (bitAnd (getD rows o 0) (getD s (n + j) 0)) q (T .few-outputs) same moved-below
-            (λ k l. false-of (q k) (λ e. clash (and-right (edge (S .output) o k) (region S j k) e) (answers-false S (region S) j o k h (and-left (edge (S .output) o k) (region S j k) e))))))
+            (λ k l. false-of (q k) (λ e. clash (and-right (edge (S .output) o k) (region S j k) e)
+            (answers-false S (region S) j o k h (and-left (edge (S .output) o k) (region S j k) e))))))
 
     plain-nontrivial : nontrivial (S .input) j ≡ true → settles S (region S) j o ≡ false → (c : ℕ)
-        → first (least 64 (has (bitAnd (getD rows o 0) (getD s (n + j) 0)))) + more (least 64 (has (bitAnd (getD rows o 0) (getD s (n + j) 0)))) * c ≡ entry (controllerRow S o c j)
+        → first (least 64 (has (bitAnd (getD rows o 0) (getD s (n + j) 0)))) + more (least 64 (has (bitAnd (getD rows o 0) (getD s (n + j) 0)))) * c ≡
+        entry (controllerRow S o c j)
     plain-nontrivial t h c =
         rw (row-none S o c j (false-of (answers S (region S) j o) (λ e. clash (answers-settles S j o t e) h)))
         (entry-none (least 64 (has (bitAnd (getD rows o 0) (getD s (n + j) 0)))) c
@@ -139,7 +145,8 @@ module _ (S : Separated) (s : List ℕ) (n cores : ℕ) (rows : List ℕ) (T : T
         h))))
 
     pub plain-entry : settlesAt cores j (getD s (n + j) 0) (getD s (n + n + o) 0) ≡ false → (c : ℕ)
-        → first (least 64 (has (bitAnd (getD rows o 0) (getD s (n + j) 0)))) + more (least 64 (has (bitAnd (getD rows o 0) (getD s (n + j) 0)))) * c ≡ entry (controllerRow S o c j)
+        → first (least 64 (has (bitAnd (getD rows o 0) (getD s (n + j) 0)))) + more (least 64 (has (bitAnd (getD rows o 0) (getD s (n + j) 0)))) * c ≡
+        entry (controllerRow S o c j)
     plain-entry h c =
         elim (decide (nontrivial (S .input) j)) [
           | inl t ↦ plain-nontrivial t (unsettled S s n cores rows T j o a b h t) c
@@ -162,7 +169,8 @@ module _ (S : Separated) (s : List ℕ) (n cores : ℕ) (rows : List ℕ) (T : T
     word-below : (o : ℕ) → has word o ≡ true → o < S .output .states
     unfolding word
     word-below o h =
-        begins-below (S .output) o (sym (os o) ∙ and-left (has outs o) (has (pack (S .output .states) (wonAt s n cores i)) o) (sym (has-and outs (pack (S .output .states) (wonAt s n cores i)) o) ∙ h))
+        begins-below (S .output) o (sym (os o) ∙ and-left (has outs o) (has (pack (S .output .states) (wonAt s n cores i)) o)
+        (sym (has-and outs (pack (S .output .states) (wonAt s n cores i)) o) ∙ h))
 
     start-out : has ins i ≡ false → startOf z s cores ins outs i ≡ 65535
     unfolding startOf
@@ -182,7 +190,8 @@ module _ (S : Separated) (s : List ℕ) (n cores : ℕ) (rows : List ℕ) (T : T
         q : ℕ → Bool
         q o = begins (S .output) o && region S i o
 
-        go : (begins (S .input) i ≡ true) ⊎ (begins (S .input) i ≡ false) → (opens S i ≡ true) ⊎ (opens S i ≡ false) → startOf z s cores ins outs i ≡ entry (controllerStart S i)
+        go : (begins (S .input) i ≡ true) ⊎ (begins (S .input) i ≡ false) → (opens S i ≡ true) ⊎ (opens S i ≡ false)
+            → startOf z s cores ins outs i ≡ entry (controllerStart S i)
         go (inr f) h = start-out (is ∙ f) ∙ rw (start-none S i (and-false-left (opens S i) f)) refl
         go (inl t) (inl h) =
             let v = opens-elim S i h in
@@ -190,13 +199,15 @@ module _ (S : Separated) (s : List ℕ) (n cores : ℕ) (rows : List ℕ) (T : T
             let k = and-intro (v .1) (v .2) in
             let u = lowest-some (S .output .states) word q (T .few-outputs) word-has word-below (v .0) l k in
             start-in (is ∙ t) ∙ first-only (least 64 (has word))
-            ∙ rw (u, start-some S i (and-intro t h)) (entry-state (least (S .output .states) q) 0 (omega (arith, least-below (S .output .states) q (v .0) l k, T .few-outputs)))
+            ∙ rw (u, start-some S i (and-intro t h)) (entry-state (least (S .output .states) q) 0
+            (omega (arith, least-below (S .output .states) q (v .0) l k, T .few-outputs)))
         go (inl t) (inr h) =
             start-in (is ∙ t) ∙ first-only (least 64 (has word))
             ∙ rw (start-none S i (and-false-right (begins (S .input) i) h))
             (entry-none (least 64 (has word)) 0
             (lowest-none (S .output .states) word q (T .few-outputs) word-has word-below
-            (λ o b. false-of (q o) (λ k. clash (and-right (begins (S .output) o) (region S i o) k) (opens-false S i o h (and-left (begins (S .output) o) (region S i o) k))))))
+            (λ o b. false-of (q o) (λ k. clash (and-right (begins (S .output) o) (region S i o) k)
+            (opens-false S i o h (and-left (begins (S .output) o) (region S i o) k))))))
 
 -- ---- residents
 
@@ -204,7 +215,8 @@ module _ (S : Separated) (o d j : ℕ) (r : Resides S o d j) (a : j < S .input .
   pub away-entry : (p c : ℕ) → joined (S .output) d o ≡ false → p ≡ toward (S .output .states) (edge (S .output)) (joined (S .output) d) o
       → first p + more p * c ≡ entry (controllerRow S o c j)
   away-entry p c h e =
-      let b = toward-below (S .output .states) (edge (S .output)) (joined (S .output) d) o (home-leads (S .output) d o (home-reached-at S o d j r) (home-core S o d j r)) in
+      let b = toward-below (S .output .states) (edge (S .output)) (joined (S .output) d) o
+      (home-leads (S .output) d o (home-reached-at S o d j r) (home-core S o d j r)) in
       rw (row-home S o d j r a c, homeward-away S d o c h, ← e) (entry-state p c (omega arith))
 
   module _ (h : joined (S .output) d o ≡ true) where

@@ -40,18 +40,21 @@ pub record Fills (S : Separated) (F : List ℕ → List ℕ → Type 0) (P : ℕ
   pub fills : (l m : List ℕ) → F l m → length (controllerEntries S) ≤ length l → Filled S P l m
 
 module _ (S : Separated) where
-  pub filled-none : {P : ℕ → ℕ → ℕ → Type 0} (l : List ℕ) → ((o c j : ℕ) → o < S .output .states → c < controllerCounters S → j < S .input .states → P o c j → ⊥) → Filled S P l l
+  pub filled-none : {P : ℕ → ℕ → ℕ → Type 0} (l : List ℕ)
+      → ((o c j : ℕ) → o < S .output .states → c < controllerCounters S → j < S .input .states → P o c j → ⊥) → Filled S P l l
   filled-none l f = record { grows = grows-none (controllerEntries S) l; right = λ o c j a b d h. absurd (f o c j a b d h) }
 
   -- what one of two writings in a row fills
   pub filled-more : {P Q : ℕ → ℕ → ℕ → Type 0} {l m r : List ℕ} → Filled S P l m → Filled S Q m r → Filled S (λ o c j. P o c j ⊎ Q o c j) l r
   filled-more {P} {Q} {l} {m} {r} p q = record { grows = grows-more (controllerEntries S) (p .grows) (q .grows); right = right }
     where
-      right : (o c j : ℕ) → o < S .output .states → c < controllerCounters S → j < S .input .states → P o c j ⊎ Q o c j → Right (controllerEntries S) r (place S o c j)
+      right : (o c j : ℕ) → o < S .output .states → c < controllerCounters S → j < S .input .states → P o c j ⊎ Q o c j
+          → Right (controllerEntries S) r (place S o c j)
       right o c j a b d (inl h) = q .grows .kept (place S o c j) (place-in S o c j a b d) (p .right o c j a b d h)
       right o c j a b d (inr h) = q .right o c j a b d h
 
-  pub filled-part : {P Q : ℕ → ℕ → ℕ → Type 0} {l m : List ℕ} → ((o c j : ℕ) → o < S .output .states → c < controllerCounters S → j < S .input .states → Q o c j → P o c j) → Filled S P l m → Filled S Q l m
+  pub filled-part : {P Q : ℕ → ℕ → ℕ → Type 0} {l m : List ℕ}
+      → ((o c j : ℕ) → o < S .output .states → c < controllerCounters S → j < S .input .states → Q o c j → P o c j) → Filled S P l m → Filled S Q l m
   filled-part f p = record { grows = p .grows; right = λ o c j a b d h. p .right o c j a b d (f o c j a b d h) }
 
   module _ (p : ℕ → Bool) (F : ℕ → List ℕ → List ℕ → Type 0) (P : ℕ → ℕ → ℕ → ℕ → Type 0) where
@@ -73,7 +76,8 @@ module _ (S : Separated) where
     each-filled (suc k) (miss e t) f long =
         filled-part (λ o c j a b d h. elim (last k o c j h) [ inl x ↦ x | inr x ↦ clash (x .0) t ]) (each-filled k e (λ i b h. f i (omega arith) h) long)
 
-    pub fills-each : (k : ℕ) → ((i : ℕ) → i < k → p i ≡ true → Fills S (F i) (P i)) → Fills S (Each p F k) (λ o c j. (i : ℕ) × (i < k) × (p i ≡ true) × P i o c j)
+    pub fills-each : (k : ℕ) → ((i : ℕ) → i < k → p i ≡ true → Fills S (F i) (P i))
+        → Fills S (Each p F k) (λ o c j. (i : ℕ) × (i < k) × (p i ≡ true) × P i o c j)
     fills-each k f = record { fills = λ l m e long. each-filled k e f long }
 
 -- ---- the steps
@@ -101,7 +105,8 @@ module _ (S : Separated) (z : Size) (Z : Sizes S z) where
         agree : BlockAgrees (controllerEntries S) (base z o) (z .inputs) w which f m
         agree = record { columns = λ j d i. agrees j which f m (rw (Z .inputs) at d) r (λ c h. e c j h (rw (Z .inputs) at d) i) }
 
-        go : (l k : List ℕ) → Blocked (controllerEntries S) l k (base z o) (z .inputs) w which (z .inputs) → Filled S (λ o′ c j. (o′ ≡ o) × (has w j ≡ true) × (has which c ≡ true)) l k
+        go : (l k : List ℕ) → Blocked (controllerEntries S) l k (base z o) (z .inputs) w which (z .inputs)
+            → Filled S (λ o′ c j. (o′ ≡ o) × (has w j ≡ true) × (has which c ≡ true)) l k
         go l k s = record { grows = s .grows; right = λ o′ c j a x d h. rw (h .0, ← place-base o c j) (s .right j c (rw (Z .inputs) d) (h .1) (h .2)) }
 
     all-below : (c : ℕ) → has (z .all) c ≡ true → c < controllerCounters S
@@ -112,12 +117,17 @@ module _ (S : Separated) (z : Size) (Z : Sizes S z) where
 
     pub fills-row : (j p : ℕ) → j < S .input .states → ((c : ℕ) → c < controllerCounters S → first p + more p * c ≡ entry (controllerRow S o c j))
         → Fills S (Row z o j p) (λ o′ c j′. (o′ ≡ o) × (j′ ≡ j))
-    fills-row j p d e = record { fills = λ l k s long. go l k (s .column .fills (controllerEntries S) (agrees j (z .all) (first p) (more p) d all-below (λ c h. e c (all-below c h))) long) }
+    fills-row j p d e =
+        record {
+          fills = λ l k s long. go l k (s .column .fills (controllerEntries S)
+              (agrees j (z .all) (first p) (more p) d all-below (λ c h. e c (all-below c h))) long);
+        }
       where
         go : (l k : List ℕ) → Columned (controllerEntries S) l k (base z o + j) (z .inputs) (z .all) → Filled S (λ o′ c j′. (o′ ≡ o) × (j′ ≡ j)) l k
         go l k s = record { grows = s .grows; right = λ o′ c j′ a x y h. rw (h .0, h .1, ← place-base o c j) (s .right c (below-all c x)) }
 
-    pub fills-rows : (w p : ℕ) → ((c j : ℕ) → c < controllerCounters S → j < S .input .states → has w j ≡ true → first p + more p * c ≡ entry (controllerRow S o c j))
+    pub fills-rows : (w p : ℕ) → ((c j : ℕ) → c < controllerCounters S → j < S .input .states → has w j ≡ true
+        → first p + more p * c ≡ entry (controllerRow S o c j))
         → Fills S (Rows z o w p) (λ o′ c j. (o′ ≡ o) × (has w j ≡ true))
     fills-rows w p e = record {
       fills = λ l k s long.

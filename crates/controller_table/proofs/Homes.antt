@@ -65,8 +65,11 @@ module _ (g : Game) (z : Size) (s : List ℕ) (cores : ℕ) (G : Given g z s cor
       of-word : (j : ℕ) → has (i .0) j ≡ true → (j < separatedOf g .input .states) × Resides (separatedOf g) d d j
       of-word j h =
           let k = ap (λ (x : ℕ). has x j) (sym e) ∙ h in
-          let a = rw (sizes-of g z (G .sized) .inputs) at (pack-below (z .inputs) (residesAt s (z .inputs) cores d d) j k) in
-          (a, resides-word (separatedOf g) s (z .inputs) cores (g .output .moves) (told-of g z s cores G) j d a d-below d d-below (pack-holds (z .inputs) (residesAt s (z .inputs) cores d d) j k))
+          let a = rw (sizes-of g z (G .sized) .inputs) at (pack-below (z .inputs) (residesAt s (z .inputs) cores d d) j k) in (
+            a,
+            resides-word (separatedOf g) s (z .inputs) cores (g .output .moves) (told-of g z s cores G) j d a d-below d d-below
+                (pack-holds (z .inputs) (residesAt s (z .inputs) cores d d) j k),
+          )
 
       -- with no resident at d there is none anywhere
       pub no-home : i .0 ≡ 0 → (l : List ℕ) → Filled (separatedOf g) (At (separatedOf g) d) l l
@@ -82,7 +85,9 @@ module _ (g : Game) (z : Size) (s : List ℕ) (cores : ℕ) (G : Given g z s cor
           record {
             below = d-below;
             core = home-core (separatedOf g) d d (v .0) (of-word (v .0) (v .1) .1);
-            component = q ∙ rw (G .sized .outputs) (component-closed (g .output) (take (length s - (z .inputs + z .inputs)) (drop (z .inputs + z .inputs) s)) part-closes d d-below);
+            component =
+                q ∙ rw (G .sized .outputs) (component-closed (g .output) (take (length s - (z .inputs + z .inputs)) (drop (z .inputs + z .inputs) s))
+                part-closes d d-below);
             resides = λ j a h. of-word j h .1;
             resident = in-word;
           }

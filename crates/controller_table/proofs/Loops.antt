@@ -48,7 +48,8 @@ comp-in S w H o =
 module _ (S : Separated) (z : Size) (Z : Sizes S z) where
   module _ (s : List ℕ) (cores : ℕ) (rows : List ℕ) (T : Told S s (z .inputs) cores rows) where
     fills-plain : (o : ℕ) → o < S .output .states
-        → Fills S (Plain z s cores o (getD rows o 0) (z .inputs)) (λ o′ c j. (o′ ≡ o) × (settlesAt cores j (getD s (z .inputs + j) 0) (getD s (z .inputs + z .inputs + o) 0) ≡ false))
+        → Fills S (Plain z s cores o (getD rows o 0) (z .inputs))
+        (λ o′ c j. (o′ ≡ o) × (settlesAt cores j (getD s (z .inputs + j) 0) (getD s (z .inputs + z .inputs + o) 0) ≡ false))
     fills-plain o b = record {
       fills = λ l m e long.
           filled-part S (λ o′ c j x y d h. (j, rw (Z .inputs) d, ap not (h .1), (h .0, refl)))
@@ -57,11 +58,13 @@ module _ (S : Separated) (z : Size) (Z : Sizes S z) where
           (λ j o′ c j′. (o′ ≡ o) × (j′ ≡ j)) (z .inputs)
           (λ j d h. let a = rw (Z .inputs) at d in
           fills-row S z Z o b j (least 64 (has (bitAnd (getD rows o 0) (getD s (z .inputs + j) 0)))) a
-          (λ c x. plain-entry S s (z .inputs) cores rows T j o a b (not-true (settlesAt cores j (getD s (z .inputs + j) 0) (getD s (z .inputs + z .inputs + o) 0)) h) c))
+          (λ c x. plain-entry S s (z .inputs) cores rows T j o a b
+          (not-true (settlesAt cores j (getD s (z .inputs + j) 0) (getD s (z .inputs + z .inputs + o) 0)) h) c))
           .fills l m (e .each) long);
     }
 
-    pub fills-plains : Fills S (Plains z s cores rows (z .outputs)) (λ o c j. settlesAt cores j (getD s (z .inputs + j) 0) (getD s (z .inputs + z .inputs + o) 0) ≡ false)
+    pub fills-plains : Fills S (Plains z s cores rows (z .outputs))
+        (λ o c j. settlesAt cores j (getD s (z .inputs + j) 0) (getD s (z .inputs + z .inputs + o) 0) ≡ false)
     fills-plains = record {
       fills = λ l m e long.
           filled-part S (λ o c j b y d h. (o, rw (Z .outputs) b, refl, (refl, h)))
@@ -86,12 +89,14 @@ module _ (S : Separated) (z : Size) (Z : Sizes S z) where
             .fills l m (e .each) long);
       }
         where
-          at : (o j : ℕ) → o < S .output .states → j < S .input .states → Resides S o (w .state .0) j → has (pack (z .inputs) (residesAt s (z .inputs) cores o (w .state .0))) j ≡ true
+          at : (o j : ℕ) → o < S .output .states → j < S .input .states → Resides S o (w .state .0) j
+              → has (pack (z .inputs) (residesAt s (z .inputs) cores o (w .state .0))) j ≡ true
           at o j b a r =
               has-pack-below (z .inputs) (residesAt s (z .inputs) cores o (w .state .0)) j (rw (Z .inputs) a)
               ∙ resides-at S s (z .inputs) cores rows T j o a b (w .state .0) r
 
-          of : (o j : ℕ) → o < S .output .states → j < S .input .states → has (pack (z .inputs) (residesAt s (z .inputs) cores o (w .state .0))) j ≡ true → Resides S o (w .state .0) j
+          of : (o j : ℕ) → o < S .output .states → j < S .input .states → has (pack (z .inputs) (residesAt s (z .inputs) cores o (w .state .0))) j ≡ true
+              → Resides S o (w .state .0) j
           of o j b a h =
               resides-word S s (z .inputs) cores rows T j o a b (w .state .0) (H .below)
               (sym (has-pack-below (z .inputs) (residesAt s (z .inputs) cores o (w .state .0)) j (rw (Z .inputs) a)) ∙ h)
@@ -122,7 +127,8 @@ record Begun (S : Separated) (k : ℕ) (l m : List ℕ) : Type 0 where
 
 module _ (S : Separated) (z : Size) (n : z .inputs ≡ S .input .states) (s : List ℕ) (cores ins outs : ℕ)
     (value : (i : ℕ) → i < S .input .states → startOf z s cores ins outs i ≡ entry (controllerStart S i)) where
-  begun : (k : ℕ) {l m : List ℕ} → Each (λ i. true) (Start z s cores ins outs) k l m → k ≤ S .input .states → length (controllerEntries S) ≤ length l → Begun S k l m
+  begun : (k : ℕ) {l m : List ℕ} → Each (λ i. true) (Start z s cores ins outs) k l m → k ≤ S .input .states → length (controllerEntries S) ≤ length l
+      → Begun S k l m
   begun k (none {l = l}) b long = record { grows = grows-none (controllerEntries S) l; right = λ i c. absurd (omega arith) }
   begun (suc k) (hit {m = m} {r = r} e t f) b long =
       let before = begun k e (omega arith) long in

@@ -44,7 +44,8 @@ use Rattle.controller_table.proofs.Told.{Told}
 use Rattle.controller_table.proofs.Setting.{fits-of, sizes-of, few-outputs, told-of}
 
 -- the rows of the game's moves are the graph's moves
-pub same-moves : (g : Game) (s t : ℕ) → s < separatedOf g .output .states → t < separatedOf g .output .states → separatedOf g .output .moves s t ≡ has (getD (g .output .moves) s 0) t
+pub same-moves : (g : Game) (s t : ℕ) → s < separatedOf g .output .states → t < separatedOf g .output .states
+    → separatedOf g .output .moves s t ≡ has (getD (g .output .moves) s 0) t
 unfolding separatedOf graphOf
 same-moves g s t a b = refl
 
@@ -86,20 +87,24 @@ module _ (g : Game) (z : Size) (Z : Sized g z) (w : Home) (H : HomeOf (separated
       all : among ≡ pack (separatedOf g .output .states) (λ o. reaches (separatedOf g .output) o (w .state .0))
       all =
           f ∙ rw (sizes-of g z Z .outputs)
-          (pack-ext (separatedOf g .output .states) (λ o. has (getD s (z .inputs + z .inputs + o) 0) (w .state .0)) (λ o. reaches (separatedOf g .output) o (w .state .0))
+          (pack-ext (separatedOf g .output .states) (λ o. has (getD s (z .inputs + z .inputs + o) 0) (w .state .0))
+          (λ o. reaches (separatedOf g .output) o (w .state .0))
           (λ o b. T .reach o (w .state .0) b))
 
       way : (o : ℕ) → o < separatedOf g .output .states → reaches (separatedOf g .output) o (w .state .0) ≡ true
           → getD next o 0 ≡ toward (separatedOf g .output .states) (edge (separatedOf g .output)) (joined (separatedOf g .output) (w .state .0)) o
       way o b r =
-          toward-along (λ s t. edge (separatedOf g .output) s t && (reaches (separatedOf g .output) s (w .state .0) && reaches (separatedOf g .output) t (w .state .0)))
+          toward-along (λ s t. edge (separatedOf g .output) s t &&
+          (reaches (separatedOf g .output) s (w .state .0) && reaches (separatedOf g .output) t (w .state .0)))
           (joined (separatedOf g .output) (w .state .0))
           (ap (kept (g .output .moves)) all
           ∙ kept-pack (separatedOf g .output) (g .output .moves) (same-moves g) (λ o. reaches (separatedOf g .output) o (w .state .0)))
           comp-joined (rw (sizes-of g z Z .outputs) at found) o b
-          (leads-narrow (separatedOf g .output .states) (edge (separatedOf g .output)) (joined (separatedOf g .output) (w .state .0)) (λ u. reaches (separatedOf g .output) u (w .state .0)) way-inside o
+          (leads-narrow (separatedOf g .output .states) (edge (separatedOf g .output)) (joined (separatedOf g .output) (w .state .0))
+          (λ u. reaches (separatedOf g .output) u (w .state .0)) way-inside o
           (home-leads (separatedOf g .output) (w .state .0) o r (H .core)))
-          ∙ toward-narrow (separatedOf g .output .states) (edge (separatedOf g .output)) (joined (separatedOf g .output) (w .state .0)) (λ u. reaches (separatedOf g .output) u (w .state .0)) way-inside o
+          ∙ toward-narrow (separatedOf g .output .states) (edge (separatedOf g .output)) (joined (separatedOf g .output) (w .state .0))
+          (λ u. reaches (separatedOf g .output) u (w .state .0)) way-inside o
 
   -- ---- the counters of a tour
 
@@ -124,5 +129,7 @@ module _ (g : Game) (z : Size) (Z : Sized g z) (w : Home) (H : HomeOf (separated
 pub met-goals : (g : Game) (z : Size) → Sized g z → (w : Home) → HomeOf (separatedOf g) w → (q : ℕ)
     → q ≡ pack (length (guarantees (separatedOf g))) (metIn (guarantees (separatedOf g)) (w .component .0)) → Goals (separatedOf g) w q
 met-goals g z Z w H q e = record {
-  is = e ∙ met-pack (separatedOf g .output) (w .state .0) (w .component .0) (few-outputs g z Z) (comp-in (separatedOf g) w H) (guarantees (separatedOf g)) (length (guarantees (separatedOf g)));
+  is =
+      e ∙ met-pack (separatedOf g .output) (w .state .0) (w .component .0) (few-outputs g z Z) (comp-in (separatedOf g) w H) (guarantees (separatedOf g))
+      (length (guarantees (separatedOf g)));
 }

@@ -36,7 +36,8 @@ use Rattle.controller_table.proofs.Entries.{start-entry}
 use Rattle.controller_table.proofs.Loops.{fills-plains, starts-grow, starts-right}
 use Rattle.controller_table.proofs.Setting.{fits-of, sizes-of, told-of}
 
-pub given-of : (g : Game) (z : Size) (s : List ℕ) (cores : ℕ) → Sized g z → Ready g s → cores ≡ pack (g .input .states) (turns (g .input .moves) s (g .input .states)) → Given g z s cores
+pub given-of : (g : Game) (z : Size) (s : List ℕ) (cores : ℕ) → Sized g z → Ready g s
+    → cores ≡ pack (g .input .states) (turns (g .input .moves) s (g .input .states)) → Given g z s cores
 given-of g z s cores Z R e = record {
   sized = Z;
   ready = R;
@@ -57,10 +58,12 @@ module _ (g : Game) (z : Size) (s : List ℕ) (cores : ℕ) (G : Given g z s cor
   F : Fits g
   F = fits-of g z (G .sized)
 
-  start-value : (i : ℕ) → i < separatedOf g .input .states → startOf z s cores (g .input .initial) (g .output .initial) i ≡ entry (controllerStart (separatedOf g) i)
+  start-value : (i : ℕ) → i < separatedOf g .input .states
+      → startOf z s cores (g .input .initial) (g .output .initial) i ≡ entry (controllerStart (separatedOf g) i)
   unfolding separatedOf graphOf F
   start-value i b =
-      start-entry (separatedOf g) s (z .inputs) cores (g .output .moves) (told-of g z s cores G) z refl (sizes-of g z (G .sized) .outputs) (g .input .initial) (g .output .initial) i b
+      start-entry (separatedOf g) s (z .inputs) cores (g .output .moves) (told-of g z s cores G) z refl (sizes-of g z (G .sized) .outputs)
+      (g .input .initial) (g .output .initial) i b
       (initial-begins (g .input) (F .input) i) (initial-begins (g .output) (F .output))
 
   starts-grown : Grows (controllerEntries (separatedOf g)) l₀ l₁
@@ -68,7 +71,8 @@ module _ (g : Game) (z : Size) (s : List ℕ) (cores : ℕ) (G : Given g z s cor
 
   plains-filled : Filled (separatedOf g) (λ o c j. settlesAt cores j (getD s (z .inputs + j) 0) (getD s (z .inputs + z .inputs + o) 0) ≡ false) l₁ l₂
   plains-filled =
-      fills-plains (separatedOf g) z (sizes-of g z (G .sized)) s cores (g .output .moves) (told-of g z s cores G) .fills l₁ l₂ two (omega (arith, starts-grown .long))
+      fills-plains (separatedOf g) z (sizes-of g z (G .sized)) s cores (g .output .moves) (told-of g z s cores G) .fills l₁ l₂ two
+      (omega (arith, starts-grown .long))
 
   start-stands : (k : ℕ) → k < length (controllerEntries (separatedOf g)) → k < separatedOf g .input .states → Right (controllerEntries (separatedOf g)) l₃ k
   start-stands k b a =
@@ -80,14 +84,16 @@ module _ (g : Game) (z : Size) (s : List ℕ) (cores : ℕ) (G : Given g z s cor
       → Right (controllerEntries (separatedOf g)) l₃ (place (separatedOf g) o c j)
   row-stands o c j a b d = go (decide (settlesAt cores j (getD s (z .inputs + j) 0) (getD s (z .inputs + z .inputs + o) 0)))
     where
-      go : (settlesAt cores j (getD s (z .inputs + j) 0) (getD s (z .inputs + z .inputs + o) 0) ≡ true) ⊎ (settlesAt cores j (getD s (z .inputs + j) 0) (getD s (z .inputs + z .inputs + o) 0) ≡ false)
+      go : (settlesAt cores j (getD s (z .inputs + j) 0) (getD s (z .inputs + z .inputs + o) 0) ≡ true) ⊎
+          (settlesAt cores j (getD s (z .inputs + j) 0) (getD s (z .inputs + z .inputs + o) 0) ≡ false)
           → Right (controllerEntries (separatedOf g)) l₃ (place (separatedOf g) o c j)
       go (inl h) =
           let e = settled (separatedOf g) s (z .inputs) cores (g .output .moves) (told-of g z s cores G) j o d a h in
           let r = home-reached (separatedOf g) j o e in
           three .right o c j a b d
           (record {
-            resides = record { core = settled-core (separatedOf g) s (z .inputs) cores (g .output .moves) (told-of g z s cores G) j o d a h; settled = e; is = refl };
+            resides =
+                record { core = settled-core (separatedOf g) s (z .inputs) cores (g .output .moves) (told-of g z s cores G) j o d a h; settled = e; is = refl };
             below = rw (sizes-of g z (G .sized) .outputs) (reaches-to (separatedOf g .output) o (home (separatedOf g) j o) r);
           })
       go (inr h) = three .grows .kept (place (separatedOf g) o c j) (place-in (separatedOf g) o c j a b d) (plains-filled .right o c j a b d h)
@@ -98,7 +104,8 @@ module _ (g : Game) (z : Size) (s : List ℕ) (cores : ℕ) (G : Given g z s cor
       (grows-more (controllerEntries (separatedOf g)) starts-grown (grows-more (controllerEntries (separatedOf g)) (plains-filled .grows) (three .grows)))
       (λ k b. stands k b (decLt k (separatedOf g .input .states)))
     where
-      stands : (k : ℕ) → k < length (controllerEntries (separatedOf g)) → Dec (k < separatedOf g .input .states) → Right (controllerEntries (separatedOf g)) l₃ k
+      stands : (k : ℕ) → k < length (controllerEntries (separatedOf g)) → Dec (k < separatedOf g .input .states)
+          → Right (controllerEntries (separatedOf g)) l₃ k
       stands k b (yes a) = start-stands k b a
       stands k b (no a) =
           let v = cell-of (separatedOf g) k (omega arith) b in

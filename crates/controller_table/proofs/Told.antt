@@ -72,7 +72,8 @@ module _ (S : Separated) (s : List ℕ) (n cores : ℕ) (rows : List ℕ) (T : T
         h)
 
     -- the homes in reach, as a word
-    both : nontrivial (S .input) j ≡ true → (d : ℕ) → has (bitAnd (getD s (n + j) 0) (getD s (n + n + o) 0)) d ≡ (homeFor S (region S) j d && reaches (S .output) o d)
+    both : nontrivial (S .input) j ≡ true → (d : ℕ)
+        → has (bitAnd (getD s (n + j) 0) (getD s (n + n + o) 0)) d ≡ (homeFor S (region S) j d && reaches (S .output) o d)
     both t d = has-and (getD s (n + j) 0) (getD s (n + n + o) 0) d ∙ ap₂ _&&_ (T .homes j d a t) (T .reach o d b)
 
     home-least : home S j o ≡ least (S .output .states) (λ d. reaches (S .output) o d && homeFor S (region S) j d)
@@ -101,7 +102,9 @@ module _ (S : Separated) (s : List ℕ) (n cores : ℕ) (rows : List ℕ) (T : T
           t = sym (T .core j a) ∙ and-left (has cores j) (eqb (least 64 (has (bitAnd (getD s (n + j) 0) (getD s (n + n + o) 0)))) d) h
 
           low : least 64 (has (bitAnd (getD s (n + j) 0) (getD s (n + n + o) 0))) ≡ d
-          low = eqb-true (least 64 (has (bitAnd (getD s (n + j) 0) (getD s (n + n + o) 0)))) d (and-right (has cores j) (eqb (least 64 (has (bitAnd (getD s (n + j) 0) (getD s (n + n + o) 0)))) d) h)
+          low =
+              eqb-true (least 64 (has (bitAnd (getD s (n + j) 0) (getD s (n + n + o) 0)))) d
+              (and-right (has cores j) (eqb (least 64 (has (bitAnd (getD s (n + j) 0) (getD s (n + n + o) 0)))) d) h)
 
           found : (homeFor S (region S) j d && reaches (S .output) o d) ≡ true
           found =
@@ -123,7 +126,8 @@ module _ (S : Separated) (s : List ℕ) (n cores : ℕ) (rows : List ℕ) (T : T
       resides-at r =
           and-intro (T .core j a ∙ r .core)
           (eq-eqb (least 64 (has (bitAnd (getD s (n + j) 0) (getD s (n + n + o) 0)))) d
-          (least-unique 64 (has (bitAnd (getD s (n + j) 0) (getD s (n + n + o) 0))) (home S j o) (omega (arith, reaches-to (S .output) o (home S j o) reached, T .few-outputs))
+          (least-unique 64 (has (bitAnd (getD s (n + j) 0) (getD s (n + n + o) 0))) (home S j o)
+          (omega (arith, reaches-to (S .output) o (home S j o) reached, T .few-outputs))
           (both (r .core) (home S j o) ∙ and-intro (home-homeFor S j o (r .settled)) reached)
           (λ k b. both (r .core) k ∙ swap (reaches (S .output) o k) (homeFor S (region S) j k) (before k b))
           ∙ r .is))
@@ -163,7 +167,8 @@ module _ (S : Separated) (o d j : ℕ) (r : Resides S o d j) where
     core = r .core;
     settled = settles-intro S (region S) j d d self home-at;
     is =
-        least-unique (S .output .states) (λ k. reaches (S .output) d k && homeFor S (region S) j k) d (reaches-to (S .output) o d home-reached-at) (and-intro self home-at)
+        least-unique (S .output .states) (λ k. reaches (S .output) d k && homeFor S (region S) j k) d (reaches-to (S .output) o d home-reached-at)
+        (and-intro self home-at)
         (λ k b. false-of (reaches (S .output) d k && homeFor S (region S) j k)
         (λ e. clash
         (and-intro (reaches-trans (S .output) o d k home-reached-at (and-left (reaches (S .output) d k) (homeFor S (region S) j k) e))
@@ -178,6 +183,7 @@ module _ (S : Separated) (o d j : ℕ) (r : Resides S o d j) where
 pub resides-same : (S : Separated) (o o′ d j : ℕ) → j < S .input .states → joined (S .output) o o′ ≡ true → Resides S o d j → Resides S o′ d j
 resides-same S o o′ d j a e r = record {
   core = r .core;
-  settled = settles-intro S (region S) j o′ d (reaches-trans (S .output) o′ o d (joined-back (S .output) o o′ e) (home-reached-at S o d j r)) (home-at S o d j r);
+  settled =
+      settles-intro S (region S) j o′ d (reaches-trans (S .output) o′ o d (joined-back (S .output) o o′ e) (home-reached-at S o d j r)) (home-at S o d j r);
   is = sym (home-same S j j o o′ (joined-self (S .input) j a) e) ∙ r .is;
 }

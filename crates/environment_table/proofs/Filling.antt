@@ -77,7 +77,8 @@ module _ (g : Game) (s : List ℕ) (n : ℕ) (D : Solved g s n) where
         ≡ suc r
     unfolding place
     digits =
-        one-add ((r / g .output .states / environmentCounters (separatedOf g) * environmentCounters (separatedOf g) + r / g .output .states % environmentCounters (separatedOf g)) * g .output .states + r % g .output .states)
+        one-add ((r / g .output .states / environmentCounters (separatedOf g) * environmentCounters (separatedOf g) + r / g .output .states %
+        environmentCounters (separatedOf g)) * g .output .states + r % g .output .states)
         ∙ ap suc
         (ap (λ (q : ℕ). q * g .output .states + r % g .output .states) (div-add-mod' (r / g .output .states) (environmentCounters (separatedOf g)))
         ∙ div-add-mod' r (g .output .states))
@@ -109,7 +110,8 @@ module _ (g : Game) (s : List ℕ) (n : ℕ) (D : Solved g s n) where
 
         go : (plain g (r / g .output .states / environmentCounters (separatedOf g)) (r % g .output .states) ≡ true)
             ⊎ (plain g (r / g .output .states / environmentCounters (separatedOf g)) (r % g .output .states) ≡ false)
-            → Right (entriesOf g) k (place (environmentCounters (separatedOf g)) (g .output .states) (r / g .output .states / environmentCounters (separatedOf g))
+            → Right (entriesOf g) k (place (environmentCounters (separatedOf g)) (g .output .states)
+            (r / g .output .states / environmentCounters (separatedOf g))
             (r / g .output .states % environmentCounters (separatedOf g)) (r % g .output .states))
         go (inl t) =
             Q .grows .kept

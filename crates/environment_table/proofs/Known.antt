@@ -98,7 +98,8 @@ module _ (g : Game) (s : List ℕ) (cores : ℕ) (K : Known g s cores) where
 
   -- the start
 
-  known-start : unansweredAt s (g .input .states) (g .output .states) cores (g .input .initial) (g .output .initial) ≡ least (g .input .states) (refused (separatedOf g))
+  known-start : unansweredAt s (g .input .states) (g .output .states) cores (g .input .initial) (g .output .initial) ≡ least (g .input .states)
+      (refused (separatedOf g))
   unfolding unansweredAt openAt refused
   known-start =
       least-same (g .input .states)
@@ -118,7 +119,10 @@ module _ (g : Game) (s : List ℕ) (cores : ℕ) (K : Known g s cores) where
   unfolding environmentStart entry separatedOf graphOf
   start-none j e b =
       let f = e ∙ known-start in
-      rw (false-of (any (g .input .states) (refused (separatedOf g))) (λ t. omega (arith, f, least-found (g .input .states) (refused (separatedOf g)) t)), environmentStart) refl
+      rw (
+        false-of (any (g .input .states) (refused (separatedOf g))) (λ t. omega (arith, f, least-found (g .input .states) (refused (separatedOf g)) t)),
+        environmentStart,
+      ) refl
 
   -- rows that need no walk
 

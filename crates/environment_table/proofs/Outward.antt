@@ -43,13 +43,41 @@ use Rattle.theory.specs.Tour.{inside}
 use Rattle.theory.specs.Choice.{lost, wayOut, gate, outward, escapes, environmentRow}
 use Rattle.theory.specs.Entries.{entry}
 use Rattle.theory.proofs.Delay.{region-same}
-use Rattle.theory.proofs.EnvironmentRow.{lost-edge, lost-apart, lost-region, gate-joined, gate-out, gate-intro, escapes-same, row-lost, pushing-nontrivial, pressing-escapes, outward-here, outward-on, gate-leads}
+use Rattle.theory.proofs.EnvironmentRow.{
+  lost-edge,
+  lost-apart,
+  lost-region,
+  gate-joined,
+  gate-out,
+  gate-intro,
+  escapes-same,
+  row-lost,
+  pushing-nontrivial,
+  pressing-escapes,
+  outward-here,
+  outward-on,
+  gate-leads,
+}
 use Rattle.touring.proofs.Tours.{inside-kept, comp-has}
 use Rattle.components.specs.Component.{enters}
 use Rattle.stored.specs.Stored.{wonAt}
 use Rattle.environment_table.specs.Table.{Known, Roomy, Same, Filled}
 use Rattle.environment_table.specs.Reading.{lostAt}
-use Rattle.environment_table.specs.Pressing.{Whole, Leaves, Outward, Going, Gone, Pressed, Escape, lostIn, exitsAt, wayFrom, pressedAt, leavingAt, touringAt}
+use Rattle.environment_table.specs.Pressing.{
+  Whole,
+  Leaves,
+  Outward,
+  Going,
+  Gone,
+  Pressed,
+  Escape,
+  lostIn,
+  exitsAt,
+  wayFrom,
+  pressedAt,
+  leavingAt,
+  touringAt,
+}
 use Rattle.environment_table.proofs.Places.{filled-none, filled-same}
 use Rattle.environment_table.proofs.Known.{known-won, input-edge, row-stuck}
 
@@ -212,7 +240,8 @@ module _ (g : Game) (s : List ℕ) (cores : ℕ) (K : Known g s cores) (c k : �
             any-intro (g .input .states) (lost (separatedOf g) o a) (v .0) (out-below (v .0) (v .3)) (into-lost (v .0) (v .2) (v .3))
 
     -- the lowest of them
-    lowest-lost : wayOut (separatedOf g) o a ≡ true → least (g .input .states) (lost (separatedOf g) o a) ≡ least 64 (has (bitAnd (getD (g .input .moves) a 0) out))
+    lowest-lost : wayOut (separatedOf g) o a ≡ true
+        → least (g .input .states) (lost (separatedOf g) o a) ≡ least 64 (has (bitAnd (getD (g .input .moves) a 0) out))
     unfolding wayOut separatedOf graphOf
     lowest-lost e =
         sym
@@ -221,7 +250,8 @@ module _ (g : Game) (s : List ℕ) (cores : ℕ) (K : Known g s cores) (c k : �
         (λ j b. false-of (has (bitAnd row out) j)
         (λ m.
         let both = sym (has-and row out j) ∙ m in
-        clash (into-lost j (and-left (has row j) (has out j) both) (and-right (has row j) (has out j) both)) (least-before (g .input .states) (lost (separatedOf g) o a) j b))))
+        clash (into-lost j (and-left (has row j) (has out j) both) (and-right (has row j) (has out j) both))
+        (least-before (g .input .states) (lost (separatedOf g) o a) j b))))
       where
         row : ℕ
         row = getD (g .input .moves) a 0
@@ -240,7 +270,8 @@ module _ (g : Game) (s : List ℕ) (cores : ℕ) (K : Known g s cores) (c k : �
   gates-to : (t : ℕ) → has gates t ≡ true → gate (separatedOf g) o k t ≡ true
   unfolding exitsAt separatedOf graphOf
   gates-to t e =
-      let both : (has c t && meets 64 (getD (g .input .moves) t 0) out) ≡ true = pack-holds 64 (exitsAt (g .input .moves) c out) t (ap (λ (y : ℕ). has y t) (sym (D .gate)) ∙ e) in
+      let both : (has c t && meets 64 (getD (g .input .moves) t 0) out) ≡ true = pack-holds 64 (exitsAt (g .input .moves) c out) t
+      (ap (λ (y : ℕ). has y t) (sym (D .gate)) ∙ e) in
       let j = whole-in g c k W t (and-left (has c t) (meets 64 (getD (g .input .moves) t 0) out) both) in
       gate-intro (separatedOf g) o k t j (way-meets t j ∙ and-right (has c t) (meets 64 (getD (g .input .moves) t 0) out) both)
 
@@ -311,7 +342,8 @@ module _ (g : Game) (s : List ℕ) (cores : ℕ) (K : Known g s cores) (c k : �
         row-is
         ∙ elim (decide (wayOut (separatedOf g) o a)) [
           | inl w ↦ outward-here (separatedOf g) a h o w
-              ∙ ap (gives h) (way-open (getD (g .input .moves) a 0) out (getD next a 0) (least (g .input .states) (lost (separatedOf g) o a)) (sym (way-meets a j) ∙ w) (lowest-lost a j w))
+              ∙ ap (gives h) (way-open (getD (g .input .moves) a 0) out (getD next a 0) (least (g .input .states) (lost (separatedOf g) o a))
+              (sym (way-meets a j) ∙ w) (lowest-lost a j w))
           | inr w ↦ outward-on (separatedOf g) a h o w
               ∙ ap (λ (x : ℕ). gives h (toward (g .input .states) (inside (graphOf (g .input)) x) (gate (separatedOf g) o x) a)) (whole-number g c k W a j)
               ∙ ap (gives h) (sym on-way ∙ way-next (getD (g .input .moves) a 0) out (getD next a 0) (sym (way-meets a j) ∙ w))
@@ -331,7 +363,9 @@ module _ (g : Game) (s : List ℕ) (cores : ℕ) (K : Known g s cores) (c k : �
   pub escape-tours : {l : List ℕ} → wonAt s (g .input .states) cores k o ≡ false → gates ≡ 0 → Escape g k o l l true
   unfolding leavingAt touringAt pressedAt
   escape-tours {l} r e = record {
-    filled = filled-none g l (λ a h b p. clash (and-right (pressedAt g k b) (escapes (separatedOf g) k b) (p .2)) (ap (escapes (separatedOf g) k) (p .0) ∙ no-gates e));
+    filled =
+        filled-none g l (λ a h b p. clash (and-right (pressedAt g k b) (escapes (separatedOf g) k b) (p .2))
+        (ap (escapes (separatedOf g) k) (p .0) ∙ no-gates e));
     tours = sym (and-intro (and-intro (ap not (sym (known-won g s cores K k o (W .below) lo) ∙ r)) (ap not free)) (ap not (no-gates e)));
   }
 
@@ -348,7 +382,8 @@ unfolding leavingAt touringAt pressedAt
 escape-won g s cores K c k W o lo {l} e = record {
   filled = filled-none g l (λ a h b p.
       clash (ap (region (separatedOf g) k) (p .0) ∙ won)
-      (not-true (region (separatedOf g) k b) (and-left (not (region (separatedOf g) k b)) (not (stuck (separatedOf g .output) b)) (and-left (pressedAt g k b) (escapes (separatedOf g) k b) (p .2)))));
+      (not-true (region (separatedOf g) k b) (and-left (not (region (separatedOf g) k b)) (not (stuck (separatedOf g .output) b))
+      (and-left (pressedAt g k b) (escapes (separatedOf g) k b) (p .2)))));
   tours = sym (and-false-left (not (escapes (separatedOf g) k o)) (and-false-left (not (stuck (separatedOf g .output) o)) (ap not won)));
 }
   where
@@ -361,7 +396,8 @@ escape-stuck g k o {l} e = record {
   filled = filled-none g l (λ a h b p.
       clash (ap (stuck (separatedOf g .output)) (p .0) ∙ e)
       (not-true (stuck (separatedOf g .output) b)
-      (and-right (not (region (separatedOf g) k b)) (not (stuck (separatedOf g .output) b)) (and-left (pressedAt g k b) (escapes (separatedOf g) k b) (p .2)))));
+      (and-right (not (region (separatedOf g) k b)) (not (stuck (separatedOf g .output) b))
+      (and-left (pressedAt g k b) (escapes (separatedOf g) k b) (p .2)))));
   tours = sym (and-false-left (not (escapes (separatedOf g) k o)) (and-false-right (not (region (separatedOf g) k o)) (ap not e)));
 }
 
@@ -393,7 +429,8 @@ module _ (N O M : ℕ) (rows s : List ℕ) (cores c x k o r n : ℕ) (p : Presse
 
   -- the rows of an output without a move are written elsewhere
   pub pressed-stuck : {l : List ℕ} → r ≡ 0 → Escape (p .game) k o l l false
-  pressed-stuck e = escape-stuck (p .game) k o (row-stuck (p .game) s cores (p .known) o (p .output) ∙ eq-eqb (getD (p .game .output .moves) o 0) 0 (sym (p .replies) ∙ e))
+  pressed-stuck e =
+      escape-stuck (p .game) k o (row-stuck (p .game) s cores (p .known) o (p .output) ∙ eq-eqb (getD (p .game .output .moves) o 0) 0 (sym (p .replies) ∙ e))
 
   module _ (ne : r ≢ 0) (out gates : ℕ) (f : out ≡ pack N (lostIn s N cores x o)) (h : gates ≡ pack 64 (exitsAt rows c out)) where
     free : stuck (separatedOf (p .game) .output) o ≡ false
@@ -408,7 +445,9 @@ module _ (N O M : ℕ) (rows s : List ℕ) (cores c x k o r n : ℕ) (p : Presse
     }
 
     pub pressed-bounds : Bounds N gates
-    pressed-bounds = subst (λ (y : ℕ). Bounds y gates) (sym (p .inputs)) (gates-within (p .game) s cores (p .known) c k (p .whole) x (p .leaves) o (p .output) free out gates words)
+    pressed-bounds =
+        subst (λ (y : ℕ). Bounds y gates) (sym (p .inputs)) (gates-within (p .game) s cores (p .known) c k (p .whole) x (p .leaves) o (p .output) free out
+        gates words)
 
     pub pressed-tours : {l : List ℕ} → wonAt s N cores k o ≡ false → gates ≡ 0 → Escape (p .game) k o l l true
     pressed-tours e z = escape-tours (p .game) s cores (p .known) c k (p .whole) x (p .leaves) o (p .output) free out gates words (at-game e) z

@@ -185,8 +185,15 @@ put-done O M i o first more which {l} {m} w C = record {
 -- what a row begins with fits 16 bits
 pub same-small : (g : Game) (M n i o first more : ℕ) → Roomy g M n → Same g M i o first more → first < 65536
 same-small g M n i o first more R S =
-    omega (arith, S .entry 0 (rw (R .counters) (some-counter (separatedOf g))), mul-zero more, entry-small g i 0 o (S .input) (some-counter (separatedOf g)) (S .output) (R .accepted))
+    omega (
+      arith,
+      S .entry 0 (rw (R .counters) (some-counter (separatedOf g))),
+      mul-zero more,
+      entry-small g i 0 o (S .input)
+          (some-counter (separatedOf g)) (S .output) (R .accepted),
+    )
 
 -- every counter belongs to the set of all
-pub every-counter : (g : Game) (M n every h : ℕ) → Roomy g M n → ((t : ℕ) → has every t ≡ ltb t M) → h < environmentCounters (separatedOf g) → has every h ≡ true
+pub every-counter : (g : Game) (M n every h : ℕ) → Roomy g M n → ((t : ℕ) → has every t ≡ ltb t M) → h < environmentCounters (separatedOf g)
+    → has every h ≡ true
 every-counter g M n every h R e b = e h ∙ lt-ltb h M (omega (arith, R .counters))

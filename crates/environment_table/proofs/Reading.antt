@@ -36,7 +36,8 @@ module _ (l : List ℕ) (n set : ℕ) where
   pub reached-turn : (p x y : ℕ) {ok : Bool} → ((t : ℕ) → has x t ≡ reachedAt l n p set t) → ok ≡ has set p
       → ((t : ℕ) → has y t ≡ (has x t || (ok && has (getD l (n + n + p) 0) t))) → (t : ℕ) → has y t ≡ reachedAt l n (p + 1) set t
   unfolding reachedAt any
-  reached-turn p x y f e u t = rw add-one (u t ∙ rw (f t, e) (or-swap (any p (λ k. has set k && has (getD l (n + n + k) 0) t)) (has set p && has (getD l (n + n + p) 0) t)))
+  reached-turn p x y f e u t =
+      rw add-one (u t ∙ rw (f t, e) (or-swap (any p (λ k. has set k && has (getD l (n + n + k) 0) t)) (has set p && has (getD l (n + n + p) 0) t)))
     where
       or-swap : (a b : Bool) → (a || b) ≡ (b || a)
       or-swap true true = refl

@@ -53,8 +53,10 @@ module _ (g : Game) (c k : ℕ) (W : Whole g c k) where
   tour-row a h o e b t =
       row-lost (separatedOf g) a h o
       (sym (region-same (separatedOf g) k a o o j own)
-      ∙ not-true (region (separatedOf g) k o) (and-left (not (region (separatedOf g) k o)) (not (stuck (separatedOf g .output) o)) (and-left (pressedAt g k o) (not (escapes (separatedOf g) k o)) t)))
-      (not-true (stuck (separatedOf g .output) o) (and-right (not (region (separatedOf g) k o)) (not (stuck (separatedOf g .output) o)) (and-left (pressedAt g k o) (not (escapes (separatedOf g) k o)) t)))
+      ∙ not-true (region (separatedOf g) k o) (and-left (not (region (separatedOf g) k o)) (not (stuck (separatedOf g .output) o))
+      (and-left (pressedAt g k o) (not (escapes (separatedOf g) k o)) t)))
+      (not-true (stuck (separatedOf g .output) o) (and-right (not (region (separatedOf g) k o)) (not (stuck (separatedOf g .output) o))
+      (and-left (pressedAt g k o) (not (escapes (separatedOf g) k o)) t)))
       ∙ pushing-nontrivial (separatedOf g) a h o (whole-core g c k W a j)
       ∙ pressing-tours (separatedOf g) a h o
       (sym (escapes-same (separatedOf g) k a o o j own)
@@ -74,7 +76,8 @@ module _ (g : Game) (c q over M : ℕ) (A : Aims g c q over M) where
   pub aims-goals : (h : ℕ) → h < M → Goals q M h
   aims-goals h b =
       subst (λ (m : ℕ). Goals q m h) (sym (A .count .all))
-      (goals-from (graphOf (g .input)) (A .left .first) (assumptions (separatedOf g)) q aims-word h (A .some) (omega (arith, A .count .all, A .count .few)) (omega (arith, A .count .all)))
+      (goals-from (graphOf (g .input)) (A .left .first) (assumptions (separatedOf g)) q aims-word h (A .some) (omega (arith, A .count .all, A .count .few))
+      (omega (arith, A .count .all)))
 
   pub goal-in : (a : ℕ) → has q a ≡ true → a < M
   goal-in a e = omega (arith, A .count .all, goal-below (graphOf (g .input)) (A .left .first) (assumptions (separatedOf g)) q aims-word a e)
@@ -92,7 +95,8 @@ count-of g n a e = record {
   inputs = accepted-fits g a .input .most;
 }
 
-pub aims-of : (g : Game) (M n c over q : ℕ) → Roomy g M n → Left g c over → q ≡ pack (length (assumptions (separatedOf g))) (metIn (assumptions (separatedOf g)) c)
+pub aims-of : (g : Game) (M n c over q : ℕ) → Roomy g M n → Left g c over
+    → q ≡ pack (length (assumptions (separatedOf g))) (metIn (assumptions (separatedOf g)) c)
     → q ≢ 0 → Aims g c q over M
 unfolding environmentCounters
 aims-of g M n c over q R L e ne = record {
@@ -105,7 +109,11 @@ aims-of g M n c over q R L e ne = record {
     some : 0 < length (assumptions (separatedOf g))
     some =
         let v = nonzero-member q ne in
-        omega (arith, pack-below (length (assumptions (separatedOf g))) (metIn (assumptions (separatedOf g)) c) (v .0) (ap (λ (y : ℕ). has y (v .0)) (sym e) ∙ v .1))
+        omega (
+          arith,
+          pack-below (length (assumptions (separatedOf g))) (metIn (assumptions (separatedOf g)) c) (v .0)
+              (ap (λ (y : ℕ). has y (v .0)) (sym e) ∙ v .1),
+        )
 
     same : M ≡ length (assumptions (separatedOf g))
     same = R .counters ∙ max-eq-right (omega (arith, some))

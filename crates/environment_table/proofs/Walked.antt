@@ -115,9 +115,11 @@ module _ (g : Game) (s : List ℕ) (cores : ℕ) (K : Known g s cores) (i : ℕ)
         → Filled g (λ a h b. (number (graphOf (g .input)) a ≡ i) × (plain g a b ≡ false)) l n
     unfolding leavingAt touringAt pressedAt separatedOf graphOf
     walked-join {over = over} W E T =
-        filled-join g (E .filled) T (λ a h b x y z p. go a b z (number-in g a i x (p .0)) (plain-lost g a b (p .1)) (plain-free g a b (p .1)) (decide (escapes (separatedOf g) i b)))
+        filled-join g (E .filled) T (λ a h b x y z p. go a b z (number-in g a i x (p .0)) (plain-lost g a b (p .1)) (plain-free g a b (p .1))
+        (decide (escapes (separatedOf g) i b)))
       where
-        go : (a b : ℕ) → b < g .output .states → joined (graphOf (g .input)) i a ≡ true → region (separatedOf g) a b ≡ false → stuck (separatedOf g .output) b ≡ false
+        go : (a b : ℕ) → b < g .output .states → joined (graphOf (g .input)) i a ≡ true → region (separatedOf g) a b ≡ false
+            → stuck (separatedOf g .output) b ≡ false
             → (escapes (separatedOf g) i b ≡ true) ⊎ (escapes (separatedOf g) i b ≡ false)
             → ((joined (graphOf (g .input)) i a ≡ true) × (leavingAt g i b ≡ true)) ⊎ ((has c a ≡ true) × (has over b ≡ true))
         go a b z j r f (inl e) =

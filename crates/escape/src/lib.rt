@@ -117,8 +117,12 @@ fn escape(
     found: Found,
     room: &mut [u16],
 ) -> Turn
-    requires { ⌜ Pressed (z .inputs) (z .outputs) (z .counters) (now moves) (now s) (cores .0) (part .states .0) (part .leaving .0) (part .first .0) (o .0) (replies .0) (length (now room)) × Toward (now moves) (z .inputs) (part .states .0) (found .gates) (found .ways .next) ⌝ }
-    ensures { λ r. ⌜ ((p : Pressed (z .inputs) (z .outputs) (z .counters) (now (moves .entry)) (now (s .entry)) (cores .0) (part .states .0) (part .leaving .0) (part .first .0) (o .0) (replies .0) (length (now (room .entry)))) → Escape (p .game) (part .first .0) (o .0) (now (room .entry)) (now (room .exit)) (r .tours)) × Toward (now (moves .entry)) (z .inputs) (part .states .0) (r .found .gates) (r .found .ways .next) ⌝ }
+    requires { ⌜ Pressed (z .inputs) (z .outputs) (z .counters) (now moves) (now s) (cores .0) (part .states .0) (part .leaving .0) (part .first .0) (o .0)
+        (replies .0) (length (now room)) × Toward (now moves) (z .inputs) (part .states .0) (found .gates) (found .ways .next) ⌝ }
+    ensures { λ r. ⌜ ((p : Pressed (z .inputs) (z .outputs) (z .counters) (now (moves .entry)) (now (s .entry)) (cores .0) (part .states .0)
+        (part .leaving .0) (part .first .0) (o .0) (replies .0) (length (now (room .entry)))) → Escape (p .game) (part .first .0) (o .0)
+        (now (room .entry)) (now (room .exit)) (r .tours)) × Toward (now (moves .entry)) (z .inputs) (part .states .0) (r .found .gates)
+        (r .found .ways .next) ⌝ }
 {
     if replies.0 == 0 {
         return Turn {

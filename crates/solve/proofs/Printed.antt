@@ -42,16 +42,20 @@ unfolding inRange
 range i o c p q h = and-intro (le-leb i 64 p) (and-intro (le-leb o 64 q) (le-leb c 32 (omega (arith, h))))
 
 module _ (g : Game) (a : acceptance g ≡ Accepted) where
-  controller-printed : controllerAnswer (g .input .states) (g .output .states) (length (guarantees (separatedOf g))) (controllerEntries (separatedOf g)) ≡ tablePrint g (System 0)
+  controller-printed : controllerAnswer (g .input .states) (g .output .states) (length (guarantees (separatedOf g))) (controllerEntries (separatedOf g)) ≡
+      tablePrint g (System 0)
   unfolding controllerAnswer controllerFits onlyIf tablePrint controllerCounters
   controller-printed =
-      ap (λ (b : Bool). onlyIf b (controllerPrint (g .input .states) (g .output .states) (length (guarantees (separatedOf g))) (controllerEntries (separatedOf g))))
+      ap (λ (b : Bool). onlyIf b (controllerPrint (g .input .states) (g .output .states) (length (guarantees (separatedOf g)))
+      (controllerEntries (separatedOf g))))
       (and-intro (range _ _ _ (inputs-most g a) (outputs-most g a) (controller-few g (accepted-fits g a))) (eq-eqb _ _ (sym (controller-length g _ refl))))
 
-  environment-printed : environmentAnswer (g .input .states) (g .output .states) (length (assumptions (separatedOf g))) (environmentEntries (separatedOf g)) ≡ tablePrint g (Environment 0)
+  environment-printed : environmentAnswer (g .input .states) (g .output .states) (length (assumptions (separatedOf g)))
+      (environmentEntries (separatedOf g)) ≡ tablePrint g (Environment 0)
   unfolding environmentAnswer environmentFits onlyIf tablePrint environmentCounters
   environment-printed =
-      ap (λ (b : Bool). onlyIf b (environmentPrint (g .input .states) (g .output .states) (length (assumptions (separatedOf g))) (environmentEntries (separatedOf g))))
+      ap (λ (b : Bool). onlyIf b (environmentPrint (g .input .states) (g .output .states) (length (assumptions (separatedOf g)))
+      (environmentEntries (separatedOf g))))
       (and-intro (range _ _ _ (inputs-most g a) (outputs-most g a) (environment-few g (accepted-fits g a))) (eq-eqb _ _ (sym (environment-length g _ refl))))
 
 made-as : {d t u : List ℕ} {n : ℕ} {e : List ℕ} → t ≡ u → Made d t n e → Made d u n e

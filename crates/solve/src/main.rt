@@ -30,7 +30,8 @@ fn print_front(buffer: &[u8; 1048576], n: usize)
 // The print of the controller's table.
 fn put_system(buffer: &mut [u8], g: Game, table: &[u16]) -> usize
     requires { ⌜ (acceptance g ≡ Accepted) × (length (now table) ≤ 32768) ⌝ }
-    ensures { λ r. ⌜ Made (now (buffer .entry)) (controllerAnswer (g .input .states) (g .output .states) (length (guarantees (separatedOf g))) (now (table .entry))) r (now (buffer .exit)) ⌝ }
+    ensures { λ r. ⌜ Made (now (buffer .entry)) (controllerAnswer (g .input .states) (g .output .states) (length (guarantees (separatedOf g)))
+        (now (table .entry))) r (now (buffer .exit)) ⌝ }
 {
     let sets = sizes::guarantee_count(g);
     answers::put_controller(buffer, g.input.states, g.output.states, sets, table)
@@ -39,7 +40,8 @@ fn put_system(buffer: &mut [u8], g: Game, table: &[u16]) -> usize
 // The print of the panel's table.
 fn put_panel(buffer: &mut [u8], g: Game, table: &[u16]) -> usize
     requires { ⌜ (acceptance g ≡ Accepted) × (length (now table) ≤ 32768) ⌝ }
-    ensures { λ r. ⌜ Made (now (buffer .entry)) (environmentAnswer (g .input .states) (g .output .states) (length (assumptions (separatedOf g))) (now (table .entry))) r (now (buffer .exit)) ⌝ }
+    ensures { λ r. ⌜ Made (now (buffer .entry)) (environmentAnswer (g .input .states) (g .output .states) (length (assumptions (separatedOf g)))
+        (now (table .entry))) r (now (buffer .exit)) ⌝ }
 {
     let sets = sizes::assumption_count(g);
     answers::put_environment(buffer, g.input.states, g.output.states, sets, table)

@@ -116,7 +116,8 @@ module _ (rows : List ℕ) (c left l : ℕ) where
   written-other (suc n) s x h =
       elim (decide (settles rows c left l n)) [
         | inl e ↦ rw (written-hit n x e)
-            (getD-set-other (written rows c left l n x) n s (prefer 64 n (has (choices rows c left l n))) 0 (λ q. clash e (ap (settles rows c left l) (sym q) ∙ h))
+            (getD-set-other (written rows c left l n x) n s (prefer 64 n (has (choices rows c left l n))) 0
+            (λ q. clash e (ap (settles rows c left l) (sym q) ∙ h))
             ∙ written-other n s x h)
         | inr e ↦ rw (written-miss n x e) (written-other n s x h)
       ]
@@ -155,7 +156,9 @@ module _ (rows : List ℕ) (c left l : ℕ) where
   -- the set of those that settle below s + 1
   pack-hit : (s r r′ : ℕ) → r ≡ pack s (settles rows c left l) → settles rows c left l s ≡ true → ((t : ℕ) → has r′ t ≡ (has r t || eqb t s))
       → r′ ≡ pack (suc s) (settles rows c left l)
-  pack-hit s r r′ e h m = ext r′ (pack (suc s) p) (λ t. m t ∙ ap (λ (x : ℕ). has x t || eqb t s) e ∙ same-test (has (pack s p) t || eqb t s) (has (pack (suc s) p) t) (to t) (back t))
+  pack-hit s r r′ e h m =
+      ext r′ (pack (suc s) p) (λ t. m t ∙ ap (λ (x : ℕ). has x t || eqb t s) e ∙ same-test (has (pack s p) t || eqb t s) (has (pack (suc s) p) t) (to t)
+      (back t))
     where
       p : ℕ → Bool
       p = settles rows c left l

@@ -14,7 +14,9 @@ same-length : tie.Need-same-length
 same-length c = search needs
 
 returns : tie.Need-returns
-returns c = prints-many (c .before .before .before .before .before .count-names .ensures) (c .before .before .before .before .if1 .taken) (c .before .before .put-refused .ensures)
+returns c =
+    prints-many (c .before .before .before .before .before .count-names .ensures) (c .before .before .before .before .if1 .taken)
+    (c .before .before .put-refused .ensures)
 
 tally-names-requires : tie.Need-tally-names-requires
 tally-names-requires c κs = search needs
@@ -28,7 +30,8 @@ same-length-2 c = search needs
 returns-2 : tie.Need-returns-2
 returns-2 c =
     let p = c .before .before .before .before .before in
-    prints-figures (p .before .before .before .before .count-names .ensures) (p .before .before .before .if1 .left) (c .before .before .before .before .tally-names .ensures) (c .before .before .put-figures .ensures)
+    prints-figures (p .before .before .before .before .count-names .ensures) (p .before .before .before .if1 .left)
+    (c .before .before .before .before .tally-names .ensures) (c .before .before .put-figures .ensures)
 
 pub answer-spec : {M : Type 1} → statement M
 answer-spec =

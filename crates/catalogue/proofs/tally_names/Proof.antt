@@ -65,8 +65,13 @@ loop-less c = omega (arith, c .before .next-name .ensures .on, c .before .next-n
 loop-again : tie.Need-loop-again Inv-loop μ-loop
 loop-again c =
     let p = c .before .before .before .before .before in
-    let n = c .before .next-name .ensures in
-    (omega arith, omega arith, under-step (p .before .before .before .before .before .loop .inv .2) (p .before .before .before .name-end .ensures) n (c .before .before .before .judge-name .ensures) (c .before .before .add .ensures), p .before .before .before .before .before .loop .inv .3)
+    let n = c .before .next-name .ensures in (
+      omega arith,
+      omega arith,
+      under-step (p .before .before .before .before .before .loop .inv .2) (p .before .before .before .name-end .ensures) n
+          (c .before .before .before .judge-name .ensures) (c .before .before .add .ensures),
+      p .before .before .before .before .before .loop .inv .3,
+    )
 
 returns : tie.Need-returns Inv-loop μ-loop
 returns c = under-end (c .before .loop .inv .2) (c .loop-test .left)

@@ -13,12 +13,27 @@ put-opening-requires c κs = (c .before .before .pre .0, omega (arith, c .before
 put-number-then-requires : tie.Need-put-number-then-requires
 put-number-then-requires c κs =
     let p = c .before .before .before .before .before in
-    omega (arith, p .before .pre .1, c .before .before .before .put-opening .ensures .next, opening-short (p .before .args .w), number-short (p .before .args .n) 41 (p .before .fits .n .fits))
+    omega (
+      arith,
+      p .before .pre .1,
+      c .before .before .before .put-opening .ensures .next,
+      opening-short (p .before .args .w),
+      number-short
+          (p .before .args .n) 41 (p .before .fits .n .fits),
+    )
 
 put-byte-requires : tie.Need-put-byte-requires
 put-byte-requires c κs =
     let p = c .before .before .before .before .before in
-    omega (arith, p .before .before .before .before .before .pre .1, p .before .before .put-opening .ensures .next, c .before .before .before .put-number-then .ensures .next, opening-short (p .before .before .before .before .before .args .w), number-short (p .before .before .before .before .before .args .n) 41 (p .before .before .before .before .before .fits .n .fits))
+    omega (
+      arith,
+      p .before .before .before .before .before .pre .1,
+      p .before .before .put-opening .ensures .next,
+      c .before .before .before .put-number-then .ensures .next,
+      opening-short (p .before .before .before .before .before .args .w),
+      number-short
+          (p .before .before .before .before .before .args .n) 41 (p .before .before .before .before .before .fits .n .fits),
+    )
 
 same-length : tie.Need-same-length
 same-length c = search needs

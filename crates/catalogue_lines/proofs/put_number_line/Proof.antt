@@ -27,7 +27,8 @@ returns-2 c =
     let p = c .before .before .before .before .before in
     let q = p .before .before .before .before .before in
     let start = q .before in
-    let whole = puts-as (number-pieces _ _ (p .before .before .before .before .if1 .left)) (puts-then (p .before .put-text .ensures) (c .before .before .put-pair .ensures)) in
+    let whole = puts-as (number-pieces _ _ (p .before .before .before .before .if1 .left))
+    (puts-then (p .before .put-text .ensures) (c .before .before .put-pair .ensures)) in
     (whole, omega (arith, whole .next, number-line-short (start .args .r) (start .args .n) (start .fits .r .fits) (start .fits .n .fits)))
 
 pub put-number-line-spec : {M : Type 1} → statement M

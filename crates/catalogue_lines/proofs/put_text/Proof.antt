@@ -23,7 +23,8 @@ shared-slice-read-b c = omega arith
 put-byte-requires : tie.Need-put-byte-requires Inv-loop μ-loop
 put-byte-requires c κs =
     let p = c .before .before .before .before .before in
-    bytes-room (p .before .args .text .now) (c .before .before .before .loop .k) _ (c .before .before .before .loop .inv .0) (omega arith) (c .before .before .before .loop .inv .2)
+    bytes-room (p .before .args .text .now) (c .before .before .before .loop .k) _ (c .before .before .before .loop .inv .0) (omega arith)
+    (c .before .before .before .loop .inv .2)
 
 add-k : tie.Need-add-k Inv-loop μ-loop
 add-k c = omega arith
@@ -33,8 +34,12 @@ loop-less c = omega arith
 
 loop-again : tie.Need-loop-again Inv-loop μ-loop
 loop-again c =
-    let p = c .before .before .before .before .before in
-    (bytes-step (p .before .before .before .before .args .text .now) (p .before .loop .k) _ (p .before .loop .inv .0) (p .loop-test .taken) refl (c .before .before .put-byte .ensures), omega arith, p .before .loop .inv .2)
+    let p = c .before .before .before .before .before in (
+      bytes-step (p .before .before .before .before .args .text .now) (p .before .loop .k) _ (p .before .loop .inv .0) (p .loop-test .taken) refl
+          (c .before .before .put-byte .ensures),
+      omega arith,
+      p .before .loop .inv .2,
+    )
 
 same-length : tie.Need-same-length Inv-loop μ-loop
 same-length c = puts-length (bytes-end (c .before .before .before .before .args .text .now) (c .before .loop .k) (c .before .loop .inv .0) (c .loop-test .left))

@@ -14,10 +14,16 @@ add-t11 : tie.Need-add-t11
 add-t11 c = search needs
 
 add-t12 : tie.Need-add-t12
-add-t12 c = omega (arith, modest-system (c .before .before .before .before .o .given .1) (c .before .before .before .before .before .before .pre .1))
+add-t12 c =
+    let at-o = c .before .before .before .before in
+    let at-start = at-o .before .before in
+    omega (arith, modest-system (at-o .o .given .1) (at-start .pre .1))
 
 add-t13 : tie.Need-add-t13
-add-t13 c = omega (arith, modest-system (c .before .before .before .before .before .o .given .1) (c .before .before .before .before .before .before .before .pre .1))
+add-t13 c =
+    let at-o = c .before .before .before .before .before in
+    let at-start = at-o .before .before in
+    omega (arith, modest-system (at-o .o .given .1) (at-start .pre .1))
 
 enum-known-o-2 : tie.Need-enum-known-o-2
 enum-known-o-2 c = search needs
@@ -26,10 +32,16 @@ add-t14 : tie.Need-add-t14
 add-t14 c = search needs
 
 add-t15 : tie.Need-add-t15
-add-t15 c = omega (arith, modest-environment (c .before .before .before .before .o2 .given .1) (c .before .before .before .before .before .before .pre .1))
+add-t15 c =
+    let at-o2 = c .before .before .before .before in
+    let at-start = at-o2 .before .before in
+    omega (arith, modest-environment (at-o2 .o2 .given .1) (at-start .pre .1))
 
 add-t16 : tie.Need-add-t16
-add-t16 c = omega (arith, modest-environment (c .before .before .before .before .before .o2 .given .1) (c .before .before .before .before .before .before .before .pre .1))
+add-t16 c =
+    let at-o2 = c .before .before .before .before .before in
+    let at-start = at-o2 .before .before in
+    omega (arith, modest-environment (at-o2 .o2 .given .1) (at-start .pre .1))
 
 enum-known-o-3 : tie.Need-enum-known-o-3
 enum-known-o-3 c = search needs

@@ -30,7 +30,13 @@ row-count-requires : tie.Need-row-count-requires Inv-loop μ-loop
 row-count-requires c κs = omega arith
 
 add-c : tie.Need-add-c Inv-loop μ-loop
-add-c c = omega (arith, c .row-count .ensures, count-le (c .before .before .before .before .before .args .m) (has (getD (c .before .before .before .before .before .args .map .now) (c .before .before .before .loop .i) 0)))
+add-c c =
+    omega (
+      arith,
+      c .row-count .ensures,
+      count-le (c .before .before .before .before .before .args .m)
+          (has (getD (c .before .before .before .before .before .args .map .now) (c .before .before .before .loop .i) 0)),
+    )
 
 add-i : tie.Need-add-i Inv-loop μ-loop
 add-i c = omega arith
@@ -39,7 +45,20 @@ loop-less : tie.Need-loop-less Inv-loop μ-loop
 loop-less c = omega arith
 
 loop-again : tie.Need-loop-again Inv-loop μ-loop
-loop-again c = (omega arith, omega (arith, c .row-count .ensures, count-le (c .before .before .before .before .before .args .m) (has (getD (c .before .before .before .before .before .args .map .now) (c .before .before .before .loop .i) 0))), c .before .before .before .loop .inv .2, c .before .before .before .loop .inv .3, c .before .before .before .loop .inv .4, marks-next _ _ _ (c .before .before .before .loop .inv .5) (c .row-count .ensures))
+loop-again c = (
+  omega arith,
+  omega (
+    arith,
+    c .row-count .ensures,
+    count-le (c .before .before .before .before .before .args .m)
+        (has (getD (c .before .before .before .before .before .args .map .now) (c .before .before .before .loop .i) 0)),
+  ),
+  c .before .before .before .loop .inv .2,
+  c .before .before .before .loop .inv .3,
+  c .before .before .before .loop .inv .4,
+  marks-next _ _ _
+      (c .before .before .before .loop .inv .5) (c .row-count .ensures),
+)
 
 returns : tie.Need-returns Inv-loop μ-loop
 returns c = (c .before .loop .inv .5 ∙ ap (marks (c .before .before .before .args .map .now) (c .before .before .before .args .m)) (omega arith), omega arith)

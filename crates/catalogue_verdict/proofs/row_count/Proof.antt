@@ -30,7 +30,13 @@ loop-less : tie.Need-loop-less Inv-loop μ-loop
 loop-less c = omega arith
 
 loop-again : tie.Need-loop-again Inv-loop μ-loop
-loop-again c = (omega arith, omega arith, c .before .before .before .loop .inv .2, count-in _ _ (c .before .before .before .loop .inv .3) (c .before .member .ensures) (c .if1 .taken))
+loop-again c = (
+  omega arith,
+  omega arith,
+  c .before .before .before .loop .inv .2,
+  count-in _ _ (c .before .before .before .loop .inv .3) (c .before .member .ensures)
+      (c .if1 .taken),
+)
 
 add-s-2 : tie.Need-add-s-2 Inv-loop μ-loop
 add-s-2 c = omega arith
@@ -39,7 +45,13 @@ loop-less-2 : tie.Need-loop-less-2 Inv-loop μ-loop
 loop-less-2 c = omega arith
 
 loop-again-2 : tie.Need-loop-again-2 Inv-loop μ-loop
-loop-again-2 c = (omega arith, omega arith, c .before .before .before .loop .inv .2, count-out _ _ (c .before .before .before .loop .inv .3) (c .before .member .ensures) (c .if1 .left))
+loop-again-2 c = (
+  omega arith,
+  omega arith,
+  c .before .before .before .loop .inv .2,
+  count-out _ _ (c .before .before .before .loop .inv .3)
+      (c .before .member .ensures) (c .if1 .left),
+)
 
 returns : tie.Need-returns Inv-loop μ-loop
 returns c = c .before .loop .inv .3 ∙ ap (λ (k : ℕ). count k (has (c .before .before .args .x))) (omega arith)

@@ -44,17 +44,22 @@ mul-t19 c =
 returns : tie.Need-returns
 returns c =
     let p = c .before .before .before .before .before in
-    comes-refused (p .before .before .before .pre) (c .before .before .before .before .solve-into .ensures) refl (omega (arith, p .before .solve-into-arg .given)) (omega (arith, p .solve-into-arg2 .given)) (c .before .v .given .1)
+    comes-refused (p .before .before .before .pre) (c .before .before .before .before .solve-into .ensures) refl
+    (omega (arith, p .before .solve-into-arg .given)) (omega (arith, p .solve-into-arg2 .given)) (c .before .v .given .1)
 
 returns-2 : tie.Need-returns-2
 returns-2 c =
     let p = c .before .before .before .before .before in
-    comes-system (p .before .before .before .before .before .pre) (p .before .solve-into .ensures) refl (omega (arith, p .before .before .before .solve-into-arg .given)) (omega (arith, p .before .before .solve-into-arg2 .given)) (c .before .won-count .ensures .0) (c .before .won-count .ensures .1) (c .before .before .before .v2 .given .1)
+    comes-system (p .before .before .before .before .before .pre) (p .before .solve-into .ensures) refl
+    (omega (arith, p .before .before .before .solve-into-arg .given)) (omega (arith, p .before .before .solve-into-arg2 .given))
+    (c .before .won-count .ensures .0) (c .before .won-count .ensures .1) (c .before .before .before .v2 .given .1)
 
 returns-3 : tie.Need-returns-3
 returns-3 c =
     let p = c .before .before .before .before .before in
-    comes-environment (p .before .before .before .before .before .pre) (p .before .solve-into .ensures) refl (omega (arith, p .before .before .before .solve-into-arg .given)) (omega (arith, p .before .before .solve-into-arg2 .given)) (c .before .won-count2 .ensures .0) (c .before .won-count2 .ensures .1) (c .before .before .before .v3 .given .1)
+    comes-environment (p .before .before .before .before .before .pre) (p .before .solve-into .ensures) refl
+    (omega (arith, p .before .before .before .solve-into-arg .given)) (omega (arith, p .before .before .solve-into-arg2 .given))
+    (c .before .won-count2 .ensures .0) (c .before .won-count2 .ensures .1) (c .before .before .before .v3 .given .1)
 
 pub solve-spec : {M : Type 1} → statement M
 solve-spec =

@@ -28,7 +28,8 @@ in-initial-requires c κs = search needs
 out-initial-requires : tie.Need-out-initial-requires
 out-initial-requires c κs = search needs
 
-given : (k : tie.After-cores) → Given (k .before .before .before .before .args .g) (k .before .size-of .result) (k .before .before .before .before .args .s .now) (k .cores .result)
+given : (k : tie.After-cores) → Given (k .before .before .before .before .args .g) (k .before .size-of .result)
+    (k .before .before .before .before .args .s .now) (k .cores .result)
 given k =
     let b = k .before .before .before .before in
     given-of (b .args .g) (k .before .size-of .result) (b .args .s .now) (k .cores .result) (k .before .size-of .ensures) (b .pre .1) (k .cores .ensures)
@@ -45,7 +46,9 @@ starts-requires c κs =
 
 plains-requires : tie.Need-plains-requires
 plains-requires c κs =
-    let t = c .before .before .before .before .before .before in
+    let at-step = c .before .before .before .before .before in
+    let at-step2 = at-step .before in
+    let t = at-step2 in
     let k = t .before .before .before .before in
     (table-long (room-of k) (long-starts (t .starts .ensures)), scratch-long (given k))
 
@@ -66,8 +69,10 @@ returns c =
     let t = p .before .before .before .before .before .before .before in
     let k = t .before .before .before .before in
     let b = k .before .before .before .before in
-    table-filled (b .args .g) (k .before .size-of .result) (b .args .s .now) (k .cores .result) (given k) (b .args .room .now) (t .starts .last .0) (p .plains .last .0) _ (b .pre .2)
-    (starts-at (ap (λ (x : InSet). x .0) (t .before .before .in-initial .ensures)) (ap (λ (x : OutSet). x .0) (t .before .out-initial .ensures)) (t .starts .ensures)) (p .plains .ensures) (a .settle-all .ensures)
+    table-filled (b .args .g) (k .before .size-of .result) (b .args .s .now) (k .cores .result) (given k) (b .args .room .now) (t .starts .last .0)
+    (p .plains .last .0) _ (b .pre .2)
+    (starts-at (ap (λ (x : InSet). x .0) (t .before .before .in-initial .ensures)) (ap (λ (x : OutSet). x .0) (t .before .out-initial .ensures))
+    (t .starts .ensures)) (p .plains .ensures) (a .settle-all .ensures)
 
 pub fill-spec : {M : Type 1} → statement M
 fill-spec =

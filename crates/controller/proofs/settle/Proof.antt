@@ -16,7 +16,8 @@ returns : tie.Need-returns
 returns c =
     let r = c .before .before in
     let b = r .before .before .before in
-    no-home (b .args .g) (b .args .z) (b .args .s .now) (b .args .cores .0) (b .pre .0) (b .args .d) (b .pre .1) (r .residents .result) (r .residents .ensures) (c .if1 .taken) (b .args .room .now)
+    no-home (b .args .g) (b .args .z) (b .args .s .now) (b .args .cores .0) (b .pre .0) (b .args .d) (b .pre .1) (r .residents .result)
+    (r .residents .ensures) (c .if1 .taken) (b .args .room .now)
 
 add-outputs : tie.Need-add-outputs
 add-outputs c = search needs
@@ -35,23 +36,38 @@ part-component-end c = search needs
 
 component-requires : tie.Need-component-requires
 component-requires c κs =
-    let b = c .before .before .before .before .before .before .before in
-    (table-of (b .args .g) (b .args .z) (b .pre .0 .sized) _ (b .pre .2) .outputs, b .pre .1, part-long (b .args .g) (b .args .z) (b .args .s .now) (b .args .cores .0) (b .pre .0))
+    let at-step = c .before .before .before .before .before in
+    let at-step2 = at-step .before .before in
+    let b = at-step2 in (
+      table-of (b .args .g) (b .args .z) (b .pre .0 .sized) _ (b .pre .2) .outputs,
+      b .pre .1,
+      part-long (b .args .g) (b .args .z) (b .args .s .now)
+          (b .args .cores .0) (b .pre .0),
+    )
 
 approach-requires : tie.Need-approach-requires
 approach-requires c κs =
     let k = c .before in
     let r = k .before .before .before .before .before in
-    let b = r .before .before .before in
-    (b .pre .0, home-given (b .args .g) (b .args .z) (b .args .s .now) (b .args .cores .0) (b .pre .0) (b .args .d) (b .pre .1) (r .residents .result) (r .residents .ensures) _ (k .before .before .before .if1 .left) (k .component .ensures), b .pre .2)
+    let b = r .before .before .before in (
+      b .pre .0,
+      home-given (b .args .g) (b .args .z) (b .args .s .now) (b .args .cores .0) (b .pre .0) (b .args .d) (b .pre .1) (r .residents .result)
+          (r .residents .ensures) _ (k .before .before .before .if1 .left) (k .component .ensures),
+      b .pre .2,
+    )
 
 tour-requires : tie.Need-tour-requires
 tour-requires c κs =
     let n = c .before .before .before in
     let k = n .before .before in
     let r = k .before .before .before .before .before in
-    let b = r .before .before .before in
-    (b .pre .0 .sized, home-given (b .args .g) (b .args .z) (b .args .s .now) (b .args .cores .0) (b .pre .0) (b .args .d) (b .pre .1) (r .residents .result) (r .residents .ensures) _ (k .before .before .before .if1 .left) (k .component .ensures), omega (arith, b .pre .2, n .approach .ensures .grows .long))
+    let b = r .before .before .before in (
+      b .pre .0 .sized,
+      home-given (b .args .g) (b .args .z) (b .args .s .now) (b .args .cores .0) (b .pre .0) (b .args .d) (b .pre .1)
+          (r .residents .result) (r .residents .ensures) _ (k .before .before .before .if1 .left) (k .component .ensures),
+      omega
+          (arith, b .pre .2, n .approach .ensures .grows .long),
+    )
 
 same-length : tie.Need-same-length
 same-length c = search needs

@@ -40,7 +40,8 @@ returns-3 c =
     let l = c .before .before .before in
     let w = l .before .before in
     let f = w .before .before in (
-      (λ p. pressed-tours _ _ _ _ _ _ _ _ _ _ _ _ p (f .if1 .left) _ _ (l .lost .ensures) (c .before .exits .ensures) (sym (w .won .ensures) ∙ l .before .if2 .left) (c .if3 .taken)),
+      (λ p. pressed-tours _ _ _ _ _ _ _ _ _ _ _ _ p (f .if1 .left) _ _ (l .lost .ensures) (c .before .exits .ensures)
+          (sym (w .won .ensures) ∙ l .before .if2 .left) (c .if3 .taken)),
       f .before .before .before .before .pre .1,
     )
 
@@ -71,7 +72,8 @@ returns-4 c =
     let w = l .before .before in
     let f = w .before .before in (
       (λ p.
-          pressed-leaves _ _ _ _ _ _ _ _ _ _ _ _ p (f .if1 .left) _ _ (l .lost .ensures) (e .exits .ensures) (sym (w .won .ensures) ∙ l .before .if2 .left) (k .before .if3 .left)
+          pressed-leaves _ _ _ _ _ _ _ _ _ _ _ _ p (f .if1 .left) _ _ (l .lost .ensures) (e .exits .ensures) (sym (w .won .ensures) ∙ l .before .if2 .left)
+          (k .before .if3 .left)
           (k .renew .ensures .1) refl (c .before .before .escape-rows .ensures)),
       known-ways _ _ _ _ (sym (k .renew .ensures .0)) (k .renew .ensures .1),
     )

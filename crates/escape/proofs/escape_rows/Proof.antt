@@ -16,7 +16,8 @@ use Rattle.escape.proofs.escape_rows.Tie as tie
 
 abbrev Inv-loop : tie.InvT-loop
 Inv-loop moves z o out room₀ w rest₀ room rest =
-    (p : Going (z .outputs) (z .counters) moves rest₀ (o .0) (out .0) (w .next) (length room₀)) → Visiting (p .game) (λ a b. a) (λ a h b. b ≡ o .0) rest₀ rest room₀ room
+    (p : Going (z .outputs) (z .counters) moves rest₀ (o .0) (out .0) (w .next) (length room₀)) → Visiting (p .game) (λ a b. a) (λ a h b. b ≡ o .0) rest₀
+    rest room₀ room
 
 abbrev μ-loop : tie.MeasureT-loop
 μ-loop moves z o out room₀ w rest₀ room rest = count 64 (has rest)
@@ -24,22 +25,33 @@ abbrev μ-loop : tie.MeasureT-loop
 -- a game that the arguments fit
 abbrev Held : tie.Start Inv-loop μ-loop → Type 0
 Held c =
-    Going (c .args .z .outputs) (c .args .z .counters) (c .args .moves .now) (c .args .c .0) (c .args .o .0) (c .args .out .0) (c .args .t6 .next) (length (c .args .room .now))
+    Going (c .args .z .outputs) (c .args .z .counters) (c .args .moves .now) (c .args .c .0) (c .args .o .0) (c .args .out .0) (c .args .t6 .next)
+    (length (c .args .room .now))
 
 small : (c : tie.After-lowest Inv-loop μ-loop) → c .lowest .result < 64
-small c = visit-small _ _ _ _ (c .before .before .loop .rest) _ (c .before .before .loop .inv (c .before .before .before .before .pre)) (c .before .loop-test .taken) (c .lowest .ensures)
+small c =
+    visit-small _ _ _ _ (c .before .before .loop .rest) _ (c .before .before .loop .inv (c .before .before .before .before .pre))
+    (c .before .loop-test .taken) (c .lowest .ensures)
 
 -- what belongs in the rows of the state that is visited
 same : (c : tie.After-way-from Inv-loop μ-loop) (p : Held (c .before .before .before .before .before .before .before))
-    → Same (p .game) (c .before .before .before .before .before .before .before .args .z .counters) (c .before .before .before .lowest .result) (c .before .before .before .before .before .before .before .args .o .0) (c .way-from .result) 64
+    → Same (p .game) (c .before .before .before .before .before .before .before .args .z .counters) (c .before .before .before .lowest .result)
+    (c .before .before .before .before .before .before .before .args .o .0) (c .way-from .result) 64
 same c p =
     let l = c .before .before .before in
     let b = l .before .before in
-    going-same _ _ _ _ _ _ _ _ p _ _ (visit-in _ _ _ _ (b .loop .rest) _ (b .loop .inv p) (l .before .loop-test .taken) (l .lowest .ensures)) (c .way-from .ensures)
+    going-same _ _ _ _ _ _ _ _ p _ _ (visit-in _ _ _ _ (b .loop .rest) _ (b .loop .inv p) (l .before .loop-test .taken) (l .lowest .ensures))
+    (c .way-from .ensures)
 
 putting : (c : tie.After-put-arg Inv-loop μ-loop) (p : Held (c .before .before .before .before .before .before .before .before))
-    → Putting (c .before .before .before .before .before .before .before .before .args .z .outputs) (c .before .before .before .before .before .before .before .before .args .z .counters) (c .before .before .before .before .lowest .result) (c .before .before .before .before .before .before .before .before .args .o .0) (c .before .way-from .result) 64 (length (c .before .before .before .before .before .before .loop .room))
-putting c p = record { game = p .game; outputs = p .outputs; roomy = roomy-more _ (p .roomy) (c .before .before .before .before .before .before .loop .inv p .filled); same = same (c .before) p }
+    → Putting (c .before .before .before .before .before .before .before .before .args .z .outputs)
+    (c .before .before .before .before .before .before .before .before .args .z .counters) (c .before .before .before .before .lowest .result)
+    (c .before .before .before .before .before .before .before .before .args .o .0) (c .before .way-from .result) 64
+    (length (c .before .before .before .before .before .before .loop .room))
+putting c p =
+    let at-step = c .before .before .before .before .before in
+    let at-loop = at-step .before in
+    record { game = p .game; outputs = p .outputs; roomy = roomy-more _ (p .roomy) (at-loop .loop .inv p .filled); same = same (c .before) p }
 
 loop-holds : tie.Need-loop-holds Inv-loop μ-loop
 loop-holds c = λ p. visit-start _ _ _ _ _ _ (p .roomy .inputs) (p .outward .below)
@@ -60,31 +72,48 @@ way-from-requires : tie.Need-way-from-requires Inv-loop μ-loop
 way-from-requires c κs = search needs
 
 cast-put : tie.Need-cast-put Inv-loop μ-loop
-cast-put c = omega (arith, same-small _ _ _ _ _ _ _ (c .before .before .before .before .before .before .before .pre .roomy) (same c (c .before .before .before .before .before .before .before .pre)))
+cast-put c =
+    let at-step = c .before .before .before .before .before in
+    let at-start = at-step .before .before in
+    omega (arith, same-small _ _ _ _ _ _ _ (at-start .pre .roomy) (same c (at-start .pre)))
 
 put-requires : tie.Need-put-requires Inv-loop μ-loop
-put-requires c κs = putting c (c .before .before .before .before .before .before .before .before .pre)
+put-requires c κs =
+    let at-step = c .before .before .before .before .before in
+    let at-start = at-step .before .before .before in
+    putting c (at-start .pre)
 
 insert-requires : tie.Need-insert-requires Inv-loop μ-loop
-insert-requires c κs = small (c .before .before .before .before .before .before .before)
+insert-requires c κs =
+    let at-step = c .before .before .before .before .before in
+    let at-step2 = at-step .before .before in
+    small at-step2
 
 difference-requires : tie.Need-difference-requires Inv-loop μ-loop
 difference-requires c κs = search needs
 
 loop-less : tie.Need-loop-less Inv-loop μ-loop
 loop-less c =
-    let l = c .before .before .before .before .before .before .before .before .before in
+    let at-insert = c .before in
+    let at-step = at-insert .before .before .before .before .before in
+    let at-step2 = at-step .before .before .before in
+    let at-start = at-step2 .before .before .before .before in
+    let l = at-step2 in
     let b = l .before .before in
-    visit-falls _ _ _ _ (b .loop .rest) _ (b .loop .inv (c .before .before .before .before .before .before .before .before .before .before .before .before .before .pre)) (l .before .loop-test .taken) (l .lowest .ensures) _ _ (c .before .insert .ensures) (c .difference .ensures)
+    visit-falls _ _ _ _ (b .loop .rest) _ (b .loop .inv (at-start .pre)) (l .before .loop-test .taken) (l .lowest .ensures) _ _
+    (at-insert .insert .ensures) (c .difference .ensures)
 
 loop-again : tie.Need-loop-again Inv-loop μ-loop
 unfolding putting
 loop-again c =
-    let l = c .before .before .before .before .before .before .before .before .before in
+    let at-put = c .before .before .before .before in
+    let at-step = at-put .before .before .before .before .before in
+    let l = at-step in
     let b = l .before .before in
     λ p.
-    visit-next _ _ _ _ (b .loop .rest) _ (b .loop .inv p) (l .before .loop-test .taken) (l .lowest .ensures) _ _ (c .before .insert .ensures) (c .difference .ensures)
-    (omega (arith, c .difference .ok)) (c .before .before .before .before .put .ensures .fills (putting (c .before .before .before .before .before) p)) (λ a h b e q. (q, e))
+    visit-next _ _ _ _ (b .loop .rest) _ (b .loop .inv p) (l .before .loop-test .taken) (l .lowest .ensures) _ _ (c .before .insert .ensures)
+    (c .difference .ensures)
+    (omega (arith, c .difference .ok)) (at-put .put .ensures .fills (putting (c .before .before .before .before .before) p)) (λ a h b e q. (q, e))
 
 same-length : tie.Need-same-length Inv-loop μ-loop
 same-length c = c .before .loop .inv (c .before .before .before .pre) .filled .grows .long

@@ -20,7 +20,11 @@ loop-holds : tie.Need-loop-holds Inv-loop μ-loop
 loop-holds c = (omega arith, filled-none _ _ (λ a h b p. omega (arith, p .0)))
 
 none-row-requires : tie.Need-none-row-requires Inv-loop μ-loop
-none-row-requires c κs = (c .before .before .before .before .before .pre .0, roomy-more _ (c .before .before .before .before .before .pre .1) (c .before .before .loop .inv .1), c .before .loop-test .taken)
+none-row-requires c κs = (
+  c .before .before .before .before .before .pre .0,
+  roomy-more _ (c .before .before .before .before .before .pre .1) (c .before .before .loop .inv .1),
+  c .before .loop-test .taken,
+)
 
 add-i : tie.Need-add-i Inv-loop μ-loop
 add-i c = omega arith
@@ -30,8 +34,11 @@ loop-less c = omega arith
 
 loop-again : tie.Need-loop-again Inv-loop μ-loop
 loop-again c =
-    let l = c .before .before .before .before .before .loop in
-    (omega arith, filled-join _ (l .inv .1) (c .before .before .none-row .ensures) (λ a h b x y z p. below-next a (l .i) (p .0) (λ q. (q, p .1)) (λ q. (q, p .1))))
+    let l = c .before .before .before .before .before .loop in (
+      omega arith,
+      filled-join _ (l .inv .1) (c .before .before .none-row .ensures)
+          (λ a h b x y z p. below-next a (l .i) (p .0) (λ q. (q, p .1)) (λ q. (q, p .1))),
+    )
 
 same-length : tie.Need-same-length Inv-loop μ-loop
 same-length c = c .before .loop .inv .1 .grows .long

@@ -16,8 +16,10 @@ difference-requires c κs = search needs
 
 push-columns-requires : tie.Need-push-columns-requires
 push-columns-requires c κs =
-    let p = c .before .before .before .before .before .before .before .before .before .pre in
-    (p .0, roomy-more _ (p .1) (c .before .before .before .before .before .none-rows .ensures), lone-of _ _ _ (c .before .before .below .ensures) (c .before .difference .ensures))
+    let at-none-rows = c .before .before .before .before .before in
+    let at-start = at-none-rows .before .before .before .before in
+    let p = at-start .pre in
+    (p .0, roomy-more _ (p .1) (at-none-rows .none-rows .ensures), lone-of _ _ _ (c .before .before .below .ensures) (c .before .difference .ensures))
 
 same-length : tie.Need-same-length
 same-length c = search needs

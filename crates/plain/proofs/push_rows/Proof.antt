@@ -27,18 +27,32 @@ member c = visit-in _ _ _ _ (c .before .before .loop .rest) _ (c .before .before
 
 -- what belongs in the rows of the input that is visited
 same : (c : tie.After-unanswered Inv-loop μ-loop)
-    → Same (c .before .before .before .before .before .before .before .args .g) (c .before .before .before .before .before .before .before .args .counters)
-    (c .before .before .lowest .result) (c .before .before .before .before .before .before .before .args .o .0) (c .unanswered .result) 64
-same c = c .before .before .before .before .before .before .before .pre .1 .same _ _ (member (c .before .before)) (c .unanswered .ensures)
+    → let at-lowest = c .before .before in
+    let at-start = at-lowest .before .before .before .before .before in
+    Same (at-start .args .g) (at-start .args .counters)
+    (at-lowest .lowest .result) (at-start .args .o .0) (c .unanswered .result) 64
+same c =
+    let at-step = c .before .before .before .before .before in
+    let at-start = at-step .before .before in
+    at-start .pre .1 .same _ _ (member (c .before .before)) (c .unanswered .ensures)
 
 putting : (c : tie.After-put-arg Inv-loop μ-loop)
-    → Putting (c .before .before .before .before .before .before .before .before .args .g .output .states)
-    (c .before .before .before .before .before .before .before .before .args .counters) (c .before .before .before .lowest .result)
-    (c .before .before .before .before .before .before .before .before .args .o .0) (c .before .unanswered .result) 64
-    (length (c .before .before .before .before .before .loop .room))
+    → let at-loop = c .before .before .before .before .before in
+    let at-start = at-loop .before .before .before in
+    Putting (at-start .args .g .output .states)
+    (at-start .args .counters) (c .before .before .before .lowest .result)
+    (at-start .args .o .0) (c .before .unanswered .result) 64
+    (length (at-loop .loop .room))
 putting c =
     let b = c .before .before .before .before .before in
-    record { game = b .before .before .before .args .g; outputs = refl; roomy = roomy-more _ (b .before .before .before .pre .0) (b .loop .inv .filled); same = same (c .before) }
+    record {
+      game =
+          b .before .before .before .args .g;
+      outputs = refl;
+      roomy = roomy-more _ (b .before .before .before .pre .0) (b .loop .inv .filled);
+      same = same
+          (c .before);
+    }
 
 loop-holds : tie.Need-loop-holds Inv-loop μ-loop
 loop-holds c = visit-start _ _ _ _ _ _ (c .before .before .pre .0 .inputs) (c .before .before .pre .1 .below)
@@ -53,33 +67,49 @@ element-copy-out-difference : tie.Need-element-copy-out-difference Inv-loop μ-l
 element-copy-out-difference c = omega (arith, small c)
 
 unanswered-requires : tie.Need-unanswered-requires Inv-loop μ-loop
-unanswered-requires c κs = (c .before .before .before .before .before .before .pre .0 .inputs, c .before .before .before .before .before .before .pre .1 .inside)
+unanswered-requires c κs =
+    let at-step = c .before .before .before .before .before in
+    let at-start = at-step .before in
+    (at-start .pre .0 .inputs, at-start .pre .1 .inside)
 
 cast-put : tie.Need-cast-put Inv-loop μ-loop
-cast-put c = omega (arith, same-small _ _ _ _ _ _ _ (c .before .before .before .before .before .before .before .pre .0) (same c))
+cast-put c =
+    let at-step = c .before .before .before .before .before in
+    let at-start = at-step .before .before in
+    omega (arith, same-small _ _ _ _ _ _ _ (at-start .pre .0) (same c))
 
 put-requires : tie.Need-put-requires Inv-loop μ-loop
 put-requires c κs = putting c
 
 insert-requires : tie.Need-insert-requires Inv-loop μ-loop
-insert-requires c κs = small (c .before .before .before .before .before .before)
+insert-requires c κs =
+    let at-step = c .before .before .before .before .before in
+    let at-step2 = at-step .before in
+    small at-step2
 
 difference-requires : tie.Need-difference-requires Inv-loop μ-loop
 difference-requires c κs = search needs
 
 loop-less : tie.Need-loop-less Inv-loop μ-loop
 loop-less c =
-    let l = c .before .before .before .before .before .before .before .before in
+    let at-insert = c .before in
+    let at-step = at-insert .before .before .before .before .before in
+    let at-step2 = at-step .before .before in
+    let l = at-step2 in
     let b = l .before .before in
-    visit-falls _ _ _ _ (b .loop .rest) _ (b .loop .inv) (l .before .loop-test .taken) (l .lowest .ensures) _ _ (c .before .insert .ensures) (c .difference .ensures)
+    visit-falls _ _ _ _ (b .loop .rest) _ (b .loop .inv) (l .before .loop-test .taken) (l .lowest .ensures) _ _ (at-insert .insert .ensures)
+    (c .difference .ensures)
 
 loop-again : tie.Need-loop-again Inv-loop μ-loop
 unfolding putting
 loop-again c =
-    let l = c .before .before .before .before .before .before .before .before in
+    let at-put = c .before .before .before .before in
+    let at-step = at-put .before .before .before .before in
+    let l = at-step in
     let b = l .before .before in
-    visit-next _ _ _ _ (b .loop .rest) _ (b .loop .inv) (l .before .loop-test .taken) (l .lowest .ensures) _ _ (c .before .insert .ensures) (c .difference .ensures)
-    (omega (arith, c .difference .ok)) (c .before .before .before .before .put .ensures .fills (putting (c .before .before .before .before .before))) (λ a h b e p. (p, e))
+    visit-next _ _ _ _ (b .loop .rest) _ (b .loop .inv) (l .before .loop-test .taken) (l .lowest .ensures) _ _ (c .before .insert .ensures)
+    (c .difference .ensures)
+    (omega (arith, c .difference .ok)) (at-put .put .ensures .fills (putting (c .before .before .before .before .before))) (λ a h b e p. (p, e))
 
 same-length : tie.Need-same-length Inv-loop μ-loop
 same-length c = c .before .loop .inv .filled .grows .long

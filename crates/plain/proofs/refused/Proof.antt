@@ -34,7 +34,11 @@ loop-less : tie.Need-loop-less Inv-loop μ-loop
 loop-less c = omega arith
 
 loop-again : tie.Need-loop-again Inv-loop μ-loop
-loop-again c = (omega arith, collect-next _ (c .before .before .before .loop .j) (c .before .before .before .loop .x) (c .insert-if .result) _ (c .before .before .before .loop .inv .1) (refused-at _ _ _ _ _ _ (c .before .some-won .ensures)) (c .insert-if .ensures))
+loop-again c = (
+  omega arith,
+  collect-next _ (c .before .before .before .loop .j) (c .before .before .before .loop .x) (c .insert-if .result) _
+      (c .before .before .before .loop .inv .1) (refused-at _ _ _ _ _ _ (c .before .some-won .ensures)) (c .insert-if .ensures),
+)
 
 returns : tie.Need-returns Inv-loop μ-loop
 returns c = collect-end _ (c .before .loop .j) _ _ (omega arith) (omega arith) (c .before .loop .inv .1)

@@ -38,7 +38,8 @@ returns-2 : tie.Need-returns-2
 returns-2 c =
     let b = c .before .before .before .before in
     c .meets2 .ensures
-    ∙ some-out _ _ _ _ _ _ _ _ (b .before .before .before .before .pre .0 .outputs) (sym (b .member .ensures) ∙ c .before .before .before .if1 .left) (c .before .before .below .ensures)
+    ∙ some-out _ _ _ _ _ _ _ _ (b .before .before .before .before .pre .0 .outputs) (sym (b .member .ensures) ∙ c .before .before .before .if1 .left)
+    (c .before .before .below .ensures)
     (c .before .intersection .ensures)
 
 pub some-won-spec : {M : Type 1} → statement M

@@ -20,13 +20,24 @@ unanswered-requires : tie.Need-unanswered-requires
 unanswered-requires c κs = (c .before .before .before .before .pre .inputs, refused-within _ _ (c .before .refused .ensures))
 
 cast-result : tie.Need-cast-result
-cast-result c = omega (arith, c .before .before .before .before .before .before .pre .inputs)
+cast-result c =
+    let at-step = c .before .before .before .before .before in
+    let at-start = at-step .before in
+    omega (arith, at-start .pre .inputs)
 
 returns : tie.Need-returns
-returns c = start-found _ _ _ (c .before .before .before .before .before .before .pre) _ (unanswered-of _ _ _ _ (c .before .before .in-initial .ensures) (c .before .before .before .before .out-initial .ensures) (c .before .unanswered .ensures ∙ unanswered-both _ _ _ _ _ _ (c .before .before .before .refused .ensures))) (c .if1 .taken)
+returns c =
+    let at-out-initial = c .before .before .before .before in
+    let at-start = at-out-initial .before .before in
+    start-found _ _ _ (at-start .pre) _ (unanswered-of _ _ _ _ (c .before .before .in-initial .ensures) (at-out-initial .out-initial .ensures)
+    (c .before .unanswered .ensures ∙ unanswered-both _ _ _ _ _ _ (c .before .before .before .refused .ensures))) (c .if1 .taken)
 
 returns-2 : tie.Need-returns-2
-returns-2 c = start-none _ _ _ (c .before .before .before .before .before .before .pre) _ (unanswered-of _ _ _ _ (c .before .before .in-initial .ensures) (c .before .before .before .before .out-initial .ensures) (c .before .unanswered .ensures ∙ unanswered-both _ _ _ _ _ _ (c .before .before .before .refused .ensures))) (c .if1 .left)
+returns-2 c =
+    let at-out-initial = c .before .before .before .before in
+    let at-start = at-out-initial .before .before in
+    start-none _ _ _ (at-start .pre) _ (unanswered-of _ _ _ _ (c .before .before .in-initial .ensures) (at-out-initial .out-initial .ensures)
+    (c .before .unanswered .ensures ∙ unanswered-both _ _ _ _ _ _ (c .before .before .before .refused .ensures))) (c .if1 .left)
 
 pub start-entry-spec : {M : Type 1} → statement M
 start-entry-spec =

@@ -15,7 +15,9 @@ lowest-requires : tie.Need-lowest-requires
 lowest-requires c κs = search needs
 
 returns-2 : tie.Need-returns-2
-returns-2 c = both-lowest _ _ _ (c .before .before .before .pre .0) (c .before .before .before .pre .1) _ (c .before .before .intersection .ensures) (omega (arith, c .before .before .intersection .ok)) (c .before .if1 .left) (c .lowest .ensures)
+returns-2 c =
+    both-lowest _ _ _ (c .before .before .before .pre .0) (c .before .before .before .pre .1) _ (c .before .before .intersection .ensures)
+    (omega (arith, c .before .before .intersection .ok)) (c .before .if1 .left) (c .lowest .ensures)
 
 pub unanswered-spec : {M : Type 1} → statement M
 unanswered-spec =

@@ -31,19 +31,30 @@ same-length : tie.Need-same-length
 same-length c = search needs
 
 returns : tie.Need-returns
-returns c = answers-misshapen (c .before .before .before .before .before .before .before .read .ensures) _ (c .before .before .before .before .before .a .given .1) (omega (arith, c .before .before .before .before .known-told .given)) (c .before .before .put-misshapen .ensures)
+returns c =
+    let at-a = c .before .before .before .before .before in
+    let at-read = at-a .before .before in
+    answers-misshapen (at-read .read .ensures) _ (at-a .a .given .1) (omega (arith, c .before .before .before .before .known-told .given))
+    (c .before .before .put-misshapen .ensures)
 
 same-length-2 : tie.Need-same-length-2
 same-length-2 c = search needs
 
 returns-2 : tie.Need-returns-2
-returns-2 c = answers-refused (c .before .before .before .before .before .before .before .read .ensures) _ (c .before .before .before .before .before .a2 .given .1) (omega (arith, c .before .before .before .before .known-told2 .given)) (c .before .before .put-refused .ensures)
+returns-2 c =
+    let at-a2 = c .before .before .before .before .before in
+    let at-read = at-a2 .before .before in
+    answers-refused (at-read .read .ensures) _ (at-a2 .a2 .given .1) (omega (arith, c .before .before .before .before .known-told2 .given))
+    (c .before .before .put-refused .ensures)
 
 same-length-3 : tie.Need-same-length-3
 same-length-3 c = search needs
 
 returns-3 : tie.Need-returns-3
-returns-3 c = answers-game (c .before .before .before .before .before .before .before .read .ensures) (c .before .before .before .before .before .enum-told .given .1) (c .before .before .solve .ensures)
+returns-3 c =
+    let at-enum-told = c .before .before .before .before .before in
+    let at-read = at-enum-told .before .before in
+    answers-game (at-read .read .ensures) (at-enum-told .enum-told .given .1) (c .before .before .solve .ensures)
 
 pub answer-spec : {M : Type 1} → statement M
 answer-spec =

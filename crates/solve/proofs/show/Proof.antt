@@ -9,7 +9,9 @@ empty-print-requires : tie.Need-empty-print-requires
 empty-print-requires c κs = search needs
 
 slice-aggregate-put-answer : tie.Need-slice-aggregate-put-answer
-slice-aggregate-put-answer c = sym (length-take-le (c .before .before .before .before .before .args .n) (c .before .before .before .before .before .args .file .now) (c .before .before .before .if1 .taken))
+slice-aggregate-put-answer c =
+    sym (length-take-le (c .before .before .before .before .before .args .n) (c .before .before .before .before .before .args .file .now)
+    (c .before .before .before .if1 .taken))
 
 put-answer-requires : tie.Need-put-answer-requires
 put-answer-requires c κs = search needs

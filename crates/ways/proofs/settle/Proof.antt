@@ -32,14 +32,21 @@ lowest-requires : tie.Need-lowest-requires Inv-loop μ-loop
 lowest-requires c κs = search needs
 
 choices-requires : tie.Need-choices-requires Inv-loop μ-loop
-choices-requires c κs = (small c, c .before .before .loop .inv .rests .member _ (try-in _ _ _ _ _ (c .before .before .loop .inv) (c .before .loop-test .taken) (c .lowest .ensures)))
+choices-requires c κs = (
+  small c,
+  c .before .before .loop .inv .rests .member _ (try-in _ _ _ _ _ (c .before .before .loop .inv) (c .before .loop-test .taken)
+      (c .lowest .ensures)),
+)
 
 prefer-requires : tie.Need-prefer-requires Inv-loop μ-loop
 prefer-requires c κs = omega (arith, small (c .before .before))
 
 cast-next : tie.Need-cast-next Inv-loop μ-loop
 cast-next c =
-    record { fits = choice-fits _ (c .before .before .choices .result) (omega (arith, c .before .before .choices .ok)) (c .before .if1 .taken) (c .prefer .ensures) }
+    record {
+      fits =
+          choice-fits _ (c .before .before .choices .result) (omega (arith, c .before .before .choices .ok)) (c .before .if1 .taken) (c .prefer .ensures);
+    }
 
 element-write-next : tie.Need-element-write-next Inv-loop μ-loop
 element-write-next c = small (c .before .before .before)

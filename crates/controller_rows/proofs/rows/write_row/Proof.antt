@@ -27,8 +27,12 @@ same-length c = search needs
 
 returns : tie.Need-returns
 returns c =
-    let b = c .before .before .before .before .before .before .before .before in
-    row-of (b .args .z) (b .args .o .0) (b .args .j .0) (b .args .p) (c .before .before .before .before .base .ensures) (c .before .before .before .before .before .before .staying .ensures) (c .before .before .column .ensures)
+    let at-base = c .before .before .before .before in
+    let at-staying = at-base .before .before in
+    let at-step = at-staying .before .before in
+    let b = at-step in
+    row-of (b .args .z) (b .args .o .0) (b .args .j .0) (b .args .p) (at-base .base .ensures) (at-staying .staying .ensures)
+    (c .before .before .column .ensures)
 
 pub write-row-spec : {M : Type 1} → statement M
 write-row-spec =

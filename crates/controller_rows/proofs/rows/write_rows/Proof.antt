@@ -21,8 +21,11 @@ same-length c = search needs
 
 returns : tie.Need-returns
 returns c =
-    let b = c .before .before .before .before .before .before .before in
-    rows-of (b .args .z) (b .args .o .0) (b .args .inputs .0) (b .args .p) (c .before .before .before .base .ensures) (c .before .before .before .before .before .staying .ensures) (c .before .before .block .ensures)
+    let at-staying = c .before .before .before .before .before in
+    let at-step = at-staying .before .before in
+    let b = at-step in
+    rows-of (b .args .z) (b .args .o .0) (b .args .inputs .0) (b .args .p) (c .before .before .before .base .ensures) (at-staying .staying .ensures)
+    (c .before .before .block .ensures)
 
 pub write-rows-spec : {M : Type 1} → statement M
 write-rows-spec =

@@ -20,7 +20,8 @@ staying-requires c κs = search needs
 returns : tie.Need-returns
 returns c =
     let b = c .before .before .before .before in
-    start-in _ _ _ _ _ _ (sym (b .before .before .member .ensures) ∙ b .before .if1 .taken) (b .won-outputs .ensures) (c .before .lowest .ensures) (c .staying .ensures)
+    start-in _ _ _ _ _ _ (sym (b .before .before .member .ensures) ∙ b .before .if1 .taken) (b .won-outputs .ensures) (c .before .lowest .ensures)
+    (c .staying .ensures)
 
 returns-2 : tie.Need-returns-2
 returns-2 c = start-out _ _ _ _ _ _ (sym (c .before .member .ensures) ∙ c .if1 .left)

@@ -50,7 +50,9 @@ lowest-requires c κs = search needs
 
 write-row-requires : tie.Need-write-row-requires Inv-loop μ-loop
 write-row-requires c κs =
-    let b = c .before .before .before .before .before .before .before in
+    let at-step = c .before .before .before .before .before in
+    let at-step2 = at-step .before .before in
+    let b = at-step2 in
     (table-long (b .before .before .before .before .before .pre .0) (long-plain (b .loop .inv .1)), omega arith, omega arith)
 
 add-j : tie.Need-add-j Inv-loop μ-loop
@@ -64,7 +66,10 @@ loop-again c =
     let b = c .before .before .before .before in (
       omega arith,
       ⊎-elim
-          (λ w. record { each = each-hit (b .loop .inv .1 .each) (sym (ap not (c .before .settles .ensures)) ∙ w .0 .taken) (w .7) (row-at (w .3 .ensures) (w .4 .ensures)) })
+          (λ w. record {
+            each = each-hit (b .loop .inv .1 .each) (sym (ap not (c .before .settles .ensures)) ∙ w .0 .taken) (w .7)
+                (row-at (w .3 .ensures) (w .4 .ensures));
+          })
           (λ w. record { each = each-miss (b .loop .inv .1 .each) (sym (ap not (c .before .settles .ensures)) ∙ w .0 .left) (w .1) })
           (c .if1 .came),
     )

@@ -37,8 +37,10 @@ loop-less c = omega arith
 
 loop-again : tie.Need-loop-again Inv-loop μ-loop
 loop-again c =
-    let b = c .before .before .before .before .before .before in
-    (omega arith, record { each = each-hit (b .loop .inv .1 .each) refl refl (c .before .before .plain .ensures) })
+    let at-plain = c .before .before in
+    let at-step = at-plain .before .before .before .before in
+    let b = at-step in
+    (omega arith, record { each = each-hit (b .loop .inv .1 .each) refl refl (at-plain .plain .ensures) })
 
 same-length : tie.Need-same-length Inv-loop μ-loop
 same-length c = long-plains (c .before .loop .inv .1)
