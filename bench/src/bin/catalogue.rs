@@ -6,7 +6,7 @@
 #[path = "../games.rs"]
 mod games;
 
-use nanpuwiq::{Game, CONTROLLER_MOST, ENVIRONMENT_MOST, SCRATCH};
+use nanpuwiq::{Game, SCRATCH};
 use std::hint::black_box;
 use std::io::Write;
 use std::path::PathBuf;
@@ -15,6 +15,8 @@ use std::time::Instant;
 
 const FILES: usize = 1000;
 const RUNS: usize = 5;
+/// The solve program's rooms, in entries: a game that they do not hold is refused, here as there.
+const ROOM: usize = 32768;
 
 fn best(mut work: impl FnMut()) -> f64 {
     (0..RUNS)
@@ -28,7 +30,15 @@ fn best(mut work: impl FnMut()) -> f64 {
 
 fn main() {
     let program = std::env::args().nth(1).expect("the catalogue program");
-    let texts: Vec<Vec<u8>> = games::named("").iter().filter_map(|(_, g)| g.write().ok()).collect();
+    let (mut scratch, mut controller, mut environment) = (vec![0; SCRATCH], vec![0; ROOM], vec![0; ROOM]);
+    let all = games::named("");
+    let held = all.iter().filter(|(_, g)| g.solve_into(&mut scratch, &mut controller, &mut environment).is_ok());
+    figures("games that the rooms hold", &program, &held.filter_map(|(_, g)| g.write().ok()).collect::<Vec<_>>());
+    figures("all games", &program, &all.iter().filter_map(|(_, g)| g.write().ok()).collect::<Vec<_>>());
+}
+
+fn figures(label: &str, program: &str, texts: &[Vec<u8>]) {
+    let (mut scratch, mut controller, mut environment) = (vec![0; SCRATCH], vec![0; ROOM], vec![0; ROOM]);
     let folder = std::env::temp_dir().join(format!("catalogue-{}", std::process::id()));
     std::fs::create_dir_all(&folder).expect("a folder for the files");
     let names: Vec<PathBuf> = (0..FILES).map(|k| folder.join(format!("{k}.game"))).collect();
@@ -39,7 +49,6 @@ fn main() {
 
     let mut read: Vec<Vec<u8>> = Vec::new();
     let reading = best(|| read = names.iter().map(|name| std::fs::read(name).expect("the file")).collect());
-    let (mut scratch, mut controller, mut environment) = (vec![0; SCRATCH], vec![0; CONTROLLER_MOST], vec![0; ENVIRONMENT_MOST]);
     let games: Vec<Game> = read.iter().map(|text| Game::read(text).expect("an accepted game")).collect();
     let parsing = best(|| {
         for text in &read {
@@ -58,13 +67,13 @@ fn main() {
         }
     });
     let whole = best(|| {
-        let mut child = Command::new(&program).stdin(Stdio::piped()).stdout(Stdio::null()).spawn().expect("the program");
+        let mut child = Command::new(program).stdin(Stdio::piped()).stdout(Stdio::null()).spawn().expect("the program");
         child.stdin.take().expect("its input").write_all(list.as_bytes()).expect("the list");
         child.wait().expect("its end");
     });
     std::fs::remove_dir_all(&folder).expect("the folder goes");
     let sum = reading + parsing + solving;
-    println!("{FILES} files, {} bytes", read.iter().map(Vec::len).sum::<usize>());
+    println!("{label}: {FILES} files, {} bytes", read.iter().map(Vec::len).sum::<usize>());
     println!("reading {reading:.1} ms, their text {parsing:.1} ms, solving {solving:.1} ms: {sum:.1} ms; their maps {mapping:.1} ms");
     println!("catalogue {whole:.1} ms, {:.2} times that; the target is 2", whole / sum);
 }
