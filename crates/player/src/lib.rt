@@ -16,8 +16,8 @@ pub struct Moved {
     pub code: u8,
 }
 
-// The first position of an accepted game.
-fn begin_accepted(g: Game, table: &[u16], first: InState) -> Played
+// The first position of an accepted game, for a caller that has accepted it.
+pub fn begin_accepted(g: Game, table: &[u16], first: InState) -> Played
     requires { ⌜ acceptance g ≡ Accepted ⌝ }
     ensures { λ r. ⌜ r ≡ begun g (now (table .entry)) first ⌝ }
 {
@@ -36,8 +36,8 @@ fn begin_accepted(g: Game, table: &[u16], first: InState) -> Played
     )
 }
 
-// The next position of an accepted game.
-fn step_accepted(g: Game, table: &[u16], at: Position, next: InState) -> Played
+// The next position of an accepted game, for a caller that has accepted it.
+pub fn step_accepted(g: Game, table: &[u16], at: Position, next: InState) -> Played
     requires { ⌜ acceptance g ≡ Accepted ⌝ }
     ensures { λ r. ⌜ r ≡ stepped g (now (table .entry)) at next ⌝ }
 {

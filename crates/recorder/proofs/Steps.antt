@@ -1,6 +1,7 @@
 -- Two recordings, step by step.
 --
 --   answer-start, answer-next    : the player begins, then steps
+--   accepted-begins, accepted-steps : what it answers to an accepted game
 --   ends-both, ends-one          : where the inputs have ended
 --   step-fault, step-ended, step-differs, step-same    : what one step shows
 --   compared-faulty, compared-misfit, compared-in      : the tests before
@@ -28,7 +29,7 @@ use Rattle.theory.specs.Entries.{controllerEntries}
 use Rattle.place.specs.declared.Position.{Position}
 use Rattle.place.specs.declared.Played.{Played}
 use Rattle.place.specs.declared.Played.the-variants.{At, Refused as Stopped}
-use Rattle.player.specs.Player.{fitting, beginning, stepping}
+use Rattle.player.specs.Player.{fitting, begun, stepped, afterAcceptance, beginning, stepping}
 use Rattle.recorder.specs.declared.Compared.{Compared}
 use Rattle.recorder.specs.declared.Compared.the-variants.{Agree, Differ, Ended, Fault, Refused}
 use Rattle.recorder.specs.Recorded.{inputOf, nowhere, judged, ended, answerAt, recorded, compared, faultBy, faultNumber, numberOf, Compares}
@@ -43,6 +44,16 @@ module _ (g : Game) (l : List ℕ) (p : Position) (i : InState) where
   unfolding answerAt
   answer-next zero e q = absurd (e refl)
   answer-next (suc n) e q = q
+
+-- what the player answers to an accepted game
+module _ (g : Game) (l : List ℕ) where
+  pub accepted-begins : (i : InState) {a : Played} → acceptance g ≡ Accepted → a ≡ begun g l i → a ≡ beginning g l i
+  unfolding beginning afterAcceptance
+  accepted-begins i e q = q ∙ rw e refl
+
+  pub accepted-steps : (p : Position) (i : InState) {a : Played} → acceptance g ≡ Accepted → a ≡ stepped g l p i → a ≡ stepping g l p i
+  unfolding stepping afterAcceptance
+  accepted-steps p i e q = q ∙ rw e refl
 
 -- a list that is at its end
 past : (os : List ℕ) (n : ℕ) → length os ≤ n → drop n os ≡ []

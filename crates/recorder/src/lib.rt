@@ -8,6 +8,8 @@ use place::Position;
 ghost use mathlib.Core.Path.{_≡_};
 ghost use Prim.Native.Nat.{_≤_, _<_};
 ghost use lib.ListN.{length, getD, drop};
+ghost use Rattle.game.specs.declared.Acceptance.the-variants.{Accepted};
+ghost use Rattle.game.specs.Acceptance.{acceptance};
 ghost use Rattle.recorder.specs.Recorded.{ended, answerAt, recorded, nowhere, Compares};
 
 // The inputs of a run, recorded by the panel: a state number a byte.
@@ -39,14 +41,15 @@ fn state_at(recording: &[u8], n: usize) -> usize
     recording[n] as usize
 }
 
-// The player's answer to the input of step n: at the start it begins.
+// The player's answer to the input of step n: at the start it begins. The game is accepted, once for all steps.
 fn answer_at(g: Game, table: &[u16], n: usize, at: Position, next: InState) -> Played
+    requires { ⌜ acceptance g ≡ Accepted ⌝ }
     ensures { λ r. ⌜ r ≡ answerAt g (now (table .entry)) n at next ⌝ }
 {
     if n == 0 {
-        return player::begin(g, table, next);
+        return player::begin_accepted(g, table, next);
     }
-    player::step(g, table, at, next)
+    player::step_accepted(g, table, at, next)
 }
 
 // Where the inputs have ended at step n.
@@ -62,6 +65,7 @@ fn at_end(outputs: &[u8], n: usize) -> Compared
 
 // Plays the recorded inputs, and looks at each step whether the output is the recorded one.
 fn follow(g: Game, table: &[u16], inputs: &[u8], outputs: &[u8]) -> Compared
+    requires { ⌜ acceptance g ≡ Accepted ⌝ }
     ensures { λ r. ⌜ r ≡ recorded g (now (table .entry)) (now (inputs .entry)) (now (outputs .entry)) 0 nowhere ⌝ }
 {
     let mut at = Position {

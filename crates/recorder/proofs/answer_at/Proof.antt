@@ -1,20 +1,20 @@
 -- `answer_at` by the step's number.
-use Rattle.recorder.proofs.Steps.{answer-start, answer-next}
+use Rattle.recorder.proofs.Steps.{answer-start, answer-next, accepted-begins, accepted-steps}
 use borrow.Author.Needs.{needs}
 use Rattle.recorder.proofs.answer_at.Statement.{statement}
 use Rattle.recorder.proofs.answer_at.Tie as tie
 
-begin-requires : tie.Need-begin-requires
-begin-requires c κs = search needs
+begin-accepted-requires : tie.Need-begin-accepted-requires
+begin-accepted-requires c κs = c .before .before .pre
 
 returns : tie.Need-returns
-returns c = answer-start _ _ _ _ _ (c .before .if1 .taken) (c .begin .ensures .answer)
+returns c = answer-start _ _ _ _ _ (c .before .if1 .taken) (accepted-begins _ _ _ (c .before .before .before .pre) (c .begin-accepted .ensures))
 
-step-requires : tie.Need-step-requires
-step-requires c κs = search needs
+step-accepted-requires : tie.Need-step-accepted-requires
+step-accepted-requires c κs = c .before .before .pre
 
 returns-2 : tie.Need-returns-2
-returns-2 c = answer-next _ _ _ _ _ (c .before .if1 .left) (c .step .ensures .answer)
+returns-2 c = answer-next _ _ _ _ _ (c .before .if1 .left) (accepted-steps _ _ _ _ (c .before .before .before .pre) (c .step-accepted .ensures))
 
 pub answer-at-spec : {M : Type 1} → statement M
-answer-at-spec = tie.close (tie.spec begin-requires returns step-requires returns-2)
+answer-at-spec = tie.close (tie.spec begin-accepted-requires returns step-accepted-requires returns-2)

@@ -25,7 +25,9 @@ returns c =
     (λ h. c .if1 .taken (h ∙ sym (c .before .controller-length .ensures))))
 
 follow-requires : tie.Need-follow-requires
-follow-requires c κs = search needs
+follow-requires c κs =
+    let t = c .before .before in
+    sym (t .before .before .accept .ensures .answer) ∙ t .enum-told .given .1
 
 returns-2 : tie.Need-returns-2
 returns-2 c = compares _ _ _ _ (compared-faulty _ _ _ _ _ (sym (c .before .before .before .accept .ensures .answer) ∙ c .before .n .given .1))

@@ -23,7 +23,9 @@ state-at-requires : tie.Need-state-at-requires Inv-loop μ-loop
 state-at-requires c κs = omega arith
 
 answer-at-requires : tie.Need-answer-at-requires Inv-loop μ-loop
-answer-at-requires c κs = search needs
+answer-at-requires c κs =
+    let entered = c .before .before .before .before .before in
+    entered .before .pre
 
 enum-known-answer : tie.Need-enum-known-answer Inv-loop μ-loop
 enum-known-answer c = search needs
