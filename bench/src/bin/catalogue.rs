@@ -6,7 +6,7 @@
 #[path = "../games.rs"]
 mod games;
 
-use nanpuwiq::{Game, SCRATCH};
+use nanpuwiq::{Game, SCRATCH_MOST};
 use std::hint::black_box;
 use std::io::Write;
 use std::path::PathBuf;
@@ -30,7 +30,7 @@ fn best(mut work: impl FnMut()) -> f64 {
 
 fn main() {
     let program = std::env::args().nth(1).expect("the catalogue program");
-    let (mut scratch, mut controller, mut environment) = (vec![0; SCRATCH], vec![0; ROOM], vec![0; ROOM]);
+    let (mut scratch, mut controller, mut environment) = (vec![0; SCRATCH_MOST], vec![0; ROOM], vec![0; ROOM]);
     let all = games::named("");
     let held = all.iter().filter(|(_, g)| g.solve_into(&mut scratch, &mut controller, &mut environment).is_ok());
     figures("games that the rooms hold", &program, &held.filter_map(|(_, g)| g.write().ok()).collect::<Vec<_>>());
@@ -38,7 +38,7 @@ fn main() {
 }
 
 fn figures(label: &str, program: &str, texts: &[Vec<u8>]) {
-    let (mut scratch, mut controller, mut environment) = (vec![0; SCRATCH], vec![0; ROOM], vec![0; ROOM]);
+    let (mut scratch, mut controller, mut environment) = (vec![0; SCRATCH_MOST], vec![0; ROOM], vec![0; ROOM]);
     let folder = std::env::temp_dir().join(format!("catalogue-{}", std::process::id()));
     std::fs::create_dir_all(&folder).expect("a folder for the files");
     let names: Vec<PathBuf> = (0..FILES).map(|k| folder.join(format!("{k}.game"))).collect();
