@@ -26,11 +26,11 @@ front-on : (b : ℕ) (l : List ℕ) → eqb b 10 ≡ false → front (b ∷ l) �
 unfolding front
 front-on b l h = rw (h, front) refl
 
-names-stop : (b : ℕ) (l : List ℕ) → eqb b 10 ≡ true → names (b ∷ l) ≡ [] ∷ names l
+pub names-stop : (b : ℕ) (l : List ℕ) → eqb b 10 ≡ true → names (b ∷ l) ≡ [] ∷ names l
 unfolding names
 names-stop b l h = rw (h, names) refl
 
-names-on : (b : ℕ) (l : List ℕ) → eqb b 10 ≡ false → names (b ∷ l) ≡ push b (names l)
+pub names-on : (b : ℕ) (l : List ℕ) → eqb b 10 ≡ false → names (b ∷ l) ≡ push b (names l)
 unfolding names
 names-on b l h = rw (h, names) refl
 
@@ -70,7 +70,7 @@ take-front (b ∷ l) = go (eqb b 10) (take-front l)
     go true h = refl
     go false h = ap (λ (x : List ℕ). b ∷ x) h
 
-decide : (t : Bool) → (t ≡ true) ⊎ (t ≡ false)
+pub decide : (t : Bool) → (t ≡ true) ⊎ (t ≡ false)
 decide true = inl refl
 decide false = inr refl
 
