@@ -1,12 +1,11 @@
 -- A tally under way: the outcomes of the names before a place are counted.
-use Prim.Native.Nat.{ℕ, zero, suc, _+_, _-_, _≤_, _<_}
+use Prim.Native.Nat.{ℕ, _+_, _-_, _≤_, _<_}
 use native.Mathlib.Omega.{arith}
 use native.Mathlib.Decide.{decLe}
 use mathlib.Core.Bool.{Bool, true, false, not}
 use mathlib.Core.List.{List, [], _∷_, _++_, append-assoc, append-nil}
-use mathlib.Core.Logic.{_⊎_, inl, inr}
+use mathlib.Core.Logic.{inl, inr}
 use mathlib.Core.Path.{_≡_, refl, sym, _∙_, ap, subst}
-use lib.Dec.{leb}
 use lib.ListN.{length, take, drop, length-append, length-drop, length-map}
 use borrow.Author.Tests.{le-leb, lt-leb}
 use Rattle.grammar.specs.Number.{decimal}
@@ -14,7 +13,7 @@ use Rattle.shape.specs.Shape.{opening}
 use Rattle.put.specs.Put.{Puts}
 use Rattle.answer_lines.specs.Line.{refusedLine}
 use Rattle.answer_lines.proofs.Lines.{number-short, opening-short, refused-pieces}
-use Rattle.catalogue_names.specs.Names.{names, front, fitName, most, NextName}
+use Rattle.catalogue_names.specs.Names.{names, front, fitName, NextName}
 use Rattle.catalogue_names.proofs.Splitting.{past, take-front, front-short}
 use Rattle.catalogue_names.specs.declared.Kept.{Kept}
 use Rattle.catalogue_names.specs.Keeping.{cut, Held}

@@ -70,7 +70,10 @@ module _ (c : ℕ) (l : List ℕ) (whole : names (cut 0 l) ≡ short (names l)) 
   part-on : eqb c 10 ≡ false → (r b : ℕ) → push b (names (cut r (c ∷ l))) ≡ behind r b (names (c ∷ l))
   part-on e r b =
       elim (decLe 256 r) [
-        | yes h ↦ (ap (λ (x : List ℕ). push b (names x)) (cut-past r c l e h) ∙ part r b ∙ behind-past r b c (names l) h ∙ sym (ap (behind r b) (names-on c l e)))
+        | yes h ↦ (
+            ap (λ (x : List ℕ). push b (names x)) (cut-past r c l e h) ∙ part r b ∙ behind-past r b c (names l) h
+            ∙ sym (ap (behind r b) (names-on c l e))
+            )
         | no h ↦ (
             ap (push b) (ap names (cut-on r c l e (omega arith)) ∙ names-on c (cut (suc r) l) e ∙ part (suc r) c)
             ∙ behind-on r b c (names l) (omega arith) ∙ sym (ap (behind r b) (names-on c l e))

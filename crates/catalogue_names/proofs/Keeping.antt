@@ -1,10 +1,10 @@
 -- A list kept part by part is what is kept of the whole list.
-use Prim.Native.Nat.{ℕ, zero, suc, _+_, _*_, _-_, _≤_, _<_, min, max}
+use Prim.Native.Nat.{ℕ, zero, suc, _+_, _-_, _≤_, _<_, max}
 use native.Mathlib.Omega.{arith}
 use native.Mathlib.Numerals.{add-one}
 use mathlib.Core.Bool.{Bool, true, false}
-use mathlib.Core.List.{List, [], _∷_, _++_, append-assoc, append-nil}
-use mathlib.Core.Logic.{_≢_, _⊎_, inl, inr}
+use mathlib.Core.List.{List, [], _∷_, _++_, append-nil}
+use mathlib.Core.Logic.{_≢_}
 use mathlib.Core.Path.{_≡_, refl, sym, _∙_, ap, subst}
 use native.Mathlib.Decide.{decLe}
 use lib.Dec.{eqb, leb}
@@ -79,7 +79,7 @@ module _ (d n : ℕ) where
   unfolding reached
   reached-full m h = omega arith
 
-  pub reached-none : reached d n 0 ≡ n
+  reached-none : reached d n 0 ≡ n
   unfolding reached
   reached-none = omega arith
 

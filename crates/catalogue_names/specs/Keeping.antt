@@ -7,7 +7,7 @@
 --   Keeps d k l r e == the buffer d, kept to k, has become e by keeping the bytes l, and is kept to r
 --   Held s d k      == the buffer d, kept to k, holds of the bytes s what is kept of them, as much as has room
 --   nothing         == where a buffer stands before anything is kept
-use Prim.Native.Nat.{ℕ, suc, _+_, _≤_, min, max}
+use Prim.Native.Nat.{ℕ, suc, _+_, min, max}
 use mathlib.Core.Bool.{true, false}
 use mathlib.Core.List.{List, [], _∷_}
 use mathlib.Core.Path.{_≡_}

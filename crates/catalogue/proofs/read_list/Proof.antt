@@ -1,7 +1,6 @@
 -- `read_list` meets its contract.
-use native.Mathlib.Omega.{arith}
 use borrow.Author.Needs.{needs}
-use mathlib.Core.Path.{_≡_, refl, _∙_}
+use mathlib.Core.Path.{_≡_, refl}
 use lib.ListN.{length}
 use Rattle.catalogue.specs.Catalogue.{InputKept}
 use Rattle.catalogue.proofs.Names.{input-nothing, input-more}
