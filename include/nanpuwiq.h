@@ -11,8 +11,8 @@
  *    8  scratch under 2 * inputs + outputs words, or, for the map, a map under one word an input
  *    9  the controller's buffer too short, or the kit's      10  the panel's too short      all tried whoever wins
  *   11  bytes that are no game's text, with a place      12  over 40,960 bytes      13  a text buffer under the text's length
- *   14  an input that the panel cannot pick now, or at that step of a recording
- *   15  an entry that is none, or names a counter out of range or an output that is no move (at the start, not initial)
+ *   14  an input that the panel cannot pick now, or at that step of a recording; against a panel's table, an output that cannot be picked now
+ *   15  an entry that is none, or names a counter out of range or an output that is no move (at the start, not initial); of a panel's table, an input
  *   16  a table of another length, or a position that the game does not have
  *   17  a command count not 1 to 16
  *   18  a next mode that is neither barred nor a mode of the drive, or one past the counts that is not barred
@@ -96,7 +96,7 @@ typedef struct {
     nanpuwiq_requirement requirements[NANPUWIQ_REQUIREMENTS];
 } nanpuwiq_kit;
 
-/* Input, output and counter after the controller's answer. */
+/* Input, output and counter after the controller's answer; against a panel's table, after the output is picked. */
 typedef struct {
     nanpuwiq_in_state input;
     nanpuwiq_out_state output;
@@ -138,6 +138,13 @@ typedef struct {
     nanpuwiq_position at;
     uint8_t code;
 } nanpuwiq_moved;
+
+/* The panel's move by its table: the next input and the next counter. On a refusal both are 0. */
+typedef struct {
+    nanpuwiq_in_state input;
+    size_t counter;
+    uint8_t code;
+} nanpuwiq_panel_move;
 
 /* The answer to two recordings. */
 typedef struct {
@@ -206,6 +213,23 @@ nanpuwiq_moved nanpuwiq_step(nanpuwiq_game game, const uint16_t *table, size_t e
 
 /* Moves the position on by the next input, as nanpuwiq_step does; a refusal leaves it as it was. Code 0, 1 to 7, 16, 14 or 15. */
 uint8_t nanpuwiq_advance(nanpuwiq_game game, const uint16_t *table, size_t entries, nanpuwiq_position *at, nanpuwiq_in_state next);
+
+/* Playing against a panel's table: the panel picks its first input, the drive's side an initial output, then, again and again, the panel its next
+ * input, having seen the output, and the drive's side a next output by a move, having seen that input.
+ *
+ * The panel's first input and counter, by the table's start. Code 0, 1 to 7, 16 or 15. */
+nanpuwiq_panel_move nanpuwiq_panel_first(nanpuwiq_game game, const uint16_t *table, size_t entries);
+
+/* The first position: the start's input and counter with the output picked. On a refusal the position is all zero.
+ * Code 0, 1 to 7, 16, 14 (the output is not initial) or 15. */
+nanpuwiq_moved nanpuwiq_panel_begin(nanpuwiq_game game, const uint16_t *table, size_t entries, nanpuwiq_out_state first);
+
+/* The panel's next input and counter at a position, by the table's row. Code 0, 1 to 7, 16 or 15. */
+nanpuwiq_panel_move nanpuwiq_panel_next(nanpuwiq_game game, const uint16_t *table, size_t entries, nanpuwiq_position at);
+
+/* The position after that move and the output picked. On a refusal the position is the old one.
+ * Code 0, 1 to 7, 16, 14 (the output is no move) or 15. */
+nanpuwiq_moved nanpuwiq_panel_step(nanpuwiq_game game, const uint16_t *table, size_t entries, nanpuwiq_position at, nanpuwiq_out_state next);
 
 /* Whether of two recordings of one run, the panel's inputs and the drive's outputs, the outputs are those that a controller's table gives for the
  * inputs. Step 0 is the first input with the table's start, every later step the table's row. The first step is told that shows

@@ -103,12 +103,19 @@ pub struct Kit {
     pub requirements: [Requirement; REQUIREMENTS],
 }
 
-/// Input, output and counter after the controller's answer.
+/// Input, output and counter after the controller's answer; against an environment's table, after the output is picked.
 #[repr(C)]
 #[derive(Clone, Copy, Debug, PartialEq, Eq)]
 pub struct Position {
     pub input: InState,
     pub output: OutState,
+    pub counter: usize,
+}
+
+/// The panel's move by an environment's table: the next input and the next counter.
+#[derive(Clone, Copy, Debug, PartialEq, Eq)]
+pub struct PanelMove {
+    pub input: InState,
     pub counter: usize,
 }
 
@@ -176,6 +183,12 @@ fn refusal(code: u8) -> Result<(), Error> {
         0 => Ok(()),
         number => Err(refused(number)),
     }
+}
+
+/// The panel's move, or the refusal.
+fn panel_move(r: entries::PanelMoved) -> Result<PanelMove, Error> {
+    refusal(r.code)?;
+    Ok(PanelMove { input: r.input, counter: r.counter })
 }
 
 /// Ok where it holds, else the refusal.
@@ -353,6 +366,30 @@ impl Game {
     /// The same by the entry that moves a lent position on in place.
     pub fn advance(&self, table: &[u16], at: &mut Position, next: InState) -> Result<(), Error> {
         refusal(entries::advance(*self, table, at, next))
+    }
+
+    /// The panel's first input and counter, by the start of an environment's table: 1 to 7, 16, 15.
+    pub fn panel_first(&self, table: &[u16]) -> Result<PanelMove, Error> {
+        panel_move(entries::panel_first(*self, table))
+    }
+
+    /// The first position against an environment's table: its start's input and counter with the output picked: 1 to 7, 16, 14, 15.
+    pub fn panel_begin(&self, table: &[u16], first: OutState) -> Result<Position, Error> {
+        let r = entries::panel_begin(*self, table, first);
+        refusal(r.code)?;
+        Ok(r.at)
+    }
+
+    /// The panel's next input and counter at a position, by the row of an environment's table: 1 to 7, 16, 15.
+    pub fn panel_next(&self, table: &[u16], at: Position) -> Result<PanelMove, Error> {
+        panel_move(entries::panel_next(*self, table, at))
+    }
+
+    /// The position after that move and the output picked: 1 to 7, 16, 14, 15.
+    pub fn panel_step(&self, table: &[u16], at: Position, next: OutState) -> Result<Position, Error> {
+        let r = entries::panel_step(*self, table, at, next);
+        refusal(r.code)?;
+        Ok(r.at)
     }
 
     /// Whether the outputs recorded by the drive are those that a controller's table gives for the inputs recorded by the panel.
