@@ -1,0 +1,2 @@
+-- Laws of the panel's table played against.
+pub mod Answers
