@@ -33,7 +33,6 @@ use Rattle.place.proofs.Moves.{inputs-most, outputs-most}
 use Rattle.place.proofs.Tests.{held, refused, position-in}
 use Rattle.player.specs.Player.{afterAcceptance, Plays}
 use Rattle.player.proofs.Answers.{provided-number, after-number}
-use Rattle.panel_place.specs.declared.PanelMove.{PanelMove}
 use Rattle.panel_place.specs.declared.Picked.{Picked}
 use Rattle.panel_place.specs.declared.Picked.the-variants.{To, Refused}
 use Rattle.panel_place.specs.Picks.{granted, named, picks, joined, numberOf}
@@ -52,6 +51,8 @@ use Rattle.panel_player.specs.Panel.{
   panelBegin,
   panelNext,
   panelStep,
+  startNames,
+  rowNames,
   firstTests,
   beginTests,
   nextTests,
@@ -235,8 +236,8 @@ picked-number acceptance·.Accepted m n h = h
 picked-number (acceptance·.Refused k) m n h = refl
 
 module _ (g : Game) (l : List ℕ) where
-  start-number : numberOf (startMove g l) ≡ firstOf ((15, names (environmentCounters (separatedOf g)) (begins (graphOf (g .input))) (environmentOf g l .start)) ∷ [])
-  unfolding startMove
+  start-number : numberOf (startMove g l) ≡ firstOf ((15, startNames g l) ∷ [])
+  unfolding startMove startNames
   start-number = picks-number (environmentCounters (separatedOf g)) (begins (graphOf (g .input))) (environmentOf g l .start)
 
   pub picks-first : {r : Picked} → r ≡ panelFirst g l → Picks (firstTests g l) (panelFirst g l) r
@@ -260,13 +261,8 @@ module _ (g : Game) (l : List ℕ) where
   }
 
   module _ (p : Position) where
-    row-number : numberOf (rowMove g l p)
-        ≡ firstOf ((
-          15,
-          names (environmentCounters (separatedOf g)) (edge (graphOf (g .input)) (p .input .0)) (environmentOf g l .step (p .counter) (p .input .0) (p .output .0)),
-        )
-        ∷ [])
-    unfolding rowMove
+    row-number : numberOf (rowMove g l p) ≡ firstOf ((15, rowNames g l p) ∷ [])
+    unfolding rowMove rowNames
     row-number =
         picks-number (environmentCounters (separatedOf g)) (edge (graphOf (g .input)) (p .input .0))
         (environmentOf g l .step (p .counter) (p .input .0) (p .output .0))

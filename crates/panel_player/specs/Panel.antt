@@ -10,6 +10,7 @@
 --   nextPlace g l p q      == the answer to step from position p with output q, for an accepted game
 --   pickAfter a m          == m where a is accepted; else the refusal
 --   panelFirst g l, panelBegin g l o, panelNext g l p, panelStep g l p q    == the answers to first, begin, next and step
+--   startNames g l, rowNames g l p    == the start, and the row at position p, name a counter in range and an input that is initial, a move
 --   firstTests g l, beginTests g l o, nextTests g l p, stepTests g l p q    == their tests under their numbers, in the order in which they are tried
 --   Picks ts a r           == r is the answer a, and its number that of the tests ts
 use Prim.Native.Nat.{ℕ, _+_, _*_}
@@ -86,12 +87,20 @@ panelNext g l p = pickAfter (acceptance g) (nextMove g l p)
 unfoldable pub panelStep : Game → List ℕ → Position → OutState → Played
 panelStep g l p q = afterAcceptance (acceptance g) (nextPlace g l p q)
 
+-- "15 the row is none, or names a counter out of range or an output that is no move (at the start, not initial)", here an input
+unfoldable pub startNames : Game → List ℕ → Bool
+startNames g l = names (environmentCounters (separatedOf g)) (begins (graphOf (g .input))) (environmentOf g l .start)
+
+unfoldable pub rowNames : Game → List ℕ → Position → Bool
+rowNames g l p =
+    names (environmentCounters (separatedOf g)) (edge (graphOf (g .input)) (p .input .0)) (environmentOf g l .step (p .counter) (p .input .0) (p .output .0))
+
 -- "Whoever drives a player, after 1 to 7: 16 ..; 14 ..; 15 .."
 unfoldable pub firstTests : Game → List ℕ → List (ℕ × Bool)
 firstTests g l =
     gameTests g
     ++ (16, fitting g l)
-    ∷ (15, names (environmentCounters (separatedOf g)) (begins (graphOf (g .input))) (environmentOf g l .start))
+    ∷ (15, startNames g l)
     ∷ []
 
 unfoldable pub beginTests : Game → List ℕ → OutState → List (ℕ × Bool)
@@ -99,14 +108,14 @@ beginTests g l o =
     gameTests g
     ++ (16, fitting g l)
     ∷ (14, begins (graphOf (g .output)) (o .0))
-    ∷ (15, names (environmentCounters (separatedOf g)) (begins (graphOf (g .input))) (environmentOf g l .start))
+    ∷ (15, startNames g l)
     ∷ []
 
 unfoldable pub nextTests : Game → List ℕ → Position → List (ℕ × Bool)
 nextTests g l p =
     gameTests g
     ++ (16, fitting g l && hasPosition g (environmentCounters (separatedOf g)) p)
-    ∷ (15, names (environmentCounters (separatedOf g)) (edge (graphOf (g .input)) (p .input .0)) (environmentOf g l .step (p .counter) (p .input .0) (p .output .0)))
+    ∷ (15, rowNames g l p)
     ∷ []
 
 unfoldable pub stepTests : Game → List ℕ → Position → OutState → List (ℕ × Bool)
@@ -114,7 +123,7 @@ stepTests g l p q =
     gameTests g
     ++ (16, fitting g l && hasPosition g (environmentCounters (separatedOf g)) p)
     ∷ (14, edge (graphOf (g .output)) (p .output .0) (q .0))
-    ∷ (15, names (environmentCounters (separatedOf g)) (edge (graphOf (g .input)) (p .input .0)) (environmentOf g l .step (p .counter) (p .input .0) (p .output .0)))
+    ∷ (15, rowNames g l p)
     ∷ []
 
 pub record Picks (ts : List (ℕ × Bool)) (a r : Picked) : Type 0 where
