@@ -16,8 +16,8 @@
  *   16  a table of another length, or a position that the game does not have
  *   17  a command count not 1 to 16
  *   18  a next mode that is neither barred nor a mode of the drive, or one past the counts that is not barred
- * The lowest number whose condition holds is given; the reader tries 12, 11, then 1 to 7; the player 1 to 7, 16, 14, 15; the comparison of recordings
- * 1 to 7, 16, then 14, 15 step by step; a kit 1, 17, 18, then 2 to 10.
+ * The lowest number whose condition holds is given; the reader tries 12, 11, then 1 to 7; the player, of a controller's table or against a panel's,
+ * 1 to 7, 16, 14, 15; the comparison of recordings 1 to 7, 16, then 14, 15 step by step; a kit 1, 17, 18, then 2 to 10.
  *
  * Every value of every parameter has an answer, and on a refusal every buffer holds what it held before. What each entry promises is proved
  * in crates/nanpuwiq (specs/Calls.antt) and crates/results (specs/Results.antt), on the following, which C cannot check and a caller keeps to:

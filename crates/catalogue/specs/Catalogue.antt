@@ -1,12 +1,12 @@
 -- What the catalogue program prints for its standard input.
 --
---   FromFile o         == o is the outcome of a file that could not be opened or read, or of one of some bytes
---   ForName n o        == o is an outcome for the name n
---   Each ns os         == os are outcomes for the names ns, one each, in their order
---   Catalogued l t     == t holds the figures of the names of the list l
---   Printed l d n e    == the program's buffer d has become e by writing the print for the list l at its front, n bytes, which 32 KiB hold
---   MoreKept d k r e   == the buffer d, kept to k, has become e by keeping some bytes, and is kept to r
---   InputKept d k      == the buffer d, kept to k, holds what is kept of some bytes, those that standard input gave
+--   FromFile o            == o is the outcome of a file that could not be opened or read, or of one of some bytes
+--   ForName n o           == o is an outcome for the name n
+--   Each ns os            == os are outcomes for the names ns, one each, in their order
+--   Catalogued l t        == t holds the figures of the names of the list l
+--   Printed l d n e       == the program's buffer d has become e by writing the print for the list l at its front, n bytes, which 32 KiB hold
+--   MoreKept d k r e      == the buffer d, kept to k, has become e by keeping some bytes, and is kept to r
+--   InputKept d k         == the buffer d, kept to k, holds what is kept of some bytes, those that standard input gave
 --   KeptPrinted l k d n e == Printed s d n e of the bytes s that the buffer l, kept to k, holds
 use Prim.Native.Nat.{ℕ, _≤_}
 use mathlib.Core.Bool.{true, false}

@@ -98,7 +98,7 @@ module _ (g : Game) (l : List ℕ) where
       go (Refused n) d f = absurd (let z : _≡_ {A = ℕ} 0 1 = cc (ended g l qs n) in omega arith)
 
   -- what a play comes to is reachable
-  pub reached : (o : OutState) (qs : List OutState) (r : Position) → play g l o qs ≡ At r → Reached g l r
+  reached : (o : OutState) (qs : List OutState) (r : Position) → play g l o qs ≡ At r → Reached g l r
   unfolding play
   reached o qs r e =
       let v = ran o qs r e in
