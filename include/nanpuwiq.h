@@ -1,21 +1,6 @@
 /* The public entries of Nanpuwiq for C, in the static library libnanpuwiq.a (`rt staticlib nanpuwiq`), x86-64 Linux.
  *
- * Numbers. A code is 0, or the number of a refusal:
- *    1  a count not 1 to 64
- *    2  a move or initial state past the count, or a used row past it
- *    3  no initial state
- *    4  does not occur: a state without a move is accepted
- *    5  k over 8
- *    6  a length over 4, all eight places counted
- *    7  a state past its count in a set, an unused set not empty, or an unused requirement with a length not 0
- *    8  scratch under 2 * inputs + outputs words, or, for the map, a map under one word an input
- *    9  the controller's buffer too short, or the kit's      10  the panel's too short      all tried whoever wins
- *   11  bytes that are no game's text, with a place      12  over 40,960 bytes      13  a text buffer under the text's length
- *   14  an input that the panel cannot pick now, or at that step of a recording; against a panel's table, an output that cannot be picked now
- *   15  an entry that is none, or names a counter out of range or an output that is no move (at the start, not initial); of a panel's table, an input
- *   16  a table of another length, or a position that the game does not have
- *   17  a command count not 1 to 16
- *   18  a next mode that is neither barred nor a mode of the drive, or one past the counts that is not barred
+ * Numbers. A code is 0, or the number of a refusal: nanpuwiq_words.h has the list of them with a sentence each, nanpuwiq_words(code) gives the sentence.
  * The lowest number whose condition holds is given; the reader tries 12, 11, then 1 to 7; the player, of a controller's table or against a panel's,
  * 1 to 7, 16, 14, 15; the comparison of recordings 1 to 7, 16, then 14, 15 step by step; a kit 1, 17, 18, then 2 to 10.
  *
@@ -37,6 +22,7 @@
 extern "C" {
 #endif
 
+#define NANPUWIQ_VERSION "0.1.0"    /* of header, library and command */
 #define NANPUWIQ_STATES 64          /* states of a graph at most */
 #define NANPUWIQ_REQUIREMENTS 8     /* places for requirements */
 #define NANPUWIQ_SETS 4             /* places for sets on each side of a requirement */
@@ -153,6 +139,22 @@ typedef struct {
     bool ended;      /* whether at that step one recording has ended and the other has not; false unless code is 0 */
     size_t step;     /* the first step that shows a fault, a difference or an ending; 0 where they agree and for 1 to 7 and 16 */
 } nanpuwiq_compared;
+
+/* The words for the number of a refusal. */
+static inline const char *nanpuwiq_words(uint8_t number)
+{
+    switch (number) {
+    case 0:
+        return "not refused";
+#define NANPUWIQ_WORDS(number, words) \
+    case number:                      \
+        return words;
+#include "nanpuwiq_words.h"
+#undef NANPUWIQ_WORDS
+    default:
+        return "no number of a refusal";
+    }
+}
 
 /* Words of scratch that an accepted game asks for, and an accepted kit: 2 * inputs + outputs. On a verdict or a map that many words of scratch are
  * zero, from the first on, and the rest is as it was. */

@@ -10,6 +10,8 @@ use std::fmt;
 
 mod entries;
 
+/// The version of this crate, which is the header's NANPUWIQ_VERSION.
+pub const VERSION: &str = env!("CARGO_PKG_VERSION");
 /// States of a graph at most.
 pub const STATES: usize = 64;
 /// Places for requirements.
@@ -29,6 +31,8 @@ pub const ENVIRONMENT_MOST: usize = 1 + STATES * REQUIREMENTS * SETS * STATES;
 pub const COMMANDS: usize = 16;
 /// The next mode where a command is barred.
 pub const BARRED: u8 = 255;
+/// Bytes of the longest text that is read.
+pub const TEXT_MOST: usize = 40_960;
 /// Entries of the longest kit's table.
 pub const KIT_MOST: usize = STATES + STATES * REQUIREMENTS * SETS * STATES * COMMANDS;
 
@@ -126,11 +130,18 @@ pub struct Error {
     pub place: usize,
 }
 
+/// The words for the number of a refusal, from include/nanpuwiq_words.h.
+pub fn words(number: u8) -> &'static str {
+    include!(concat!(env!("OUT_DIR"), "/words.rs"))
+}
+
+/// The number and its words: `refused 3: no initial state`, and for 11 the place too: `refused 11 20: bytes that are no game's text`.
 impl fmt::Display for Error {
     fn fmt(&self, f: &mut fmt::Formatter<'_>) -> fmt::Result {
-        match self.number {
-            11 => write!(f, "refused 11 {}", self.place),
-            number => write!(f, "refused {number}"),
+        let Error { number, place } = *self;
+        match number {
+            11 => write!(f, "refused 11 {place}: {}", words(number)),
+            _ => write!(f, "refused {number}: {}", words(number)),
         }
     }
 }

@@ -1,0 +1,23 @@
+/* The numbers of refusals with their words, the one list of them: nanpuwiq_words in nanpuwiq.h answers from it, the Rust crate reads it when it is
+ * built, and tests/words.py holds docs/API.md to it. Whoever includes this file defines NANPUWIQ_WORDS(number, words) before. A number has a line, in
+ * rising order; the words have no quote and no backslash. */
+NANPUWIQ_WORDS(1, "a count not 1 to 64")
+NANPUWIQ_WORDS(2, "a move or initial state past the count, or a used row past it")
+NANPUWIQ_WORDS(3, "no initial state")
+NANPUWIQ_WORDS(4, "does not occur: a state without a move is accepted")
+NANPUWIQ_WORDS(5, "more than 8 requirements")
+NANPUWIQ_WORDS(6, "a length over 4, all eight places counted")
+NANPUWIQ_WORDS(7, "a state past its count in a set, an unused set not empty, or an unused requirement with a length not 0")
+NANPUWIQ_WORDS(8, "scratch under 2 * inputs + outputs words, or, where the call writes the map, a map under one word an input")
+NANPUWIQ_WORDS(9, "the controller's buffer too short, or the kit's, whoever wins")
+NANPUWIQ_WORDS(10, "the panel's buffer too short, whoever wins")
+NANPUWIQ_WORDS(11, "bytes that are no game's text")
+NANPUWIQ_WORDS(12, "a text over 40,960 bytes")
+NANPUWIQ_WORDS(13, "a text buffer under the text's length")
+NANPUWIQ_WORDS(14, "a state that cannot be picked now: at the start not initial, later no move")
+NANPUWIQ_WORDS(15, "an entry that is none, or names a counter out of range or a state that is no move (at the start, not initial)")
+NANPUWIQ_WORDS(16, "a table of another length, or a position that the game does not have")
+NANPUWIQ_WORDS(17, "a command count not 1 to 16")
+NANPUWIQ_WORDS(18, "a next mode that is neither barred nor a mode of the drive, or one past the counts that is not barred")
+NANPUWIQ_WORDS(26, "a file that can't be opened or read, or a name over 255 bytes or with a byte 0")
+NANPUWIQ_WORDS(27, "a list of over 1,000 names")
