@@ -2,7 +2,8 @@
  *
  * Numbers. A code is 0, or the number of a refusal: nanpuwiq_words.h has the list of them with a sentence each, nanpuwiq_words(code) gives the sentence.
  * The lowest number whose condition holds is given; the reader tries 12, 11, then 1 to 7; the player, of a controller's table or against a panel's,
- * 1 to 7, 16, 14, 15; the comparison of recordings 1 to 7, 16, then 14, 15 step by step; a kit 1, 17, 18, then 2 to 10.
+ * 1 to 7, 16, 14, 15; the comparison of recordings 1 to 7, 16, then 14, 15 step by step; a kit 1, 17, 18, then 2 to 10; the map on the joined
+ * positions 1 to 7, 24, 8.
  *
  * Every value of every parameter has an answer, and on a refusal every buffer holds what it held before. What each entry promises is proved
  * in crates/nanpuwiq (specs/Calls.antt) and crates/results (specs/Results.antt), on the following, which C cannot check and a caller keeps to:
@@ -27,6 +28,8 @@ extern "C" {
 #define NANPUWIQ_REQUIREMENTS 8     /* places for requirements */
 #define NANPUWIQ_SETS 4             /* places for sets on each side of a requirement */
 #define NANPUWIQ_SCRATCH_MOST 192   /* words of scratch that the largest game asks for */
+#define NANPUWIQ_JOINED_SCRATCH 4096  /* words of scratch that the map on the joined positions asks for */
+#define NANPUWIQ_JOINED_STATES 32   /* states of a graph at most, for that map */
 #define NANPUWIQ_NONE 65535         /* the entry of a table that is none */
 #define NANPUWIQ_TABLE_MOST 131136  /* entries of the longest controller's table; the longest panel's has 131073 */
 #define NANPUWIQ_TEXT_MOST 40960    /* bytes of the longest text that is read */
@@ -174,6 +177,11 @@ uint8_t nanpuwiq_accept(nanpuwiq_game game);
  * A bit is set exactly where a controller with finitely many memory values, started there, makes every reachable round meet all requirements.
  * Code 0, 1 to 7, or 8. On 0 scratch's first nanpuwiq_scratch_words(game) words are zero and the rest is as it was. */
 uint8_t nanpuwiq_won_map(nanpuwiq_game game, uint64_t *scratch, size_t scratch_words, uint64_t *map, size_t map_words);
+
+/* The same map, worked out on the joined positions from the last components of the joined graph backward: the solver of the lecture room
+ * (docs/LECTURE.md), for graphs of at most NANPUWIQ_JOINED_STATES states. Where both calls answer 0, the words they write are the same.
+ * Code 0, 1 to 7, 24, or 8. On 0 scratch's first NANPUWIQ_JOINED_SCRATCH words are zero and the rest is as it was. */
+uint8_t nanpuwiq_joined_map(nanpuwiq_game game, uint64_t *scratch, size_t scratch_words, uint64_t *map, size_t map_words);
 
 /* Names the side that wins and fills the front of its buffer with a table that wins for it; no table of any finite size wins for the other.
  * The rest of that buffer and all of the other stay as they were; scratch's first nanpuwiq_scratch_words(game) words are zero and the rest is as it was.

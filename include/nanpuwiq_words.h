@@ -19,5 +19,6 @@ NANPUWIQ_WORDS(15, "an entry that is none, or names a counter out of range or a 
 NANPUWIQ_WORDS(16, "a table of another length, or a position that the game does not have")
 NANPUWIQ_WORDS(17, "a command count not 1 to 16")
 NANPUWIQ_WORDS(18, "a next mode that is neither barred nor a mode of the drive, or one past the counts that is not barred")
+NANPUWIQ_WORDS(24, "a count over 32")
 NANPUWIQ_WORDS(26, "a file that can't be opened or read, or a name over 255 bytes or with a byte 0")
 NANPUWIQ_WORDS(27, "a list of over 1,000 names")

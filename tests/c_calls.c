@@ -71,6 +71,29 @@ static void map(void)
     same("map, scratch of the exact length", nanpuwiq_won_map(g, scratch, 6, words, 2), 0);
 }
 
+static void map_of_the_joined_positions(void)
+{
+    nanpuwiq_game g = example();
+    static uint64_t scratch[NANPUWIQ_JOINED_SCRATCH + 1];
+    uint64_t words[3] = {7, 7, 7};
+    memset(scratch, 255, sizeof scratch);
+    same("joined map, scratch short", nanpuwiq_joined_map(g, scratch, NANPUWIQ_JOINED_SCRATCH - 1, words, 3), 8);
+    same("joined map, map short", nanpuwiq_joined_map(g, scratch, NANPUWIQ_JOINED_SCRATCH, words, 1), 8);
+    g.output.states = NANPUWIQ_JOINED_STATES + 1;
+    same("joined map, 33 outputs, scratch short", nanpuwiq_joined_map(g, scratch, 0, words, 3), 24);
+    g.input.initial = 0;
+    same("joined map, 33 outputs, no initial input", nanpuwiq_joined_map(g, scratch, 0, words, 3), 3);
+    same("joined map refused: word 0", words[0], 7);
+    same("joined map refused: scratch", scratch[0], UINT64_MAX);
+    same("joined map", nanpuwiq_joined_map(example(), scratch, NANPUWIQ_JOINED_SCRATCH + 1, words, 3), 0);
+    same("joined map: word 0", words[0], 3);
+    same("joined map: word 1", words[1], 3);
+    same("joined map: word 2", words[2], 7);
+    same("joined map: scratch 0", scratch[0], 0);
+    same("joined map: the last word", scratch[NANPUWIQ_JOINED_SCRATCH - 1], 0);
+    same("joined map: the word after it", scratch[NANPUWIQ_JOINED_SCRATCH], UINT64_MAX);
+}
+
 static void solving(void)
 {
     nanpuwiq_game g = example();
@@ -1072,6 +1095,7 @@ int main(void)
 {
     acceptance();
     map();
+    map_of_the_joined_positions();
     solving();
     scratch_of_the_largest();
     texts();

@@ -57,6 +57,7 @@ struct OutBytes {
 extern "C" {
     fn nanpuwiq_accept(game: Game) -> u8;
     fn nanpuwiq_won_map(game: Game, scratch: *mut u64, scratch_words: usize, map: *mut u64, map_words: usize) -> u8;
+    fn nanpuwiq_joined_map(game: Game, scratch: *mut u64, scratch_words: usize, map: *mut u64, map_words: usize) -> u8;
     fn nanpuwiq_solve(
         game: Game,
         scratch: *mut u64,
@@ -99,6 +100,10 @@ pub fn accept(game: Game) -> u8 {
 
 pub fn won_map(game: Game, scratch: &mut [u64], map: &mut [u64]) -> u8 {
     unsafe { nanpuwiq_won_map(game, scratch.as_mut_ptr(), scratch.len(), map.as_mut_ptr(), map.len()) }
+}
+
+pub fn joined_map(game: Game, scratch: &mut [u64], map: &mut [u64]) -> u8 {
+    unsafe { nanpuwiq_joined_map(game, scratch.as_mut_ptr(), scratch.len(), map.as_mut_ptr(), map.len()) }
 }
 
 pub fn solve(game: Game, scratch: &mut [u64], controller: &mut [u16], panel: &mut [u16]) -> SolveResult {

@@ -20,6 +20,10 @@ pub const REQUIREMENTS: usize = 8;
 pub const SETS: usize = 4;
 /// Words of scratch that the largest game asks for.
 pub const SCRATCH_MOST: usize = 3 * STATES;
+/// Words of scratch that the map on the joined positions asks for.
+pub const JOINED_SCRATCH: usize = 4_096;
+/// States of a graph at most, for that map.
+pub const JOINED_STATES: usize = 32;
 /// The entry of a table that is none.
 pub const NONE: u16 = 65_535;
 /// Entries of the longest controller's table.
@@ -123,7 +127,7 @@ pub struct PanelMove {
     pub counter: usize,
 }
 
-/// A refusal: its number, 1 to 18, and for 11 how far the bytes could be a game's text (else 0).
+/// A refusal: its number, 1 to 18 or 24, and for 11 how far the bytes could be a game's text (else 0).
 #[derive(Clone, Copy, Debug, PartialEq, Eq)]
 pub struct Error {
     pub number: u8,
@@ -313,6 +317,19 @@ impl Game {
     pub fn won_map(&self) -> Result<Vec<u64>, Error> {
         let mut map = vec![0; self.input.states.min(STATES)];
         self.won_map_into(&mut [0; SCRATCH_MOST], &mut map)?;
+        Ok(map)
+    }
+
+    /// The won map of the lecture room's solver in a buffer of the caller's, in a game of at most 32 states a graph: 1 to 7, 24, 8. On a map the first
+    /// `JOINED_SCRATCH` words of scratch are zero and the rest is as it was.
+    pub fn joined_map_into(&self, scratch: &mut [u64], map: &mut [u64]) -> Result<(), Error> {
+        refusal(entries::joined_map(*self, scratch, map))
+    }
+
+    /// The won map, worked out on the joined positions: what `won_map` gives, in a game of at most 32 states a graph.
+    pub fn joined_map(&self) -> Result<Vec<u64>, Error> {
+        let mut map = vec![0; self.input.states.min(STATES)];
+        self.joined_map_into(&mut vec![0; JOINED_SCRATCH], &mut map)?;
         Ok(map)
     }
 

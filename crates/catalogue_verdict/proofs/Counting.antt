@@ -20,7 +20,7 @@ use Rattle.game.specs.Acceptance.{acceptance}
 use Rattle.sizes.proofs.Lengths.{inputs-most, outputs-most}
 use Rattle.map.specs.declared.Mapped.{Mapped}
 use Rattle.map.specs.declared.Mapped.the-variants.{Done}
-use Rattle.map.specs.Read.{mapRow}
+use Rattle.marks.specs.Marks.{mapRow}
 use Rattle.map.specs.Map.{mapFits, mapRoom, mapAnswer, mapAfter, MapMade}
 use Rattle.scratch.specs.Scratch.{scratchLength}
 use Rattle.solver.specs.declared.Verdict.{Verdict}

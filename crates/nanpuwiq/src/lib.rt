@@ -7,7 +7,7 @@ ghost use Rattle.recorder.specs.Recorded.{compared};
 ghost use Rattle.panel_player.specs.Panel.{panelFirst, panelBegin, panelNext, panelStep};
 ghost use Rattle.results.specs.Results.{compareResult, panelMoved, nowhere};
 ghost use Rattle.drives.specs.Acceptance.{kitTests};
-ghost use Rattle.nanpuwiq.specs.Calls.{MapCalled, SolveCalled, KitCalled, ReadCalled, WriteCalled};
+ghost use Rattle.nanpuwiq.specs.Calls.{MapCalled, JoinedCalled, SolveCalled, KitCalled, ReadCalled, WriteCalled};
 use drives::Kit;
 use game::Game;
 use game::InState;
@@ -36,6 +36,14 @@ pub extern "C" fn nanpuwiq_won_map(g: Game, scratch: &mut [u64], map: &mut [u64]
     ensures { λ r. ⌜ MapCalled g (now (scratch .entry)) (now (scratch .exit)) (now (map .entry)) (now (map .exit)) r ⌝ }
 {
     results::map_code(map::won_map(g, scratch, map))
+}
+
+// Marks the won positions of a game of at most 32 states a graph, on the joined positions.
+#[no_mangle]
+pub extern "C" fn nanpuwiq_joined_map(g: Game, scratch: &mut [u64], map: &mut [u64]) -> u8
+    ensures { λ r. ⌜ JoinedCalled g (now (scratch .entry)) (now (scratch .exit)) (now (map .entry)) (now (map .exit)) r ⌝ }
+{
+    results::joined_code(joined::joined_map(g, scratch, map))
 }
 
 // Names the side that wins and writes its table into the front of its buffer.

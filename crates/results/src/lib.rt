@@ -4,6 +4,7 @@ ghost use Rattle.player.specs.Player.{movedOf};
 ghost use Rattle.game.specs.Acceptance.{numberOf as acceptNumber};
 ghost use Rattle.map.specs.Map.{numberOf as mapNumber};
 ghost use Rattle.results.specs.Results.{solveResult, readResult, writeResult, compareResult, panelMoved, nowhere};
+ghost use Rattle.joined.specs.Joined.{numberOf as joinedNumber};
 use game::Acceptance;
 use game::Game;
 use game::InState;
@@ -74,6 +75,15 @@ pub fn map_code(a: Mapped) -> u8
     match a {
         Mapped::Done => 0,
         Mapped::Refused(n) => n,
+    }
+}
+
+pub fn joined_code(a: joined::Mapped) -> u8
+    ensures { λ r. ⌜ r ≡ joinedNumber a ⌝ }
+{
+    match a {
+        joined::Mapped::Done => 0,
+        joined::Mapped::Refused(n) => n,
     }
 }
 
