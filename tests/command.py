@@ -196,6 +196,29 @@ def drawn(check, command):
     check.same("status of draw", [command.run("draw", name).returncode for name in (FLUSH, EARLY)], [0, 1])
 
 
+def mapped(check, command):
+    """Won positions: those that draw marks, the same from the solver of the lecture room, which takes graphs of at most 32 states."""
+    early = "old standby: won with new none\nold prime: won with new standby\nold drain: won with new standby drain\nold supply: won with new standby supply\n"
+    for words in (["map"], ["map", "--joined"]):
+        got = command.run(*words, EARLY)
+        check.same("%s of case 6" % words, (got.stdout.decode(), got.returncode), (early, 1))
+    for name, text in [(name, text) for name, text, _ in prints()] + [("32 states", counted(32, 32, 0, 1))]:
+        given = command.run("map", command.file("m.game", text))
+        joined = command.run("map", "--joined", "m.game")
+        inputs, outputs = map(int, re.match(rb"\(game (\d+) (\d+)", text).groups())
+        check.same("lines, " + name, given.stdout.count(b"\n"), inputs)
+        if max(inputs, outputs) <= 32:
+            check.same("joined, " + name, (joined.stdout, joined.returncode), (given.stdout, given.returncode))
+        for i in range(min(inputs, 3)):
+            _, nodes, _ = drawing(command.run("draw", "--position", str(i), "0", "m.game").stdout.decode())
+            won = [str(o) for o in range(outputs) if "\\nwon" in nodes["out%d" % o]]
+            check.same("row %d, %s" % (i, name), given.stdout.decode().splitlines()[i], "old %d: won with new %s" % (i, " ".join(won) or "none"))
+    for inputs, outputs in ((33, 1), (1, 33)):
+        got = command.run("map", "--joined", command.file("m.game", counted(inputs, outputs, 0, 1)))
+        check.holds("33 states", got.returncode == 2 and got.stdout == b"" and b"refused 24" in got.stderr, got)
+        check.same("33 states, the solver's map", command.run("map", "m.game").stderr, b"")
+
+
 def named(check, command):
     """Files of names."""
     command.file("n.game", EXAMPLE)
@@ -322,7 +345,7 @@ def damaged_forms(check, command, seed):
 def failures(check, command):
     """Input that cannot be read, output that cannot be written, and wrong use."""
     (command.folder / "folder").mkdir()
-    files = {"solve": FLUSH, "play": FLUSH, "explain": FLUSH, "draw": FLUSH, "export": FLUSH, "kit": PUMPS}
+    files = {"solve": FLUSH, "play": FLUSH, "explain": FLUSH, "map": FLUSH, "draw": FLUSH, "export": FLUSH, "kit": PUMPS}
     bad = command.file("bad.game", b"(game 1 1 0)\n(in 0 1 (0))\n(out 0 0 (0))\n")
     for name, file in files.items():
         words = [name, "--c"] if name == "export" else [name]
@@ -375,6 +398,7 @@ def main():
         command = Command(os.path.abspath(sys.argv[1]), folder)
         solved(check, command, os.path.abspath(sys.argv[2]), seed)
         explained(check, command)
+        mapped(check, command)
         drawn(check, command)
         named(check, command)
         kits(check, command)

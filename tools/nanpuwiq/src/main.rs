@@ -18,6 +18,7 @@ mod forms;
 mod graphs;
 mod kit;
 mod kit_file;
+mod map;
 mod names;
 mod panel;
 mod play;
