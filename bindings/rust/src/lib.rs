@@ -10,8 +10,6 @@ use std::fmt;
 
 mod entries;
 
-/// The version of this crate, which is the header's NANPUWIQ_VERSION.
-pub const VERSION: &str = env!("CARGO_PKG_VERSION");
 /// States of a graph at most.
 pub const STATES: usize = 64;
 /// Places for requirements.
@@ -20,10 +18,6 @@ pub const REQUIREMENTS: usize = 8;
 pub const SETS: usize = 4;
 /// Words of scratch that the largest game asks for.
 pub const SCRATCH_MOST: usize = 3 * STATES;
-/// Words of scratch that the map on the joined positions asks for.
-pub const JOINED_SCRATCH: usize = 4_096;
-/// States of a graph at most, for that map.
-pub const JOINED_STATES: usize = 32;
 /// The entry of a table that is none.
 pub const NONE: u16 = 65_535;
 /// Entries of the longest controller's table.
@@ -35,8 +29,6 @@ pub const ENVIRONMENT_MOST: usize = 1 + STATES * REQUIREMENTS * SETS * STATES;
 pub const COMMANDS: usize = 16;
 /// The next mode where a command is barred.
 pub const BARRED: u8 = 255;
-/// Bytes of the longest text that is read.
-pub const TEXT_MOST: usize = 40_960;
 /// Entries of the longest kit's table.
 pub const KIT_MOST: usize = STATES + STATES * REQUIREMENTS * SETS * STATES * COMMANDS;
 
@@ -111,7 +103,7 @@ pub struct Kit {
     pub requirements: [Requirement; REQUIREMENTS],
 }
 
-/// Input, output and counter after the controller's answer; against an environment's table, after the output is picked.
+/// Input, output and counter after the controller's answer.
 #[repr(C)]
 #[derive(Clone, Copy, Debug, PartialEq, Eq)]
 pub struct Position {
@@ -120,86 +112,23 @@ pub struct Position {
     pub counter: usize,
 }
 
-/// The panel's move by an environment's table: the next input and the next counter.
-#[derive(Clone, Copy, Debug, PartialEq, Eq)]
-pub struct PanelMove {
-    pub input: InState,
-    pub counter: usize,
-}
-
-/// A refusal: its number, 1 to 18, 24 or 25, and for 11 how far the bytes could be a game's text (else 0).
+/// A refusal: its number, 1 to 18, and for 11 how far the bytes could be a game's text (else 0).
 #[derive(Clone, Copy, Debug, PartialEq, Eq)]
 pub struct Error {
     pub number: u8,
     pub place: usize,
 }
 
-/// The words for the number of a refusal, from include/nanpuwiq_words.h.
-pub fn words(number: u8) -> &'static str {
-    include!(concat!(env!("OUT_DIR"), "/words.rs"))
-}
-
-/// The number and its words: `refused 3: no initial state`, and for 11 the place too: `refused 11 20: bytes that are no game's text`.
 impl fmt::Display for Error {
     fn fmt(&self, f: &mut fmt::Formatter<'_>) -> fmt::Result {
-        let Error { number, place } = *self;
-        match number {
-            11 => write!(f, "refused 11 {place}: {}", words(number)),
-            _ => write!(f, "refused {number}: {}", words(number)),
+        match self.number {
+            11 => write!(f, "refused 11 {}", self.place),
+            number => write!(f, "refused {number}"),
         }
     }
 }
 
 impl std::error::Error for Error {}
-
-/// What made a position won or lost: the first ground that fits, in this order, with the lowest numbers.
-///
-/// A component is a largest set of states that reach one another, or a lone state; its number is its smallest state, and it is stayable where a move lies
-/// inside it.
-#[derive(Clone, Copy, Debug, PartialEq, Eq)]
-pub enum Ground {
-    /// Won: the input has no move.
-    InputStuck,
-    /// Won: every next input has a reply that makes a won position; the input's component is not stayable.
-    ByReplies,
-    /// Won: the output reaches this component, where the controller stays while the input stays in its own.
-    AtHome(OutState),
-    /// Lost: the output has no move.
-    OutputStuck,
-    /// Lost: no output move makes a won position with this next input; the input's component is not stayable.
-    Unanswered(InState),
-    /// Lost: a move out of the input's component enters this state, which is lost with this output.
-    ByWayOut(InState),
-    /// Lost: this requirement, from 0, is due in the input's component, and the output's component, a stayable one, misses this output set, from 0
-    /// within the requirement.
-    Unserved(usize, usize),
-    /// Lost: the output's component is not stayable.
-    PushedOn,
-}
-
-impl Ground {
-    /// Whether the position is won.
-    pub fn is_won(self) -> bool {
-        matches!(self, Ground::InputStuck | Ground::ByReplies | Ground::AtHome(_))
-    }
-}
-
-impl fmt::Display for Ground {
-    fn fmt(&self, f: &mut fmt::Formatter<'_>) -> fmt::Result {
-        match self {
-            Ground::InputStuck => write!(f, "won: the input has no move"),
-            Ground::ByReplies => write!(f, "won: every next input has a winning reply"),
-            Ground::AtHome(home) => write!(f, "won: the outputs of component {} serve all that is due", home.0),
-            Ground::OutputStuck => write!(f, "lost: the output has no move"),
-            Ground::Unanswered(next) => write!(f, "lost: next input {} has no winning reply", next.0),
-            Ground::ByWayOut(entered) => write!(f, "lost: the inputs can leave to input {}, which is lost with this output", entered.0),
-            Ground::Unserved(requirement, set) => {
-                write!(f, "lost: requirement {requirement} is due, and the outputs here never visit its output set {set}")
-            }
-            Ground::PushedOn => write!(f, "lost: the output cannot stay where it is, and wherever it goes is lost"),
-        }
-    }
-}
 
 /// The side that wins.
 #[derive(Clone, Copy, Debug, PartialEq, Eq)]
@@ -247,12 +176,6 @@ fn refusal(code: u8) -> Result<(), Error> {
         0 => Ok(()),
         number => Err(refused(number)),
     }
-}
-
-/// The panel's move, or the refusal.
-fn panel_move(r: entries::PanelMoved) -> Result<PanelMove, Error> {
-    refusal(r.code)?;
-    Ok(PanelMove { input: r.input, counter: r.counter })
 }
 
 /// Ok where it holds, else the refusal.
@@ -369,40 +292,6 @@ impl Game {
         Ok(map)
     }
 
-    /// The won map of the lecture room's solver in a buffer of the caller's, in a game of at most 32 states a graph: 1 to 7, 24, 8. On a map the first
-    /// `JOINED_SCRATCH` words of scratch are zero and the rest is as it was.
-    pub fn joined_map_into(&self, scratch: &mut [u64], map: &mut [u64]) -> Result<(), Error> {
-        refusal(entries::joined_map(*self, scratch, map))
-    }
-
-    /// The won map, worked out on the joined positions: what `won_map` gives, in a game of at most 32 states a graph.
-    pub fn joined_map(&self) -> Result<Vec<u64>, Error> {
-        let mut map = vec![0; self.input.states.min(STATES)];
-        self.joined_map_into(&mut vec![0; JOINED_SCRATCH], &mut map)?;
-        Ok(map)
-    }
-
-    /// What made a position won or lost: 1 to 7, 25 a position outside the game, 8.
-    pub fn explain_into(&self, scratch: &mut [u64], input: InState, output: OutState) -> Result<Ground, Error> {
-        let r = entries::explain(*self, scratch, input, output);
-        refusal(r.code)?;
-        Ok(match r.ground {
-            1 => Ground::InputStuck,
-            2 => Ground::ByReplies,
-            3 => Ground::AtHome(OutState(r.first)),
-            4 => Ground::OutputStuck,
-            5 => Ground::Unanswered(InState(r.first)),
-            6 => Ground::ByWayOut(InState(r.first)),
-            7 => Ground::Unserved(r.first, r.second),
-            _ => Ground::PushedOn,
-        })
-    }
-
-    /// What made a position won or lost.
-    pub fn explain(&self, input: InState, output: OutState) -> Result<Ground, Error> {
-        self.explain_into(&mut [0; SCRATCH_MOST], input, output)
-    }
-
     /// The side that wins, and how many entries of its buffer are filled with its table: 1 to 7, 8, 9, 10.
     pub fn solve_into(&self, scratch: &mut [u64], controller: &mut [u16], environment: &mut [u16]) -> Result<(Winner, usize), Error> {
         let r = entries::solve(*self, scratch, controller, environment);
@@ -464,30 +353,6 @@ impl Game {
     /// The same by the entry that moves a lent position on in place.
     pub fn advance(&self, table: &[u16], at: &mut Position, next: InState) -> Result<(), Error> {
         refusal(entries::advance(*self, table, at, next))
-    }
-
-    /// The panel's first input and counter, by the start of an environment's table: 1 to 7, 16, 15.
-    pub fn panel_first(&self, table: &[u16]) -> Result<PanelMove, Error> {
-        panel_move(entries::panel_first(*self, table))
-    }
-
-    /// The first position against an environment's table: its start's input and counter with the output picked: 1 to 7, 16, 14, 15.
-    pub fn panel_begin(&self, table: &[u16], first: OutState) -> Result<Position, Error> {
-        let r = entries::panel_begin(*self, table, first);
-        refusal(r.code)?;
-        Ok(r.at)
-    }
-
-    /// The panel's next input and counter at a position, by the row of an environment's table: 1 to 7, 16, 15.
-    pub fn panel_next(&self, table: &[u16], at: Position) -> Result<PanelMove, Error> {
-        panel_move(entries::panel_next(*self, table, at))
-    }
-
-    /// The position after that move and the output picked: 1 to 7, 16, 14, 15.
-    pub fn panel_step(&self, table: &[u16], at: Position, next: OutState) -> Result<Position, Error> {
-        let r = entries::panel_step(*self, table, at, next);
-        refusal(r.code)?;
-        Ok(r.at)
     }
 
     /// Whether the outputs recorded by the drive are those that a controller's table gives for the inputs recorded by the panel.

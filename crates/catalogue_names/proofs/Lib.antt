@@ -1,3 +1,1 @@
 pub mod Splitting
-pub mod Keeping
-pub mod Cut

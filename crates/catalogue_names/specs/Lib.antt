@@ -1,3 +1,2 @@
 -- The names of a list.
 pub mod Names
-pub mod Keeping

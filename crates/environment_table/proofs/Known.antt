@@ -20,20 +20,17 @@ use borrow.Author.Tests.{lt-ltb, ltb-true, eqb-true, eqb-false, eq-eqb, ne-eqb}
 use Rattle.finite.specs.Bounded.{any, least}
 use Rattle.finite.proofs.Truth.{decide, clash, and-intro, and-left, and-right, and-false-left, or-cases, or-right, or-none, not-true, true-of, false-of}
 use Rattle.finite.proofs.Bounded.{any-same, least-same, least-any, least-found}
-use Rattle.bits.specs.Member.{has, pack, within, both}
+use Rattle.bits.specs.Member.{has, pack, within}
 use Rattle.bits.proofs.Membership.{has-zero, has-pack-below, has-within}
 use Rattle.bits.proofs.Compare.{nonzero-member}
 use Rattle.ways.proofs.Kept.{pack-below}
 use Rattle.sets.specs.Words.{capacity, bitsOf, setsIn, setCount}
-use Rattle.sets.proofs.Rows.{set-bits}
 use Rattle.graphs.specs.Graph.{edge, begins, stuck}
 use Rattle.graphs.specs.Component.{nontrivial}
 use Rattle.graphs.proofs.Graph.{stuck-not, stuck-moves}
 use Rattle.game.specs.declared.Game.{Game}
 use Rattle.game.specs.declared.InSet.{InSet}
 use Rattle.game.specs.declared.OutSet.{OutSet}
-use Rattle.game.specs.declared.OutState.{OutState}
-use Rattle.game.specs.Access.{outMoves, outInitial}
 use Rattle.game.proofs.Laws.{accepted-fits}
 use Rattle.components.proofs.Closed.{moved-edge}
 use Rattle.play.specs.Play.{graphOf, separatedOf}
@@ -59,10 +56,6 @@ use Rattle.environment_table.proofs.Reading.{refused-within, unanswered
 pub unanswered-of : (l : List ℕ) (n m inner : ℕ) {j : ℕ} {x x′ : InSet} {y y′ : OutSet} → x ≡ x′ → y ≡ y′
     → j ≡ unansweredAt l n m inner (bitsOf (x .0)) (bitsOf (y .0)) → j ≡ unansweredAt l n m inner (bitsOf (x′ .0)) (bitsOf (y′ .0))
 unanswered-of l n m inner p q e = e ∙ ap₂ (λ (a : InSet) (b : OutSet). unansweredAt l n m inner (bitsOf (a .0)) (bitsOf (b .0))) p q
-
--- the moves of an output, as a number
-pub moves-bits : (g : Game) (o : OutState) {y : OutSet} → y ≡ outMoves g o → bitsOf (y .0) ≡ getD (setsIn (g .output .moves)) (o .0) 0
-moves-bits g o e = ap (λ (k : OutSet). bitsOf (k .0)) e ∙ set-bits (g .output .moves) (o .0)
 
 -- the initial states as sets
 begins-has : (g : Game) (o : ℕ) → o < g .output .states → has (bitsOf (g .output .initial)) o ≡ begins (separatedOf g .output) o
@@ -92,27 +85,15 @@ module _ (g : Game) (s : List ℕ) (inner : ℕ) (K : Known g s inner) where
   unfolding separatedOf
   output-edge o p a = moved-edge (g .output) (accepted-fits g (K .accepted) .output) o p a
 
-  -- the moves and the initial states of the outputs are outputs
-  pub moves-within : (o y : ℕ) → o < g .output .states → y ≡ getD (setsIn (g .output .moves)) o 0 → within y (g .output .states) ≡ true
-  moves-within o y b e =
-      has-within y (g .output .states) (λ p h. K .ready .fits .output .row-below o p b (ap (λ (k : ℕ). has k p) (sym e) ∙ h))
-
-  pub initial-within : {y : OutSet} → y ≡ outInitial g → within (bitsOf (y .0)) (g .output .states) ≡ true
-  initial-within {y} e =
-      has-within (bitsOf (y .0)) (g .output .states)
-      (λ p h. K .ready .fits .output .initial-below p (ap (λ (k : OutSet). has (bitsOf (k .0)) p) (sym e) ∙ h))
-
   known-answers : (j o : ℕ) → j < g .input .states → o < g .output .states
-      → someWonAt (setsIn s) (g .input .states) (g .output .states) inner j (getD (setsIn (g .output .moves)) o 0)
-      ≡ answers (separatedOf g) (region (separatedOf g)) j o
+      → someWonAt (setsIn s) (g .input .states) (g .output .states) inner j (getD (setsIn (g .output .moves)) o 0) ≡ answers (separatedOf g) (region (separatedOf g)) j o
   unfolding someWonAt answers separatedOf graphOf
   known-answers j o a b =
       any-same (g .output .states) (λ p. has (getD (setsIn (g .output .moves)) o 0) p && wonAt (setsIn s) (g .input .states) inner j p)
       (λ p. edge (separatedOf g .output) o p && region (separatedOf g) j p)
       (λ p c. ap₂ _&&_ (output-edge o p b) (known-won j p a c))
 
-  known-opens : (i : ℕ) → i < g .input .states
-      → someWonAt (setsIn s) (g .input .states) (g .output .states) inner i (bitsOf (g .output .initial)) ≡ opens (separatedOf g) i
+  known-opens : (i : ℕ) → i < g .input .states → someWonAt (setsIn s) (g .input .states) (g .output .states) inner i (bitsOf (g .output .initial)) ≡ opens (separatedOf g) i
   unfolding someWonAt opens separatedOf graphOf
   known-opens i a =
       any-same (g .output .states) (λ p. has (bitsOf (g .output .initial)) p && wonAt (setsIn s) (g .input .states) inner i p)
@@ -121,8 +102,7 @@ module _ (g : Game) (s : List ℕ) (inner : ℕ) (K : Known g s inner) where
 
   -- the start
 
-  known-start : unansweredAt (setsIn s) (g .input .states) (g .output .states) inner (bitsOf (g .input .initial)) (bitsOf (g .output .initial))
-      ≡ least (g .input .states)
+  known-start : unansweredAt (setsIn s) (g .input .states) (g .output .states) inner (bitsOf (g .input .initial)) (bitsOf (g .output .initial)) ≡ least (g .input .states)
       (refused (separatedOf g))
   unfolding unansweredAt openAt refused
   known-start =
@@ -131,18 +111,14 @@ module _ (g : Game) (s : List ℕ) (inner : ℕ) (K : Known g s inner) where
       (λ i. begins (separatedOf g .input) i && not (opens (separatedOf g) i))
       (λ i c. ap₂ _&&_ (starts-has g i c) (ap not (known-opens i c)))
 
-  pub start-found : (j : ℕ)
-      → j ≡ unansweredAt (setsIn s) (g .input .states) (g .output .states) inner (bitsOf (g .input .initial)) (bitsOf (g .output .initial))
-      → j < g .input .states
+  pub start-found : (j : ℕ) → j ≡ unansweredAt (setsIn s) (g .input .states) (g .output .states) inner (bitsOf (g .input .initial)) (bitsOf (g .output .initial)) → j < g .input .states
       → entry (gives 0 j) ≡ entry (environmentStart (separatedOf g))
   unfolding environmentStart separatedOf graphOf
   start-found j e b =
       let f = e ∙ known-start in
       rw (least-any (g .input .states) (refused (separatedOf g)) (rw f at b), environmentStart) (ap (λ (k : ℕ). entry (gives 0 k)) f)
 
-  pub start-none : (j : ℕ)
-      → j ≡ unansweredAt (setsIn s) (g .input .states) (g .output .states) inner (bitsOf (g .input .initial)) (bitsOf (g .output .initial))
-      → g .input .states ≤ j
+  pub start-none : (j : ℕ) → j ≡ unansweredAt (setsIn s) (g .input .states) (g .output .states) inner (bitsOf (g .input .initial)) (bitsOf (g .output .initial)) → g .input .states ≤ j
       → entry none ≡ entry (environmentStart (separatedOf g))
   unfolding environmentStart separatedOf graphOf
   start-none j e b =
@@ -162,14 +138,12 @@ module _ (g : Game) (s : List ℕ) (inner : ℕ) (K : Known g s inner) where
         is : (h : ℕ) → entry none ≡ entry (environmentRow (separatedOf g) i h o)
         is h = rw (sym (known-won i o a b) ∙ e, environmentRow) refl
 
-    known-push : unansweredAt (setsIn s) (g .input .states) (g .output .states) inner (getD (setsIn (g .input .moves)) i 0)
-        (getD (setsIn (g .output .moves)) o 0)
+    known-push : unansweredAt (setsIn s) (g .input .states) (g .output .states) inner (getD (setsIn (g .input .moves)) i 0) (getD (setsIn (g .output .moves)) o 0)
         ≡ least (g .input .states) (λ j. edge (separatedOf g .input) i j && not (answers (separatedOf g) (region (separatedOf g)) j o))
     unfolding unansweredAt openAt
     known-push =
         least-same (g .input .states)
-        (λ j. has (getD (setsIn (g .input .moves)) i 0) j
-        && not (someWonAt (setsIn s) (g .input .states) (g .output .states) inner j (getD (setsIn (g .output .moves)) o 0)))
+        (λ j. has (getD (setsIn (g .input .moves)) i 0) j && not (someWonAt (setsIn s) (g .input .states) (g .output .states) inner j (getD (setsIn (g .output .moves)) o 0)))
         (λ j. edge (separatedOf g .input) i j && not (answers (separatedOf g) (region (separatedOf g)) j o))
         (λ j c. ap₂ _&&_ (input-edge i j a) (ap not (known-answers j o c b)))
 
@@ -207,8 +181,7 @@ module _ (g : Game) (s : List ℕ) (inner : ℕ) (K : Known g s inner) where
     }
 
     -- so the won rows of i are written
-    pub none-filled : {l m : List ℕ} (M n every first : ℕ) (z : Layout) → first ≡ entry none → Roomy g M n
-        → EnvironmentLayout (g .input .states) M (g .output .states) z
+    pub none-filled : {l m : List ℕ} (M n every first : ℕ) (z : Layout) → first ≡ entry none → Roomy g M n → EnvironmentLayout (g .input .states) M (g .output .states) z
         → ((h : ℕ) → has every h ≡ ltb h M) → Wrote z i won every first 0 l m → Filled g (λ x h o. (x ≡ i) × (region (separatedOf g) x o ≡ true)) l m
     none-filled M n every first z q R Z e W =
         filled-same g
@@ -305,11 +278,6 @@ module _ (g : Game) (s : List ℕ) (inner : ℕ) (K : Known g s inner) where
       pushes-none l z =
           filled-same g (filled-none g {P = λ a h p. ⊥} l (λ a h p q. q))
           (λ a h p la lh lp q. clash (at-o a p la (q .1) (q .0) (q .2)) (ap (λ (y : ℕ). has y a) z ∙ has-zero a))
-
--- the push of one input, from its row
-pub push-of : (g : Game) (M which o refused : ℕ) → Pushes g M which o refused → (i row j : ℕ) → has which i ≡ true → row ≡ getD (setsIn (g .input .moves)) i 0
-    → j ≡ least (g .input .states) (both row refused) → (j < capacity) × Same g M i o (entry (gives 0 j)) entryStep
-push-of g M which o refused P i row j h q e = P .same i j h (e ∙ ap (λ (x : ℕ). least (g .input .states) (both x refused)) q)
 
 -- the rows of won positions and the pushes are the rows that need no walk
 pub plain-join : (g : Game) {l m k : List ℕ} → Filled g (λ i h o. region (separatedOf g) i o ≡ true) l m

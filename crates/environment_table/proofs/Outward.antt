@@ -1,6 +1,6 @@
 -- Ways out of a component in sets.
 --
---   lost-at, lost-all, exit-at, exits-at, way-open, way-next : the loops and tests
+--   lost-at, lost-all, exits-all, way-open, way-next : the loops and tests
 --   no-ways, known-ways : ways to no gates, and to gates that are the same
 --   leaves-within      : what the moves out of the component enter are inputs
 --   Words              == what is worked out for the component c, whose number is k and whose moves out enter x, and output o
@@ -24,7 +24,7 @@ use borrow.Author.Tests.{eq-eqb, ne-eqb}
 use Rattle.finite.proofs.Truth.{decide, clash, and-intro, and-left, and-right, and-false-left, and-false-right, not-true, same-test, false-of}
 use Rattle.finite.proofs.Bounded.{any-intro, any-elim, any-none, least-member, least-before, least-found, least-unique}
 use Rattle.bits.specs.Member.{has, pack, within, meets}
-use Rattle.bits.proofs.Membership.{ext, has-zero, has-and, has-pack-below, has-within}
+use Rattle.bits.proofs.Membership.{has-zero, has-and, has-pack-below, has-within}
 use Rattle.bits.proofs.Compare.{meets-intro, meets-elim, nonzero-member}
 use Rattle.sets.specs.Words.{capacity, setsIn, setCount}
 use Rattle.graphs.specs.Graph.{stuck}
@@ -95,12 +95,9 @@ pub lost-all : (l : List ℕ) (n inner x o : ℕ) {y : ℕ} → y ≡ pack n (λ
 unfolding lostIn
 lost-all l n inner x o e = e
 
-pub exit-at : (moves : List ℕ) (out k row : ℕ) {b : Bool} → row ≡ getD moves k 0 → b ≡ meets capacity row out → b ≡ meets capacity (getD moves k 0) out
-exit-at moves out k row q e = e ∙ ap (λ (x : ℕ). meets capacity x out) q
-
-pub exits-at : (moves : List ℕ) (c out n : ℕ) {y : ℕ} → y ≡ pack n (λ k. has c k && meets capacity (getD moves k 0) out) → y ≡ pack n (exitsAt moves c out)
+pub exits-all : (moves : List ℕ) (c out : ℕ) {y : ℕ} → y ≡ pack capacity (λ k. has c k && meets capacity (getD moves k 0) out) → y ≡ pack capacity (exitsAt moves c out)
 unfolding exitsAt
-exits-at moves c out n e = e
+exits-all moves c out e = e
 
 no-near : (n : ℕ) (r : ℕ → ℕ → Bool) (k s : ℕ) → near n r (has 0) k s ≡ true → ⊥
 no-near n r zero s e = clash (near-zero n r (has 0) s e) (has-zero s)
@@ -116,15 +113,9 @@ no-ways rows n c next = record { moves = λ s b w. absurd (no-near n (kept rows 
 pub known-ways : (rows : List ℕ) (n c : ℕ) (next : List ℕ) {x y : ℕ} → x ≡ y → Toward rows n c x next → Toward rows n c y next
 known-ways rows n c next e = subst (λ (z : ℕ). Toward rows n c z next) e
 
-way-here : (row out next j : ℕ) → meets capacity row out ≡ true → j ≡ least capacity (has (bitAnd row out)) → j ≡ wayFrom row out next
+pub way-open : (row out next j : ℕ) → meets capacity row out ≡ true → j ≡ least capacity (has (bitAnd row out)) → j ≡ wayFrom row out next
 unfolding wayFrom
-way-here row out next j h e = rw (h, wayFrom) e
-
-pub way-open : (row out next x j : ℕ) → meets capacity row out ≡ true → ((t : ℕ) → has x t ≡ (has row t && has out t)) → j ≡ least capacity (has x)
-    → j ≡ wayFrom row out next
-way-open row out next x j h i e =
-    way-here row out next j h
-    (e ∙ ap (λ (k : ℕ). least capacity (has k)) (ext x (bitAnd row out) (λ t. i t ∙ sym (has-and row out t))))
+way-open row out next j h e = rw (h, wayFrom) e
 
 pub way-next : (row out next : ℕ) → meets capacity row out ≡ false → next ≡ wayFrom row out next
 unfolding wayFrom
@@ -133,8 +124,7 @@ way-next row out next h = rw (h, wayFrom) refl
 -- the rows of a way out
 
 module _ (g : Game) (M c o out : ℕ) (next : List ℕ) (O : Outward g M c o out next) (k : ℕ) (b : k < g .input .states) (e : has c k ≡ true) where
-  pub same-outward : (j : ℕ) → j ≡ wayFrom (getD (setsIn (g .input .moves)) k 0) out (getD next k 0)
-      → (j < capacity) × Same g M k o (entry (gives 0 j)) entryStep
+  pub same-outward : (j : ℕ) → j ≡ wayFrom (getD (setsIn (g .input .moves)) k 0) out (getD next k 0) → (j < capacity) × Same g M k o (entry (gives 0 j)) entryStep
   same-outward j f = (
     omega (arith, f, O .state k e),
     record {
@@ -180,7 +170,7 @@ leaves-within g s inner K c x L = has-within x (g .input .states) below
 -- what is worked out for an output: of what the moves out of the component enter, all that is lost with it; the gates to that
 pub record Words (g : Game) (s : List ℕ) (inner c x o out gates : ℕ) : Type 0 where
   pub lost : out ≡ pack (g .input .states) (lostIn (setsIn s) (g .input .states) inner x o)
-  pub gate : gates ≡ pack (g .input .states) (exitsAt (setsIn (g .input .moves)) c out)
+  pub gate : gates ≡ pack capacity (exitsAt (setsIn (g .input .moves)) c out)
 
 module _ (g : Game) (s : List ℕ) (inner : ℕ) (K : Known g s inner) (c k : ℕ) (W : Whole g c k) (x : ℕ) (L : Leaves g c x) (o : ℕ) (lo : o < g .output .states)
     (free : stuck (separatedOf g .output) o ≡ false) (out gates : ℕ) (D : Words g s inner c x o out gates) where
@@ -209,8 +199,7 @@ module _ (g : Game) (s : List ℕ) (inner : ℕ) (K : Known g s inner) (c k : �
       (and-right (enters (setsIn (g .input .moves)) c (g .input .states) t) (not (has c t))
       (sym (L .entered t) ∙ and-left (has x t) (not (region (separatedOf g) t o)) (out-both t e)))
 
-  out-intro : (a t : ℕ) → joined (graphOf (g .input)) k a ≡ true → a < g .input .states
-      → has (getD (setsIn (g .input .moves)) a 0) t ≡ true → t < g .input .states
+  out-intro : (a t : ℕ) → joined (graphOf (g .input)) k a ≡ true → a < g .input .states → has (getD (setsIn (g .input .moves)) a 0) t ≡ true → t < g .input .states
       → region (separatedOf g) t o ≡ false → joined (graphOf (g .input)) k t ≡ false → has out t ≡ true
   unfolding enters
   out-intro a t i la m b e j =
@@ -249,8 +238,7 @@ module _ (g : Game) (s : List ℕ) (inner : ℕ) (K : Known g s inner) (c k : �
         there : wayOut (separatedOf g) o a ≡ true → meets capacity (getD (setsIn (g .input .moves)) a 0) out ≡ true
         there e =
             let v = any-elim (g .input .states) (lost (separatedOf g) o a) e in
-            meets-intro capacity (getD (setsIn (g .input .moves)) a 0) out (v .0) (omega (arith, v .1, K .ready .fits .input .most))
-            (lost-move (v .0) (v .2)) (lost-out (v .0) (v .2))
+            meets-intro capacity (getD (setsIn (g .input .moves)) a 0) out (v .0) (omega (arith, v .1, K .ready .fits .input .most)) (lost-move (v .0) (v .2)) (lost-out (v .0) (v .2))
 
         back : meets capacity (getD (setsIn (g .input .moves)) a 0) out ≡ true → wayOut (separatedOf g) o a ≡ true
         back e =
@@ -288,8 +276,7 @@ module _ (g : Game) (s : List ℕ) (inner : ℕ) (K : Known g s inner) (c k : �
   gates-to : (t : ℕ) → has gates t ≡ true → gate (separatedOf g) o k t ≡ true
   unfolding exitsAt separatedOf graphOf
   gates-to t e =
-      let both : (has c t && meets capacity (getD (setsIn (g .input .moves)) t 0) out) ≡ true =
-      pack-holds (g .input .states) (exitsAt (setsIn (g .input .moves)) c out) t
+      let both : (has c t && meets capacity (getD (setsIn (g .input .moves)) t 0) out) ≡ true = pack-holds capacity (exitsAt (setsIn (g .input .moves)) c out) t
       (ap (λ (y : ℕ). has y t) (sym (D .gate)) ∙ e) in
       let j = whole-in g c k W t (and-left (has c t) (meets capacity (getD (setsIn (g .input .moves)) t 0) out) both) in
       gate-intro (separatedOf g) o k t j (way-meets t j ∙ and-right (has c t) (meets capacity (getD (setsIn (g .input .moves)) t 0) out) both)
@@ -299,7 +286,7 @@ module _ (g : Game) (s : List ℕ) (inner : ℕ) (K : Known g s inner) (c k : �
   gates-of t e =
       let j = gate-joined (separatedOf g) o k t e in
       ap (λ (y : ℕ). has y t) (D .gate)
-      ∙ has-pack-below (g .input .states) (exitsAt (setsIn (g .input .moves)) c out) t (joined-to (graphOf (g .input)) k t j)
+      ∙ has-pack-below capacity (exitsAt (setsIn (g .input .moves)) c out) t (omega (arith, joined-to (graphOf (g .input)) k t j, K .ready .fits .input .most))
       ∙ and-intro (whole-of g c k W t j) (sym (way-meets t j) ∙ gate-out (separatedOf g) o k t e)
 
   gates-has : has gates ≡ gate (separatedOf g) o k
@@ -365,7 +352,7 @@ module _ (g : Game) (s : List ℕ) (inner : ℕ) (K : Known g s inner) (c k : �
         row-is
         ∙ elim (decide (wayOut (separatedOf g) o a)) [
           | inl w ↦ outward-here (separatedOf g) a h o w
-              ∙ ap (gives h) (way-here (getD (setsIn (g .input .moves)) a 0) out (getD next a 0) (least (g .input .states) (lost (separatedOf g) o a))
+              ∙ ap (gives h) (way-open (getD (setsIn (g .input .moves)) a 0) out (getD next a 0) (least (g .input .states) (lost (separatedOf g) o a))
               (sym (way-meets a j) ∙ w) (lowest-lost a j w))
           | inr w ↦ outward-on (separatedOf g) a h o w
               ∙ ap (λ (x : ℕ). gives h (toward (g .input .states) (inside (graphOf (g .input)) x) (gate (separatedOf g) o x) a)) (whole-number g c k W a j)
@@ -436,11 +423,11 @@ escape-stuck g k o {l} e = record {
 
 -- the same of any game with these counts and rows
 
-pub going-same : (O M : ℕ) (rows : List ℕ) (c o out : ℕ) (next : List ℕ) (n : ℕ) (p : Going O M rows c o out next n) (k row j : ℕ) → has c k ≡ true
-    → row ≡ getD rows k 0 → j ≡ wayFrom row out (getD next k 0) → (j < capacity) × Same (p .game) M k o (entry (gives 0 j)) entryStep
-going-same O M rows c o out next n p k row j e q f =
+pub going-same : (O M : ℕ) (rows : List ℕ) (c o out : ℕ) (next : List ℕ) (n : ℕ) (p : Going O M rows c o out next n) (k j : ℕ) → has c k ≡ true
+    → j ≡ wayFrom (getD rows k 0) out (getD next k 0) → (j < capacity) × Same (p .game) M k o (entry (gives 0 j)) entryStep
+going-same O M rows c o out next n p k j e f =
     same-outward (p .game) M c o out next (p .outward) k (p .outward .below k e) e j
-    (f ∙ ap (λ (x : ℕ). wayFrom x out (getD next k 0)) (q ∙ ap (λ (x : List ℕ). getD x k 0) (p .moves)))
+    (f ∙ ap (λ (x : List ℕ). wayFrom (getD x k 0) out (getD next k 0)) (p .moves))
 
 module _ (N O M : ℕ) (rows s : List ℕ) (inner c x k o r n : ℕ) (p : Pressed N O M rows s inner c x k o r n) where
   pub pressed-won : (N ≤ capacity) × (k < N) × (o < capacity) × (scratchSets N o < setCount s)
@@ -450,11 +437,6 @@ module _ (N O M : ℕ) (rows s : List ℕ) (inner c x k o r n : ℕ) (p : Presse
     omega (arith, p .output, p .known .ready .fits .output .most),
     omega (arith, p .inputs, p .output, p .known .ready .laid .long),
   )
-
-  pub pressed-states : within c N ≡ true
-  unfolding graphOf
-  pressed-states =
-      has-within c N (λ t e. omega (arith, p .inputs, joined-to (graphOf (p .game .input)) k t (whole-in (p .game) c k (p .whole) t e)))
 
   pub pressed-within : within x N ≡ true
   pressed-within = subst (λ (y : ℕ). within x y ≡ true) (sym (p .inputs)) (leaves-within (p .game) s inner (p .known) c x (p .leaves))
@@ -468,10 +450,9 @@ module _ (N O M : ℕ) (rows s : List ℕ) (inner c x k o r n : ℕ) (p : Presse
   -- the rows of an output without a move are written elsewhere
   pub pressed-stuck : {l : List ℕ} → r ≡ 0 → Escape (p .game) k o l l false
   pressed-stuck e =
-      escape-stuck (p .game) k o
-      (row-stuck (p .game) s inner (p .known) o (p .output) ∙ eq-eqb (getD (setsIn (p .game .output .moves)) o 0) 0 (sym (p .replies) ∙ e))
+      escape-stuck (p .game) k o (row-stuck (p .game) s inner (p .known) o (p .output) ∙ eq-eqb (getD (setsIn (p .game .output .moves)) o 0) 0 (sym (p .replies) ∙ e))
 
-  module _ (ne : r ≢ 0) (out gates : ℕ) (f : out ≡ pack N (lostIn (setsIn s) N inner x o)) (h : gates ≡ pack N (exitsAt rows c out)) where
+  module _ (ne : r ≢ 0) (out gates : ℕ) (f : out ≡ pack N (lostIn (setsIn s) N inner x o)) (h : gates ≡ pack capacity (exitsAt rows c out)) where
     free : stuck (separatedOf (p .game) .output) o ≡ false
     free =
         row-stuck (p .game) s inner (p .known) o (p .output)
@@ -480,8 +461,7 @@ module _ (N O M : ℕ) (rows s : List ℕ) (inner c x k o r n : ℕ) (p : Presse
     words : Words (p .game) s inner c x o out gates
     words = record {
       lost = subst (λ (y : ℕ). out ≡ pack y (lostIn (setsIn s) y inner x o)) (p .inputs) f;
-      gate = subst (λ (y : List ℕ). gates ≡ pack (p .game .input .states) (exitsAt y c out)) (p .moves)
-          (subst (λ (y : ℕ). gates ≡ pack y (exitsAt rows c out)) (p .inputs) h);
+      gate = subst (λ (y : List ℕ). gates ≡ pack capacity (exitsAt y c out)) (p .moves) h;
     }
 
     pub pressed-bounds : Bounds N gates

@@ -99,8 +99,7 @@ module _ (g : Game) (s : List ℕ) (inner : ℕ) (K : Known g s inner) (i : ℕ)
         below : number (graphOf (g .input)) i < g .input .states
         below = number-below (graphOf (g .input)) i li
 
-    pub skip-other : (l : List ℕ) {k : ℕ} → k ≡ least capacity (has c) → k ≢ i
-        → Filled g (λ a h b. (number (graphOf (g .input)) a ≡ i) × (plain g a b ≡ false)) l l
+    pub skip-other : (l : List ℕ) {k : ℕ} → k ≡ least capacity (has c) → k ≢ i → Filled g (λ a h b. (number (graphOf (g .input)) a ≡ i) × (plain g a b ≡ false)) l l
     skip-other l e n =
         filled-none g l (λ a h b p. n (e ∙ lowest-number ∙ number-own g a i (core-below g a (plain-core g a b (p .1))) (p .0)))
 

@@ -10,7 +10,7 @@
 --   Same g counters i o first more   == the rows of i and o hold first + more × h
 --   Putting O M i o first more n     == so do the rows of i and o of a game with O outputs, whose table fits n entries
 --   Put O M i o first more l m       == from l to m they were written, of any such game
---   Pushes g M which o refused       == so do those of an input of `which` and o: its lowest move into the set `refused`; the counter stays
+--   Pushes g M which o refused       == so do those of an input of `which` and o: first is the entry of its lowest move into the set `refused`, and the counter stays
 use Prim.Native.Nat.{ℕ, _+_, _*_, _<_, _≤_}
 use mathlib.Core.Path.{_≡_}
 use mathlib.Core.Bool.{true}
@@ -85,5 +85,4 @@ pub record Put (O M i o first more : ℕ) (l m : List ℕ) : Type 0 where
 pub record Pushes (g : Game) (M which o refused : ℕ) : Type 0 where
   pub below : (i : ℕ) → has which i ≡ true → i < g .input .states
   pub inside : within refused (g .input .states) ≡ true
-  pub same : (i j : ℕ) → has which i ≡ true → j ≡ least (g .input .states) (both (getD (setsIn (g .input .moves)) i 0) refused)
-      → (j < capacity) × Same g M i o (entry (gives 0 j)) entryStep
+  pub same : (i j : ℕ) → has which i ≡ true → j ≡ least (g .input .states) (both (getD (setsIn (g .input .moves)) i 0) refused) → (j < capacity) × Same g M i o (entry (gives 0 j)) entryStep

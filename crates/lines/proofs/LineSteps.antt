@@ -61,8 +61,7 @@ pub header-fault : {x : Run Header} {p : ℕ} → x ≡ fault p → NoHeader p �
 unfolding headerOf
 header-fault e = sym (ap headerOf e)
 
-pub state-moves : {x : Run StateRow} {f : ℕ} {m : Set} {j : ℕ} → setOf (bitsOf m) ≡ m
-    → x ≡ got (record { initial = f; moves = bitsOf m }) j → Moves f m j ≡ stateOf x
+pub state-moves : {x : Run StateRow} {f : ℕ} {m : Set} {j : ℕ} → setOf (bitsOf m) ≡ m → x ≡ got (record { initial = f; moves = bitsOf m }) j → Moves f m j ≡ stateOf x
 unfolding stateOf
 state-moves {f = f} {j = j} h e = ap (λ (y : Set). Moves f y j) (sym h) ∙ sym (ap stateOf e)
 

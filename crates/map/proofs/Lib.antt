@@ -1,3 +1,3 @@
--- Rows: the map's rows. Made: the promise for every input.
-pub mod Rows
+-- Scratch: the map's rows. Made: the promise for every input.
+pub mod Scratch
 pub mod Made

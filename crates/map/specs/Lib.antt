@@ -1,2 +1,3 @@
 -- What the map promises.
+pub mod Read
 pub mod Map

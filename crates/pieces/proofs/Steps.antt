@@ -212,9 +212,7 @@ members-begun w i v j x y h e o g =
 
 pub members-wrong : (w : ℕ → ℕ) (i p : ℕ) → (w i ≡ 41 → ⊥) → numberAt 0 highest w i ≡ fault p → run membersFormat w i ≡ fault p
 unfolding membersFormat
-members-wrong w i p h e =
-    run-alt-right 41 (done 0) _ w i h (num-node 0 highest _)
-    ∙ num-fault 0 highest (λ u. moreMembers highest (suc u) (insert 0 u)) first-wants w i p e
+members-wrong w i p h e = run-alt-right 41 (done 0) _ w i h (num-node 0 highest _) ∙ num-fault 0 highest (λ u. moreMembers highest (suc u) (insert 0 u)) first-wants w i p e
 
 pub set-on : (w : ℕ → ℕ) (i : ℕ) → w i ≡ 40 → run setFormat w i ≡ run membersFormat w (i + 1)
 unfolding setFormat

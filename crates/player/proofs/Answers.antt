@@ -164,12 +164,12 @@ arrives-number M ok i (gives c s) = go (ltb c M && ok s)
     go false = refl
 
 -- a test before others
-pub provided-number : (b : Bool) (n : ℕ) (p : Played) (ts : List (ℕ × Bool)) → numberOf p ≡ firstOf ts → numberOf (provided b n p) ≡ firstOf ((n, b) ∷ ts)
+provided-number : (b : Bool) (n : ℕ) (p : Played) (ts : List (ℕ × Bool)) → numberOf p ≡ firstOf ts → numberOf (provided b n p) ≡ firstOf ((n, b) ∷ ts)
 unfolding provided firstOf
 provided-number true n p ts h = h
 provided-number false n p ts h = refl
 
-pub after-number : (a : Acceptance) (p : Played) (n : ℕ) → numberOf p ≡ n → numberOf (afterAcceptance a p) ≡ after a n
+after-number : (a : Acceptance) (p : Played) (n : ℕ) → numberOf p ≡ n → numberOf (afterAcceptance a p) ≡ after a n
 unfolding afterAcceptance
 after-number acceptance·.Accepted p n h = h
 after-number (acceptance·.Refused m) p n h = refl

@@ -3,15 +3,12 @@ ghost use mathlib.Core.Path.{_≡_};
 ghost use Rattle.player.specs.Player.{movedOf};
 ghost use Rattle.game.specs.Acceptance.{numberOf as acceptNumber};
 ghost use Rattle.map.specs.Map.{numberOf as mapNumber};
-ghost use Rattle.results.specs.Results.{solveResult, readResult, writeResult, compareResult, panelMoved, nowhere, explainResult};
-ghost use Rattle.joined.specs.Joined.{numberOf as joinedNumber};
+ghost use Rattle.results.specs.Results.{solveResult, readResult, writeResult, compareResult, nowhere};
 use game::Acceptance;
 use game::Game;
 use game::InState;
 use game::OutState;
-use ground_search::Explanation;
 use map::Mapped;
-use panel_place::Picked;
 use place::Played;
 use place::Position;
 use player::Moved;
@@ -29,16 +26,6 @@ pub struct SolveResult {
     pub entries: usize,
 }
 
-// What made a position won or lost: the code; the ground's number, 1 to 8 in the order of document 02's request, 0 on a refusal; the first number that the
-// ground names, and the second, 0 where it names none.
-#[repr(C)]
-pub struct ExplainResult {
-    pub code: u8,
-    pub ground: u8,
-    pub first: usize,
-    pub second: usize,
-}
-
 // The reader's answer: the code; for code 11 the place; the game, which is the empty one on a refusal.
 #[repr(C)]
 pub struct ReadResult {
@@ -52,14 +39,6 @@ pub struct ReadResult {
 pub struct WriteResult {
     pub code: u8,
     pub bytes: usize,
-}
-
-// The panel's move: the next input and the next counter, both 0 on a refusal, and the code.
-#[repr(C)]
-pub struct PanelMoved {
-    pub input: InState,
-    pub counter: usize,
-    pub code: u8,
 }
 
 // The recorder's answer: the code; whether the recordings agree; whether one has ended before the other; the step. Beside a refusal the step is 0.
@@ -89,15 +68,6 @@ pub fn map_code(a: Mapped) -> u8
     }
 }
 
-pub fn joined_code(a: joined::Mapped) -> u8
-    ensures { λ r. ⌜ r ≡ joinedNumber a ⌝ }
-{
-    match a {
-        joined::Mapped::Done => 0,
-        joined::Mapped::Refused(n) => n,
-    }
-}
-
 pub fn solve_result(v: Verdict) -> SolveResult
     ensures { λ r. ⌜ r ≡ solveResult v ⌝ }
 {
@@ -116,67 +86,6 @@ pub fn solve_result(v: Verdict) -> SolveResult
             code: n,
             system: false,
             entries: 0,
-        },
-    }
-}
-
-pub fn explain_result(a: Explanation) -> ExplainResult
-    ensures { λ r. ⌜ r ≡ explainResult a ⌝ }
-{
-    match a {
-        Explanation::InputStuck => ExplainResult {
-            code: 0,
-            ground: 1,
-            first: 0,
-            second: 0,
-        },
-        Explanation::ByReplies => ExplainResult {
-            code: 0,
-            ground: 2,
-            first: 0,
-            second: 0,
-        },
-        Explanation::AtHome(d) => ExplainResult {
-            code: 0,
-            ground: 3,
-            first: d.0,
-            second: 0,
-        },
-        Explanation::OutputStuck => ExplainResult {
-            code: 0,
-            ground: 4,
-            first: 0,
-            second: 0,
-        },
-        Explanation::Unanswered(j) => ExplainResult {
-            code: 0,
-            ground: 5,
-            first: j.0,
-            second: 0,
-        },
-        Explanation::ByWayOut(j) => ExplainResult {
-            code: 0,
-            ground: 6,
-            first: j.0,
-            second: 0,
-        },
-        Explanation::Unserved(k, n) => ExplainResult {
-            code: 0,
-            ground: 7,
-            first: k,
-            second: n,
-        },
-        Explanation::PushedOn => ExplainResult {
-            code: 0,
-            ground: 8,
-            first: 0,
-            second: 0,
-        },
-        Explanation::Refused(n) => ExplainResult {
-            code: n,
-            ground: 0,
-            first: 0,
-            second: 0,
         },
     }
 }
@@ -262,26 +171,6 @@ pub fn first_move(a: Played) -> Moved
                 output: OutState(0),
                 counter: 0,
             },
-            code: n,
-        },
-    }
-}
-
-pub fn panel_move(a: Picked) -> PanelMoved
-    ensures { λ r. ⌜ r ≡ panelMoved a ⌝ }
-{
-    match a {
-        Picked::To(m) => {
-            let input = m.input;
-            PanelMoved {
-                input,
-                counter: m.counter,
-                code: 0,
-            }
-        }
-        Picked::Refused(n) => PanelMoved {
-            input: InState(0),
-            counter: 0,
             code: n,
         },
     }

@@ -54,12 +54,10 @@ four (a ∷ b ∷ c ∷ d ∷ []) h = refl
 four (a ∷ b ∷ c ∷ d ∷ e ∷ w) h = absurd (omega arith)
 
 module _ (w : List Set) (h : length w ≡ 4) (p : setsWith (numbersOf w) ≡ w) where
-  pub four-in :
-      map (λ (x : Set). record { 0 = x }) (getD w 0 noStates ∷ getD w 1 noStates ∷ getD w 2 noStates ∷ getD w 3 noStates ∷ []) ≡ inSets (numbersOf w)
+  pub four-in : map (λ (x : Set). record { 0 = x }) (getD w 0 noStates ∷ getD w 1 noStates ∷ getD w 2 noStates ∷ getD w 3 noStates ∷ []) ≡ inSets (numbersOf w)
   four-in = ap (map (λ (x : Set). record { 0 = x })) (four w h) ∙ in-whole w p
 
-  pub four-out :
-      map (λ (x : Set). record { 0 = x }) (getD w 0 noStates ∷ getD w 1 noStates ∷ getD w 2 noStates ∷ getD w 3 noStates ∷ []) ≡ outSets (numbersOf w)
+  pub four-out : map (λ (x : Set). record { 0 = x }) (getD w 0 noStates ∷ getD w 1 noStates ∷ getD w 2 noStates ∷ getD w 3 noStates ∷ []) ≡ outSets (numbersOf w)
   four-out = ap (map (λ (x : Set). record { 0 = x })) (four w h) ∙ out-whole w p
 
 -- one set among others

@@ -219,8 +219,7 @@ unfolding headerOf
 fault-header (got h i) e = let z : _≡_ {A = ℕ} 0 1 = cc in absurd (omega arith)
 fault-header (fault q) e = cc
 
-pub header-range : (w : ℕ → ℕ) (i a o k j : ℕ) → run headerFormat w i ≡ got (record { inputs = a; outputs = o; k = k }) j
-    → (a ≤ capacity) × (o ≤ capacity) × (k ≤ 8)
+pub header-range : (w : ℕ → ℕ) (i a o k j : ℕ) → run headerFormat w i ≡ got (record { inputs = a; outputs = o; k = k }) j → (a ≤ capacity) × (o ≤ capacity) × (k ≤ 8)
 header-range w i a o k j h =
     let F = run-got headerFormat w i h in
     let H = header-sound (F .text) (record { inputs = a; outputs = o; k = k }) (F .is-text) in

@@ -8,7 +8,7 @@ ghost use Rattle.bits.specs.Member.{has, pack};
 ghost use Rattle.sets.specs.Words.{capacity, bitsOf, setsIn, setCount};
 ghost use Rattle.components.specs.Component.{together, nontrivialAt};
 ghost use Rattle.game.specs.Fits.{Fits};
-ghost use Rattle.scratch.specs.Scratch.{scratchSets, scratchLength, Kept};
+ghost use Rattle.scratch.specs.Scratch.{scratchSets, scratchLength, cleared, Kept};
 ghost use Rattle.scratch.specs.Stored.{inReachAt, rowAt, outReachAt, outArea, wonAt, someWonAt, Reached, RowPut, NontrivialOf, Laid};
 ghost use Rattle.scratch.specs.Areas.{ClosedAt};
 use game::Game;
@@ -160,4 +160,16 @@ pub fn won_outputs(s: &[u64], n: usize, m: usize, c: InSet, i: InState) -> OutSe
         o += 1;
     }
     OutSet(x)
+}
+
+// Sets the first n words to zero.
+pub fn clear(s: &mut [u64], n: usize)
+    requires { ⌜ n ≤ lengthOf (now s) ⌝ }
+    ensures { λ _. ⌜ now (s .exit) ≡ cleared n (now (s .entry)) ⌝ }
+{
+    let mut i: usize = 0;
+    while i < n {
+        s[i] = 0;
+        i += 1;
+    }
 }

@@ -125,8 +125,7 @@ grown-step w n s h q t u g l O S G =
           ∙ ap (λ (x : ℕ). stateLine w s (q .initial) x ++ stateLines w n (suc s) g) (back .1));
     }
 
-states-sound : (w n s : ℕ) (h : PlainGraph) (t : List ℕ) (g : PlainGraph) → s + n ≤ capacity → OpenGraph s h
-    → TextOf (statesFormat w n s h) t g → Grown w n s h t g
+states-sound : (w n s : ℕ) (h : PlainGraph) (t : List ℕ) (g : PlainGraph) → s + n ≤ capacity → OpenGraph s h → TextOf (statesFormat w n s h) t g → Grown w n s h t g
 unfolding statesFormat
 states-sound w zero s h t g l O p =
     let d = done-parts h t g p in

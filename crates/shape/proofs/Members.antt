@@ -178,8 +178,7 @@ blank-parts lo m acc v n t u x e f l h w M =
       small = M .small;
     }
 
-pub more-on : (n lo acc : ℕ) → lo ≤ highest
-    → moreMembers (suc n) lo acc ≡ alt 41 (done acc) (lit 32 (num lo highest (λ v. moreMembers n (suc v) (insert acc v))))
+pub more-on : (n lo acc : ℕ) → lo ≤ highest → moreMembers (suc n) lo acc ≡ alt 41 (done acc) (lit 32 (num lo highest (λ v. moreMembers n (suc v) (insert acc v))))
 unfolding moreMembers
 more-on n lo acc h = rw (le-leb lo highest h, moreMembers)
 
@@ -188,15 +187,13 @@ unfolding moreMembers
 more-off zero lo acc h = refl
 more-off (suc n) lo acc h = rw (lt-leb lo highest h, moreMembers)
 
-more-sound : (n lo m acc : ℕ) (t : List ℕ) (x : ℕ) → lo + m ≡ capacity → capacity ≤ lo + n → Fresh lo acc
-    → TextOf (moreMembers n lo acc) t x → MoreParts lo m acc t x
+more-sound : (n lo m acc : ℕ) (t : List ℕ) (x : ℕ) → lo + m ≡ capacity → capacity ≤ lo + n → Fresh lo acc → TextOf (moreMembers n lo acc) t x → MoreParts lo m acc t x
 more-sound zero lo m acc t x e f h p =
     let q = lit-end-parts 41 acc t x (rw (more-off zero lo acc (omega arith)) at p) in
     close-parts lo m acc t x (omega arith) h (q .0) (q .1)
 more-sound (suc n) lo m acc t x e f h p =
     by-cases (leb lo highest)
-    (λ b. elim (alt-parts 41 (done acc) (lit 32 (num lo highest (λ v. moreMembers n (suc v) (insert acc v)))) t x
-    (rw (more-on n lo acc (leb-true lo highest b)) at p)) [
+    (λ b. elim (alt-parts 41 (done acc) (lit 32 (num lo highest (λ v. moreMembers n (suc v) (insert acc v)))) t x (rw (more-on n lo acc (leb-true lo highest b)) at p)) [
       | inl c ↦ (let d = done-parts acc (c .0) x (c .2) in close-parts lo m acc t x (omega arith) h (c .1 ∙ ap (λ (l : List ℕ). 41 ∷ l) (d .0)) (d .1))
       | inr c ↦ (
           let q = lit-parts 32 (num lo highest (λ v. moreMembers n (suc v) (insert acc v))) t x c in
@@ -284,8 +281,7 @@ more-complete (suc n) lo m acc x e f h g w =
           let number = member-complete lo k v t x low (omega arith) (more-ends n (suc v) (insert acc v)) rest in
           let blank = lit-text 32 (num lo highest k) (decimal v ++ t) x number in
           rw (members-first m lo x v n′ e F, member-text true v, more-on n lo acc (omega arith))
-          (alt-right 41 (done acc) (lit 32 (num lo highest k)) (32 ∷ (decimal v ++ t)) x (opens-lit 32 (num lo highest k) 41) blank
-          (lit-node 32 (num lo highest k))))
+          (alt-right 41 (done acc) (lit 32 (num lo highest k)) (32 ∷ (decimal v ++ t)) x (opens-lit 32 (num lo highest k) 41) blank (lit-node 32 (num lo highest k))))
     ]
 
 -- every way can be finished
@@ -299,8 +295,7 @@ more-live (suc n) lo acc =
     let rest : Live (num lo highest k) = num-live lo highest k (leb-true lo highest b) (omega arith)
     (λ u p q. (more-live n (suc u) (insert acc u), more-ends n (suc u) (insert acc u) .wants)) in
     rw (more-on n lo acc (leb-true lo highest b))
-    (alt-live 41 (done acc) (lit 32 (num lo highest k)) (omega arith) (done-live acc) (lit-live 32 (num lo highest k) (omega arith) rest)
-    (lit-node 32 (num lo highest k))))
+    (alt-live 41 (done acc) (lit 32 (num lo highest k)) (omega arith) (done-live acc) (lit-live 32 (num lo highest k) (omega arith) rest) (lit-node 32 (num lo highest k))))
     (λ b. rw (more-off (suc n) lo acc (leb-false lo highest b)) (lit-live 41 (done acc) (omega arith) (done-live acc)))
 
 -- a set

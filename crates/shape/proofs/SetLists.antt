@@ -88,8 +88,7 @@ longer-none gap n a t b O e f =
       text = e;
     })
 
-longer-step : (gap : Bool) (n : ℕ) (a : Sets) (x : ℕ) (t u : List ℕ) (b : Sets) → Open (suc n) a → within x capacity ≡ true
-    → t ≡ gapText gap ++ (setText x ++ u)
+longer-step : (gap : Bool) (n : ℕ) (a : Sets) (x : ℕ) (t u : List ℕ) (b : Sets) → Open (suc n) a → within x capacity ≡ true → t ≡ gapText gap ++ (setText x ++ u)
     → Longer true (push a x) u b → Longer gap a t b
 unfolding push
 longer-step gap n a x t u b O w e L =

@@ -11,8 +11,7 @@ use Rattle.game.specs.declared.Game.{Game}
 use Rattle.play.specs.Play.{separatedOf}
 use Rattle.theory.specs.Region.{verdict}
 use Rattle.theory.specs.Entries.{controllerEntries, environmentEntries}
-use Rattle.clearing.specs.Clearing.{cleared}
-use Rattle.scratch.specs.Scratch.{scratchLength}
+use Rattle.scratch.specs.Scratch.{scratchLength, cleared}
 
 -- what is written for an accepted game whose buffers are long enough
 pub record Written (g : Game) (s s′ c c′ e e′ : List ℕ) (r : Bool) : Type 0 where

@@ -41,8 +41,7 @@ returns-2 : tie.Need-returns-2 Inv-loop μ-loop
 returns-2 c =
     let at-loop-test = c .before .before .before .before .before in
     let at-loop = at-loop-test .before in
-    whole-members (at-loop .loop .inv .2)
-    (members-closed _ _ _ _ _ _ (at-loop .loop .inv .0) (at-loop-test .loop-test .taken) (c .before .before .before .before .if1 .left) _
+    whole-members (at-loop .loop .inv .2) (members-closed _ _ _ _ _ _ (at-loop .loop .inv .0) (at-loop-test .loop-test .taken) (c .before .before .before .before .if1 .left) _
     (sym (c .before .n .given .1) ∙ c .before .before .before .next-member .ensures))
 
 enum-known-n-2 : tie.Need-enum-known-n-2 Inv-loop μ-loop

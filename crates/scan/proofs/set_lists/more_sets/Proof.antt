@@ -110,8 +110,7 @@ loop-again c =
     let at-loop-test = at-byte-at .before in
     let at-loop = at-loop-test .before in
     let read = members-set _ (sym (c .before .t2 .given .1) ∙ c .before .before .before .set-at .ensures) in (
-      sets-turn _ (at-loop .loop .list) _ _ _ (at-loop .loop .inv .0) (at-loop-test .loop-test .taken)
-          (sym (at-byte-at .byte-at .ensures) ∙ at-if2 .if2 .left) _ _ (read .0),
+      sets-turn _ (at-loop .loop .list) _ _ _ (at-loop .loop .inv .0) (at-loop-test .loop-test .taken) (sym (at-byte-at .byte-at .ensures) ∙ at-if2 .if2 .left) _ _ (read .0),
       omega (arith, at-loop-test .loop-test .taken),
       simp length-set (at-loop .loop .inv .2),
       set-whole (at-loop .loop .list) _ _ (at-loop .loop .inv .3) (read .1),

@@ -1,2 +1,0 @@
--- Laws of a buffer that is cleared from the front.
-pub mod Clearing

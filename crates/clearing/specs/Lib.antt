@@ -1,2 +1,0 @@
--- How a buffer is left.
-pub mod Clearing

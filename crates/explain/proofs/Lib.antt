@@ -1,2 +1,0 @@
--- Laws for the call that explains a position.
-pub mod Made

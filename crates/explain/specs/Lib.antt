@@ -1,2 +1,0 @@
--- What the call that explains a position promises.
-pub mod Explain

@@ -1,2 +1,0 @@
--- A map of won positions.
-pub mod Marks

@@ -1,2 +1,0 @@
--- Laws for the panel's move.
-pub mod Picks

@@ -1,2 +1,0 @@
--- What the contracts of the panel's move cite.
-pub mod Picks
