@@ -8,6 +8,9 @@ ghost use Rattle.shape.specs.Text.{word};
 ghost use Rattle.put.specs.Put.{Puts};
 ghost use Rattle.answer_lines.specs.Line.{winnerWord, winsLine, startLine, environmentStart, rowLine, stepLine, refusedLine, misshapenLine};
 
+// The entry of a row of none.
+const NONE: u16 = 65535;
+
 // The letters of the word w.
 fn put_word(buffer: &mut [u8], at: usize, w: usize) -> usize
     requires { ⌜ (w < 10) × (at + length (word w) ≤ 2 ^ 32) ⌝ }
@@ -49,12 +52,13 @@ pub fn put_start(buffer: &mut [u8], at: usize, input: usize, entry: u16) -> usiz
     requires { ⌜ at + 160 ≤ 2 ^ 32 ⌝ }
     ensures { λ r. ⌜ Puts (now (buffer .entry)) at (startLine input entry) r (now (buffer .exit)) ⌝ }
 {
-    if entry == entries::NONE {
+    if entry == NONE {
         return at;
     }
+    let e = entry as usize;
     let a = put::put_opening(buffer, at, 5);
     let b = put::put_number_then(buffer, a, input, 32);
-    let c = put::put_number_then(buffer, b, entries::state(entry), 41);
+    let c = put::put_number_then(buffer, b, e % 64, 41);
     put::put_byte(buffer, c, 10)
 }
 
@@ -63,11 +67,12 @@ pub fn put_environment_start(buffer: &mut [u8], at: usize, entry: u16) -> usize
     requires { ⌜ at + 160 ≤ 2 ^ 32 ⌝ }
     ensures { λ r. ⌜ Puts (now (buffer .entry)) at (environmentStart entry) r (now (buffer .exit)) ⌝ }
 {
-    if entry == entries::NONE {
+    if entry == NONE {
         return at;
     }
+    let e = entry as usize;
     let a = put::put_opening(buffer, at, 5);
-    let b = put::put_number_then(buffer, a, entries::state(entry), 41);
+    let b = put::put_number_then(buffer, a, e % 64, 41);
     put::put_byte(buffer, b, 10)
 }
 
@@ -76,12 +81,13 @@ fn put_row(buffer: &mut [u8], at: usize, a: usize, g: usize, b: usize, entry: u1
     requires { ⌜ at + 160 ≤ 2 ^ 32 ⌝ }
     ensures { λ r. ⌜ Puts (now (buffer .entry)) at (rowLine a g b entry) r (now (buffer .exit)) ⌝ }
 {
+    let e = entry as usize;
     let m = put::put_opening(buffer, at, 6);
     let n = put::put_number_then(buffer, m, a, 32);
     let o = put::put_number_then(buffer, n, g, 32);
     let p = put::put_number_then(buffer, o, b, 32);
-    let q = put::put_number_then(buffer, p, entries::state(entry), 32);
-    let r = put::put_number_then(buffer, q, entries::counter(entry), 41);
+    let q = put::put_number_then(buffer, p, e % 64, 32);
+    let r = put::put_number_then(buffer, q, e / 64, 41);
     put::put_byte(buffer, r, 10)
 }
 
@@ -107,7 +113,7 @@ pub fn put_step(
     requires { ⌜ at + 160 ≤ 2 ^ 32 ⌝ }
     ensures { λ r. ⌜ Puts (now (buffer .entry)) at (stepLine sets last row entry) r (now (buffer .exit)) ⌝ }
 {
-    if entry == entries::NONE {
+    if entry == NONE {
         return at;
     }
     let n = at_least_one(last);

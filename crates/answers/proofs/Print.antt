@@ -4,7 +4,6 @@ use native.Mathlib.Omega.{arith}
 use mathlib.Core.List.{List, _++_, append-assoc, append-nil}
 use mathlib.Core.Path.{_≡_, sym, _∙_, ap}
 use lib.ListN.{getD, length, length-append}
-use Rattle.sets.specs.Words.{capacity}
 use Rattle.grammar.proofs.Place.{same-default}
 use Rattle.put.specs.Put.{Puts}
 use Rattle.put.proofs.Buffer.{puts-then, puts-as}
@@ -70,7 +69,7 @@ steps-on k c n first es h P Q =
     ap (stepLine c n k) (same-default es (first + k) 0 none h) ∙ ap (λ (j : ℕ). stepLine c n j (getD es (first + j) none)) (sym here) in
     puts-as (steps-next k 0 c n first es ∙ ap (λ (j : ℕ). stepLines j 0 c n first es) (sym next)) (puts-then P (puts-as read Q))
 
-pub starts-short : (n i : ℕ) (es : List ℕ) → i + n ≤ capacity → length (startLines n i es) ≤ 160 * n
+pub starts-short : (n i : ℕ) (es : List ℕ) → i + n ≤ 64 → length (startLines n i es) ≤ 160 * n
 unfolding startLines
 starts-short zero i es h = omega arith
 starts-short (suc n) i es h =

@@ -13,7 +13,6 @@ use mathlib.Core.Bool.{Bool, true, false, _&&_}
 use mathlib.Core.List.{List, [], _++_}
 use lib.Dec.{eqb, leb}
 use lib.ListN.{getD, length}
-use Rattle.sets.specs.Words.{capacity}
 use Rattle.answer_lines.specs.Line.{none, winsLine, startLine, environmentStart, stepLine}
 
 unfoldable pub startLines : ℕ → ℕ → List ℕ → List ℕ
@@ -32,7 +31,7 @@ environmentPrint i o c es = winsLine false ++ (environmentStart (getD es 0 none)
 
 -- "1 to 64 states each"; "k requirements, 0 to 8. Each has 0 to 4 input sets and 0 to 4 output sets."
 unfoldable pub inRange : ℕ → ℕ → ℕ → Bool
-inRange i o c = leb i capacity && (leb o capacity && leb c 32)
+inRange i o c = leb i 64 && (leb o 64 && leb c 32)
 
 -- "inputs + outputs × max(1, G) × inputs entries"
 unfoldable pub controllerFits : ℕ → ℕ → ℕ → ℕ → Bool

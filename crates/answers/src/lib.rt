@@ -3,13 +3,12 @@
 ghost use mathlib.Core.Path.{_≡_};
 ghost use Prim.Native.Nat.{_*_, _-_, _≤_, _^_};
 ghost use lib.ListN.{length};
-ghost use Rattle.sets.specs.Words.{capacity};
 ghost use Rattle.put.specs.Put.{Puts};
 ghost use Rattle.answers.specs.Print.{startLines, stepLines, inRange, controllerFits, environmentFits, controllerAnswer, environmentAnswer};
 
 // The controller's starts, for the inputs 0 to n - 1.
 fn put_starts(buffer: &mut [u8], at: usize, n: usize, table: &[u16]) -> usize
-    requires { ⌜ (at ≤ 160) × (n ≤ capacity) × (n ≤ length (now table)) ⌝ }
+    requires { ⌜ (at ≤ 160) × (n ≤ 64) × (n ≤ length (now table)) ⌝ }
     ensures { λ r. ⌜ Puts (now (buffer .entry)) at (startLines n 0 (now (table .entry))) r (now (buffer .exit)) ⌝ }
 {
     let mut to = at;
@@ -48,10 +47,10 @@ fn put_steps(
 fn in_range(inputs: usize, outputs: usize, sets: usize) -> bool
     ensures { λ r. ⌜ r ≡ inRange inputs outputs sets ⌝ }
 {
-    if inputs > sets::CAPACITY {
+    if inputs > 64 {
         return false;
     }
-    if outputs > sets::CAPACITY {
+    if outputs > 64 {
         return false;
     }
     sets <= 32

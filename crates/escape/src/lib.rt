@@ -29,7 +29,7 @@ struct Turn {
 }
 
 // The members of c with a move into the set `out`, all of one graph.
-fn exits(moves: &[u64; sets::ROW_WORDS], c: u64, out: u64) -> u64
+fn exits(moves: &[u64; 64], c: u64, out: u64) -> u64
     ensures { λ r. ⌜ r ≡ pack 64 (exitsAt (now (moves .entry)) c out) ⌝ }
 {
     let mut x: u64 = 0;
@@ -44,7 +44,7 @@ fn exits(moves: &[u64; sets::ROW_WORDS], c: u64, out: u64) -> u64
 }
 
 // The ways to the gates inside c: those of `old` where it has the same gates, else searched anew.
-fn renew(moves: &[u64; sets::ROW_WORDS], n: usize, c: u64, gates: u64, old: Found) -> Found
+fn renew(moves: &[u64; 64], n: usize, c: u64, gates: u64, old: Found) -> Found
     requires { ⌜ Bounds n gates × Toward (now moves) n c (old .gates) (old .ways .next) ⌝ }
     ensures { λ r. ⌜ (r .gates ≡ gates) × Toward (now (moves .entry)) n c gates (r .ways .next) ⌝ }
 {
@@ -84,7 +84,7 @@ struct Part {
 // The rows of the states of c with output o: the lowest move into `out`, else the next state on the way to one that has such a move. Of the game only
 // counts and the rows of inputs are passed: so go the rows of any game that these fit.
 fn escape_rows(
-    moves: &[u64; sets::ROW_WORDS],
+    moves: &[u64; 64],
     z: Size,
     c: InSet,
     o: OutState,
@@ -107,7 +107,7 @@ fn escape_rows(
 // The rows of a component with output o, whose moves are `replies`. They are left to a tour where they are not won and there is no way out; where o has no
 // move they need no walk.
 fn escape(
-    moves: &[u64; sets::ROW_WORDS],
+    moves: &[u64; 64],
     s: &[u64],
     z: Size,
     cores: InSet,

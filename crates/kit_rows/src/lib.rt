@@ -16,7 +16,7 @@ struct Lowest {
 }
 
 // The lowest command that leads from o to t, the count of commands where none does.
-fn lowest_command(next: &[u8; 2048], commands: usize, o: usize, t: usize) -> usize
+fn lowest_command(next: &[u8; 1024], commands: usize, o: usize, t: usize) -> usize
     requires { ⌜ (commands ≤ 16) × (o < 64) ⌝ }
     ensures { λ r. ⌜ r ≡ lowestIn (now (next .entry)) commands o t ⌝ }
 {
@@ -31,7 +31,7 @@ fn lowest_command(next: &[u8; 2048], commands: usize, o: usize, t: usize) -> usi
 }
 
 // These commands of output o, searched once, as its rows ask for them again and again. A mode past the drive's has none.
-fn lowest_commands(next: &[u8; 2048], commands: usize, o: usize) -> Lowest
+fn lowest_commands(next: &[u8; 1024], commands: usize, o: usize) -> Lowest
     requires { ⌜ (commands ≤ 16) × (o < 64) ⌝ }
     ensures { λ r. ⌜ Commands (now (next .entry)) commands o 64 (r .to) ⌝ }
 {
@@ -62,7 +62,7 @@ fn translated(to: &[u8; 64], e: u16) -> u16
 }
 
 // The row of old mode i and old command u, where the controller's rows of its output and counter begin at base: none where the command is barred.
-fn row(next: &[u8; 2048], to: &[u8; 64], controller: &[u16], base: usize, i: usize, u: usize) -> u16
+fn row(next: &[u8; 1024], to: &[u8; 64], controller: &[u16], base: usize, i: usize, u: usize) -> u16
     requires { ⌜ (i < 64) × (u < 16) × ReadsIn (now next) base i u (length (now controller)) ⌝ }
     ensures { λ r. ⌜ r ≡ commandRow (now (next .entry)) (now (to .entry)) (now (controller .entry)) base i u ⌝ }
 {
@@ -75,7 +75,7 @@ fn row(next: &[u8; 2048], to: &[u8; 64], controller: &[u16], base: usize, i: usi
 
 // The rows of old mode i, at the places from `at` on.
 fn mode_rows(
-    next: &[u8; 2048],
+    next: &[u8; 1024],
     commands: usize,
     to: &[u8; 64],
     controller: &[u16],
@@ -97,7 +97,7 @@ fn mode_rows(
 
 // The rows of one output and one counter: a block for each old mode, from block number `first` on.
 fn counter_rows(
-    next: &[u8; 2048],
+    next: &[u8; 1024],
     modes: usize,
     commands: usize,
     to: &[u8; 64],

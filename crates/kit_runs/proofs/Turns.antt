@@ -52,7 +52,7 @@ kit-reads k l b = record {
   rows = λ o c i u lo lc li lu. row-in k l b o c i u lo lc li lu 65535;
 }
 
-reply-read : (v m : ℕ) → v < 16 → m < 2048 → reply (v + 16 * m) ≡ gives m v
+reply-read : (v m : ℕ) → v < 16 → m < 1024 → reply (v + 16 * m) ≡ gives m v
 unfolding reply
 reply-read v m a b =
     rw (ne-eqb (v + 16 * m) 65535 (omega arith), reply)

@@ -40,7 +40,7 @@ fn plain(room: &mut [u16], s: &[u64], z: Size, cores: InSet, o: OutState, moves:
 }
 
 // The same for every output, with its moves.
-pub fn plains(room: &mut [u16], s: &[u64], z: Size, cores: InSet, moves: &[u64; sets::ROW_WORDS])
+pub fn plains(room: &mut [u16], s: &[u64], z: Size, cores: InSet, moves: &[u64; 64])
     requires { ⌜ Table z (length (now room)) × (z .inputs + z .inputs + z .outputs ≤ length (now s)) ⌝ }
     ensures { λ r. ⌜ Plains z (now (s .entry)) (cores .0) (now (moves .entry)) (z .outputs) (now (room .entry)) (now (room .exit)) ⌝ }
 {

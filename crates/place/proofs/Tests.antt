@@ -1,16 +1,15 @@
 -- What the tests of a position and of an entry answer: one law for each return.
 use Prim.Native.Nat.{ℕ, _/_, _%_, _≤_, _<_}
-use mathlib.Core.Path.{_≡_, refl, sym, _∙_, ap, ap₂}
+use mathlib.Core.Path.{_≡_, refl, _∙_, ap}
 use mathlib.Core.Bool.{Bool, true, false, _&&_}
 use lib.Dec.{ltb}
-use borrow.Author.Tests.{ltb-true, lt-ltb, le-ltb}
+use borrow.Author.Tests.{ltb-true, lt-ltb, le-ltb, eq-eqb, ne-eqb}
 use Rattle.finite.proofs.Truth.{and-intro, and-left, and-right, and-false-left, and-false-right}
 use Rattle.finite.proofs.Loops.{and-stop, and-next}
 use Rattle.arena.specs.Table.{gives}
 use Rattle.game.specs.declared.InState.{InState}
 use Rattle.game.specs.declared.Game.{Game}
-use Rattle.theory.specs.Entries.{stride, answer}
-use Rattle.entries.proofs.Packed.{answer-none, answer-gives}
+use Rattle.theory.specs.Entries.{answer}
 use Rattle.place.specs.declared.Position.{Position}
 use Rattle.place.specs.declared.Played.{Played}
 use Rattle.place.specs.declared.Played.the-variants.{At, Refused}
@@ -30,28 +29,28 @@ refused n p e = rw (e, provided)
 
 module _ (M : ℕ) (ok : ℕ → Bool) (i : InState) (e : ℕ) where
   pub arrive-none : e ≡ 65535 → Refused 15 ≡ arrives M ok i (answer e)
-  unfolding arrives
-  arrive-none h = rw (answer-none e h, arrives)
+  unfolding arrives answer
+  arrive-none h = rw (eq-eqb e 65535 h, answer, arrives)
 
-  -- c and s are the counter and the state of e
-  module _ (c s : ℕ) (p : c ≡ e / stride) (q : s ≡ e % stride) (h : e ≡ 65535 → ⊥) where
-    unfoldable there : Played
-    there = At (record { input = i; output = record { 0 = s }; counter = c })
+  some : (e ≡ 65535 → ⊥) → gives (e / 64) (e % 64) ≡ answer e
+  unfolding answer
+  some h = rw (ne-eqb e 65535 h, answer)
 
-    some : gives c s ≡ answer e
-    some = ap₂ (λ (x y : ℕ). gives x y) p q ∙ sym (answer-gives e h)
+  unfoldable there : Played
+  there = At (record { input = i; output = record { 0 = e % 64 }; counter = e / 64 })
 
-    pub arrive-counter : M ≤ c → Refused 15 ≡ arrives M ok i (answer e)
-    unfolding arrives there
-    arrive-counter b = refused 15 there (and-false-left (ok s) (le-ltb c M b)) ∙ ap (arrives M ok i) some
+  pub arrive-counter : (e ≡ 65535 → ⊥) → M ≤ e / 64 → Refused 15 ≡ arrives M ok i (answer e)
+  unfolding arrives there
+  arrive-counter h b = refused 15 there (and-false-left (ok (e % 64)) (le-ltb (e / 64) M b)) ∙ ap (arrives M ok i) (some h)
 
-    pub arrive-output : c < M → ok s ≡ false → Refused 15 ≡ arrives M ok i (answer e)
-    unfolding arrives there
-    arrive-output b f = refused 15 there (and-false-right (ltb c M) f) ∙ ap (arrives M ok i) some
+  pub arrive-output : (e ≡ 65535 → ⊥) → e / 64 < M → ok (e % 64) ≡ false → Refused 15 ≡ arrives M ok i (answer e)
+  unfolding arrives there
+  arrive-output h b f = refused 15 there (and-false-right (ltb (e / 64) M) f) ∙ ap (arrives M ok i) (some h)
 
-    pub arrive-at : c < M → ok s ≡ true → At (record { input = i; output = record { 0 = s }; counter = c }) ≡ arrives M ok i (answer e)
-    unfolding arrives there
-    arrive-at b f = held 15 there (and-intro (lt-ltb c M b) f) ∙ ap (arrives M ok i) some
+  pub arrive-at : (e ≡ 65535 → ⊥) → e / 64 < M → ok (e % 64) ≡ true
+      → At (record { input = i; output = record { 0 = e % 64 }; counter = e / 64 }) ≡ arrives M ok i (answer e)
+  unfolding arrives there
+  arrive-at h b f = held 15 there (and-intro (lt-ltb (e / 64) M b) f) ∙ ap (arrives M ok i) (some h)
 
 -- ---- a position
 

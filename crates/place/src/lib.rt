@@ -91,11 +91,11 @@ pub fn row_of(at: Position, next: InState) -> RowIndex
 pub fn arrive(counters: usize, allowed: OutSet, input: InState, entry: u16) -> Played
     ensures { λ r. ⌜ r ≡ arrives counters (has (bitsOf (allowed .0))) input (answer entry) ⌝ }
 {
-    if entry == entries::NONE {
+    if entry == 65535 {
         return Played::Refused(15);
     }
-    let counter = entries::counter(entry);
-    let state = entries::state(entry);
+    let counter = (entry / 64) as usize;
+    let state = (entry % 64) as usize;
     if counter >= counters {
         return Played::Refused(15);
     }

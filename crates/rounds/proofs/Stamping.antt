@@ -19,8 +19,9 @@ use Rattle.sets.specs.Words.{capacity, bitsOf}
 use Rattle.graphs.specs.Way.{prefer}
 use Rattle.graphs.proofs.Way.{Leads, prefer-below}
 use Rattle.arena.specs.Table.{Answer, gives}
-use Rattle.theory.specs.Entries.{entry, stride}
+use Rattle.theory.specs.Entries.{entry}
 use Rattle.counters.specs.Counters.{mostCounters}
+use Rattle.entries.specs.Step.{entryStep}
 use Rattle.entries.proofs.Packed.{entry-small}
 use Rattle.ways.specs.Kept.{kept}
 use Rattle.ways.specs.Search.{choices}
@@ -42,7 +43,7 @@ pub first-miss : (w : Stamp) (p : ℕ) → has (bitsOf (w .goal)) p ≡ false �
 unfolding firstOf
 first-miss w p e = rw (e, firstOf)
 
-first-small : (z : Layout) (w : Stamp) (p : ℕ) → Stamps z w → p < capacity → firstOf w p < stride * mostCounters
+first-small : (z : Layout) (w : Stamp) (p : ℕ) → Stamps z w → p < capacity → firstOf w p < entryStep * mostCounters
 first-small z w p S b =
     elim (decide (has (bitsOf (w .goal)) p)) [
       | inl e ↦ omega (arith, first-hit w p e, entry-small (w .hit) p b (S .hit))
@@ -53,7 +54,7 @@ pub stamp-entries : (z : Layout) (n : ℕ) (w : Stamp) (p first : ℕ) → Fits 
     → Entries z (w .which .0) first (w .more)
 stamp-entries z n w p first F S b e = record {
   counters = S .counters;
-  small = λ h i. omega (arith, first-small z w p S b, mul-le-mul {n₂ = stride} {m₂ = mostCounters} (S .more) (below h i));
+  small = λ h i. omega (arith, first-small z w p S b, mul-le-mul {n₂ = entryStep} {m₂ = mostCounters} (S .more) (below h i));
 }
   where
     below : (h : ℕ) → has (w .which .0) h ≡ true → h ≤ mostCounters

@@ -18,8 +18,9 @@ use Rattle.sets.specs.Words.{capacity, bitsOf}
 use Rattle.graphs.specs.Way.{prefer, toward}
 use Rattle.graphs.proofs.Way.{Leads}
 use Rattle.arena.specs.Table.{Answer, gives}
-use Rattle.theory.specs.Entries.{entry, stride}
+use Rattle.theory.specs.Entries.{entry}
 use Rattle.counters.specs.Counters.{mostCounters}
+use Rattle.entries.specs.Step.{entryStep}
 use Rattle.ways.specs.Kept.{kept}
 use Rattle.ways.specs.Search.{choices, settles}
 use Rattle.layout.specs.declared.Layout.{Layout}
@@ -33,7 +34,7 @@ pub record Stamps (z : Layout) (w : Stamp) : Type 0 where
   pub counters : (h : ℕ) → has (w .which .0) h ≡ true → h < z .counters
   pub hit : w .hit < mostCounters
   pub miss : w .miss < mostCounters
-  pub more : w .more ≤ stride
+  pub more : w .more ≤ entryStep
 
 pub record Fair (rows : List ℕ) (z : Layout) (c left l : ℕ) (w : Stamp) (f : ℕ → ℕ → ℕ → Answer) : Type 0 where
   pub entry : (s h b : ℕ) → s < z .states → settles rows c left l s ≡ true → has (w .which .0) h ≡ true → b < z .width → has (bitsOf (w .over)) b ≡ true

@@ -49,7 +49,7 @@ pub fn write_move(room: &mut [u16], z: Layout, s: usize, p: usize, w: Stamp)
 
 // One round: every state of `left` with a move into `reached` gets its rows. The answer is the set of these states.
 fn settle(
-    rows: &[u64; sets::ROW_WORDS],
+    rows: &[u64; 64],
     room: &mut [u16],
     z: Layout,
     inside: Set,
@@ -78,7 +78,7 @@ fn settle(
 // The rows of the states of `own` with a way inside a set to the target: the move with the shortest way. All states inside that are not of `own` are
 // of the target.
 pub fn walk(
-    rows: &[u64; sets::ROW_WORDS],
+    rows: &[u64; 64],
     room: &mut [u16],
     z: Layout,
     inside: Set,

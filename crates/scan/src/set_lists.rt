@@ -2,23 +2,21 @@
 use game::InSet;
 use game::OutSet;
 use game::Requirement;
-use pieces::SetScan;
+use pieces::Set;
 use pieces::Step;
-use sets::Set;
 ghost use mathlib.Core.Path.{_≡_};
 ghost use Prim.Native.Nat.{_+_, _<_};
 ghost use lib.ListN.{length};
-ghost use Rattle.sets.specs.Words.{bitsOf};
 ghost use Rattle.grammar.specs.Format.{run};
 ghost use Rattle.grammar.specs.Format.Run.{fault};
 ghost use Rattle.grammar.specs.Place.{bytes};
-ghost use Rattle.shape.specs.Shape.{noSets, push, moreSets, setsFormat, guaranteesFormat, requirementFormat};
-ghost use Rattle.shape.specs.Text.{inSets, outSets, emptyRequirement};
-ghost use Rattle.scan.specs.Scan.{numbersOf, setsWith, setsOf, requirementOf};
+ghost use Rattle.shape.specs.Shape.{noSets, push, moreSets, setsFormat, inSets, outSets, guaranteesFormat, requirementFormat};
+ghost use Rattle.shape.specs.Text.{emptyRequirement};
+ghost use Rattle.scan.specs.Scan.{setsOf, requirementOf};
 
 // A list of sets and the place behind it; no sets where there is a fault.
 pub struct SetList {
-    pub sets: [Set; 4],
+    pub words: [u64; 4],
     pub count: usize,
     pub end: Step,
 }
@@ -32,52 +30,50 @@ pub struct RequirementScan {
 fn no_list(p: usize) -> SetList
     ensures { λ r. ⌜ r ≡ setsOf (fault p) ⌝ }
 {
-    let x = sets::empty();
     SetList {
-        sets: [x; 4],
+        words: [0u64; 4],
         count: 0,
         end: Step::Fault(p),
     }
 }
 
 // The sets at place i behind the first, x.
-fn more_sets(s: &[u8], i: usize, x: Set) -> SetList
-    ensures { λ r. ⌜ r ≡ setsOf (run (moreSets 3 (push noSets (bitsOf x))) (bytes (now (s .entry))) i) ⌝ }
+fn more_sets(s: &[u8], i: usize, x: u64) -> SetList
+    ensures { λ r. ⌜ r ≡ setsOf (run (moreSets 3 (push noSets x)) (bytes (now (s .entry))) i) ⌝ }
 {
-    let none = sets::empty();
-    let mut list = [none; 4];
-    list[0] = x;
+    let mut words = [0u64; 4];
+    words[0] = x;
     let mut count: usize = 1;
     let mut at = i;
     while count < 4 {
         let b = pieces::byte_at(s, at);
-        if b == pieces::CLOSE {
+        if b == 41 {
             return SetList {
-                sets: list,
+                words,
                 count,
                 end: Step::At(at + 1),
             };
         }
-        if b != pieces::BLANK {
+        if b != 32 {
             return no_list(at);
         }
         let t = pieces::set_at(s, at + 1);
         match t {
-            SetScan::Fault(p) => {
+            Set::Fault(p) => {
                 return no_list(p);
             }
-            SetScan::Members(y, j) => {
-                list[count] = y;
+            Set::Members(y, j) => {
+                words[count] = y;
                 count += 1;
                 at = j;
             }
         }
     }
-    if pieces::byte_at(s, at) != pieces::CLOSE {
+    if pieces::byte_at(s, at) != 41 {
         return no_list(at);
     }
     SetList {
-        sets: list,
+        words,
         count,
         end: Step::At(at + 1),
     }
@@ -87,48 +83,54 @@ fn more_sets(s: &[u8], i: usize, x: Set) -> SetList
 pub fn sets_at(s: &[u8], i: usize) -> SetList
     ensures { λ r. ⌜ r ≡ setsOf (run setsFormat (bytes (now (s .entry))) i) ⌝ }
 {
-    if pieces::byte_at(s, i) != pieces::OPEN {
+    if pieces::byte_at(s, i) != 40 {
         return no_list(i);
     }
     let j = i + 1;
-    if pieces::byte_at(s, j) == pieces::CLOSE {
-        let none = sets::empty();
+    if pieces::byte_at(s, j) == 41 {
         return SetList {
-            sets: [none; 4],
+            words: [0u64; 4],
             count: 0,
             end: Step::At(j + 1),
         };
     }
     let t = pieces::set_at(s, j);
     match t {
-        SetScan::Fault(p) => no_list(p),
-        SetScan::Members(x, m) => more_sets(s, m, x),
+        Set::Fault(p) => no_list(p),
+        Set::Members(x, m) => more_sets(s, m, x),
     }
 }
 
-// Sets of the list as sets of input states.
-fn in_sets(l: [Set; 4]) -> [InSet; 4]
-    requires { ⌜ (length l ≡ 4) × (setsWith (numbersOf l) ≡ l) ⌝ }
-    ensures { λ r. ⌜ r ≡ inSets (numbersOf l) ⌝ }
+fn in_sets(w: [u64; 4]) -> [InSet; 4]
+    requires { ⌜ length w ≡ 4 ⌝ }
+    ensures { λ r. ⌜ r ≡ inSets w ⌝ }
 {
-    [InSet(l[0]), InSet(l[1]), InSet(l[2]), InSet(l[3])]
+    [
+        InSet(sets::Set { low: w[0] }),
+        InSet(sets::Set { low: w[1] }),
+        InSet(sets::Set { low: w[2] }),
+        InSet(sets::Set { low: w[3] }),
+    ]
 }
 
-// Sets of the list as sets of output states.
-fn out_sets(l: [Set; 4]) -> [OutSet; 4]
-    requires { ⌜ (length l ≡ 4) × (setsWith (numbersOf l) ≡ l) ⌝ }
-    ensures { λ r. ⌜ r ≡ outSets (numbersOf l) ⌝ }
+fn out_sets(w: [u64; 4]) -> [OutSet; 4]
+    requires { ⌜ length w ≡ 4 ⌝ }
+    ensures { λ r. ⌜ r ≡ outSets w ⌝ }
 {
-    [OutSet(l[0]), OutSet(l[1]), OutSet(l[2]), OutSet(l[3])]
+    [
+        OutSet(sets::Set { low: w[0] }),
+        OutSet(sets::Set { low: w[1] }),
+        OutSet(sets::Set { low: w[2] }),
+        OutSet(sets::Set { low: w[3] }),
+    ]
 }
 
 // A requirement without sets.
 pub fn empty_requirement() -> Requirement
     ensures { λ r. ⌜ r ≡ emptyRequirement ⌝ }
 {
-    let none = sets::empty();
-    let x = InSet(none);
-    let y = OutSet(none);
+    let x = InSet(sets::Set { low: 0 });
+    let y = OutSet(sets::Set { low: 0 });
     Requirement {
         assumptions: [x; 4],
         assumed: 0,
@@ -148,11 +150,11 @@ fn no_requirement(p: usize) -> RequirementScan
 }
 
 // A requirement's line at place i, behind its first list.
-fn guarantees_at(s: &[u8], i: usize, first: [Set; 4], count: usize) -> RequirementScan
-    requires { ⌜ (length first ≡ 4) × (setsWith (numbersOf first) ≡ first) ⌝ }
-    ensures { λ r. ⌜ r ≡ requirementOf (run (guaranteesFormat (record { words = numbersOf first; count = count })) (bytes (now (s .entry))) i) ⌝ }
+fn guarantees_at(s: &[u8], i: usize, words: [u64; 4], count: usize) -> RequirementScan
+    requires { ⌜ length words ≡ 4 ⌝ }
+    ensures { λ r. ⌜ r ≡ requirementOf (run (guaranteesFormat (record { words = words; count = count })) (bytes (now (s .entry))) i) ⌝ }
 {
-    if pieces::byte_at(s, i) != pieces::BLANK {
+    if pieces::byte_at(s, i) != 32 {
         return no_requirement(i);
     }
     let b = sets_at(s, i + 1);
@@ -164,9 +166,9 @@ fn guarantees_at(s: &[u8], i: usize, first: [Set; 4], count: usize) -> Requireme
             match t {
                 Step::Fault(p) => no_requirement(p),
                 Step::At(m) => {
-                    let v = b.sets;
+                    let v = b.words;
                     let n = b.count;
-                    let x = in_sets(first);
+                    let x = in_sets(words);
                     let y = out_sets(v);
                     let q = Requirement {
                         assumptions: x,
@@ -197,7 +199,7 @@ pub fn requirement_at(s: &[u8], i: usize) -> RequirementScan
             match e {
                 Step::Fault(p) => no_requirement(p),
                 Step::At(m) => {
-                    let v = a.sets;
+                    let v = a.words;
                     let n = a.count;
                     guarantees_at(s, m, v, n)
                 }

@@ -25,7 +25,7 @@ pub fn prefer(s: usize, set: Set) -> usize
 }
 
 // The moves of s, which is one of `left`, inside a set that land in `reached`.
-pub fn choices(rows: &[u64; sets::ROW_WORDS], inside: Set, left: Set, reached: Set, s: usize) -> Set
+pub fn choices(rows: &[u64; 64], inside: Set, left: Set, reached: Set, s: usize) -> Set
     requires { ⌜ (s < capacity) × (has (bitsOf left) s ≡ true) ⌝ }
     ensures { λ r. ⌜ bitsOf r ≡ choicesOf (setsIn (now (rows .entry))) (bitsOf inside) (bitsOf left) (bitsOf reached) s ⌝ }
 {
@@ -35,7 +35,7 @@ pub fn choices(rows: &[u64; sets::ROW_WORDS], inside: Set, left: Set, reached: S
 
 // One round: every state of `left` with a move into `reached` gets its next state. The answer is the set of these states.
 fn settle(
-    rows: &[u64; sets::ROW_WORDS],
+    rows: &[u64; 64],
     n: usize,
     inside: Set,
     left: Set,
@@ -61,7 +61,7 @@ fn settle(
 
 // The moves towards the target along the rows of n states, inside a set. A state settles in round k where the shortest way from its best move has k
 // moves, so what is reached after it is all that has a way of at most k + 1 moves.
-pub fn toward(rows: &[u64; sets::ROW_WORDS], n: usize, inside: Set, target: Set) -> Ways
+pub fn toward(rows: &[u64; 64], n: usize, inside: Set, target: Set) -> Ways
     requires { ⌜ Bounds n (bitsOf target) ⌝ }
     ensures { λ r. ⌜ Toward (setsIn (now (rows .entry))) n (bitsOf inside) (bitsOf target) (r .next) ⌝ }
 {

@@ -2,7 +2,6 @@
 use Prim.Native.Nat.{_/_, _%_}
 use native.Mathlib.Omega.{arith}
 use borrow.Author.Needs.{needs}
-use Rattle.theory.specs.Entries.{stride}
 use Rattle.answer_lines.proofs.Lines.{number-short, opening-short, row-pieces}
 use Rattle.put.proofs.Buffer.{puts-then, puts-as}
 use Rattle.answer_lines.proofs.put_row.Statement.{statement}
@@ -69,7 +68,7 @@ put-number-then-requires-4 c κs =
       number-short (at-start .args .g) 32 (at-start .fits .g .fits),
       number-short (at-start .args .b) 32
           (at-start .fits .b .fits),
-      number-short (at-start .args .entry % stride) 32 (omega arith),
+      number-short (at-start .args .entry % 64) 32 (omega arith),
     )
 
 put-number-then-requires-5 : tie.Need-put-number-then-requires-5
@@ -93,8 +92,8 @@ put-number-then-requires-5 c κs =
           (at-start .args .g) 32 (at-start .fits .g .fits),
       number-short (at-start .args .b) 32 (at-start .fits .b .fits),
       number-short
-          (at-start .args .entry % stride) 32 (omega arith),
-      number-short (at-start .args .entry / stride) 41 (omega (arith, at-start .fits .entry .fits)),
+          (at-start .args .entry % 64) 32 (omega arith),
+      number-short (at-start .args .entry / 64) 41 (omega (arith, at-start .fits .entry .fits)),
     )
 
 put-byte-requires : tie.Need-put-byte-requires
@@ -120,8 +119,8 @@ put-byte-requires c κs =
       number-short (at-start .args .g) 32 (at-start .fits .g .fits),
       number-short (at-start .args .b) 32
           (at-start .fits .b .fits),
-      number-short (at-start .args .entry % stride) 32 (omega arith),
-      number-short (at-start .args .entry / stride) 41
+      number-short (at-start .args .entry % 64) 32 (omega arith),
+      number-short (at-start .args .entry / 64) 41
           (omega (arith, at-start .fits .entry .fits)),
     )
 

@@ -1,6 +1,6 @@
 -- `state` meets its contract.
-use mathlib.Core.Path.{refl}
 use borrow.Author.Needs.{needs}
+use Rattle.entries.proofs.Packed.{state-of}
 use Rattle.entries.proofs.state.Statement.{statement}
 use Rattle.entries.proofs.state.Tie as tie
 
@@ -8,7 +8,7 @@ cast-result : tie.Need-cast-result
 cast-result c = search needs
 
 returns : tie.Need-returns
-returns c = refl
+returns c m s h = state-of _ m s h
 
 pub state-spec : {M : Type 1} → statement M
 state-spec = tie.close (tie.spec cast-result returns)

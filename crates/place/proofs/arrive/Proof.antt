@@ -1,7 +1,6 @@
 -- `arrive` tests the entry, its counter and its state in order.
 use Rattle.place.proofs.Tests.{arrive-none, arrive-counter, arrive-output, arrive-at}
 use Rattle.finite.proofs.Loops.{failed, passed}
-use native.Mathlib.Omega.{arith}
 use borrow.Author.Needs.{needs}
 use Rattle.place.proofs.arrive.Statement.{statement}
 use Rattle.place.proofs.arrive.Tie as tie
@@ -9,35 +8,25 @@ use Rattle.place.proofs.arrive.Tie as tie
 returns : tie.Need-returns
 returns c = arrive-none _ _ _ _ (c .if1 .taken)
 
-counter-requires : tie.Need-counter-requires
-counter-requires c κs = search needs
+cast-counter : tie.Need-cast-counter
+cast-counter c = search needs
 
-state-requires : tie.Need-state-requires
-state-requires c κs = search needs
+cast-state : tie.Need-cast-state
+cast-state c = search needs
 
 returns-2 : tie.Need-returns-2
-returns-2 c =
-    let t = c .before .before in
-    arrive-counter _ _ _ _ _ _ (t .counter .ensures) (c .before .state .ensures) (t .before .if1 .left) (c .if2 .taken)
+returns-2 c = arrive-counter _ _ _ _ (c .before .if1 .left) (c .if2 .taken)
 
 member-requires : tie.Need-member-requires
-member-requires c κs = omega (arith, c .before .state .ensures)
+member-requires c κs = search needs
 
 returns-3 : tie.Need-returns-3
-returns-3 c =
-    let u = c .before .before in
-    let t = u .before .before in
-    arrive-output _ _ _ _ _ _ (t .counter .ensures) (u .before .state .ensures) (t .before .if1 .left) (u .if2 .left)
-    (failed (c .before .member .ensures) (c .if3 .taken))
+returns-3 c = arrive-output _ _ _ _ (c .before .before .before .if1 .left) (c .before .before .if2 .left) (failed (c .before .member .ensures) (c .if3 .taken))
 
 returns-4 : tie.Need-returns-4
-returns-4 c =
-    let u = c .before .before in
-    let t = u .before .before in
-    arrive-at _ _ _ _ _ _ (t .counter .ensures) (u .before .state .ensures) (t .before .if1 .left) (u .if2 .left)
-    (passed (c .before .member .ensures) (c .if3 .left))
+returns-4 c = arrive-at _ _ _ _ (c .before .before .before .if1 .left) (c .before .before .if2 .left) (passed (c .before .member .ensures) (c .if3 .left))
 
 pub arrive-spec : {M : Type 1} → statement M
 arrive-spec =
     tie.close
-    (tie.spec returns counter-requires state-requires returns-2 member-requires returns-3 returns-4)
+    (tie.spec returns cast-counter cast-state returns-2 member-requires returns-3 returns-4)
