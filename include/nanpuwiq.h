@@ -1,23 +1,9 @@
 /* The public entries of Nanpuwiq for C, in the static library libnanpuwiq.a (`rt staticlib nanpuwiq`), x86-64 Linux.
  *
- * Numbers. A code is 0, or the number of a refusal:
- *    1  a count not 1 to 64
- *    2  a move or initial state past the count, or a used row past it
- *    3  no initial state
- *    4  does not occur: a state without a move is accepted
- *    5  k over 8
- *    6  a length over 4, all eight places counted
- *    7  a state past its count in a set, an unused set not empty, or an unused requirement with a length not 0
- *    8  scratch under 2 * inputs + outputs words, or, for the map, a map under one word an input
- *    9  the controller's buffer too short, or the kit's      10  the panel's too short      all tried whoever wins
- *   11  bytes that are no game's text, with a place      12  over 40,960 bytes      13  a text buffer under the text's length
- *   14  an input that the panel cannot pick now, or at that step of a recording
- *   15  an entry that is none, or names a counter out of range or an output that is no move (at the start, not initial)
- *   16  a table of another length, or a position that the game does not have
- *   17  a command count not 1 to 16
- *   18  a next mode that is neither barred nor a mode of the drive, or one past the counts that is not barred
- * The lowest number whose condition holds is given; the reader tries 12, 11, then 1 to 7; the player 1 to 7, 16, 14, 15; the comparison of recordings
- * 1 to 7, 16, then 14, 15 step by step; a kit 1, 17, 18, then 2 to 10.
+ * Numbers. A code is 0, or the number of a refusal: nanpuwiq_words.h has the list of them with a sentence each, nanpuwiq_words(code) gives the sentence.
+ * The lowest number whose condition holds is given; the reader tries 12, 11, then 1 to 7; the player, of a controller's table or against a panel's,
+ * 1 to 7, 16, 14, 15; the comparison of recordings 1 to 7, 16, then 14, 15 step by step; a kit 1, 17, 18, then 2 to 10; the map on the joined
+ * positions 1 to 7, 24, 8.
  *
  * Every value of every parameter has an answer, and on a refusal every buffer holds what it held before. What each entry promises is proved
  * in crates/nanpuwiq (specs/Calls.antt) and crates/results (specs/Results.antt), on the following, which C cannot check and a caller keeps to:
@@ -37,10 +23,13 @@
 extern "C" {
 #endif
 
+#define NANPUWIQ_VERSION "0.1.0"    /* of header, library and command */
 #define NANPUWIQ_STATES 64          /* states of a graph at most */
 #define NANPUWIQ_REQUIREMENTS 8     /* places for requirements */
 #define NANPUWIQ_SETS 4             /* places for sets on each side of a requirement */
 #define NANPUWIQ_SCRATCH_MOST 192   /* words of scratch that the largest game asks for */
+#define NANPUWIQ_JOINED_SCRATCH 4096  /* words of scratch that the map on the joined positions asks for */
+#define NANPUWIQ_JOINED_STATES 32   /* states of a graph at most, for that map */
 #define NANPUWIQ_NONE 65535         /* the entry of a table that is none */
 #define NANPUWIQ_TABLE_MOST 131136  /* entries of the longest controller's table; the longest panel's has 131073 */
 #define NANPUWIQ_TEXT_MOST 40960    /* bytes of the longest text that is read */
@@ -96,7 +85,7 @@ typedef struct {
     nanpuwiq_requirement requirements[NANPUWIQ_REQUIREMENTS];
 } nanpuwiq_kit;
 
-/* Input, output and counter after the controller's answer. */
+/* Input, output and counter after the controller's answer; against a panel's table, after the output is picked. */
 typedef struct {
     nanpuwiq_in_state input;
     nanpuwiq_out_state output;
@@ -139,6 +128,13 @@ typedef struct {
     uint8_t code;
 } nanpuwiq_moved;
 
+/* The panel's move by its table: the next input and the next counter. On a refusal both are 0. */
+typedef struct {
+    nanpuwiq_in_state input;
+    size_t counter;
+    uint8_t code;
+} nanpuwiq_panel_move;
+
 /* The answer to two recordings. */
 typedef struct {
     uint8_t code;
@@ -146,6 +142,22 @@ typedef struct {
     bool ended;      /* whether at that step one recording has ended and the other has not; false unless code is 0 */
     size_t step;     /* the first step that shows a fault, a difference or an ending; 0 where they agree and for 1 to 7 and 16 */
 } nanpuwiq_compared;
+
+/* The words for the number of a refusal. */
+static inline const char *nanpuwiq_words(uint8_t number)
+{
+    switch (number) {
+    case 0:
+        return "not refused";
+#define NANPUWIQ_WORDS(number, words) \
+    case number:                      \
+        return words;
+#include "nanpuwiq_words.h"
+#undef NANPUWIQ_WORDS
+    default:
+        return "no number of a refusal";
+    }
+}
 
 /* Words of scratch that an accepted game asks for, and an accepted kit: 2 * inputs + outputs. On a verdict or a map that many words of scratch are
  * zero, from the first on, and the rest is as it was. */
@@ -165,6 +177,11 @@ uint8_t nanpuwiq_accept(nanpuwiq_game game);
  * A bit is set exactly where a controller with finitely many memory values, started there, makes every reachable round meet all requirements.
  * Code 0, 1 to 7, or 8. On 0 scratch's first nanpuwiq_scratch_words(game) words are zero and the rest is as it was. */
 uint8_t nanpuwiq_won_map(nanpuwiq_game game, uint64_t *scratch, size_t scratch_words, uint64_t *map, size_t map_words);
+
+/* The same map, worked out on the joined positions from the last components of the joined graph backward: the solver of the lecture room
+ * (docs/LECTURE.md), for graphs of at most NANPUWIQ_JOINED_STATES states. Where both calls answer 0, the words they write are the same.
+ * Code 0, 1 to 7, 24, or 8. On 0 scratch's first NANPUWIQ_JOINED_SCRATCH words are zero and the rest is as it was. */
+uint8_t nanpuwiq_joined_map(nanpuwiq_game game, uint64_t *scratch, size_t scratch_words, uint64_t *map, size_t map_words);
 
 /* Names the side that wins and fills the front of its buffer with a table that wins for it; no table of any finite size wins for the other.
  * The rest of that buffer and all of the other stay as they were; scratch's first nanpuwiq_scratch_words(game) words are zero and the rest is as it was.
@@ -206,6 +223,23 @@ nanpuwiq_moved nanpuwiq_step(nanpuwiq_game game, const uint16_t *table, size_t e
 
 /* Moves the position on by the next input, as nanpuwiq_step does; a refusal leaves it as it was. Code 0, 1 to 7, 16, 14 or 15. */
 uint8_t nanpuwiq_advance(nanpuwiq_game game, const uint16_t *table, size_t entries, nanpuwiq_position *at, nanpuwiq_in_state next);
+
+/* Playing against a panel's table: the panel picks its first input, the drive's side an initial output, then, again and again, the panel its next
+ * input, having seen the output, and the drive's side a next output by a move, having seen that input.
+ *
+ * The panel's first input and counter, by the table's start. Code 0, 1 to 7, 16 or 15. */
+nanpuwiq_panel_move nanpuwiq_panel_first(nanpuwiq_game game, const uint16_t *table, size_t entries);
+
+/* The first position: the start's input and counter with the output picked. On a refusal the position is all zero.
+ * Code 0, 1 to 7, 16, 14 (the output is not initial) or 15. */
+nanpuwiq_moved nanpuwiq_panel_begin(nanpuwiq_game game, const uint16_t *table, size_t entries, nanpuwiq_out_state first);
+
+/* The panel's next input and counter at a position, by the table's row. Code 0, 1 to 7, 16 or 15. */
+nanpuwiq_panel_move nanpuwiq_panel_next(nanpuwiq_game game, const uint16_t *table, size_t entries, nanpuwiq_position at);
+
+/* The position after that move and the output picked. On a refusal the position is the old one.
+ * Code 0, 1 to 7, 16, 14 (the output is no move) or 15. */
+nanpuwiq_moved nanpuwiq_panel_step(nanpuwiq_game game, const uint16_t *table, size_t entries, nanpuwiq_position at, nanpuwiq_out_state next);
 
 /* Whether of two recordings of one run, the panel's inputs and the drive's outputs, the outputs are those that a controller's table gives for the
  * inputs. Step 0 is the first input with the table's start, every later step the table's row. The first step is told that shows

@@ -71,6 +71,29 @@ static void map(void)
     same("map, scratch of the exact length", nanpuwiq_won_map(g, scratch, 6, words, 2), 0);
 }
 
+static void map_of_the_joined_positions(void)
+{
+    nanpuwiq_game g = example();
+    static uint64_t scratch[NANPUWIQ_JOINED_SCRATCH + 1];
+    uint64_t words[3] = {7, 7, 7};
+    memset(scratch, 255, sizeof scratch);
+    same("joined map, scratch short", nanpuwiq_joined_map(g, scratch, NANPUWIQ_JOINED_SCRATCH - 1, words, 3), 8);
+    same("joined map, map short", nanpuwiq_joined_map(g, scratch, NANPUWIQ_JOINED_SCRATCH, words, 1), 8);
+    g.output.states = NANPUWIQ_JOINED_STATES + 1;
+    same("joined map, 33 outputs, scratch short", nanpuwiq_joined_map(g, scratch, 0, words, 3), 24);
+    g.input.initial = 0;
+    same("joined map, 33 outputs, no initial input", nanpuwiq_joined_map(g, scratch, 0, words, 3), 3);
+    same("joined map refused: word 0", words[0], 7);
+    same("joined map refused: scratch", scratch[0], UINT64_MAX);
+    same("joined map", nanpuwiq_joined_map(example(), scratch, NANPUWIQ_JOINED_SCRATCH + 1, words, 3), 0);
+    same("joined map: word 0", words[0], 3);
+    same("joined map: word 1", words[1], 3);
+    same("joined map: word 2", words[2], 7);
+    same("joined map: scratch 0", scratch[0], 0);
+    same("joined map: the last word", scratch[NANPUWIQ_JOINED_SCRATCH - 1], 0);
+    same("joined map: the word after it", scratch[NANPUWIQ_JOINED_SCRATCH], UINT64_MAX);
+}
+
 static void solving(void)
 {
     nanpuwiq_game g = example();
@@ -914,10 +937,165 @@ static void recordings_refused(void)
     compared("recordings refused: 16, long, no inputs", nanpuwiq_compare(right, longer, 7, inputs(ins, 0), outputs(outs, 6)), 16, false, false, 0);
 }
 
+/* The example with a guarantee that is never met: the panel holds input 1. */
+static nanpuwiq_game no_adapter(void)
+{
+    nanpuwiq_game g = example();
+    g.requirements[0].guarantees[0].states = 0;
+    return g;
+}
+
+static void same_move(const char *what, nanpuwiq_panel_move got, uint8_t code, size_t input, size_t counter)
+{
+    same(what, got.code, code);
+    same(what, got.input.number, input);
+    same(what, got.counter, counter);
+}
+
+/* All four entries: their numbers, and on a refusal the zeros, the zero position and the old one. */
+static void panel_numbers(const char *what, nanpuwiq_game g, const uint16_t *entries, size_t count, nanpuwiq_position at, size_t output,
+                          const uint8_t *numbers)
+{
+    nanpuwiq_out_state picked = {output};
+    nanpuwiq_panel_move moves[2] = {nanpuwiq_panel_first(g, entries, count), nanpuwiq_panel_next(g, entries, count, at)};
+    nanpuwiq_moved places[2] = {nanpuwiq_panel_begin(g, entries, count, picked), nanpuwiq_panel_step(g, entries, count, at, picked)};
+    for (int n = 0; n < 2; n++) {
+        same(what, moves[n].code, numbers[2 * n]);
+        same(what, places[n].code, numbers[2 * n + 1]);
+        if (moves[n].code != 0)
+            same_move(what, moves[n], numbers[2 * n], 0, 0);
+    }
+    if (places[0].code != 0)
+        same_position(what, places[0].at, 0, 0, 0);
+    if (places[1].code != 0)
+        same_position(what, places[1].at, at.input.number, at.output.number, at.counter);
+}
+
+static void panel_refusals(void)
+{
+    nanpuwiq_game right = no_adapter(), g;
+    uint64_t scratch[6];
+    uint16_t controller[6], panel[5];
+    same("panel's table", nanpuwiq_solve(right, scratch, 6, controller, 6, panel, 5).entries, 5);
+    static const uint16_t none[5] = {NANPUWIQ_NONE, NANPUWIQ_NONE, NANPUWIQ_NONE, NANPUWIQ_NONE, NANPUWIQ_NONE};
+    static const uint16_t far[5] = {1, 2, 2, 64, 64}; /* no initial input; no input; no counter */
+    nanpuwiq_position here = {{0}, {0}, 0}, there = {{1}, {1}, 0}, past[3] = {{{2}, {0}, 0}, {{0}, {2}, 0}, {{0}, {0}, 1}};
+    /* first, begin, next, step */
+    panel_numbers("panel: all well", right, panel, 5, here, 0, (const uint8_t[]){0, 0, 0, 0});
+    panel_numbers("panel: 15", right, none, 5, here, 0, (const uint8_t[]){15, 15, 15, 15});
+    panel_numbers("panel: 15, names what is none", right, far, 5, here, 0, (const uint8_t[]){15, 15, 15, 15});
+    panel_numbers("panel: 15, no counter", right, far, 5, there, 0, (const uint8_t[]){15, 15, 15, 15});
+    panel_numbers("panel: 14", right, panel, 5, here, 2, (const uint8_t[]){0, 14, 0, 14});
+    panel_numbers("panel: 14, not initial, but a move", right, panel, 5, here, 1, (const uint8_t[]){0, 14, 0, 0});
+    panel_numbers("panel: 14 before 15", right, none, 5, here, 2, (const uint8_t[]){15, 14, 15, 14});
+    panel_numbers("panel: 16, short", right, panel, 4, here, 0, (const uint8_t[]){16, 16, 16, 16});
+    panel_numbers("panel: 16, a controller's table", right, table, 6, here, 0, (const uint8_t[]){16, 16, 16, 16});
+    panel_numbers("panel: 16 before 14 and 15", right, none, 4, here, 2, (const uint8_t[]){16, 16, 16, 16});
+    for (int n = 0; n < 3; n++) {
+        panel_numbers("panel: 16, no such position", right, panel, 5, past[n], 0, (const uint8_t[]){0, 0, 16, 16});
+        panel_numbers("panel: 16, no such position, before 14 and 15", right, none, 5, past[n], 2, (const uint8_t[]){15, 14, 16, 16});
+    }
+    for (uint8_t number = 1; number <= 7; number++) {
+        if (number == 4)
+            continue;
+        g = right;
+        switch (number) {
+        case 1: g.output.states = 65; break;
+        case 2: g.input.moves[0] = 4; break;
+        case 3: g.output.initial = 0; break;
+        case 5: g.k = 9; break;
+        case 6: g.requirements[7].assumed = 5; break;
+        case 7: g.requirements[0].assumptions[0].states = 4; break;
+        }
+        const uint8_t numbers[] = {number, number, number, number};
+        panel_numbers("panel: 1 to 7", g, panel, 5, here, 0, numbers);
+        panel_numbers("panel: 1 to 7 before 16, 14 and 15", g, none, 4, past[0], 2, numbers);
+    }
+}
+
+static bool member(uint64_t set, size_t state)
+{
+    return state < 64 && (set >> state & 1);
+}
+
+/* Whether one of the game's requirements is broken by what these positions visit. */
+static bool breaks(const nanpuwiq_game *g, const nanpuwiq_position *from, const nanpuwiq_position *to)
+{
+    uint64_t ins = 0, outs = 0;
+    for (; from != to; from++) {
+        ins |= (uint64_t)1 << from->input.number;
+        outs |= (uint64_t)1 << from->output.number;
+    }
+    for (size_t r = 0; r < g->k; r++) {
+        const nanpuwiq_requirement *q = &g->requirements[r];
+        bool due = true, met = true;
+        for (size_t j = 0; j < q->assumed; j++)
+            due = due && (q->assumptions[j].states & ins) != 0;
+        for (size_t j = 0; j < q->guaranteed; j++)
+            met = met && (q->guarantees[j].states & outs) != 0;
+        if (due && !met)
+            return true;
+    }
+    return false;
+}
+
+/* The pump that is never parked, and low and high are not both to be asked for again and again: 2,000 outputs, and others that are no move, against the
+ * panel's table, which goes to and fro between them. The table is read here by its layout; every loop that closes breaks a requirement. */
+static void panel_run(void)
+{
+    enum { STEPS = 2000 };
+    static uint16_t controller[4 + 6 * 16 * 4], panel[1 + 4 * 16 * 6];
+    static nanpuwiq_position trail[STEPS];
+    uint64_t scratch[14];
+    nanpuwiq_kit kit = pump();
+    require(&kit, 1 << 1, 0);
+    kit.requirements[4].assumptions[1].states = 1 << 2;
+    kit.requirements[4].assumed = 2;
+    nanpuwiq_game g = game_of(&kit);
+    for (size_t s = 0; s < 6; s++)
+        g.output.moves[s] &= 31;
+    nanpuwiq_solved r = nanpuwiq_solve(g, scratch, nanpuwiq_scratch_words(g), controller, sizeof controller / 2, panel, sizeof panel / 2);
+    same("panel's run: solved", r.code, 0);
+    same("panel's run: the panel wins", r.system, false);
+    size_t counters = 0, steps = 0, loops = 0, apart = 0, sound = 0, wrong = 0;
+    for (size_t q = 0; q < g.k; q++)
+        counters += g.requirements[q].assumed;
+    unsigned seed = 1;
+    while (steps < STEPS) {
+        nanpuwiq_position last = steps ? trail[steps - 1] : (nanpuwiq_position){{0}, {0}, 0};
+        uint64_t allowed = steps ? g.output.moves[last.output.number] : g.output.initial;
+        if (allowed == 0)
+            break;
+        uint16_t entry = panel[steps ? 1 + (last.input.number * counters + last.counter) * g.output.states + last.output.number : 0];
+        nanpuwiq_panel_move m = steps ? nanpuwiq_panel_next(g, panel, r.entries, last) : nanpuwiq_panel_first(g, panel, r.entries);
+        apart += m.code != 0 || m.input.number != entry % 64 || m.counter != entry / 64;
+        nanpuwiq_out_state picked = {(seed = seed * 1103515245 + 12345) >> 16 & 7};
+        nanpuwiq_moved to = steps ? nanpuwiq_panel_step(g, panel, r.entries, last, picked) : nanpuwiq_panel_begin(g, panel, r.entries, picked);
+        if (!member(allowed, picked.number)) {
+            apart += to.code != 14 || memcmp(&to.at, &last, sizeof last) != 0;
+            wrong++;
+            continue;
+        }
+        apart += to.code != 0 || to.at.input.number != m.input.number || to.at.counter != m.counter || to.at.output.number != picked.number;
+        trail[steps] = to.at;
+        for (size_t k = 0; k < steps; k++)
+            if (memcmp(&trail[k], &to.at, sizeof to.at) == 0) {
+                loops++;
+                sound += breaks(&g, trail + k, trail + steps);
+            }
+        steps++;
+    }
+    same("panel's run: answers that are not the layout's", apart, 0);
+    same("panel's run: loops that break no requirement", loops - sound, 0);
+    same("panel's run: loops", loops > 1000, true);
+    same("panel's run: outputs that are no move", wrong > 100, true);
+}
+
 int main(void)
 {
     acceptance();
     map();
+    map_of_the_joined_positions();
     solving();
     scratch_of_the_largest();
     texts();
@@ -936,6 +1114,8 @@ int main(void)
     recordings_of_all_states();
     recordings_of_the_pump();
     recordings_refused();
+    panel_refusals();
+    panel_run();
     printf("%d passed, %d failed\n", passed, failed);
     return failed != 0;
 }

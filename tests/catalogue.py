@@ -1,16 +1,18 @@
 #!/usr/bin/env python3
 """Runs the catalogue program on lists of files and compares what it prints, byte for byte, with a tally made here.
 
-    tests/catalogue.py CATALOGUE SOLVE
+    tests/catalogue.py CATALOGUE SOLVE SECOND [SEED]
 
-The verdict on each file is taken from what the solve program prints for it. A position is won exactly where the system wins the same
-game with that input and that output alone initial, so the won positions are counted by running solve once for each position. The
-last line says how many passed and how many failed."""
+The verdict on each file is taken from what the solve program prints for it, the won positions from the second solver, which was made
+apart from the product. The program runs on a copy of itself, where this runs as root as nobody, so that a file without permission
+cannot be read. The last line says how many passed and how many failed."""
 
 import collections
 import os
 import pathlib
+import random
 import re
+import shutil
 import subprocess
 import sys
 import tempfile
@@ -19,10 +21,22 @@ from program import EXAMPLE, ONE, TWO, game, refusals
 
 LIMIT = 60  # seconds
 LIMIT_NAMES = 1000
+NOBODY = 65534
+CLOSED = {b"closed", b"shut/inner"}  # names of files without permission
 
 
-def run(program, text, where):
-    return subprocess.run([program], input=text, capture_output=True, timeout=LIMIT, cwd=where)
+def run(program, text, where=None, **how):
+    return subprocess.run(program, input=text, capture_output=True, timeout=LIMIT, cwd=where, **how)
+
+
+def low_rights(program, where):
+    """How to run a program with no more rights than anyone has: whom as, or none where that cannot be had."""
+    how = {"user": NOBODY, "group": NOBODY, "extra_groups": []} if os.geteuid() == 0 else {}
+    try:
+        run([program], b"", where, **how)
+    except OSError:
+        return None
+    return how
 
 
 def names(text):
@@ -31,27 +45,12 @@ def names(text):
     return lines[:-1] if lines[-1] == b"" else lines
 
 
-def with_initial(text, i, o):
-    """The game with input i and output o alone initial."""
-    out = []
-    for line in text.decode().splitlines(keepends=True):
-        found = re.match(r"\((in|out) (\d+) [01] (.*)\Z", line, re.S)
-        if found:
-            chosen = int(found[2]) == (i if found[1] == "in" else o)
-            line = "(%s %s %d %s" % (found[1], found[2], chosen, found[3])
-        out.append(line)
-    return "".join(out).encode()
-
-
 class Judge:
-    """What the solve program says of a file, asked once for each text."""
+    """What is said of a file: who wins by the solve program, how many positions are won by the second solver. Asked once for each text."""
 
-    def __init__(self, solve):
-        self.solve = solve
+    def __init__(self, solve, second):
+        self.solve, self.second = solve, second
         self.known = {}
-
-    def print_of(self, text):
-        return run(self.solve, text, None).stdout
 
     def of(self, text):
         """(side, number, won, positions)"""
@@ -60,21 +59,18 @@ class Judge:
         return self.known[text]
 
     def ask(self, text):
-        answer = self.print_of(text)
+        answer = run([self.solve], text).stdout
         refused = re.match(rb"\(refused (\d+)", answer)
         if refused:
             return ("refused", int(refused[1]), 0, 0)
         side = re.match(rb"\(wins (\w+)\)", answer)[1].decode()
-        inputs, outputs = map(int, re.match(rb"\(game (\d+) (\d+)", text).groups())
-        won = sum(
-            self.print_of(with_initial(text, i, o)).startswith(b"(wins system)") for i in range(inputs) for o in range(outputs)
-        )
-        return (side, 0, won, inputs * outputs)
+        won, positions = map(int, run([self.second, "won"], text).stdout.split())
+        return (side, 0, won, positions)
 
 
 def file_of(name, where):
     """The bytes that a name stands for, or none."""
-    if len(name) > 255 or b"\0" in name or name == b"":
+    if len(name) > 255 or b"\0" in name or name == b"" or name in CLOSED:
         return None
     try:
         return (pathlib.Path(where) / os.fsdecode(name)).read_bytes()
@@ -101,7 +97,21 @@ def expected(judge, text, where):
     return "".join(line + "\n" for line in lines).encode()
 
 
-def files():
+def random_game(rng):
+    def graph():
+        count = rng.randint(1, 6)
+        states = [(rng.randint(0, 1), sorted(rng.sample(range(count), rng.randint(0, min(count, 3))))) for _ in range(count)]
+        return [(1, states[0][1])] + states[1:]
+
+    def sets(count):
+        chosen = (sorted(rng.sample(range(count), rng.randint(0, min(count, 2)))) for _ in range(rng.randint(0, 2)))
+        return " ".join("(%s)" % " ".join(map(str, states)) for states in chosen)
+
+    inputs, outputs = graph(), graph()
+    return game(inputs, outputs, [(sets(len(inputs)), sets(len(outputs))) for _ in range(rng.randint(0, 3))])
+
+
+def files(rng):
     """Files of every number that a file can get, and games that either side wins."""
     known = {
         "example": EXAMPLE,
@@ -111,6 +121,7 @@ def files():
         "n" * 255: EXAMPLE,
     }
     known.update(("refused %d" % k, content) for k, (_, content, _) in enumerate(refusals()))
+    known.update(("random %d" % k, random_game(rng)) for k in range(300))
     return known
 
 
@@ -141,22 +152,39 @@ def lists(known):
     yield "a carriage return", b"example\r\n"
 
 
+def lay_out(where, known):
+    """The files, two of them without permission."""
+    for name, content in known.items():
+        (where / name).write_bytes(content)
+    for folder in ("folder", "shut"):
+        (where / folder).mkdir()
+        (where / folder / "inner").write_bytes(EXAMPLE)
+    (where / "closed").write_bytes(EXAMPLE)
+    (where / "closed").chmod(0)
+    (where / "shut").chmod(0)
+    where.chmod(0o755)
+
+
 def main():
-    catalogue, solve = (str(pathlib.Path(arg).resolve()) for arg in sys.argv[1:])
-    judge = Judge(solve)
+    catalogue, solve, second = (str(pathlib.Path(arg).resolve()) for arg in sys.argv[1:4])
+    seed = int(sys.argv[4]) if len(sys.argv) > 4 else 0
+    judge = Judge(solve, second)
     passed = failed = 0
-    with tempfile.TemporaryDirectory() as where:
-        known = files()
-        for name, content in known.items():
-            (pathlib.Path(where) / name).write_bytes(content)
-        (pathlib.Path(where) / "folder").mkdir()
-        (pathlib.Path(where) / "folder" / "inner").write_bytes(EXAMPLE)
-        unreadable = pathlib.Path(where) / "unreadable"
-        unreadable.write_bytes(EXAMPLE)
-        unreadable.chmod(0)
-        cases = list(lists(known)) + [("an unreadable file", b"unreadable\nexample\n")]
+    with tempfile.TemporaryDirectory() as folder:
+        where = pathlib.Path(folder)
+        known = files(random.Random(seed))
+        lay_out(where, known)
+        program = str(where / "the program")
+        shutil.copy(catalogue, program)
+        cases = list(lists(known))
+        how = low_rights(program, where)
+        if how is None:
+            how = {}
+            print("catalogue: files without permission are not tried, since this runs as root and cannot give that up")
+        else:
+            cases += [("files without permission", b"closed\nexample\nshut/inner\nclosed")]
         for label, text in cases:
-            got = run(catalogue, text, where)
+            got = run([program], text, where, **how)
             want = expected(judge, text, where)
             if got.stdout == want and got.stderr == b"":
                 passed += 1
@@ -167,7 +195,8 @@ def main():
         if met != {0, 2, 3, 7, 9, 10, 11, 12}:
             failed += 1
             print("numbers met: %s" % sorted(met))
-    print("catalogue: %d passed, %d failed" % (passed, failed))
+        (where / "shut").chmod(0o755)
+    print("catalogue: %d passed, %d failed, seed %d" % (passed, failed, seed))
     sys.exit(failed != 0)
 
 

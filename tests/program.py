@@ -118,11 +118,14 @@ def rooms_filled(solve):
     return answer(solve, counted(64, 64, 0, 7)).count(b"(step ") == 64 * 7 * 64
 
 
-def ends(solve, output):
-    """Whether the program ends by itself when its output takes nothing."""
+UNREAD = b"solve: standard input cannot be read\n"
+UNWRITTEN = b"solve: standard output cannot be written\n"
+
+
+def said(solve, redirect):
+    """What the program says on standard error with its input or output elsewhere."""
     with open(ROOT / "tests/prints/case_8.game", "rb") as given:
-        subprocess.run("%s %s" % (solve, output), shell=True, stdin=given, timeout=LIMIT, check=False)
-    return True
+        return subprocess.run("%s %s" % (solve, redirect), shell=True, stdin=given, capture_output=True, timeout=LIMIT, cwd=ROOT).stderr
 
 
 def main():
@@ -134,9 +137,13 @@ def main():
     checks += [(name, answer(solve, text) == print_) for name, text, print_ in latches()]
     checks.append(("the longest text has 36,739 bytes", len(longest()) == 36739))
     checks.append(("a room almost filled", rooms_filled(solve)))
-    checks.append(("a full output", ends(solve, "> /dev/full")))
-    checks.append(("a closed output", ends(solve, ">&-")))
-    checks.append(("an output nobody reads", ends(solve, "| true")))
+    checks.append(("nothing said", said(solve, "") == b""))
+    checks.append(("a full output", said(solve, "> /dev/full") == UNWRITTEN))
+    checks.append(("a closed output", said(solve, ">&-") == UNWRITTEN))
+    checks.append(("an output nobody reads", said(solve, "| true") == b""))
+    checks.append(("a closed input", said(solve, "<&-") == UNREAD))
+    checks.append(("an input that is a folder", said(solve, "< tests") == UNREAD))
+    checks.append(("an input that ends", said(solve, "< /dev/null") == b""))
     for name, good in checks:
         if not good:
             print("FAILED:", name)

@@ -1,5 +1,5 @@
 //! The entries of the static library, each in a safe function. A slice passes as its pointer and its length, a record by value.
-use crate::{Game, InRecording, InState, Kit, OutRecording, Position};
+use crate::{Game, InRecording, InState, Kit, OutRecording, OutState, Position};
 
 #[repr(C)]
 pub struct SolveResult {
@@ -28,6 +28,13 @@ pub struct Moved {
 }
 
 #[repr(C)]
+pub struct PanelMoved {
+    pub input: InState,
+    pub counter: usize,
+    pub code: u8,
+}
+
+#[repr(C)]
 pub struct CompareResult {
     pub code: u8,
     pub agree: bool,
@@ -50,6 +57,7 @@ struct OutBytes {
 extern "C" {
     fn nanpuwiq_accept(game: Game) -> u8;
     fn nanpuwiq_won_map(game: Game, scratch: *mut u64, scratch_words: usize, map: *mut u64, map_words: usize) -> u8;
+    fn nanpuwiq_joined_map(game: Game, scratch: *mut u64, scratch_words: usize, map: *mut u64, map_words: usize) -> u8;
     fn nanpuwiq_solve(
         game: Game,
         scratch: *mut u64,
@@ -76,6 +84,10 @@ extern "C" {
     fn nanpuwiq_begin(game: Game, table: *const u16, entries: usize, first: InState) -> Moved;
     fn nanpuwiq_step(game: Game, table: *const u16, entries: usize, at: Position, next: InState) -> Moved;
     fn nanpuwiq_advance(game: Game, table: *const u16, entries: usize, at: *mut Position, next: InState) -> u8;
+    fn nanpuwiq_panel_first(game: Game, table: *const u16, entries: usize) -> PanelMoved;
+    fn nanpuwiq_panel_begin(game: Game, table: *const u16, entries: usize, first: OutState) -> Moved;
+    fn nanpuwiq_panel_next(game: Game, table: *const u16, entries: usize, at: Position) -> PanelMoved;
+    fn nanpuwiq_panel_step(game: Game, table: *const u16, entries: usize, at: Position, next: OutState) -> Moved;
     fn nanpuwiq_compare(game: Game, table: *const u16, entries: usize, inputs: InBytes, outputs: OutBytes) -> CompareResult;
 }
 
@@ -88,6 +100,10 @@ pub fn accept(game: Game) -> u8 {
 
 pub fn won_map(game: Game, scratch: &mut [u64], map: &mut [u64]) -> u8 {
     unsafe { nanpuwiq_won_map(game, scratch.as_mut_ptr(), scratch.len(), map.as_mut_ptr(), map.len()) }
+}
+
+pub fn joined_map(game: Game, scratch: &mut [u64], map: &mut [u64]) -> u8 {
+    unsafe { nanpuwiq_joined_map(game, scratch.as_mut_ptr(), scratch.len(), map.as_mut_ptr(), map.len()) }
 }
 
 pub fn solve(game: Game, scratch: &mut [u64], controller: &mut [u16], panel: &mut [u16]) -> SolveResult {
@@ -142,6 +158,22 @@ pub fn step(game: Game, table: &[u16], at: Position, next: InState) -> Moved {
 
 pub fn advance(game: Game, table: &[u16], at: &mut Position, next: InState) -> u8 {
     unsafe { nanpuwiq_advance(game, table.as_ptr(), table.len(), at, next) }
+}
+
+pub fn panel_first(game: Game, table: &[u16]) -> PanelMoved {
+    unsafe { nanpuwiq_panel_first(game, table.as_ptr(), table.len()) }
+}
+
+pub fn panel_begin(game: Game, table: &[u16], first: OutState) -> Moved {
+    unsafe { nanpuwiq_panel_begin(game, table.as_ptr(), table.len(), first) }
+}
+
+pub fn panel_next(game: Game, table: &[u16], at: Position) -> PanelMoved {
+    unsafe { nanpuwiq_panel_next(game, table.as_ptr(), table.len(), at) }
+}
+
+pub fn panel_step(game: Game, table: &[u16], at: Position, next: OutState) -> Moved {
+    unsafe { nanpuwiq_panel_step(game, table.as_ptr(), table.len(), at, next) }
 }
 
 pub fn compare(game: Game, table: &[u16], inputs: InRecording, outputs: OutRecording) -> CompareResult {

@@ -10,6 +10,8 @@ use std::fmt;
 
 mod entries;
 
+/// The version of this crate, which is the header's NANPUWIQ_VERSION.
+pub const VERSION: &str = env!("CARGO_PKG_VERSION");
 /// States of a graph at most.
 pub const STATES: usize = 64;
 /// Places for requirements.
@@ -18,6 +20,10 @@ pub const REQUIREMENTS: usize = 8;
 pub const SETS: usize = 4;
 /// Words of scratch that the largest game asks for.
 pub const SCRATCH_MOST: usize = 3 * STATES;
+/// Words of scratch that the map on the joined positions asks for.
+pub const JOINED_SCRATCH: usize = 4_096;
+/// States of a graph at most, for that map.
+pub const JOINED_STATES: usize = 32;
 /// The entry of a table that is none.
 pub const NONE: u16 = 65_535;
 /// Entries of the longest controller's table.
@@ -29,6 +35,8 @@ pub const ENVIRONMENT_MOST: usize = 1 + STATES * REQUIREMENTS * SETS * STATES;
 pub const COMMANDS: usize = 16;
 /// The next mode where a command is barred.
 pub const BARRED: u8 = 255;
+/// Bytes of the longest text that is read.
+pub const TEXT_MOST: usize = 40_960;
 /// Entries of the longest kit's table.
 pub const KIT_MOST: usize = STATES + STATES * REQUIREMENTS * SETS * STATES * COMMANDS;
 
@@ -103,7 +111,7 @@ pub struct Kit {
     pub requirements: [Requirement; REQUIREMENTS],
 }
 
-/// Input, output and counter after the controller's answer.
+/// Input, output and counter after the controller's answer; against an environment's table, after the output is picked.
 #[repr(C)]
 #[derive(Clone, Copy, Debug, PartialEq, Eq)]
 pub struct Position {
@@ -112,18 +120,32 @@ pub struct Position {
     pub counter: usize,
 }
 
-/// A refusal: its number, 1 to 18, and for 11 how far the bytes could be a game's text (else 0).
+/// The panel's move by an environment's table: the next input and the next counter.
+#[derive(Clone, Copy, Debug, PartialEq, Eq)]
+pub struct PanelMove {
+    pub input: InState,
+    pub counter: usize,
+}
+
+/// A refusal: its number, 1 to 18 or 24, and for 11 how far the bytes could be a game's text (else 0).
 #[derive(Clone, Copy, Debug, PartialEq, Eq)]
 pub struct Error {
     pub number: u8,
     pub place: usize,
 }
 
+/// The words for the number of a refusal, from include/nanpuwiq_words.h.
+pub fn words(number: u8) -> &'static str {
+    include!(concat!(env!("OUT_DIR"), "/words.rs"))
+}
+
+/// The number and its words: `refused 3: no initial state`, and for 11 the place too: `refused 11 20: bytes that are no game's text`.
 impl fmt::Display for Error {
     fn fmt(&self, f: &mut fmt::Formatter<'_>) -> fmt::Result {
-        match self.number {
-            11 => write!(f, "refused 11 {}", self.place),
-            number => write!(f, "refused {number}"),
+        let Error { number, place } = *self;
+        match number {
+            11 => write!(f, "refused 11 {place}: {}", words(number)),
+            _ => write!(f, "refused {number}: {}", words(number)),
         }
     }
 }
@@ -176,6 +198,12 @@ fn refusal(code: u8) -> Result<(), Error> {
         0 => Ok(()),
         number => Err(refused(number)),
     }
+}
+
+/// The panel's move, or the refusal.
+fn panel_move(r: entries::PanelMoved) -> Result<PanelMove, Error> {
+    refusal(r.code)?;
+    Ok(PanelMove { input: r.input, counter: r.counter })
 }
 
 /// Ok where it holds, else the refusal.
@@ -292,6 +320,19 @@ impl Game {
         Ok(map)
     }
 
+    /// The won map of the lecture room's solver in a buffer of the caller's, in a game of at most 32 states a graph: 1 to 7, 24, 8. On a map the first
+    /// `JOINED_SCRATCH` words of scratch are zero and the rest is as it was.
+    pub fn joined_map_into(&self, scratch: &mut [u64], map: &mut [u64]) -> Result<(), Error> {
+        refusal(entries::joined_map(*self, scratch, map))
+    }
+
+    /// The won map, worked out on the joined positions: what `won_map` gives, in a game of at most 32 states a graph.
+    pub fn joined_map(&self) -> Result<Vec<u64>, Error> {
+        let mut map = vec![0; self.input.states.min(STATES)];
+        self.joined_map_into(&mut vec![0; JOINED_SCRATCH], &mut map)?;
+        Ok(map)
+    }
+
     /// The side that wins, and how many entries of its buffer are filled with its table: 1 to 7, 8, 9, 10.
     pub fn solve_into(&self, scratch: &mut [u64], controller: &mut [u16], environment: &mut [u16]) -> Result<(Winner, usize), Error> {
         let r = entries::solve(*self, scratch, controller, environment);
@@ -353,6 +394,30 @@ impl Game {
     /// The same by the entry that moves a lent position on in place.
     pub fn advance(&self, table: &[u16], at: &mut Position, next: InState) -> Result<(), Error> {
         refusal(entries::advance(*self, table, at, next))
+    }
+
+    /// The panel's first input and counter, by the start of an environment's table: 1 to 7, 16, 15.
+    pub fn panel_first(&self, table: &[u16]) -> Result<PanelMove, Error> {
+        panel_move(entries::panel_first(*self, table))
+    }
+
+    /// The first position against an environment's table: its start's input and counter with the output picked: 1 to 7, 16, 14, 15.
+    pub fn panel_begin(&self, table: &[u16], first: OutState) -> Result<Position, Error> {
+        let r = entries::panel_begin(*self, table, first);
+        refusal(r.code)?;
+        Ok(r.at)
+    }
+
+    /// The panel's next input and counter at a position, by the row of an environment's table: 1 to 7, 16, 15.
+    pub fn panel_next(&self, table: &[u16], at: Position) -> Result<PanelMove, Error> {
+        panel_move(entries::panel_next(*self, table, at))
+    }
+
+    /// The position after that move and the output picked: 1 to 7, 16, 14, 15.
+    pub fn panel_step(&self, table: &[u16], at: Position, next: OutState) -> Result<Position, Error> {
+        let r = entries::panel_step(*self, table, at, next);
+        refusal(r.code)?;
+        Ok(r.at)
     }
 
     /// Whether the outputs recorded by the drive are those that a controller's table gives for the inputs recorded by the panel.

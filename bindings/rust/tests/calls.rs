@@ -200,7 +200,22 @@ fn texts() {
     assert_eq!(Game::read(b"(game 1 1 0)\n(in 0 0 (0))\n(out 0 1 (0))\n"), Err(refused(3)));
     assert_eq!(Game::read(b"(game 1 1 0)\n(in 0 1 (1))\n(out 0 1 (0))\n"), Err(refused(2)));
     assert_eq!(Game::read(b"(game 1 1 1)\n(in 0 1 (0))\n(out 0 1 (0))\n(if ((1)) ())\n"), Err(refused(7)));
-    assert_eq!(Game::read(b"").unwrap_err().to_string(), "refused 11 0");
+    assert_eq!(Game::read(b"").unwrap_err().to_string(), "refused 11 0: bytes that are no game's text");
+}
+
+// Every number has its words, from the list that the C header includes; tests/words.py holds C and docs/API.md to it.
+#[test]
+fn words_for_numbers() {
+    assert_eq!(words(0), "not refused");
+    assert_eq!(words(3), "no initial state");
+    assert_eq!(words(255), "no number of a refusal");
+    assert_eq!(refused(16).to_string(), "refused 16: a table of another length, or a position that the game does not have");
+    let listed = include_str!("../../../include/nanpuwiq_words.h");
+    for number in 0..=255 {
+        let line = format!("NANPUWIQ_WORDS({number}, \"{}\")", words(number));
+        let told = number == 0 || words(number) == words(255);
+        assert_eq!(listed.lines().any(|other| other == line), !told, "{number}");
+    }
 }
 
 // A state without a move is accepted, read and written; whoever has to move there loses.

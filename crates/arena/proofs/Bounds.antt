@@ -38,14 +38,14 @@ pub record Inside (A : Arena) (M : ℕ) (c : Configuration) : Type 0 where
   pub memory : c .memory < M
 
 module _ {A : Arena} (B : Bounded A) where
-  pub inside-controller-first : {T : ControllerTable} {c : Configuration} → ControllerFirst A T c → Inside A (T .memories) c
+  inside-controller-first : {T : ControllerTable} {c : Configuration} → ControllerFirst A T c → Inside A (T .memories) c
   inside-controller-first {T} {c} f = record {
     input = B .initial (c .input) (f .initial);
     output = B .opening (c .input) (c .output) (f .start .state);
     memory = f .start .memory;
   }
 
-  pub inside-controller-turn : {T : ControllerTable} {c d : Configuration} → ControllerTurn A T c d → Inside A (T .memories) d
+  inside-controller-turn : {T : ControllerTable} {c d : Configuration} → ControllerTurn A T c d → Inside A (T .memories) d
   inside-controller-turn {T} {c} {d} t = record {
     input = B .move (c .input) (d .input) (t .move);
     output = B .reply (d .input) (c .output) (d .output) (t .step .state);

@@ -18,7 +18,7 @@ use Rattle.finite.proofs.Lists.{allOf-elim}
 use Rattle.finite.specs.Bounded.{all, any, least, leastFrom, count, one}
 use Rattle.finite.specs.Lists.{allOf, anyOf}
 use Rattle.finite.specs.Tabulate.{tabulate, tabulateFrom}
-use Rattle.bits.specs.Member.{has, pack, within}
+use Rattle.sets.specs.Member.{has, pack, within}
 use Rattle.graphs.specs.Graph.{edge, begins, stuck}
 use Rattle.graphs.specs.Rows.{rel, rowsOf}
 use Rattle.graphs.specs.Closure.{nearby, joins, via, reaches}

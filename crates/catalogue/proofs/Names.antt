@@ -1,20 +1,25 @@
 -- A tally under way: the outcomes of the names before a place are counted.
-use Prim.Native.Nat.{ℕ, zero, suc, _+_, _-_, _≤_, _<_}
+use Prim.Native.Nat.{ℕ, _+_, _-_, _≤_, _<_}
 use native.Mathlib.Omega.{arith}
+use native.Mathlib.Decide.{decLe}
 use mathlib.Core.Bool.{Bool, true, false, not}
 use mathlib.Core.List.{List, [], _∷_, _++_, append-assoc, append-nil}
-use mathlib.Core.Logic.{_⊎_, inl, inr}
+use mathlib.Core.Logic.{inl, inr}
 use mathlib.Core.Path.{_≡_, refl, sym, _∙_, ap, subst}
-use lib.Dec.{leb}
-use lib.ListN.{length, take, drop, length-append, length-drop}
+use lib.ListN.{length, take, drop, length-append, length-drop, length-map}
 use borrow.Author.Tests.{le-leb, lt-leb}
 use Rattle.grammar.specs.Number.{decimal}
 use Rattle.shape.specs.Shape.{opening}
 use Rattle.put.specs.Put.{Puts}
 use Rattle.answer_lines.specs.Line.{refusedLine}
 use Rattle.answer_lines.proofs.Lines.{number-short, opening-short, refused-pieces}
-use Rattle.catalogue_names.specs.Names.{names, front, fitName, most, NextName}
+use Rattle.catalogue_names.specs.Names.{names, front, fitName, NextName}
 use Rattle.catalogue_names.proofs.Splitting.{past, take-front, front-short}
+use Rattle.catalogue_names.specs.declared.Kept.{Kept}
+use Rattle.catalogue_names.specs.Keeping.{cut, Held}
+use Rattle.catalogue_names.specs.Keeping.{nothing as nothing-kept}
+use Rattle.catalogue_names.proofs.Keeping.{held-nothing, held-more, held-within}
+use Rattle.catalogue_names.proofs.Cut.{short, kept-names, fit-cut}
 use Rattle.catalogue_tally.specs.declared.Outcome.{Outcome}
 use Rattle.catalogue_tally.specs.declared.Outcome.the-variants.{Refused}
 use Rattle.catalogue_tally.specs.declared.Tally.{Tally}
@@ -22,7 +27,7 @@ use Rattle.catalogue_tally.specs.Figures.{Tallied, Within, Roomy, Modest, added
 use Rattle.catalogue_tally.proofs.Counting.{tallied-add, tallied-roomy, tallied-nothing, within-add, within-nothing}
 use Rattle.catalogue_verdict.specs.Judged.{Judged}
 use Rattle.catalogue_lines.specs.Figures.{figuresPrint, Made}
-use Rattle.catalogue.specs.Catalogue.{FromFile, ForName, Each, Catalogued, Prints, Printed}
+use Rattle.catalogue.specs.Catalogue.{FromFile, ForName, Each, Catalogued, Prints, Printed, MoreKept, InputKept, KeptPrinted}
 
 -- the refusal 26
 modest-26 : Modest (Refused 26)
@@ -132,3 +137,57 @@ module _ {l d : List ℕ} {n : ℕ} {e : List ℕ} where
   unfolding Prints
   prints-figures {k} {t} q h C M =
       record { prints = rw (le-leb (length (names l)) 1000 (omega arith), Prints) (t, C, M .puts); fits = M .fits }
+
+-- the list as it is kept
+for-short : (n : List ℕ) (o : Outcome) → ForName (take 256 n) o → ForName n o
+unfolding ForName
+for-short n o F = rw (fit-cut n, ForName) at F
+
+each-short : (ns : List (List ℕ)) (os : List Outcome) → Each (short ns) os → Each ns os
+unfolding Each
+each-short [] [] E = E
+each-short [] (o ∷ os) E = E
+each-short (n ∷ ns) [] E = E
+each-short (n ∷ ns) (o ∷ os) E = (for-short n o (E .0), each-short ns os (E .1))
+
+module _ {s l d : List ℕ} {n : ℕ} {e : List ℕ} where
+  printed-many : 1000 < length (names l) → 1000 < length (names s) → Printed l d n e → Printed s d n e
+  unfolding Prints
+  printed-many h g P =
+      let p = rw (lt-leb (length (names l)) 1000 h, Prints) at (P .prints) in
+      record { prints = rw (lt-leb (length (names s)) 1000 g, Prints) p; fits = P .fits }
+
+  printed-few : names l ≡ short (names s) → length (names l) ≤ 1000 → Printed l d n e → Printed s d n e
+  unfolding Prints
+  printed-few q h P =
+      let p = rw (le-leb (length (names l)) 1000 h, Prints) at (P .prints) in
+      let g : length (names s) ≤ 1000 = omega (arith, ap length q, length-map (names s) (take 256)) in
+      let C = p .1 in
+      let each = each-short (names s) (C .outcomes) (subst (λ (ns : List (List ℕ)). Each ns (C .outcomes)) q (C .each)) in
+      let now : Catalogued s (p .0) = record { outcomes = C .outcomes; each = each; tallied = C .tallied } in
+      record { prints = rw (le-leb (length (names s)) 1000 g, Prints) (p .0, now, p .2); fits = P .fits }
+
+  printed-short : names l ≡ short (names s) → Printed l d n e → Printed s d n e
+  printed-short q P =
+      elim (decLe (length (names l)) 1000) [
+        | yes h ↦ printed-few q h P
+        | no h ↦ printed-many (omega arith) (omega (arith, ap length q, length-map (names s) (take 256))) P
+      ]
+
+-- the print for what is kept of a list is the print for the list
+pub kept-printed : (s : List ℕ) (m : ℕ) {d : List ℕ} {n : ℕ} {e : List ℕ} → 257000 < m → Printed (take m (cut 0 s)) d n e → Printed s d n e
+kept-printed s m h P = elim (kept-names s m h) [ inl q ↦ printed-short q P | inr q ↦ printed-many (q .0) (q .1) P ]
+
+-- standard input, part by part
+pub input-nothing : (d : List ℕ) {k : Kept} → k ≡ nothing-kept → InputKept d k
+input-nothing d e = record { input = []; held = subst (Held [] d) (sym e) (held-nothing d) }
+
+pub input-more : {d e : List ℕ} {k r : Kept} → InputKept d k → MoreKept d k r e → InputKept e r
+input-more I M = record { input = I .input ++ M .part; held = held-more (I .held) (M .keeps) }
+
+pub input-within : {d : List ℕ} {k : Kept} → InputKept d k → k .len ≤ length d
+input-within I = held-within (I .held)
+
+pub kept-print : {l : List ℕ} {k : Kept} {d : List ℕ} {n : ℕ} {e : List ℕ} → 257000 < length l → Printed (take (k .len) l) d n e → KeptPrinted l k d n e
+kept-print {l} {k} {d} {n} {e} h P =
+    record { printed = λ s H. kept-printed s (length l) h (subst (λ (x : List ℕ). Printed x d n e) (H .front) P); fits = P .fits }

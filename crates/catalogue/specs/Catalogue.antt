@@ -1,10 +1,13 @@
--- What the catalogue program prints for a list.
+-- What the catalogue program prints for its standard input.
 --
---   FromFile o         == o is the outcome of a file that could not be opened or read, or of one of some bytes
---   ForName n o        == o is an outcome for the name n
---   Each ns os         == os are outcomes for the names ns, one each, in their order
---   Catalogued l t     == t holds the figures of the names of the list l
---   Printed l d n e    == the program's buffer d has become e by writing the print for the list l at its front, n bytes, which 32 KiB hold
+--   FromFile o            == o is the outcome of a file that could not be opened or read, or of one of some bytes
+--   ForName n o           == o is an outcome for the name n
+--   Each ns os            == os are outcomes for the names ns, one each, in their order
+--   Catalogued l t        == t holds the figures of the names of the list l
+--   Printed l d n e       == the program's buffer d has become e by writing the print for the list l at its front, n bytes, which 32 KiB hold
+--   MoreKept d k r e      == the buffer d, kept to k, has become e by keeping some bytes, and is kept to r
+--   InputKept d k         == the buffer d, kept to k, holds what is kept of some bytes, those that standard input gave
+--   KeptPrinted l k d n e == Printed s d n e of the bytes s that the buffer l, kept to k, holds
 use Prim.Native.Nat.{ℕ, _≤_}
 use mathlib.Core.Bool.{true, false}
 use mathlib.Core.List.{List, [], _∷_}
@@ -14,7 +17,9 @@ use lib.Dec.{leb}
 use lib.ListN.{length}
 use Rattle.put.specs.Put.{Puts}
 use Rattle.answer_lines.specs.Line.{refusedLine}
+use Rattle.catalogue_names.specs.declared.Kept.{Kept}
 use Rattle.catalogue_names.specs.Names.{names, fitName, most}
+use Rattle.catalogue_names.specs.Keeping.{Keeps, Held}
 use Rattle.catalogue_tally.specs.declared.Outcome.{Outcome}
 use Rattle.catalogue_tally.specs.declared.Outcome.the-variants.{Refused}
 use Rattle.catalogue_tally.specs.declared.Tally.{Tally}
@@ -51,4 +56,18 @@ Prints l d n e =
 
 pub record Printed (l d : List ℕ) (n : ℕ) (e : List ℕ) : Type 0 where
   pub prints : Prints l d n e
+  pub fits : n ≤ 32768
+
+-- "named on standard input"; which bytes standard input gives no contract can say
+pub record MoreKept (d : List ℕ) (k r : Kept) (e : List ℕ) : Type 0 where
+  pub part : List ℕ
+  pub keeps : Keeps d k part r e
+
+pub record InputKept (d : List ℕ) (k : Kept) : Type 0 where
+  pub input : List ℕ
+  pub held : Held input d k
+
+-- so the print is said of whatever bytes the buffer holds
+pub record KeptPrinted (l : List ℕ) (k : Kept) (d : List ℕ) (n : ℕ) (e : List ℕ) : Type 0 where
+  pub printed : (s : List ℕ) → Held s l k → Printed s d n e
   pub fits : n ≤ 32768

@@ -1,15 +1,15 @@
 // Reads names of game files, a name a line, and prints the catalogue's figures.
+use catalogue_names::Kept;
 use catalogue_tally::Outcome;
 use catalogue_tally::Tally;
 use libc::STDERR_FILENO;
 use libc::STDIN_FILENO;
 use libc::STDOUT_FILENO;
-ghost use mathlib.Core.Path.{_≡_};
-ghost use Prim.Native.Nat.{_≤_};
+ghost use Prim.Native.Nat.{_≤_, _<_};
 ghost use lib.ListN.{length};
 ghost use Rattle.catalogue_names.specs.Names.{names};
 ghost use Rattle.catalogue_tally.specs.Figures.{Modest};
-ghost use Rattle.catalogue.specs.Catalogue.{FromFile, ForName, Catalogued, Printed};
+ghost use Rattle.catalogue.specs.Catalogue.{FromFile, ForName, Catalogued, Printed, MoreKept, InputKept, KeptPrinted};
 
 // A room of the solver, made by a function of its own so that no proof looks into 32,768 zeros.
 fn empty_room() -> [u16; 32768] {
@@ -144,6 +144,80 @@ fn answer(
     catalogue_lines::put_figures(buffer, t)
 }
 
+// Whether standard input had a next part, and what is kept with it.
+struct Turn {
+    more: bool,
+    kept: Kept,
+}
+
+// Reads the next part of standard input and keeps it.
+fn keep_some(list: &mut [u8], k: Kept) -> Turn
+    ensures { λ r. ⌜ MoreKept (now (list .entry)) k (r .kept) (now (list .exit)) ⌝ }
+{
+    let mut part = io::large_buffer();
+    let n = io::read_full(STDIN_FILENO, &mut part);
+    let kept = catalogue_names::keep(list, k, &part[..n]);
+    Turn {
+        more: n > 0,
+        kept: kept,
+    }
+}
+
+// Reads standard input to its end, or 2^48 bytes of it.
+fn read_list(list: &mut [u8]) -> Kept
+    ensures { λ r. ⌜ InputKept (now (list .exit)) r ⌝ }
+{
+    let mut kept = catalogue_names::nothing_kept();
+    let mut turns: u64 = 4294967296;
+    while turns > 0 {
+        let t = keep_some(list, kept);
+        kept = t.kept;
+        if !t.more {
+            break;
+        }
+        turns -= 1;
+    }
+    kept
+}
+
+// The same of an array.
+fn fill_list(list: &mut [u8; 262144]) -> Kept
+    ensures { λ r. ⌜ InputKept (now (list .exit)) r ⌝ }
+{
+    read_list(list)
+}
+
+// The print for standard input, from what is kept of it.
+fn answer_kept(
+    buffer: &mut [u8],
+    list: &[u8],
+    k: Kept,
+    file: &mut [u8; 65536],
+    controller: &mut [u16; 32768],
+    panel: &mut [u16; 32768],
+) -> usize
+    requires { ⌜ (257000 < length (now list)) × InputKept (now list) k ⌝ }
+    ensures { λ r. ⌜ KeptPrinted (now (list .entry)) k (now (buffer .entry)) r (now (buffer .exit)) ⌝ }
+{
+    let n = k.len;
+    answer(buffer, &list[..n], file, controller, panel)
+}
+
+// The same, in the program's buffers.
+fn put_answer(
+    buffer: &mut [u8; 32768],
+    list: &[u8; 262144],
+    k: Kept,
+    file: &mut [u8; 65536],
+    controller: &mut [u16; 32768],
+    panel: &mut [u16; 32768],
+) -> usize
+    requires { ⌜ InputKept (now list) k ⌝ }
+    ensures { λ r. ⌜ KeptPrinted (now (list .entry)) k (now (buffer .entry)) r (now (buffer .exit)) ⌝ }
+{
+    answer_kept(buffer, list, k, file, controller, panel)
+}
+
 // Writes the first n bytes.
 fn print(text: &[u8], n: usize)
     requires { ⌜ n ≤ length (now text) ⌝ }
@@ -158,128 +232,20 @@ fn print_front(buffer: &[u8; 32768], n: usize)
     print(buffer, n);
 }
 
-// The same as `answer`, in the program's buffer.
-fn put_answer(
-    buffer: &mut [u8; 32768],
-    list: &[u8],
-    file: &mut [u8; 65536],
-    controller: &mut [u16; 32768],
-    panel: &mut [u16; 32768],
-) -> usize
-    ensures { λ r. ⌜ Printed (now (list .entry)) (now (buffer .entry)) r (now (buffer .exit)) ⌝ }
-{
-    answer(buffer, list, file, controller, panel)
-}
-
-// Prints the figures of the list in the first n bytes.
-fn show(list: &[u8], n: usize) {
-    if n <= list.len() {
-        let mut file = io::large_buffer();
-        let mut controller = empty_room();
-        let mut panel = empty_room();
-        let mut buffer = empty_print();
-        let k = put_answer(
-            &mut buffer,
-            &list[..n],
-            &mut file,
-            &mut controller,
-            &mut panel,
-        );
-        print_front(&buffer, k);
-    }
-}
-
-// The same of an array.
-fn show_list(list: &[u8; 262144], n: usize) {
-    show(list, n);
-}
-
-// Where the list's buffer is filled to, and how many bytes of the name under way it holds.
-struct Kept {
-    len: usize,
-    run: usize,
-}
-
-// Keeps a byte behind those that are kept.
-fn store(list: &mut [u8], len: usize, run: usize, b: u8) -> Kept {
-    if len < list.len() {
-        list[len] = b;
-        return Kept {
-            len: len + 1,
-            run: run,
-        };
-    }
-    Kept { len: len, run: run }
-}
-
-// Keeps a byte of the list, but none of a name past its 256th.
-fn keep_byte(list: &mut [u8], k: Kept, b: u8) -> Kept {
-    if b == 10 {
-        return store(list, k.len, 0, b);
-    }
-    if k.run < 256 {
-        return store(list, k.len, k.run + 1, b);
-    }
-    k
-}
-
-// Keeps the bytes of a chunk.
-fn keep(list: &mut [u8], k: Kept, chunk: &[u8]) -> Kept {
-    let mut kept = k;
-    let mut i: usize = 0;
-    while i < chunk.len() {
-        let b = chunk[i];
-        kept = keep_byte(list, kept, b);
-        i += 1;
-    }
-    kept
-}
-
-// Whether a chunk was read and kept, and where the list then stands.
-struct Turn {
-    more: bool,
-    kept: Kept,
-}
-
-// Reads a chunk of standard input and keeps it.
-fn keep_some(list: &mut [u8], k: Kept) -> Turn {
-    let mut chunk = io::large_buffer();
-    let n = io::read_full(STDIN_FILENO, &mut chunk);
-    if n == 0 {
-        return Turn {
-            more: false,
-            kept: k,
-        };
-    }
-    let kept = keep(list, k, &chunk[..n]);
-    Turn {
-        more: true,
-        kept: kept,
-    }
-}
-
-// Reads standard input to its end, or 2^48 bytes. What the buffer does not hold is past the 1,000th name: each has at most 257 bytes there.
-fn read_list(list: &mut [u8]) -> usize {
-    let mut kept = Kept { len: 0, run: 0 };
-    let mut turns: u64 = 4294967296;
-    while turns > 0 {
-        let t = keep_some(list, kept);
-        kept = t.kept;
-        if !t.more {
-            break;
-        }
-        turns -= 1;
-    }
-    kept.len
-}
-
-// The same of an array.
-fn fill_list(list: &mut [u8; 262144]) -> usize {
-    read_list(list)
-}
-
 fn main() {
     let mut list = empty_list();
-    let n = fill_list(&mut list);
-    show_list(&list, n);
+    let mut file = io::large_buffer();
+    let mut controller = empty_room();
+    let mut panel = empty_room();
+    let mut buffer = empty_print();
+    let k = fill_list(&mut list);
+    let n = put_answer(
+        &mut buffer,
+        &list,
+        k,
+        &mut file,
+        &mut controller,
+        &mut panel,
+    );
+    print_front(&buffer, n);
 }

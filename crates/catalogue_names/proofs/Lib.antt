@@ -1,1 +1,3 @@
 pub mod Splitting
+pub mod Keeping
+pub mod Cut

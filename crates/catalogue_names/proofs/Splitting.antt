@@ -1,12 +1,12 @@
 -- A list's names, from the front on.
 use Prim.Native.Nat.{ℕ, zero, suc, _+_, _-_, _≤_, _<_}
 use native.Mathlib.Omega.{arith}
-use mathlib.Core.Bool.{Bool, true, false, not, _&&_, _||_}
+use mathlib.Core.Bool.{Bool, true, false, not}
 use mathlib.Core.Logic.{_≢_, _⊎_, inl, inr}
 use mathlib.Core.List.{List, [], _∷_}
 use mathlib.Core.Path.{_≡_, refl, sym, _∙_, ap}
 use native.Mathlib.Numerals.{add-one}
-use lib.Dec.{eqb, leb}
+use lib.Dec.{eqb}
 use lib.ListN.{length, take, drop, getD, length-drop}
 use lib.Seq.{drop-cons, drop-drop}
 use borrow.Author.Tests.{eq-eqb, ne-eqb, le-leb, lt-leb}
@@ -26,11 +26,11 @@ front-on : (b : ℕ) (l : List ℕ) → eqb b 10 ≡ false → front (b ∷ l) �
 unfolding front
 front-on b l h = rw (h, front) refl
 
-names-stop : (b : ℕ) (l : List ℕ) → eqb b 10 ≡ true → names (b ∷ l) ≡ [] ∷ names l
+pub names-stop : (b : ℕ) (l : List ℕ) → eqb b 10 ≡ true → names (b ∷ l) ≡ [] ∷ names l
 unfolding names
 names-stop b l h = rw (h, names) refl
 
-names-on : (b : ℕ) (l : List ℕ) → eqb b 10 ≡ false → names (b ∷ l) ≡ push b (names l)
+pub names-on : (b : ℕ) (l : List ℕ) → eqb b 10 ≡ false → names (b ∷ l) ≡ push b (names l)
 unfolding names
 names-on b l h = rw (h, names) refl
 
@@ -70,7 +70,7 @@ take-front (b ∷ l) = go (eqb b 10) (take-front l)
     go true h = refl
     go false h = ap (λ (x : List ℕ). b ∷ x) h
 
-decide : (t : Bool) → (t ≡ true) ⊎ (t ≡ false)
+pub decide : (t : Bool) → (t ≡ true) ⊎ (t ≡ false)
 decide true = inl refl
 decide false = inr refl
 

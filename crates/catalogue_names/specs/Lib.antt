@@ -1,2 +1,3 @@
 -- The names of a list.
 pub mod Names
+pub mod Keeping

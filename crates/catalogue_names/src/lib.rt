@@ -1,8 +1,10 @@
-// A list split into names, a name a line.
+// A list split into names, a name a line, and how it is kept.
 ghost use mathlib.Core.Path.{_≡_};
 ghost use Prim.Native.Nat.{_+_, _≤_, _<_};
 ghost use lib.ListN.{length, drop};
+ghost use mathlib.Core.List.{[], _∷_};
 ghost use Rattle.catalogue_names.specs.Names.{names, front, hasZero, fitName, NextName};
+ghost use Rattle.catalogue_names.specs.Keeping.{Stored, Keeps, nothing};
 
 // Where the name that begins at place `at` ends.
 pub fn name_end(list: &[u8], at: usize) -> usize
@@ -66,4 +68,61 @@ pub fn fit_name(name: &[u8]) -> bool
         return false;
     }
     !has_zero(name)
+}
+
+// Where a list's buffer is kept to, and how many bytes of the name under way it keeps.
+pub struct Kept {
+    pub len: usize,
+    pub run: usize,
+}
+
+// Before anything is kept.
+pub fn nothing_kept() -> Kept
+    ensures { λ r. ⌜ r ≡ nothing ⌝ }
+{
+    Kept { len: 0, run: 0 }
+}
+
+// Stores a byte behind those that are kept, if there is room.
+fn store(list: &mut [u8], k: Kept, b: u8) -> usize
+    ensures { λ r. ⌜ Stored (now (list .entry)) (k .len) b r (now (list .exit)) ⌝ }
+{
+    let len = k.len;
+    if len < list.len() {
+        list[len] = b;
+        return len + 1;
+    }
+    len
+}
+
+// Keeps a byte of a list, but none of a name past its 256th.
+fn keep_byte(list: &mut [u8], k: Kept, b: u8) -> Kept
+    ensures { λ r. ⌜ Keeps (now (list .entry)) k (b ∷ []) r (now (list .exit)) ⌝ }
+{
+    if b == 10 {
+        let len = store(list, k, b);
+        return Kept { len: len, run: 0 };
+    }
+    if 256 <= k.run {
+        return k;
+    }
+    let len = store(list, k, b);
+    Kept {
+        len: len,
+        run: k.run + 1,
+    }
+}
+
+// Keeps the bytes of a list's next part.
+pub fn keep(list: &mut [u8], k: Kept, part: &[u8]) -> Kept
+    ensures { λ r. ⌜ Keeps (now (list .entry)) k (now (part .entry)) r (now (list .exit)) ⌝ }
+{
+    let mut kept = k;
+    let mut i: usize = 0;
+    while i < part.len() {
+        let b = part[i];
+        kept = keep_byte(list, kept, b);
+        i += 1;
+    }
+    kept
 }

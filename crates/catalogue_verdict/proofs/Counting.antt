@@ -9,7 +9,7 @@ use mathlib.Core.Path.{_≡_, refl, sym, _∙_, ap, subst}
 use lib.ListN.{length, getD}
 use Rattle.finite.specs.Bounded.{one, count}
 use Rattle.finite.proofs.Bounded.{count-le}
-use Rattle.bits.specs.Member.{has}
+use Rattle.sets.specs.Member.{has}
 use lib.Dec.{leb}
 use borrow.Author.Tests.{le-leb}
 use Rattle.finite.proofs.Truth.{and-intro}
@@ -20,7 +20,7 @@ use Rattle.game.specs.Acceptance.{acceptance}
 use Rattle.sizes.proofs.Lengths.{inputs-most, outputs-most}
 use Rattle.map.specs.declared.Mapped.{Mapped}
 use Rattle.map.specs.declared.Mapped.the-variants.{Done}
-use Rattle.map.specs.Read.{mapRow}
+use Rattle.marks.specs.Marks.{mapRow}
 use Rattle.map.specs.Map.{mapFits, mapRoom, mapAnswer, mapAfter, MapMade}
 use Rattle.scratch.specs.Scratch.{scratchLength}
 use Rattle.solver.specs.declared.Verdict.{Verdict}

@@ -13,7 +13,7 @@ use mathlib.Core.Logic.{_↔_}
 use mathlib.Core.Path.{_≡_}
 use lib.ListN.{getD}
 use Rattle.finite.specs.Bounded.{count}
-use Rattle.bits.specs.Member.{has}
+use Rattle.sets.specs.Member.{has}
 use Rattle.arena.specs.Win.{Won}
 use Rattle.game.specs.declared.Game.{Game}
 use Rattle.demands.specs.Demands.{playOf}

@@ -7,7 +7,7 @@ ghost use mathlib.Core.Path.{_≡_};
 ghost use Prim.Native.Nat.{_≤_, _*_};
 ghost use lib.ListN.{length};
 ghost use Rattle.finite.specs.Bounded.{count};
-ghost use Rattle.bits.specs.Member.{has};
+ghost use Rattle.sets.specs.Member.{has};
 ghost use Rattle.game.specs.declared.Acceptance.the-variants.{Accepted};
 ghost use Rattle.game.specs.Acceptance.{acceptance};
 ghost use Rattle.scratch.specs.Scratch.{scratchLength};
@@ -23,7 +23,7 @@ fn row_count(x: u64, m: usize) -> usize
     let mut c: usize = 0;
     let mut s: usize = 0;
     while s < m {
-        if bits::member(x, s) {
+        if sets::member(x, s) {
             c += 1;
             s += 1;
             continue;

@@ -62,7 +62,7 @@ fn size_of(g: Game) -> Size
         inputs: g.input.states,
         outputs: g.output.states,
         counters,
-        all: bits::below(counters),
+        all: sets::below(counters),
     }
 }
 

@@ -18,7 +18,7 @@ use lib.Bits.{bitAnd}
 use lib.ListN.{length, set, length-set}
 use borrow.Author.Tests.{lt-ltb, le-ltb, ltb-true}
 use Rattle.finite.specs.Bounded.{least}
-use Rattle.bits.specs.Member.{has, pack, meets}
+use Rattle.sets.specs.Member.{has, pack, meets}
 use Rattle.stored.specs.Stored.{wonAt}
 use Rattle.columns.specs.Column.{Fits, Column, BlockFits, Block}
 use Rattle.controller_rows.specs.declared.Size.{Size}

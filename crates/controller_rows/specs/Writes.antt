@@ -23,7 +23,7 @@ use lib.Dec.{ltb, eqb}
 use lib.Bits.{bitAnd}
 use lib.ListN.{getD, set}
 use Rattle.finite.specs.Bounded.{least}
-use Rattle.bits.specs.Member.{has, pack, meets}
+use Rattle.sets.specs.Member.{has, pack, meets}
 use Rattle.stored.specs.Stored.{wonAt}
 use Rattle.columns.specs.Column.{Column, Block}
 use Rattle.layout.specs.declared.Layout.{Layout}

@@ -16,8 +16,8 @@ use lib.ListN.{getD}
 use Rattle.finite.specs.Bounded.{least}
 use Rattle.finite.proofs.Truth.{decide, clash, false-of, and-intro, and-left, and-right, and-false-left, and-false-right}
 use Rattle.finite.proofs.Bounded.{least-below, least-member, least-before, least-unique}
-use Rattle.bits.specs.Member.{has, pack}
-use Rattle.bits.proofs.Membership.{has-and, has-pack-below}
+use Rattle.sets.specs.Member.{has, pack}
+use Rattle.sets.proofs.Membership.{has-and, has-pack-below}
 use Rattle.graphs.specs.Graph.{edge, begins}
 use Rattle.graphs.specs.Component.{joined, nontrivial}
 use Rattle.graphs.specs.Way.{toward}

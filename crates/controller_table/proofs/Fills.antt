@@ -17,7 +17,7 @@ use lib.ListN.{length, getD}
 use borrow.Author.Tests.{lt-ltb, ltb-true}
 use Rattle.finite.proofs.Truth.{clash}
 use Rattle.finite.proofs.Bounded.{below-suc}
-use Rattle.bits.specs.Member.{has}
+use Rattle.sets.specs.Member.{has}
 use Rattle.arena.specs.Arena.{Separated}
 use Rattle.filling.specs.Grows.{Right}
 use Rattle.filling.proofs.Grows.{grows-none, grows-more}

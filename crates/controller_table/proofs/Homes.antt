@@ -16,9 +16,9 @@ use lib.ListN.{length, take, drop, length-take, length-drop}
 use lib.Seq.{getD-take, getD-drop}
 use Rattle.finite.proofs.Truth.{decide, clash}
 use Rattle.finite.proofs.Bounded.{below-suc}
-use Rattle.bits.specs.Member.{has, pack}
-use Rattle.bits.proofs.Membership.{has-zero, has-pack-below}
-use Rattle.bits.proofs.Compare.{nonzero-member}
+use Rattle.sets.specs.Member.{has, pack}
+use Rattle.sets.proofs.Membership.{has-zero, has-pack-below}
+use Rattle.sets.proofs.Compare.{nonzero-member}
 use Rattle.graphs.specs.Component.{joined}
 use Rattle.arena.specs.Arena.{Separated}
 use Rattle.game.specs.declared.Game.{Game}

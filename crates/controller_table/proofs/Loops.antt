@@ -14,8 +14,8 @@ use lib.ListN.{length, getD}
 use Rattle.finite.specs.Bounded.{least}
 use Rattle.finite.proofs.Truth.{clash, not-true}
 use Rattle.finite.proofs.Bounded.{below-suc}
-use Rattle.bits.specs.Member.{has, pack}
-use Rattle.bits.proofs.Membership.{has-pack-below}
+use Rattle.sets.specs.Member.{has, pack}
+use Rattle.sets.proofs.Membership.{has-pack-below}
 use Rattle.graphs.specs.Graph.{edge}
 use Rattle.graphs.specs.Closure.{reaches}
 use Rattle.graphs.specs.Component.{joined}

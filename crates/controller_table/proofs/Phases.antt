@@ -12,9 +12,9 @@ use mathlib.Core.Bool.{true, _&&_}
 use mathlib.Core.List.{List}
 use native.Mathlib.Omega.{arith}
 use lib.ListN.{length, getD}
-use Rattle.bits.specs.Member.{has, pack}
-use Rattle.bits.proofs.Membership.{lt-within, pack-lt, pack-ext}
-use Rattle.bits.proofs.Compare.{member-nonzero}
+use Rattle.sets.specs.Member.{has, pack}
+use Rattle.sets.proofs.Membership.{lt-within, pack-lt, pack-ext}
+use Rattle.sets.proofs.Compare.{member-nonzero}
 use Rattle.graphs.specs.Graph.{edge}
 use Rattle.graphs.specs.Closure.{reaches}
 use Rattle.graphs.specs.Component.{joined}

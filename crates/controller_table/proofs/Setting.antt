@@ -11,8 +11,8 @@ use mathlib.Core.Logic.{_⊎_, inl, inr}
 use native.Mathlib.Omega.{arith}
 use lib.ListN.{length, getD}
 use Rattle.finite.proofs.Truth.{decide}
-use Rattle.bits.specs.Member.{has}
-use Rattle.bits.proofs.Membership.{has-pack-below}
+use Rattle.sets.specs.Member.{has}
+use Rattle.sets.proofs.Membership.{has-pack-below}
 use Rattle.graphs.specs.Closure.{reaches}
 use Rattle.graphs.specs.Component.{nontrivial}
 use Rattle.graphs.proofs.Graph.{edge-from}

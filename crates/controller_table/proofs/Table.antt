@@ -11,7 +11,7 @@ use native.Mathlib.Omega.{arith}
 use native.Mathlib.Decide.{decLt}
 use lib.ListN.{length, getD, drop}
 use Rattle.finite.proofs.Truth.{decide, same-test}
-use Rattle.bits.specs.Member.{has, pack}
+use Rattle.sets.specs.Member.{has, pack}
 use Rattle.graphs.specs.Graph.{begins}
 use Rattle.graphs.proofs.Graph.{begins-initial, begins-intro}
 use Rattle.graphs.proofs.Closure.{reaches-to}

@@ -17,9 +17,9 @@ use borrow.Author.Tests.{eqb-true, eq-eqb}
 use Rattle.finite.specs.Bounded.{least}
 use Rattle.finite.proofs.Truth.{clash, false-of, and-intro, and-left, and-right}
 use Rattle.finite.proofs.Bounded.{least-member, least-before, least-unique}
-use Rattle.bits.specs.Member.{has, meets}
-use Rattle.bits.proofs.Membership.{has-and}
-use Rattle.bits.proofs.Compare.{meets-intro, meets-elim}
+use Rattle.sets.specs.Member.{has, meets}
+use Rattle.sets.proofs.Membership.{has-and}
+use Rattle.sets.proofs.Compare.{meets-intro, meets-elim}
 use Rattle.graphs.specs.Graph.{edge}
 use Rattle.graphs.specs.Closure.{reaches}
 use Rattle.graphs.specs.Component.{joined, nontrivial}

@@ -17,7 +17,7 @@ use mathlib.Core.Bool.{true, false}
 use mathlib.Core.List.{List}
 use lib.Dec.{ltb}
 use lib.ListN.{length}
-use Rattle.bits.specs.Member.{has, pack}
+use Rattle.sets.specs.Member.{has, pack}
 use Rattle.graphs.specs.Component.{joined, nontrivial, meetsAt}
 use Rattle.arena.specs.Arena.{Separated}
 use Rattle.filling.specs.Grows.{Right, Grows}

@@ -1,2 +1,2 @@
--- Requirements that are due or served in components, told of sets.
+-- Requirements that are due or served in components, told of words.
 pub mod Dues

@@ -18,11 +18,11 @@ fn component_rows(g: Game, s: &[u64], cores: InSet, counters: usize, i: InState,
     requires { ⌜ Known g (now s) (cores .0) × Roomy g counters (length (now room)) × (i .0 < g .input .states) ⌝ }
     ensures { λ r. ⌜ Filled g (λ a h b. (number (graphOf (g .input)) a ≡ i .0) × (plain g a b ≡ false)) (now (room .entry)) (now (room .exit)) ⌝ }
 {
-    if !bits::member(cores.0, i.0) {
+    if !sets::member(cores.0, i.0) {
         return;
     }
     let c = components::component(s, g.input.states, i.0);
-    if bits::lowest(c) != i.0 {
+    if sets::lowest(c) != i.0 {
         return;
     }
     let over = escape::escapes(g, s, cores, counters, InSet(c), i, room);

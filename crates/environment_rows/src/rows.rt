@@ -34,7 +34,7 @@ pub fn put(
         room,
         1 + i.0 * counters * outputs + o.0,
         outputs,
-        counters::below(counters),
+        sets::below(counters),
         first,
         more,
     );

@@ -11,7 +11,7 @@ ghost use mathlib.Core.Path.{_≡_};
 ghost use mathlib.Core.Bool.{true};
 ghost use Prim.Native.Nat.{_<_};
 ghost use lib.ListN.{length};
-ghost use Rattle.bits.specs.Member.{pack};
+ghost use Rattle.sets.specs.Member.{pack};
 ghost use Rattle.ways.specs.Search.{Bounds, Toward};
 ghost use Rattle.environment_table.specs.Table.{Known, Roomy};
 ghost use Rattle.environment_table.specs.Pressing.{Whole, Going, Gone, Pressed, Escape, Escaped, exitsAt, wayFrom};
@@ -35,10 +35,10 @@ fn exits(moves: &[u64; 64], c: u64, out: u64) -> u64
     let mut x: u64 = 0;
     let mut rest = c;
     while rest != 0 {
-        let k = bits::lowest(rest);
+        let k = sets::lowest(rest);
         let row = moves[k];
-        x = bits::insert_if(x, k, bits::meets(row, out));
-        rest = bits::difference(rest, bits::insert(0, k));
+        x = sets::insert_if(x, k, sets::meets(row, out));
+        rest = sets::difference(rest, sets::insert(0, k));
     }
     x
 }
@@ -61,8 +61,8 @@ fn renew(moves: &[u64; 64], n: usize, c: u64, gates: u64, old: Found) -> Found
 fn way_from(row: u64, out: u64, next: u8) -> usize
     ensures { λ r. ⌜ r ≡ wayFrom row out next ⌝ }
 {
-    if bits::meets(row, out) {
-        return bits::lowest(row & out);
+    if sets::meets(row, out) {
+        return sets::lowest(row & out);
     }
     next as usize
 }
@@ -97,10 +97,10 @@ fn escape_rows(
 {
     let mut rest = c.0;
     while rest != 0 {
-        let k = bits::lowest(rest);
+        let k = sets::lowest(rest);
         let j = way_from(moves[k], out.0, w.next[k]);
         rows::put(z.outputs, z.counters, InState(k), o, j as u16, 64, room);
-        rest = bits::difference(rest, bits::insert(0, k));
+        rest = sets::difference(rest, sets::insert(0, k));
     }
 }
 
@@ -199,7 +199,7 @@ pub fn escapes(
             room,
         );
         found = t.found;
-        touring = bits::insert_if(touring, o, t.tours);
+        touring = sets::insert_if(touring, o, t.tours);
         o += 1;
     }
     OutSet(touring)

@@ -1,9 +1,7 @@
 // The records of a game: two graphs and the requirements on them.
 ghost use mathlib.Core.Path.{_≡_};
 ghost use Prim.Native.Nat.{_<_};
-ghost use Rattle.sets.specs.Words.{capacity};
 ghost use Rattle.game.specs.Access.{inMoves, outMoves, assumptionAt, guaranteeAt, inInitial, outInitial};
-use sets::Set;
 
 // The number of an input state.
 #[repr(C)]
@@ -15,17 +13,17 @@ pub struct OutState(pub usize);
 
 // A set of input states.
 #[repr(C)]
-pub struct InSet(pub Set);
+pub struct InSet(pub u64);
 
 // A set of output states.
 #[repr(C)]
-pub struct OutSet(pub Set);
+pub struct OutSet(pub u64);
 
 // Row s of `moves` is the set of the states that state s moves to.
 #[repr(C)]
 pub struct Graph {
     pub states: usize,
-    pub initial: Set,
+    pub initial: u64,
     pub moves: [u64; 64],
 }
 
@@ -55,22 +53,22 @@ pub enum Acceptance {
 
 // The input states that i moves to.
 pub fn in_moves(g: Game, i: InState) -> InSet
-    requires { ⌜ i .0 < capacity ⌝ }
+    requires { ⌜ i .0 < 64 ⌝ }
     ensures { λ r. ⌜ r ≡ inMoves g i ⌝ }
 {
     let h = g.input;
     let s = i.0;
-    InSet(sets::row_of(&h.moves, s))
+    InSet(h.moves[s])
 }
 
 // The output states that o moves to.
 pub fn out_moves(g: Game, o: OutState) -> OutSet
-    requires { ⌜ o .0 < capacity ⌝ }
+    requires { ⌜ o .0 < 64 ⌝ }
     ensures { λ r. ⌜ r ≡ outMoves g o ⌝ }
 {
     let h = g.output;
     let s = o.0;
-    OutSet(sets::row_of(&h.moves, s))
+    OutSet(h.moves[s])
 }
 
 // Assumption j of requirement r.
@@ -94,15 +92,11 @@ pub fn guarantee(g: Game, r: usize, j: usize) -> OutSet
 pub fn in_initial(g: Game) -> InSet
     ensures { λ r. ⌜ r ≡ inInitial g ⌝ }
 {
-    let h = g.input;
-    let x = h.initial;
-    InSet(x)
+    InSet(g.input.initial)
 }
 
 pub fn out_initial(g: Game) -> OutSet
     ensures { λ r. ⌜ r ≡ outInitial g ⌝ }
 {
-    let h = g.output;
-    let x = h.initial;
-    OutSet(x)
+    OutSet(g.output.initial)
 }

@@ -1,11 +1,9 @@
 // The tests of acceptance on one graph.
 use game::Graph;
-use sets::Set;
 ghost use mathlib.Core.Path.{_≡_};
 ghost use mathlib.Core.Bool.{not, _||_};
 ghost use lib.Dec.{eqb, leb};
-ghost use Rattle.bits.specs.Member.{within};
-ghost use Rattle.sets.specs.Words.{bitsOf};
+ghost use Rattle.sets.specs.Member.{within};
 ghost use Rattle.game.specs.Acceptance.{limit as limitOf, countFits, statesFit, hasInitial};
 
 // n where place j is below used, else 0.
@@ -24,13 +22,13 @@ pub fn count_fits(g: Graph) -> bool
     if g.states < 1 {
         return false;
     }
-    g.states <= sets::CAPACITY
+    g.states <= 64
 }
 
 // Whether a row, the moves of state s of n, has no state past the count, and none at all where s is past it. Only the row is passed, for a graph goes
 // by value and would be copied for each of its rows.
-fn row_fits(row: Set, n: usize, s: usize) -> bool
-    ensures { λ r. ⌜ r ≡ within (bitsOf row) (limitOf n s n) ⌝ }
+fn row_fits(row: u64, n: usize, s: usize) -> bool
+    ensures { λ r. ⌜ r ≡ within row (limitOf n s n) ⌝ }
 {
     sets::within(row, limit(n, s, n))
 }
@@ -42,8 +40,8 @@ pub fn states_fit(g: Graph) -> bool
         return false;
     }
     let mut s = 0;
-    while s < sets::CAPACITY {
-        if !row_fits(sets::row_of(&g.moves, s), g.states, s) {
+    while s < 64 {
+        if !row_fits(g.moves[s], g.states, s) {
             return false;
         }
         s += 1;
@@ -54,5 +52,5 @@ pub fn states_fit(g: Graph) -> bool
 pub fn has_initial(g: Graph) -> bool
     ensures { λ r. ⌜ r ≡ hasInitial g ⌝ }
 {
-    !sets::is_empty(g.initial)
+    g.initial != 0
 }

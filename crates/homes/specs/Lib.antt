@@ -1,2 +1,2 @@
--- Homes, told from scratch.
+-- Homes, told of words.
 pub mod Homes

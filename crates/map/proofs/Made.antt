@@ -3,19 +3,15 @@ use Prim.Native.Nat.{ℕ, _+_, _≤_, _<_}
 use mathlib.Core.Path.{_≡_, refl, sym, _∙_, ap}
 use mathlib.Core.Bool.{Bool, true, false}
 use mathlib.Core.List.{List, [], _∷_, _++_}
-use mathlib.Core.Logic.{_↔_}
 use native.Mathlib.Omega.{arith}
 use lib.Dec.{leb}
-use lib.ListN.{length, getD, drop}
+use lib.ListN.{length, drop}
 use borrow.Author.Tests.{le-leb, lt-leb}
 use Rattle.finite.specs.Tabulate.{tabulate}
 use Rattle.finite.proofs.Truth.{and-intro, and-false-left, and-false-right}
-use Rattle.bits.specs.Member.{has, pack}
-use Rattle.bits.proofs.Membership.{has-pack-below}
-use Rattle.finite.proofs.Front.{front-at}
+use Rattle.sets.specs.Member.{pack}
 use Rattle.components.specs.Component.{turns}
 use Rattle.components.proofs.Closed.{cores-closed}
-use Rattle.arena.specs.Win.{Won}
 use Rattle.game.specs.declared.Game.{Game}
 use Rattle.game.specs.declared.Acceptance.{Acceptance}
 use Rattle.game.specs.declared.Acceptance.the-variants.{Accepted, Refused as Faulty}
@@ -23,24 +19,18 @@ use Rattle.game.specs.Acceptance.{acceptance}
 use Rattle.game.specs.Numbers.{firstOf, gameTests}
 use Rattle.game.proofs.Numbers.{after, game-after}
 use Rattle.game.proofs.Laws.{Fits}
-use Rattle.play.specs.Play.{separatedOf}
-use Rattle.demands.specs.Demands.{playOf}
-use Rattle.demands.proofs.Demands.{demand-two}
-use Rattle.theory.specs.Region.{region}
 use Rattle.region.specs.Fill.{Kept, Prepared}
 use Rattle.region.proofs.Order.{laid-closes}
 use Rattle.scratch.specs.Scratch.{scratchLength, cleared}
 use Rattle.scratch.proofs.Cleared.{cleared-same}
 use Rattle.map.specs.declared.Mapped.{Mapped}
 use Rattle.map.specs.declared.Mapped.the-variants.{Done, Refused as NotMapped}
-use Rattle.map.specs.Read.{Reading, mapRow}
+use Rattle.marks.specs.Marks.{mapRow}
+use Rattle.marks.proofs.Marks.{marks}
+use Rattle.map.specs.Read.{Reading}
 use Rattle.map.specs.Map.{mapFits, mapRoom, mapAnswer, mapTests, numberOf, mapAfter, mapScratch, MapMade}
 
 -- ---- scratch
-
-row-bit : (g : Game) (i o : ℕ) → o < g .output .states → has (mapRow g i) o ≡ region (separatedOf g) i o
-unfolding mapRow
-row-bit g i o b = has-pack-below (g .output .states) (region (separatedOf g) i) o b
 
 -- what lies past the three areas lies past the words that are cleared
 pub cleared-kept : (g : Game) (l m m′ : List ℕ) {n : ℕ} → Kept g l m → n ≡ scratchLength g → m′ ≡ cleared n m → m′ ≡ cleared (scratchLength g) l
@@ -111,17 +101,8 @@ map-done g s s′ m m′ a b c e f = record {
   number = told g s m done;
   map = f;
   scratch = e;
-  won = λ q i o li lo. marks i o li lo;
+  won = λ q. marks g m m′ f;
 }
   where
     done : Done ≡ mapAnswer g (length s) (length m)
     done = map-room g (length s) (length m) true a (and-intro (le-leb (scratchLength g) (length s) b) (le-leb (g .input .states) (length m) c)) refl
-
-    bit : (i o : ℕ) → i < g .input .states → o < g .output .states → has (getD m′ i 0) o ≡ region (separatedOf g) i o
-    bit i o li lo =
-        ap (λ (x : List ℕ). has (getD x i 0) o) f ∙ ap (λ (x : ℕ). has x o) (front-at (mapRow g) m (g .input .states) i 0 li) ∙ row-bit g i o lo
-
-    marks : (i o : ℕ) → i < g .input .states → o < g .output .states → (has (getD m′ i 0) o ≡ true) ↔ Won (playOf g) i o
-    marks i o li lo =
-        let d = demand-two g .marks i o li lo in
-        (λ h. d .0 (sym (bit i o li lo) ∙ h), λ w. bit i o li lo ∙ d .1 w)

@@ -12,7 +12,7 @@ use mathlib.Core.Logic.{_↔_}
 use lib.Dec.{leb}
 use lib.ListN.{length, getD, drop}
 use Rattle.finite.specs.Tabulate.{tabulate}
-use Rattle.bits.specs.Member.{has}
+use Rattle.sets.specs.Member.{has}
 use Rattle.arena.specs.Win.{Won}
 use Rattle.game.specs.declared.Game.{Game}
 use Rattle.game.specs.declared.Acceptance.{Acceptance}
@@ -21,9 +21,9 @@ use Rattle.game.specs.Acceptance.{acceptance}
 use Rattle.game.specs.Numbers.{firstOf, gameTests}
 use Rattle.demands.specs.Demands.{playOf}
 use Rattle.scratch.specs.Scratch.{scratchLength, cleared}
+use Rattle.marks.specs.Marks.{mapRow}
 use Rattle.map.specs.declared.Mapped.{Mapped}
 use Rattle.map.specs.declared.Mapped.the-variants.{Done, Refused as NotMapped}
-use Rattle.map.specs.Read.{mapRow}
 
 -- "Number 8 is given below that length" (document 02, M-103); "or, where the call writes the map, map room under one word an input"
 unfoldable pub mapFits : Game → ℕ → ℕ → Bool

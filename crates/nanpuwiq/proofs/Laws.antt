@@ -4,6 +4,8 @@ use mathlib.Core.Path.{_≡_, ap, subst, _∙_}
 use mathlib.Core.List.{List}
 use Rattle.game.specs.declared.Game.{Game}
 use Rattle.map.specs.declared.Mapped.{Mapped}
+use Rattle.joined.specs.declared.Mapped.{Mapped as JoinedMapped}
+use Rattle.joined.specs.Joined.{numberOf as joinedNumber, JoinedMade}
 use Rattle.solver.specs.declared.Verdict.{Verdict}
 use Rattle.map.specs.Map.{numberOf, MapMade}
 use Rattle.solver.specs.Promise.{Solved}
@@ -14,10 +16,13 @@ use Rattle.text.specs.Write.{Writes}
 use Rattle.results.specs.declared.SolveResult.{SolveResult}
 use Rattle.results.specs.declared.WriteResult.{WriteResult}
 use Rattle.results.specs.Results.{solveResult, writeResult}
-use Rattle.nanpuwiq.specs.Calls.{MapCalled, SolveCalled, KitCalled, WriteCalled}
+use Rattle.nanpuwiq.specs.Calls.{MapCalled, JoinedCalled, SolveCalled, KitCalled, WriteCalled}
 
 pub map-called : {g : Game} {s s′ m m′ : List ℕ} {a : Mapped} {r : ℕ} → MapMade g s s′ m m′ a → r ≡ numberOf a → MapCalled g s s′ m m′ r
 map-called {g} {s} {s′} {m} {m′} f e = record { answer = e ∙ f .number; made = subst (MapMade g s s′ m m′) (f .answer) f }
+
+pub joined-called : {g : Game} {s s′ m m′ : List ℕ} {a : JoinedMapped} {r : ℕ} → JoinedMade g s s′ m m′ a → r ≡ joinedNumber a → JoinedCalled g s s′ m m′ r
+joined-called {g} {s} {s′} {m} {m′} f e = record { answer = e ∙ f .number; made = subst (JoinedMade g s s′ m m′) (f .answer) f }
 
 pub solve-called : {g : Game} {s s′ c c′ e e′ : List ℕ} {v : Verdict} {r : SolveResult} → Solved g s s′ c c′ e e′ v → r ≡ solveResult v
     → SolveCalled g s s′ c c′ e e′ r

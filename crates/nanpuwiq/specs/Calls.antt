@@ -1,6 +1,7 @@
 -- What each call promises, for every input: its answer as an equation, and every lent buffer afterwards.
 --
 --   MapCalled g s s′ m m′ r            == the map's call answers r and leaves scratch s as s′ and the map m as m′
+--   JoinedCalled g s s′ m m′ r         == the same of the map on the joined positions
 --   SolveCalled g s s′ c c′ e e′ r     == the solver answers r and leaves scratch s as s′, the controller's buffer c as c′ and the environment's e as e′
 --   KitCalled k s s′ c c′ e e′ t t′ r  == the same of a kit, whose room t is left as t′
 --   ReadCalled s r                     == the reader answers r to the bytes s
@@ -12,6 +13,7 @@ use lib.ListN.{length}
 use Rattle.game.specs.declared.Game.{Game}
 use Rattle.game.specs.Numbers.{firstOf}
 use Rattle.map.specs.Map.{mapAnswer, mapTests, MapMade}
+use Rattle.joined.specs.Joined.{joinedAnswer, joinedTests, JoinedMade}
 use Rattle.solver.specs.Promise.{verdictAnswer, Solved}
 use Rattle.drives.specs.declared.Kit.{Kit}
 use Rattle.kit.specs.Promise.{kitAnswer, KitSolved}
@@ -27,6 +29,11 @@ use Rattle.results.specs.Results.{solveResult, readResult, writeResult}
 pub record MapCalled (g : Game) (s s′ m m′ : List ℕ) (r : ℕ) : Type 0 where
   pub answer : r ≡ firstOf (mapTests g (length s) (length m))
   pub made : MapMade g s s′ m m′ (mapAnswer g (length s) (length m))
+
+-- `made` says what both buffers hold, and carries demand 2
+pub record JoinedCalled (g : Game) (s s′ m m′ : List ℕ) (r : ℕ) : Type 0 where
+  pub answer : r ≡ firstOf (joinedTests g (length s) (length m))
+  pub made : JoinedMade g s s′ m m′ (joinedAnswer g (length s) (length m))
 
 -- `solved` says what all three buffers hold, and carries demand 3
 pub record SolveCalled (g : Game) (s s′ c c′ e e′ : List ℕ) (r : SolveResult) : Type 0 where

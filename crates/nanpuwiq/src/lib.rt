@@ -4,17 +4,20 @@ ghost use mathlib.Core.Path.{_≡_};
 ghost use Rattle.game.specs.Numbers.{firstOf, gameTests};
 ghost use Rattle.player.specs.Player.{movedOf, beginning, stepping, Advanced};
 ghost use Rattle.recorder.specs.Recorded.{compared};
-ghost use Rattle.results.specs.Results.{compareResult, nowhere};
+ghost use Rattle.panel_player.specs.Panel.{panelFirst, panelBegin, panelNext, panelStep};
+ghost use Rattle.results.specs.Results.{compareResult, panelMoved, nowhere};
 ghost use Rattle.drives.specs.Acceptance.{kitTests};
-ghost use Rattle.nanpuwiq.specs.Calls.{MapCalled, SolveCalled, KitCalled, ReadCalled, WriteCalled};
+ghost use Rattle.nanpuwiq.specs.Calls.{MapCalled, JoinedCalled, SolveCalled, KitCalled, ReadCalled, WriteCalled};
 use drives::Kit;
 use game::Game;
 use game::InState;
+use game::OutState;
 use place::Position;
 use player::Moved;
 use recorder::InRecording;
 use recorder::OutRecording;
 use results::CompareResult;
+use results::PanelMoved;
 use results::ReadResult;
 use results::SolveResult;
 use results::WriteResult;
@@ -33,6 +36,14 @@ pub extern "C" fn nanpuwiq_won_map(g: Game, scratch: &mut [u64], map: &mut [u64]
     ensures { λ r. ⌜ MapCalled g (now (scratch .entry)) (now (scratch .exit)) (now (map .entry)) (now (map .exit)) r ⌝ }
 {
     results::map_code(map::won_map(g, scratch, map))
+}
+
+// Marks the won positions of a game of at most 32 states a graph, on the joined positions.
+#[no_mangle]
+pub extern "C" fn nanpuwiq_joined_map(g: Game, scratch: &mut [u64], map: &mut [u64]) -> u8
+    ensures { λ r. ⌜ JoinedCalled g (now (scratch .entry)) (now (scratch .exit)) (now (map .entry)) (now (map .exit)) r ⌝ }
+{
+    results::joined_code(joined::joined_map(g, scratch, map))
 }
 
 // Names the side that wins and writes its table into the front of its buffer.
@@ -110,6 +121,38 @@ pub extern "C" fn nanpuwiq_advance(g: Game, table: &[u16], at: &mut Position, ne
     ensures { λ r. ⌜ Advanced (now (at .entry)) (stepping g (now (table .entry)) (now (at .entry)) next) (now (at .exit)) r ⌝ }
 {
     player::advance(g, table, at, next)
+}
+
+// The panel's first input and counter, by the start of its table.
+#[no_mangle]
+pub extern "C" fn nanpuwiq_panel_first(g: Game, table: &[u16]) -> PanelMoved
+    ensures { λ r. ⌜ r ≡ panelMoved (panelFirst g (now (table .entry))) ⌝ }
+{
+    results::panel_move(panel_player::first(g, table))
+}
+
+// The first position against a panel's table: the input and the counter of its start with the output `first`. On a refusal the position is all zero.
+#[no_mangle]
+pub extern "C" fn nanpuwiq_panel_begin(g: Game, table: &[u16], first: OutState) -> Moved
+    ensures { λ r. ⌜ r ≡ movedOf nowhere (panelBegin g (now (table .entry)) first) ⌝ }
+{
+    results::first_move(panel_player::begin(g, table, first))
+}
+
+// The panel's next input and counter at a position, by the row of its table.
+#[no_mangle]
+pub extern "C" fn nanpuwiq_panel_next(g: Game, table: &[u16], at: Position) -> PanelMoved
+    ensures { λ r. ⌜ r ≡ panelMoved (panelNext g (now (table .entry)) at) ⌝ }
+{
+    results::panel_move(panel_player::next(g, table, at))
+}
+
+// The position after that move, with the output `next`. On a refusal the position is the old one.
+#[no_mangle]
+pub extern "C" fn nanpuwiq_panel_step(g: Game, table: &[u16], at: Position, next: OutState) -> Moved
+    ensures { λ r. ⌜ r ≡ movedOf at (panelStep g (now (table .entry)) at next) ⌝ }
+{
+    panel_player::step_or_stay(g, table, at, next)
 }
 
 // Whether the recorded outputs are those that the table gives for the recorded inputs; else the first step that shows it.

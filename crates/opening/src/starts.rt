@@ -14,9 +14,9 @@ fn start(s: &[u64], z: Size, cores: InSet, ins: InSet, outs: OutSet, i: InState)
     requires { ⌜ (z .inputs ≤ 64) × (z .outputs ≤ 64) × (i .0 < z .inputs) × (z .inputs + z .inputs + z .outputs ≤ length (now s)) ⌝ }
     ensures { λ r. ⌜ r ≡ startOf z (now (s .entry)) (cores .0) (ins .0) (outs .0) (i .0) ⌝ }
 {
-    if bits::member(ins.0, i.0) {
+    if sets::member(ins.0, i.0) {
         let won = stored::won_outputs(s, z.inputs, z.outputs, cores, i);
-        let e = rows::staying(bits::lowest(outs.0 & won.0));
+        let e = rows::staying(sets::lowest(outs.0 & won.0));
         return e.first;
     }
     65535

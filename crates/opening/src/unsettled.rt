@@ -15,8 +15,8 @@ fn settles(cores: InSet, j: InState, row: OutSet, reach: OutSet) -> bool
     requires { ⌜ j .0 < 64 ⌝ }
     ensures { λ r. ⌜ r ≡ settlesAt (cores .0) (j .0) (row .0) (reach .0) ⌝ }
 {
-    if bits::member(cores.0, j.0) {
-        return bits::meets(row.0, reach.0);
+    if sets::member(cores.0, j.0) {
+        return sets::meets(row.0, reach.0);
     }
     false
 }
@@ -33,7 +33,7 @@ fn plain(room: &mut [u16], s: &[u64], z: Size, cores: InSet, o: OutState, moves:
     while j < n {
         let row = s[n + j];
         if !settles(cores, InState(j), OutSet(row), OutSet(reach)) {
-            rows::write_row(room, z, o, InState(j), bits::lowest(moves.0 & row));
+            rows::write_row(room, z, o, InState(j), sets::lowest(moves.0 & row));
         }
         j += 1;
     }

@@ -7,8 +7,8 @@ use mathlib.Core.Path.{_≡_, sym, _∙_, ap}
 use lib.Dec.{eqb}
 use mathlib.Core.Logic.{_⊎_, inl, inr}
 use borrow.Author.Tests.{eq-eqb, ne-eqb, eqb-true, eqb-false}
-use Rattle.bits.specs.Member.{has}
-use Rattle.bits.proofs.Membership.{ext}
+use Rattle.sets.specs.Member.{has}
+use Rattle.sets.proofs.Membership.{ext}
 use Rattle.grammar.specs.Format.{Format, Run, run, lit, alt, bind, IsNode}
 use Rattle.grammar.specs.Format.Format.{done}
 use Rattle.grammar.specs.Format.Run.{got, fault}

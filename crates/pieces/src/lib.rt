@@ -215,7 +215,7 @@ fn more_members(s: &[u8], i: usize, lo: usize, x: u64) -> Set
                 return Set::Fault(p);
             }
             Next::Member(v, j) => {
-                set = bits::insert(set, v);
+                set = sets::insert(set, v);
                 low = v + 1;
                 at = j;
                 left -= 1;
@@ -235,7 +235,7 @@ fn members_at(s: &[u8], i: usize) -> Set
     let n = number_at(s, i, 0, 63);
     match n {
         Number::Fault(p) => Set::Fault(p),
-        Number::Value(v, j) => more_members(s, j, v + 1, bits::insert(0, v)),
+        Number::Value(v, j) => more_members(s, j, v + 1, sets::insert(0, v)),
     }
 }
 

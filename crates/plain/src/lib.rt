@@ -10,7 +10,7 @@ ghost use mathlib.Core.Bool.{true, false};
 ghost use Prim.Native.Nat.{ℕ, _<_, _≤_};
 ghost use lib.ListN.{length};
 ghost use Rattle.finite.specs.Bounded.{least};
-ghost use Rattle.bits.specs.Member.{has, pack, within, both};
+ghost use Rattle.sets.specs.Member.{has, pack, within, both};
 ghost use Rattle.play.specs.Play.{separatedOf};
 ghost use Rattle.theory.specs.Region.{region};
 ghost use Rattle.theory.specs.Choice.{environmentStart};
@@ -26,7 +26,7 @@ fn reached(s: &[u64], n: usize, m: usize, set: OutSet) -> OutSet
     let mut x: u64 = 0;
     let mut p: usize = 0;
     while p < m {
-        x = bits::union_if(x, s[n + n + p], bits::member(set.0, p));
+        x = sets::union_if(x, s[n + n + p], sets::member(set.0, p));
         p += 1;
     }
     OutSet(x)
@@ -46,10 +46,10 @@ fn some_won(
     ensures { λ r. ⌜ r ≡ anyWon (now (s .entry)) n m (cores .0) (j .0) (set .0) ⌝ }
 {
     let row = s[n + j.0];
-    if bits::member(cores.0, j.0) {
-        return bits::meets(row, reach.0);
+    if sets::member(cores.0, j.0) {
+        return sets::meets(row, reach.0);
     }
-    bits::meets(row, bits::intersection(set.0, bits::below(m)))
+    sets::meets(row, sets::intersection(set.0, sets::below(m)))
 }
 
 // The inputs with which no output of the set makes a won position.
@@ -61,7 +61,7 @@ fn refused(s: &[u64], n: usize, m: usize, cores: InSet, set: OutSet) -> InSet
     let mut x: u64 = 0;
     let mut j: usize = 0;
     while j < n {
-        x = bits::insert_if(x, j, !some_won(s, n, m, cores, InState(j), set, reach));
+        x = sets::insert_if(x, j, !some_won(s, n, m, cores, InState(j), set, reach));
         j += 1;
     }
     InSet(x)
@@ -72,11 +72,11 @@ fn unanswered(n: usize, from: InSet, refused: InSet) -> usize
     requires { ⌜ (n ≤ 64) × (within (refused .0) n ≡ true) ⌝ }
     ensures { λ r. ⌜ r ≡ least n (both (from .0) (refused .0)) ⌝ }
 {
-    let x = bits::intersection(from.0, refused.0);
+    let x = sets::intersection(from.0, refused.0);
     if x == 0 {
         return n;
     }
-    bits::lowest(x)
+    sets::lowest(x)
 }
 
 // The start: the lowest initial input with no won reply.
@@ -100,7 +100,7 @@ fn none_row(g: Game, s: &[u64], cores: InSet, counters: usize, i: InState, room:
 {
     let won = stored::won_outputs(s, g.input.states, g.output.states, cores, i);
     let z = rows::layout_of(g.input.states, counters, g.output.states);
-    layout::write(room, z, i.0, won.0, bits::below(counters), 65535, 0);
+    layout::write(room, z, i.0, won.0, sets::below(counters), 65535, 0);
 }
 
 // The rows of all won positions.
@@ -125,10 +125,10 @@ fn push_rows(g: Game, counters: usize, o: OutState, which: InSet, refused: InSet
     let h = g.input;
     let mut rest = which.0;
     while rest != 0 {
-        let k = bits::lowest(rest);
+        let k = sets::lowest(rest);
         let j = unanswered(n, InSet(h.moves[k]), refused);
         rows::put(g.output.states, counters, InState(k), o, j as u16, 64, room);
-        rest = bits::difference(rest, bits::insert(0, k));
+        rest = sets::difference(rest, sets::insert(0, k));
     }
 }
 
@@ -138,7 +138,7 @@ fn pushed(n: usize, lone: InSet, moves: OutSet) -> InSet
     ensures { λ r. ⌜ ((i : ℕ) → has (r .0) i ≡ pushedAt (moves .0) n (lone .0) i) ⌝ }
 {
     if moves.0 == 0 {
-        return InSet(bits::below(n));
+        return InSet(sets::below(n));
     }
     lone
 }
@@ -187,6 +187,6 @@ pub fn plain_rows(g: Game, s: &[u64], cores: InSet, counters: usize, room: &mut 
     ensures { λ r. ⌜ Filled g (λ a h b. plain g a b ≡ true) (now (room .entry)) (now (room .exit)) ⌝ }
 {
     none_rows(g, s, cores, counters, room);
-    let lone = InSet(bits::difference(bits::below(g.input.states), cores.0));
+    let lone = InSet(sets::difference(sets::below(g.input.states), cores.0));
     push_columns(g, s, cores, counters, lone, room);
 }

@@ -8,7 +8,7 @@ use lib.Dec.{ltb}
 use lib.ListN.{length, getD}
 use borrow.Author.Tests.{eq-eqb, ne-eqb}
 use Rattle.finite.proofs.Truth.{and-intro, and-false-left, and-false-right}
-use Rattle.bits.specs.Member.{has}
+use Rattle.sets.specs.Member.{has}
 use Rattle.graphs.specs.Graph.{edge, begins}
 use Rattle.graphs.proofs.Graph.{edge-to}
 use Rattle.game.specs.declared.InState.{InState}
@@ -163,12 +163,12 @@ arrives-number M ok i (gives c s) = go (ltb c M && ok s)
     go false = refl
 
 -- a test before others
-provided-number : (b : Bool) (n : ℕ) (p : Played) (ts : List (ℕ × Bool)) → numberOf p ≡ firstOf ts → numberOf (provided b n p) ≡ firstOf ((n, b) ∷ ts)
+pub provided-number : (b : Bool) (n : ℕ) (p : Played) (ts : List (ℕ × Bool)) → numberOf p ≡ firstOf ts → numberOf (provided b n p) ≡ firstOf ((n, b) ∷ ts)
 unfolding provided firstOf
 provided-number true n p ts h = h
 provided-number false n p ts h = refl
 
-after-number : (a : Acceptance) (p : Played) (n : ℕ) → numberOf p ≡ n → numberOf (afterAcceptance a p) ≡ after a n
+pub after-number : (a : Acceptance) (p : Played) (n : ℕ) → numberOf p ≡ n → numberOf (afterAcceptance a p) ≡ after a n
 unfolding afterAcceptance
 after-number acceptance·.Accepted p n h = h
 after-number (acceptance·.Refused m) p n h = refl

@@ -28,7 +28,7 @@ use Rattle.place.specs.Place.{provided, arrives, hasPosition}
 use Rattle.player.specs.Player.{fitting, begun, stepped, afterAcceptance, beginning, stepping}
 use Rattle.place.proofs.Tests.{held}
 
-provided-from : (b : Bool) (n : ℕ) (a : Played) (p : Position) → provided b n a ≡ At p → (b ≡ true) × (a ≡ At p)
+pub provided-from : (b : Bool) (n : ℕ) (a : Played) (p : Position) → provided b n a ≡ At p → (b ≡ true) × (a ≡ At p)
 unfolding provided
 provided-from true n a p e = (refl, e)
 provided-from false n a p e = absurd (let z : _≡_ {A = ℕ} 0 1 = cc in omega arith)
@@ -65,7 +65,7 @@ module _ (M : ℕ) (ok : ℕ → Bool) (i : InState) where
         ∙ sym (held 15 (At (there (v .memory) (v .state))) (and-intro (lt-ltb (v .memory) M (v .names .memory)) (v .names .state))),
   )
 
-accepted-from : (a : Acceptance) (x : Played) (p : Position) → afterAcceptance a x ≡ At p → (a ≡ acceptance·.Accepted) × (x ≡ At p)
+pub accepted-from : (a : Acceptance) (x : Played) (p : Position) → afterAcceptance a x ≡ At p → (a ≡ acceptance·.Accepted) × (x ≡ At p)
 unfolding afterAcceptance
 accepted-from acceptance·.Accepted x p e = (refl, e)
 accepted-from (acceptance·.Refused n) x p e = absurd (let z : _≡_ {A = ℕ} 0 1 = cc in omega arith)

@@ -8,7 +8,7 @@ use lib.Dec.{ltb}
 use lib.ListN.{length, getD, length-append}
 use borrow.Author.Tests.{ltb-true, ltb-false}
 use Rattle.finite.specs.Bounded.{one}
-use Rattle.bits.specs.Member.{has}
+use Rattle.sets.specs.Member.{has}
 use Rattle.grammar.specs.Number.{decimal}
 use Rattle.grammar.proofs.Format.{by-cases}
 use Rattle.grammar.proofs.Number.{decimal-one, decimal-step}
@@ -103,7 +103,7 @@ states-short : (w n s : ℕ) (h : Graph) → s + n ≤ 64 → length (stateLines
 unfolding stateLines
 states-short w zero s h l = omega arith
 states-short w (suc n) s h l =
-    let f = one (has (h .initial .low) s) in
+    let f = one (has (h .initial) s) in
     let x = getD (h .moves) s 0 in
     omega (
       arith,
@@ -111,7 +111,7 @@ states-short w (suc n) s h l =
       state-length w s f x,
       opening-short w,
       number-short s 32 (omega arith),
-      number-short f 32 (one-short (has (h .initial .low) s)),
+      number-short f 32 (one-short (has (h .initial) s)),
       set-short x,
       states-short w n (suc s) h (omega arith),
     )

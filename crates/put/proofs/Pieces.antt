@@ -7,10 +7,9 @@ use mathlib.Core.List.{List, [], _∷_, _++_, map, append-assoc, append-nil}
 use mathlib.Core.Path.{_≡_, refl, sym, _∙_, ap, subst}
 use lib.ListN.{length, getD, drop, length-append, drop-of-length-le}
 use lib.Seq.{drop-cons}
-use Rattle.sets.specs.Words.{noStates}
 use Rattle.finite.specs.Bounded.{one}
 use Rattle.finite.proofs.Truth.{clash}
-use Rattle.bits.specs.Member.{has}
+use Rattle.sets.specs.Member.{has}
 use Rattle.grammar.specs.Number.{decimal}
 use Rattle.game.specs.Access.{noRequirement}
 use Rattle.game.specs.declared.InSet.{InSet}
@@ -110,12 +109,12 @@ module _ (gap : Bool) (j n : ℕ) (ws : List ℕ) where
   sets-last l = let none : n - j ≡ 0 = omega arith in ap (λ (k : ℕ). items gap (map setText (cells k j ws)) ++ 41 ∷ []) none
 
 -- a set among others, as a word
-pub in-word : (xs : List InSet) (j : ℕ) → getD xs j (record { 0 = noStates }) .0 .low ≡ getD (inWords xs) j 0
+pub in-word : (xs : List InSet) (j : ℕ) → getD xs j (record { 0 = 0 }) .0 ≡ getD (inWords xs) j 0
 in-word [] j = refl
 in-word (x ∷ xs) zero = refl
 in-word (x ∷ xs) (suc j) = in-word xs j
 
-pub out-word : (xs : List OutSet) (j : ℕ) → getD xs j (record { 0 = noStates }) .0 .low ≡ getD (outWords xs) j 0
+pub out-word : (xs : List OutSet) (j : ℕ) → getD xs j (record { 0 = 0 }) .0 ≡ getD (outWords xs) j 0
 out-word [] j = refl
 out-word (x ∷ xs) zero = refl
 out-word (x ∷ xs) (suc j) = out-word xs j
@@ -138,7 +137,7 @@ requirement-pieces q = simp (append-assoc, append-nil)
 
 -- states
 module _ (w n s : ℕ) (h : Graph) where
-  pub states-take : (f x : ℕ) → s < n → f ≡ one (has (h .initial .low) s) → x ≡ getD (h .moves) s 0
+  pub states-take : (f x : ℕ) → s < n → f ≡ one (has (h .initial) s) → x ≡ getD (h .moves) s 0
       → stateLines w (n - s) s h ≡ stateLine w s f x ++ stateLines w (n - (s + 1)) (s + 1) h
   unfolding stateLines
   states-take f x l p q =
@@ -203,7 +202,7 @@ module _ {d : List ℕ} {i : ℕ} {all e : List ℕ} {at : ℕ} where
       → at + length (gapText gap ++ setText x) ≤ n
   item-room gap j k ws x n R l h g = remains-room (gapText gap ++ setText x) (setsRest true (j + 1) k ws) n R (sets-take gap j k ws x l h) g
 
-  pub state-room : (w k s : ℕ) (h : Graph) (f x n : ℕ) → Remains d i all e at (stateLines w (k - s) s h) → s < k → f ≡ one (has (h .initial .low) s)
+  pub state-room : (w k s : ℕ) (h : Graph) (f x n : ℕ) → Remains d i all e at (stateLines w (k - s) s h) → s < k → f ≡ one (has (h .initial) s)
       → x ≡ getD (h .moves) s 0
       → i + length all ≤ n → at + length (stateLine w s f x) ≤ n
   state-room w k s h f x n R l p q g = remains-room (stateLine w s f x) (stateLines w (k - (s + 1)) (s + 1) h) n R (states-take w k s h f x l p q) g

@@ -12,7 +12,7 @@ ghost use Rattle.grammar.specs.Number.{decimal};
 ghost use Rattle.shape.specs.Text.{gapText, setText, setsText, headerLine, stateLine, stateLines};
 ghost use Rattle.shape.specs.Text.{inWords, outWords, requirementLine, requirementLines, gameText};
 ghost use Rattle.finite.specs.Bounded.{one};
-ghost use Rattle.bits.specs.Member.{has};
+ghost use Rattle.sets.specs.Member.{has};
 ghost use Rattle.shape.specs.Shape.{opening};
 ghost use Rattle.put.specs.Put.{Puts, Few, Writable};
 
@@ -95,7 +95,7 @@ pub fn put_set(buffer: &mut [u8], at: usize, x: u64) -> usize
     let mut gap = false;
     let mut s: usize = 0;
     while s < 64 {
-        if bits::member(x, s) {
+        if sets::member(x, s) {
             to = put_member(buffer, to, gap, s);
             gap = true;
             s += 1;
@@ -129,7 +129,7 @@ fn put_assumptions(buffer: &mut [u8], at: usize, q: Requirement) -> usize
     let mut j: usize = 0;
     while j < n {
         let x = q.assumptions[j];
-        to = put_item(buffer, to, gap, x.0.low);
+        to = put_item(buffer, to, gap, x.0);
         gap = true;
         j += 1;
     }
@@ -147,7 +147,7 @@ fn put_guarantees(buffer: &mut [u8], at: usize, q: Requirement) -> usize
     let mut j: usize = 0;
     while j < n {
         let x = q.guarantees[j];
-        to = put_item(buffer, to, gap, x.0.low);
+        to = put_item(buffer, to, gap, x.0);
         gap = true;
         j += 1;
     }
@@ -183,7 +183,7 @@ fn flag(x: u64, s: usize) -> usize
     requires { ⌜ s < 64 ⌝ }
     ensures { λ r. ⌜ r ≡ one (has x s) ⌝ }
 {
-    if bits::member(x, s) {
+    if sets::member(x, s) {
         return 1;
     }
     0
@@ -195,7 +195,7 @@ fn put_states(buffer: &mut [u8], at: usize, w: usize, h: Graph) -> usize
     ensures { λ r. ⌜ Puts (now (buffer .entry)) at (stateLines w (h .states) 0 h) r (now (buffer .exit)) ⌝ }
 {
     let n = h.states;
-    let initial = h.initial.low;
+    let initial = h.initial;
     let mut to = at;
     let mut s: usize = 0;
     while s < n {

@@ -1,2 +1,3 @@
--- Laws of the region in scratch.
+-- Laws of the winning region in scratch.
+pub mod Order
 pub mod Parts

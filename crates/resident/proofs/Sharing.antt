@@ -15,9 +15,9 @@ use borrow.Author.Tests.{eqb-true, ltb-true}
 use Rattle.finite.specs.Bounded.{least}
 use Rattle.finite.proofs.Truth.{clash, same-test, false-of, and-intro, and-left, and-right}
 use Rattle.finite.proofs.Bounded.{least-at-most, least-member}
-use Rattle.bits.specs.Member.{has, pack, meets}
-use Rattle.bits.proofs.Membership.{ext, has-zero, has-and}
-use Rattle.bits.proofs.Compare.{meets-elim}
+use Rattle.sets.specs.Member.{has, pack, meets}
+use Rattle.sets.proofs.Membership.{ext, has-zero, has-and}
+use Rattle.sets.proofs.Compare.{meets-elim}
 use Rattle.ways.proofs.Kept.{pack-below, pack-holds}
 use Rattle.controller_rows.specs.Writes.{homeAt, residesAt}
 use Rattle.resident.specs.Housed.{Shared}

@@ -4,6 +4,7 @@
 --   readResult x       == the reader's answer: code, the place of 11, the game
 --   writeResult a      == the writer's answer: code, how many bytes are filled
 --   compareResult c    == the recorder's answer: code, whether the recordings agree, whether one has ended, the step
+--   panelMoved a       == the panel's move: input and counter, both 0 beside a refusal, and the code
 --   nowhere            == the position of zeros, which stands beside a refusal to begin
 use mathlib.Core.Bool.{true, false}
 use Rattle.solver.specs.declared.Verdict.{Verdict}
@@ -17,6 +18,9 @@ use Rattle.place.specs.declared.Position.{Position}
 use Rattle.game.specs.declared.Game.{Game}
 use Rattle.recorder.specs.declared.Compared.{Compared}
 use Rattle.recorder.specs.declared.Compared.the-variants as compared·
+use Rattle.panel_place.specs.declared.Picked.{Picked}
+use Rattle.panel_place.specs.declared.Picked.the-variants as picked·
+use Rattle.results.specs.declared.PanelMoved.{PanelMoved}
 use Rattle.results.specs.declared.SolveResult.{SolveResult}
 use Rattle.results.specs.declared.CompareResult.{CompareResult}
 use Rattle.results.specs.declared.ReadResult.{ReadResult}
@@ -45,6 +49,10 @@ compareResult (compared·.Differ n) = record { code = 0; agree = false; ended = 
 compareResult (compared·.Ended n) = record { code = 0; agree = false; ended = true; step = n }
 compareResult (compared·.Fault n c) = record { code = c; agree = false; ended = false; step = n }
 compareResult (compared·.Refused c) = record { code = c; agree = false; ended = false; step = 0 }
+
+unfoldable pub panelMoved : Picked → PanelMoved
+panelMoved (picked·.To m) = record { input = m .input; counter = m .counter; code = 0 }
+panelMoved (picked·.Refused n) = record { input = record { 0 = 0 }; counter = 0; code = n }
 
 unfoldable pub nowhere : Position
 nowhere = record { input = record { 0 = 0 }; output = record { 0 = 0 }; counter = 0 }

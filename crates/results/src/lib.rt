@@ -3,12 +3,14 @@ ghost use mathlib.Core.Path.{_≡_};
 ghost use Rattle.player.specs.Player.{movedOf};
 ghost use Rattle.game.specs.Acceptance.{numberOf as acceptNumber};
 ghost use Rattle.map.specs.Map.{numberOf as mapNumber};
-ghost use Rattle.results.specs.Results.{solveResult, readResult, writeResult, compareResult, nowhere};
+ghost use Rattle.results.specs.Results.{solveResult, readResult, writeResult, compareResult, panelMoved, nowhere};
+ghost use Rattle.joined.specs.Joined.{numberOf as joinedNumber};
 use game::Acceptance;
 use game::Game;
 use game::InState;
 use game::OutState;
 use map::Mapped;
+use panel_place::Picked;
 use place::Played;
 use place::Position;
 use player::Moved;
@@ -41,6 +43,14 @@ pub struct WriteResult {
     pub bytes: usize,
 }
 
+// The panel's move: the next input and the next counter, both 0 on a refusal, and the code.
+#[repr(C)]
+pub struct PanelMoved {
+    pub input: InState,
+    pub counter: usize,
+    pub code: u8,
+}
+
 // The recorder's answer: the code; whether the recordings agree; whether one has ended before the other; the step. Beside a refusal the step is 0.
 #[repr(C)]
 pub struct CompareResult {
@@ -65,6 +75,15 @@ pub fn map_code(a: Mapped) -> u8
     match a {
         Mapped::Done => 0,
         Mapped::Refused(n) => n,
+    }
+}
+
+pub fn joined_code(a: joined::Mapped) -> u8
+    ensures { λ r. ⌜ r ≡ joinedNumber a ⌝ }
+{
+    match a {
+        joined::Mapped::Done => 0,
+        joined::Mapped::Refused(n) => n,
     }
 }
 
@@ -171,6 +190,26 @@ pub fn first_move(a: Played) -> Moved
                 output: OutState(0),
                 counter: 0,
             },
+            code: n,
+        },
+    }
+}
+
+pub fn panel_move(a: Picked) -> PanelMoved
+    ensures { λ r. ⌜ r ≡ panelMoved a ⌝ }
+{
+    match a {
+        Picked::To(m) => {
+            let input = m.input;
+            PanelMoved {
+                input,
+                counter: m.counter,
+                code: 0,
+            }
+        }
+        Picked::Refused(n) => PanelMoved {
+            input: InState(0),
+            counter: 0,
             code: n,
         },
     }

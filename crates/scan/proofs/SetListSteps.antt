@@ -24,7 +24,7 @@ use Rattle.pieces.proofs.Steps.{lit-got, lit-on, bind-got, bind-fault}
 
 -- four words as sets
 pub four-in : (w : List ℕ) → length w ≡ 4
-    → _≡_ {A = List InSet} (record { 0 = record { low = getD w 0 0 } } ∷ record { 0 = record { low = getD w 1 0 } } ∷ record { 0 = record { low = getD w 2 0 } } ∷ record { 0 = record { low = getD w 3 0 } } ∷ []) (inSets w)
+    → _≡_ {A = List InSet} (record { 0 = getD w 0 0 } ∷ record { 0 = getD w 1 0 } ∷ record { 0 = getD w 2 0 } ∷ record { 0 = getD w 3 0 } ∷ []) (inSets w)
 four-in [] h = absurd (omega arith)
 four-in (a ∷ []) h = absurd (omega arith)
 four-in (a ∷ b ∷ []) h = absurd (omega arith)
@@ -33,7 +33,7 @@ four-in (a ∷ b ∷ c ∷ d ∷ []) h = refl
 four-in (a ∷ b ∷ c ∷ d ∷ e ∷ w) h = absurd (omega arith)
 
 pub four-out : (w : List ℕ) → length w ≡ 4
-    → _≡_ {A = List OutSet} (record { 0 = record { low = getD w 0 0 } } ∷ record { 0 = record { low = getD w 1 0 } } ∷ record { 0 = record { low = getD w 2 0 } } ∷ record { 0 = record { low = getD w 3 0 } } ∷ []) (outSets w)
+    → _≡_ {A = List OutSet} (record { 0 = getD w 0 0 } ∷ record { 0 = getD w 1 0 } ∷ record { 0 = getD w 2 0 } ∷ record { 0 = getD w 3 0 } ∷ []) (outSets w)
 four-out [] h = absurd (omega arith)
 four-out (a ∷ []) h = absurd (omega arith)
 four-out (a ∷ b ∷ []) h = absurd (omega arith)

@@ -100,50 +100,50 @@ fault-requirements (fault q) r p e f = let same : Fault q ≡ Fault p = sym (ap 
 
 -- one state
 module _ (x : Run Graph) (v n t m : ℕ) (ms : List ℕ) (w : ℕ → ℕ) (at : ℕ)
-    (e : x ≡ run (statesFormat v (n - t) t (record { states = n; initial = record { low = m }; moves = ms })) w at) where
+    (e : x ≡ run (statesFormat v (n - t) t (record { states = n; initial = m; moves = ms })) w at) where
   states-open : t < n → x ≡ run (bind (stateFormat v t) (λ q. statesFormat v (n - t - 1) (suc t)
-      (store (record { states = n; initial = record { low = m }; moves = ms }) t q))) w at
+      (store (record { states = n; initial = m; moves = ms }) t q))) w at
   unfolding statesFormat
   states-open l = go (n - t) (omega arith) e
     where
       less : (k : ℕ) → k ≡ suc k - 1
       less k = omega arith
 
-      go : (k : ℕ) → 0 < k → x ≡ run (statesFormat v k t (record { states = n; initial = record { low = m }; moves = ms })) w at
-          → x ≡ run (bind (stateFormat v t) (λ q. statesFormat v (k - 1) (suc t) (store (record { states = n; initial = record { low = m }; moves = ms }) t q))) w at
+      go : (k : ℕ) → 0 < k → x ≡ run (statesFormat v k t (record { states = n; initial = m; moves = ms })) w at
+          → x ≡ run (bind (stateFormat v t) (λ q. statesFormat v (k - 1) (suc t) (store (record { states = n; initial = m; moves = ms }) t q))) w at
       go zero p f = absurd (omega arith)
       go (suc k) p f = f ∙ ap (λ (i : ℕ). run (bind (stateFormat v t)
-          (λ q. statesFormat v i (suc t) (store (record { states = n; initial = record { low = m }; moves = ms }) t q))) w at) (less k)
+          (λ q. statesFormat v i (suc t) (store (record { states = n; initial = m; moves = ms }) t q))) w at) (less k)
 
   pub states-fault : t < n → (p : ℕ) → run (stateFormat v t) w at ≡ fault p → x ≡ fault p
   states-fault l p f = states-open l ∙ bind-fault (stateFormat v t) _ w at p f
 
   pub states-turn : t < n → (f y j m′ : ℕ) → run (stateFormat v t) w at ≡ got (record { initial = f; moves = y }) j → m′ ≡ mark m t f
-      → x ≡ run (statesFormat v (n - (t + 1)) (t + 1) (record { states = n; initial = record { low = m′ }; moves = set ms t y })) w j
+      → x ≡ run (statesFormat v (n - (t + 1)) (t + 1) (record { states = n; initial = m′; moves = set ms t y })) w j
   unfolding store
   states-turn l f y j m′ g h =
       let fewer : n - t - 1 ≡ n - (t + 1) = omega arith in
       states-open l ∙ bind-got (stateFormat v t) _ w at (record { initial = f; moves = y }) j g
-      ∙ ap (λ (i : ℕ). run (statesFormat v i (suc t) (record { states = n; initial = record { low = mark m t f }; moves = set ms t y })) w j) fewer
-      ∙ ap (λ (i : ℕ). run (statesFormat v (n - (t + 1)) i (record { states = n; initial = record { low = mark m t f }; moves = set ms t y })) w j) (sym (add-one t))
-      ∙ ap (λ (i : ℕ). run (statesFormat v (n - (t + 1)) (t + 1) (record { states = n; initial = record { low = i }; moves = set ms t y })) w j) (sym h)
+      ∙ ap (λ (i : ℕ). run (statesFormat v i (suc t) (record { states = n; initial = mark m t f; moves = set ms t y })) w j) fewer
+      ∙ ap (λ (i : ℕ). run (statesFormat v (n - (t + 1)) i (record { states = n; initial = mark m t f; moves = set ms t y })) w j) (sym (add-one t))
+      ∙ ap (λ (i : ℕ). run (statesFormat v (n - (t + 1)) (t + 1) (record { states = n; initial = i; moves = set ms t y })) w j) (sym h)
 
-  pub states-end : n ≤ t → x ≡ got (record { states = n; initial = record { low = m }; moves = ms }) at
+  pub states-end : n ≤ t → x ≡ got (record { states = n; initial = m; moves = ms }) at
   unfolding statesFormat
   states-end l = go (n - t) (omega arith) e
     where
-      go : (k : ℕ) → k ≡ 0 → x ≡ run (statesFormat v k t (record { states = n; initial = record { low = m }; moves = ms })) w at
-          → x ≡ got (record { states = n; initial = record { low = m }; moves = ms }) at
+      go : (k : ℕ) → k ≡ 0 → x ≡ run (statesFormat v k t (record { states = n; initial = m; moves = ms })) w at
+          → x ≡ got (record { states = n; initial = m; moves = ms }) at
       go zero z f = f ∙ run-done _ w at
       go (suc k) z f = absurd (omega arith)
 
 pub states-begin : (v n : ℕ) (ms : List ℕ) (w : ℕ → ℕ) (i : ℕ) → ms ≡ replicate 64 0
-    → run (statesFormat v n 0 (emptyGraph n)) w i ≡ run (statesFormat v (n - 0) 0 (record { states = n; initial = record { low = 0 }; moves = ms })) w i
+    → run (statesFormat v n 0 (emptyGraph n)) w i ≡ run (statesFormat v (n - 0) 0 (record { states = n; initial = 0; moves = ms })) w i
 unfolding emptyGraph
 states-begin v n ms w i h =
     let all : n ≡ n - 0 = omega arith in
-    ap (λ (k : ℕ). run (statesFormat v k 0 (record { states = n; initial = record { low = 0 }; moves = replicate 64 0 })) w i) all
-    ∙ ap (λ (l : List ℕ). run (statesFormat v (n - 0) 0 (record { states = n; initial = record { low = 0 }; moves = l })) w i) (sym h)
+    ap (λ (k : ℕ). run (statesFormat v k 0 (record { states = n; initial = 0; moves = replicate 64 0 })) w i) all
+    ∙ ap (λ (l : List ℕ). run (statesFormat v (n - 0) 0 (record { states = n; initial = 0; moves = l })) w i) (sym h)
 
 -- one requirement
 module _ (x : Run (List Requirement)) (n t : ℕ) (qs : List Requirement) (w : ℕ → ℕ) (at : ℕ) (e : x ≡ run (requirementsFormat (n - t) t qs) w at) where

@@ -105,36 +105,24 @@ fn in_sets(w: [u64; 4]) -> [InSet; 4]
     requires { ⌜ length w ≡ 4 ⌝ }
     ensures { λ r. ⌜ r ≡ inSets w ⌝ }
 {
-    [
-        InSet(sets::Set { low: w[0] }),
-        InSet(sets::Set { low: w[1] }),
-        InSet(sets::Set { low: w[2] }),
-        InSet(sets::Set { low: w[3] }),
-    ]
+    [InSet(w[0]), InSet(w[1]), InSet(w[2]), InSet(w[3])]
 }
 
 fn out_sets(w: [u64; 4]) -> [OutSet; 4]
     requires { ⌜ length w ≡ 4 ⌝ }
     ensures { λ r. ⌜ r ≡ outSets w ⌝ }
 {
-    [
-        OutSet(sets::Set { low: w[0] }),
-        OutSet(sets::Set { low: w[1] }),
-        OutSet(sets::Set { low: w[2] }),
-        OutSet(sets::Set { low: w[3] }),
-    ]
+    [OutSet(w[0]), OutSet(w[1]), OutSet(w[2]), OutSet(w[3])]
 }
 
 // A requirement without sets.
 pub fn empty_requirement() -> Requirement
     ensures { λ r. ⌜ r ≡ emptyRequirement ⌝ }
 {
-    let x = InSet(sets::Set { low: 0 });
-    let y = OutSet(sets::Set { low: 0 });
     Requirement {
-        assumptions: [x; 4],
+        assumptions: [InSet(0), InSet(0), InSet(0), InSet(0)],
         assumed: 0,
-        guarantees: [y; 4],
+        guarantees: [OutSet(0), OutSet(0), OutSet(0), OutSet(0)],
         guaranteed: 0,
     }
 }

@@ -39,7 +39,7 @@ fn empty_graph(n: usize) -> Graph
 {
     Graph {
         states: n,
-        initial: sets::Set { low: 0 },
+        initial: 0,
         moves: [0u64; 64],
     }
 }
@@ -60,7 +60,7 @@ fn marked(x: u64, t: usize, f: usize) -> u64
     ensures { λ r. ⌜ r ≡ mark x t f ⌝ }
 {
     if f == 1 {
-        return bits::insert(x, t);
+        return sets::insert(x, t);
     }
     x
 }
@@ -90,7 +90,7 @@ fn graph_at(s: &[u8], i: usize, w: usize, n: usize) -> GraphScan
     }
     let h = Graph {
         states: n,
-        initial: sets::Set { low: initial },
+        initial,
         moves,
     };
     GraphScan {

@@ -1,4 +1,2 @@
--- Laws of scratch.
-pub mod Areas
-pub mod Read
+-- Laws of scratch that is cleared from the front.
 pub mod Cleared

@@ -10,8 +10,8 @@ use lib.ListN.{length, getD, set, length-set, replicate, length-replicate}
 use borrow.Author.Tests.{eqb-true, eqb-false, eq-eqb, ne-eqb, leb-true, leb-false}
 use Rattle.finite.specs.Bounded.{one}
 use Rattle.finite.proofs.Truth.{false-of, clash}
-use Rattle.bits.specs.Member.{has, within}
-use Rattle.bits.proofs.Membership.{has-zero, ext, zero-within, within-has, has-within}
+use Rattle.sets.specs.Member.{has, within}
+use Rattle.sets.proofs.Membership.{has-zero, ext, zero-within, within-has, has-within}
 use Rattle.grammar.specs.Format.{Format, TextOf, Live, Bytes}
 use Rattle.grammar.specs.Format.Format.{done}
 use Rattle.grammar.proofs.Format.{by-cases, bind-text, bind-parts, bind-live, done-text, done-parts, done-live}
@@ -52,7 +52,7 @@ mark-same x s f l h =
 record OpenGraph (s : ℕ) (h : Graph) : Type 0 where
   cells : length (h .moves) ≡ 64
   blank : Blank 0 s (h .moves)
-  fresh : (i : ℕ) → s ≤ i → has (h .initial .low) i ≡ false
+  fresh : (i : ℕ) → s ≤ i → has (h .initial) i ≡ false
 
 open-store : (s : ℕ) (h : Graph) (q : StateRow) → OpenGraph s h → OpenGraph (suc s) (store h s q)
 unfolding store
@@ -60,16 +60,16 @@ open-store s h q O =
     record {
       cells = length-set (h .moves) s (q .moves) ∙ O .cells;
       blank = blank-step 0 s (h .moves) (q .moves) (O .blank);
-      fresh = λ i l. mark-other (h .initial .low) s (q .initial) i (λ (e : i ≡ s). omega arith) ∙ O .fresh i (omega arith);
+      fresh = λ i l. mark-other (h .initial) s (q .initial) i (λ (e : i ≡ s). omega arith) ∙ O .fresh i (omega arith);
     }
 
 -- g is h with n more states, whose lines are t
 record Grown (w n s : ℕ) (h : Graph) (t : List ℕ) (g : Graph) : Type 0 where
   count : g .states ≡ h .states
   fill : Upto 0 s (h .moves) (g .moves)
-  initial : (i : ℕ) → i < s → has (g .initial .low) i ≡ has (h .initial .low) i
+  initial : (i : ℕ) → i < s → has (g .initial) i ≡ has (h .initial) i
   blank : Blank 0 (s + n) (g .moves)
-  fresh : (i : ℕ) → s + n ≤ i → has (g .initial .low) i ≡ false
+  fresh : (i : ℕ) → s + n ≤ i → has (g .initial) i ≡ false
   rows : (i : ℕ) → s ≤ i → within (getD (g .moves) i 0) 64 ≡ true
   text : t ≡ stateLines w n s g
 
@@ -93,12 +93,12 @@ unfolding store stateLines
 grown-step w n s h q t u g l O S G =
     let c = O .cells in
     let back = fill-back 0 s (h .moves) (g .moves) (q .moves) (omega arith) (G .fill) in
-    let flag : one (has (g .initial .low) s) ≡ q .initial =
-    ap one (G .initial s (omega arith)) ∙ mark-same (h .initial .low) s (q .initial) (S .flag) (O .fresh s (omega arith)) in
+    let flag : one (has (g .initial) s) ≡ q .initial =
+    ap one (G .initial s (omega arith)) ∙ mark-same (h .initial) s (q .initial) (S .flag) (O .fresh s (omega arith)) in
     record {
       count = G .count;
       fill = back .0;
-      initial = λ i m. G .initial i (omega arith) ∙ mark-other (h .initial .low) s (q .initial) i (λ (e : i ≡ s). omega arith);
+      initial = λ i m. G .initial i (omega arith) ∙ mark-other (h .initial) s (q .initial) i (λ (e : i ≡ s). omega arith);
       blank = λ i m. G .blank i (omega arith);
       fresh = λ i m. G .fresh i (omega arith);
       rows = λ i m. by-cases (eqb i s)
@@ -134,7 +134,7 @@ graph-sound w n t g p q h =
       record {
         some = omega arith;
         most = omega arith;
-        initial = has-within (g .initial .low) (g .states) (λ s e. by-cases (leb n s)
+        initial = has-within (g .initial) (g .states) (λ s e. by-cases (leb n s)
             (λ b. clash e (G .fresh s (let l = leb-true n s b in omega arith)))
             (λ b. let l = leb-false n s b in omega arith));
         rows = sym (G .fill .same-length) ∙ refl;
@@ -149,11 +149,11 @@ graph-sound w n t g p q h =
 record GraphRest (s : ℕ) (h g : Graph) : Type 0 where
   count : h .states ≡ g .states
   fill : Upto 0 s (h .moves) (g .moves)
-  initial : (i : ℕ) → i < s → has (h .initial .low) i ≡ has (g .initial .low) i
+  initial : (i : ℕ) → i < s → has (h .initial) i ≡ has (g .initial) i
 
 -- the line of state s of g
 rowOf : Graph → ℕ → StateRow
-rowOf g s = record { initial = one (has (g .initial .low) s); moves = getD (g .moves) s 0 }
+rowOf g s = record { initial = one (has (g .initial) s); moves = getD (g .moves) s 0 }
 
 one-le : (b : Bool) → one b ≤ 1
 unfolding one
@@ -173,19 +173,19 @@ rest-store s h g l O R =
       count = R .count;
       fill = fill-step 0 s (h .moves) (g .moves) (getD (g .moves) s 0) (omega arith) refl (R .fill);
       initial = λ i m. by-cases (eqb i s)
-          (λ b. let e = eqb-true i s b in mark-one (h .initial .low) s i (has (g .initial .low) s) e (O .fresh i (omega arith)) ∙ ap (has (g .initial .low)) (sym e))
-          (λ b. let ne = eqb-false i s b in mark-other (h .initial .low) s (one (has (g .initial .low) s)) i ne ∙ R .initial i (lt-of-le-ne (omega arith) ne));
+          (λ b. let e = eqb-true i s b in mark-one (h .initial) s i (has (g .initial) s) e (O .fresh i (omega arith)) ∙ ap (has (g .initial)) (sym e))
+          (λ b. let ne = eqb-false i s b in mark-other (h .initial) s (one (has (g .initial) s)) i ne ∙ R .initial i (lt-of-le-ne (omega arith) ne));
     }
 
 graph-end : (s : ℕ) (h g : Graph) → s ≡ g .states → OpenGraph s h → ShapedGraph g → GraphRest s h g → h ≡ g
 graph-end s h g e O S R =
-    let starts : h .initial .low ≡ g .initial .low =
-    ext (h .initial .low) (g .initial .low) (λ i. by-cases (leb s i)
+    let starts : h .initial ≡ g .initial =
+    ext (h .initial) (g .initial) (λ i. by-cases (leb s i)
     (λ b. let l = leb-true s i b in
-    O .fresh i l ∙ sym (false-of (has (g .initial .low) i) (λ t. let m = within-has (g .initial .low) (g .states) i (S .initial) t in absurd (omega arith))))
+    O .fresh i l ∙ sym (false-of (has (g .initial) i) (λ t. let m = within-has (g .initial) (g .states) i (S .initial) t in absurd (omega arith))))
     (λ b. R .initial i (leb-false s i b))) in
     let moves = fill-end 0 s (h .moves) (g .moves) (R .fill) (O .blank) (λ i l. S .unused i (omega arith)) in
-    λ i. record { states = R .count i; initial = record { low = starts i }; moves = moves i }
+    λ i. record { states = R .count i; initial = starts i; moves = moves i }
 
 states-complete : (w n s : ℕ) (h g : Graph) → s + n ≡ g .states → OpenGraph s h → ShapedGraph g → GraphRest s h g
     → TextOf (statesFormat w n s h) (stateLines w n s g) g
@@ -195,7 +195,7 @@ states-complete w (suc n) s h g e O S R =
     let q = rowOf g s in
     let m = S .most in
     bind-text (stateFormat w s) (λ r. statesFormat w n (suc s) (store h s r)) (stateLine w s (q .initial) (q .moves)) (stateLines w n (suc s) g) q g
-    (state-complete w s q (omega arith) (one-le (has (g .initial .low) s)) (S .row s))
+    (state-complete w s q (omega arith) (one-le (has (g .initial) s)) (S .row s))
     (states-complete w n (suc s) (store h s q) g (omega arith) (open-store s h q O) S (rest-store s h g (omega arith) O R))
 
 pub graph-complete : (w : ℕ) (g : Graph) → ShapedGraph g → TextOf (statesFormat w (g .states) 0 (emptyGraph (g .states))) (stateLines w (g .states) 0 g) g

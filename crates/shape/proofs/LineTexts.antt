@@ -4,7 +4,7 @@ use native.Mathlib.Omega.{arith}
 use mathlib.Core.Bool.{true, false}
 use mathlib.Core.List.{List, [], _∷_, _++_, map, append-assoc, append-nil}
 use mathlib.Core.Path.{_≡_, refl, sym, _∙_, ap, subst}
-use Rattle.bits.specs.Member.{within}
+use Rattle.sets.specs.Member.{within}
 use Rattle.grammar.specs.Format.{Format, TextOf, Live, lit, bind, chars, Bytes}
 use Rattle.grammar.specs.Format.Format.{done}
 use Rattle.grammar.specs.Number.{decimal, digit}
@@ -264,19 +264,19 @@ if-words : (n m : ℕ) (xs ys : List ℕ)
 unfolding line bracket items gapText opening
 if-words n m xs ys = simp (append-assoc, append-nil)
 
-in-out : (ws : List ℕ) → inWords (map (λ (x : ℕ). record { 0 = record { low = x } }) ws) ≡ ws
+in-out : (ws : List ℕ) → inWords (map (λ (x : ℕ). record { 0 = x }) ws) ≡ ws
 in-out [] = refl
 in-out (x ∷ ws) = ap (λ (l : List ℕ). x ∷ l) (in-out ws)
 
-out-out : (ws : List ℕ) → outWords (map (λ (x : ℕ). record { 0 = record { low = x } }) ws) ≡ ws
+out-out : (ws : List ℕ) → outWords (map (λ (x : ℕ). record { 0 = x }) ws) ≡ ws
 out-out [] = refl
 out-out (x ∷ ws) = ap (λ (l : List ℕ). x ∷ l) (out-out ws)
 
-in-in : (xs : List InSet) → map (λ (x : ℕ). record { 0 = record { low = x } }) (inWords xs) ≡ xs
+in-in : (xs : List InSet) → map (λ (x : ℕ). record { 0 = x }) (inWords xs) ≡ xs
 in-in [] = refl
 in-in (x ∷ xs) = ap (λ (l : List InSet). x ∷ l) (in-in xs)
 
-out-in : (xs : List OutSet) → map (λ (x : ℕ). record { 0 = record { low = x } }) (outWords xs) ≡ xs
+out-in : (xs : List OutSet) → map (λ (x : ℕ). record { 0 = x }) (outWords xs) ≡ xs
 out-in [] = refl
 out-in (x ∷ xs) = ap (λ (l : List OutSet). x ∷ l) (out-in xs)
 

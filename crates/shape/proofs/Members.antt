@@ -9,8 +9,8 @@ use lib.Arith.{lt-of-le-ne}
 use lib.Dec.{eqb, leb}
 use borrow.Author.Tests.{eq-eqb, ne-eqb, eqb-true, eqb-false, leb-false, le-leb, lt-leb, leb-true}
 use Rattle.finite.proofs.Truth.{clash, or-right, false-of}
-use Rattle.bits.specs.Member.{has, within}
-use Rattle.bits.proofs.Membership.{has-or, has-single, has-zero, ext, has-within, within-has, zero-within}
+use Rattle.sets.specs.Member.{has, within}
+use Rattle.sets.proofs.Membership.{has-or, has-single, has-zero, ext, has-within, within-has, zero-within}
 use Rattle.grammar.specs.Format.{Format, TextOf, Live, lit, alt, IsNode}
 use Rattle.grammar.specs.Format.Format.{done}
 use Rattle.grammar.specs.Number.{decimal, num, digit}

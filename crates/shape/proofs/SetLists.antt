@@ -9,8 +9,8 @@ use lib.ListN.{length, getD, length-set}
 use lib.Arith.{lt-of-le-ne}
 use lib.Dec.{eqb}
 use borrow.Author.Tests.{eqb-true, eqb-false}
-use Rattle.bits.proofs.Membership.{zero-within}
-use Rattle.bits.specs.Member.{within}
+use Rattle.sets.proofs.Membership.{zero-within}
+use Rattle.sets.specs.Member.{within}
 use Rattle.grammar.specs.Format.{Format, TextOf, Live, lit, alt, bind, opens, IsNode}
 use Rattle.grammar.specs.Format.Format.{done}
 use Rattle.grammar.proofs.Format.{

@@ -29,7 +29,6 @@ use mathlib.Core.List.{List, [], _∷_, _++_, map}
 use lib.Bits.{bitOr}
 use lib.Dec.{eqb, leb}
 use lib.ListN.{replicate, set}
-use Rattle.sets.specs.Words.{noStates}
 use Rattle.grammar.specs.Format.{Format, bind, lit, alt, chars}
 use Rattle.grammar.specs.Format.Format.{done}
 use Rattle.grammar.specs.Number.{num}
@@ -111,20 +110,20 @@ unfoldable pub mark : ℕ → ℕ → ℕ → ℕ
 mark x s f = elim (eqb f 1) [ true ↦ insert x s | false ↦ x ]
 
 unfoldable pub store : Graph → ℕ → StateRow → Graph
-store h s q = record { states = h .states; initial = record { low = mark (h .initial .low) s (q .initial) }; moves = set (h .moves) s (q .moves) }
+store h s q = record { states = h .states; initial = mark (h .initial) s (q .initial); moves = set (h .moves) s (q .moves) }
 
 unfoldable pub statesFormat : ℕ → ℕ → ℕ → Graph → Format Graph
 statesFormat w zero s h = done h
 statesFormat w (suc n) s h = bind (stateFormat w s) (λ q. statesFormat w n (suc s) (store h s q))
 
 unfoldable pub emptyGraph : ℕ → Graph
-emptyGraph n = record { states = n; initial = noStates; moves = replicate 64 0 }
+emptyGraph n = record { states = n; initial = 0; moves = replicate 64 0 }
 
 abbrev pub inSets : List ℕ → List InSet
-inSets xs = map (λ (x : ℕ). record { 0 = record { low = x } }) xs
+inSets xs = map (λ (x : ℕ). record { 0 = x }) xs
 
 abbrev pub outSets : List ℕ → List OutSet
-outSets xs = map (λ (x : ℕ). record { 0 = record { low = x } }) xs
+outSets xs = map (λ (x : ℕ). record { 0 = x }) xs
 
 unfoldable pub requirement : Sets → Sets → Requirement
 requirement a b =

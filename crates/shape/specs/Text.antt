@@ -25,9 +25,8 @@ use mathlib.Core.Bool.{Bool, true, false}
 use mathlib.Core.List.{List, [], _∷_, _++_, map}
 use mathlib.Core.Path.{_≡_}
 use lib.ListN.{length, getD, replicate}
-use Rattle.sets.specs.Words.{noStates}
 use Rattle.finite.specs.Bounded.{one}
-use Rattle.bits.specs.Member.{has, within}
+use Rattle.sets.specs.Member.{has, within}
 use Rattle.grammar.specs.Number.{decimal}
 use Rattle.game.specs.declared.Graph.{Graph}
 use Rattle.game.specs.declared.InSet.{InSet}
@@ -95,13 +94,13 @@ stateLine w s f x = line (word w ∷ decimal s ∷ decimal f ∷ setText x ∷ [
 
 unfoldable pub stateLines : ℕ → ℕ → ℕ → Graph → List ℕ
 stateLines w zero s h = []
-stateLines w (suc n) s h = stateLine w s (one (has (h .initial .low) s)) (getD (h .moves) s 0) ++ stateLines w n (suc s) h
+stateLines w (suc n) s h = stateLine w s (one (has (h .initial) s)) (getD (h .moves) s 0) ++ stateLines w n (suc s) h
 
 abbrev pub inWords : List InSet → List ℕ
-inWords xs = map (λ (x : InSet). x .0 .low) xs
+inWords xs = map (λ (x : InSet). x .0) xs
 
 abbrev pub outWords : List OutSet → List ℕ
-outWords xs = map (λ (x : OutSet). x .0 .low) xs
+outWords xs = map (λ (x : OutSet). x .0) xs
 
 unfoldable pub requirementLine : Requirement → List ℕ
 requirementLine q =
@@ -110,9 +109,9 @@ requirementLine q =
 unfoldable pub emptyRequirement : Requirement
 emptyRequirement =
     record {
-      assumptions = replicate 4 (record { 0 = noStates });
+      assumptions = replicate 4 (record { 0 = 0 });
       assumed = 0;
-      guarantees = replicate 4 (record { 0 = noStates });
+      guarantees = replicate 4 (record { 0 = 0 });
       guaranteed = 0;
     }
 
@@ -132,7 +131,7 @@ gameText g =
 pub record ShapedGraph (h : Graph) : Type 0 where
   pub some : 1 ≤ h .states
   pub most : h .states ≤ 64
-  pub initial : within (h .initial .low) (h .states) ≡ true
+  pub initial : within (h .initial) (h .states) ≡ true
   pub rows : length (h .moves) ≡ 64
   pub row : (s : ℕ) → within (getD (h .moves) s 0) 64 ≡ true
   pub unused : (s : ℕ) → h .states ≤ s → getD (h .moves) s 0 ≡ 0
@@ -151,8 +150,8 @@ pub record ShapedRequirement (q : Requirement) : Type 0 where
 unfoldable pub emptyGame : Game
 emptyGame =
     record {
-      input = record { states = 0; initial = noStates; moves = replicate 64 0 };
-      output = record { states = 0; initial = noStates; moves = replicate 64 0 };
+      input = record { states = 0; initial = 0; moves = replicate 64 0 };
+      output = record { states = 0; initial = 0; moves = replicate 64 0 };
       k = 0;
       requirements = replicate 8 emptyRequirement;
     }

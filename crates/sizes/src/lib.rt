@@ -1,15 +1,11 @@
 // The sizes of an accepted game's tables, and the sets of all its requirements by number, in file order: one requirement after the other.
-use counters::CounterSet;
 use game::Game;
-use game::InSet;
-use game::OutSet;
 use game::Requirement;
 use touring::Stretch;
 ghost use mathlib.Core.Path.{_≡_};
 ghost use Prim.Native.Nat.{max};
 ghost use lib.ListN.{length};
-ghost use Rattle.bits.specs.Member.{pack};
-ghost use Rattle.sets.specs.Words.{bitsOf};
+ghost use Rattle.sets.specs.Member.{pack};
 ghost use Rattle.game.specs.Acceptance.{acceptance};
 ghost use Rattle.game.specs.declared.Acceptance.the-variants.{Accepted};
 ghost use Rattle.play.specs.Play.{separatedOf};
@@ -57,28 +53,24 @@ pub fn guarantees_of(q: Requirement, from: usize) -> Stretch
     let b = q.guarantees[1];
     let c = q.guarantees[2];
     let d = q.guarantees[3];
-    let w = a.0;
-    let x = b.0;
-    let y = c.0;
-    let z = d.0;
     Stretch {
-        sets: [w, x, y, z],
+        words: [a.0, b.0, c.0, d.0],
         count: q.guaranteed,
         from,
     }
 }
 
 // The numbers of the guarantees that have a state in x.
-pub fn guarantees_met(g: Game, x: OutSet) -> CounterSet
+pub fn guarantees_met(g: Game, x: u64) -> u64
     requires { ⌜ acceptance g ≡ Accepted ⌝ }
-    ensures { λ q. ⌜ q .0 ≡ pack (length (guarantees (separatedOf g))) (metIn (guarantees (separatedOf g)) (bitsOf (x .0))) ⌝ }
+    ensures { λ q. ⌜ q ≡ pack (length (guarantees (separatedOf g))) (metIn (guarantees (separatedOf g)) x) ⌝ }
 {
-    let mut q = counters::empty();
+    let mut q: u64 = 0;
     let mut n: usize = 0;
     let mut r: usize = 0;
     while r < g.k {
         let s = guarantees_of(g.requirements[r], n);
-        q = touring::add_met(q, s, x.0);
+        q = touring::add_met(q, s, x);
         n += s.count;
         r += 1;
     }
@@ -93,28 +85,24 @@ pub fn assumptions_of(q: Requirement, from: usize) -> Stretch
     let b = q.assumptions[1];
     let c = q.assumptions[2];
     let d = q.assumptions[3];
-    let w = a.0;
-    let x = b.0;
-    let y = c.0;
-    let z = d.0;
     Stretch {
-        sets: [w, x, y, z],
+        words: [a.0, b.0, c.0, d.0],
         count: q.assumed,
         from,
     }
 }
 
 // The numbers of the assumptions that have a state in x.
-pub fn assumptions_met(g: Game, x: InSet) -> CounterSet
+pub fn assumptions_met(g: Game, x: u64) -> u64
     requires { ⌜ acceptance g ≡ Accepted ⌝ }
-    ensures { λ q. ⌜ q .0 ≡ pack (length (assumptions (separatedOf g))) (metIn (assumptions (separatedOf g)) (bitsOf (x .0))) ⌝ }
+    ensures { λ q. ⌜ q ≡ pack (length (assumptions (separatedOf g))) (metIn (assumptions (separatedOf g)) x) ⌝ }
 {
-    let mut q = counters::empty();
+    let mut q: u64 = 0;
     let mut n: usize = 0;
     let mut r: usize = 0;
     while r < g.k {
         let s = assumptions_of(g.requirements[r], n);
-        q = touring::add_met(q, s, x.0);
+        q = touring::add_met(q, s, x);
         n += s.count;
         r += 1;
     }

@@ -10,14 +10,31 @@ ghost use Rattle.answers.specs.Print.{controllerAnswer, environmentAnswer};
 ghost use Rattle.prints.specs.Prints.{gamePrint};
 ghost use Rattle.solve.specs.Printed.{Made, Printed};
 use game::Game;
+use libc::STDERR_FILENO;
+use libc::STDIN_FILENO;
 use libc::STDOUT_FILENO;
 use text::Answer;
+
+// Says on standard error that the print was not written whole. A program has no status to say so with.
+fn tell_unwritten(written: bool) {
+    if !written {
+        io::write_all(STDERR_FILENO, b"solve: standard output cannot be written\n");
+    }
+}
+
+// The same of the file: it was not read to its end.
+fn tell_unread(read: bool) {
+    if !read {
+        io::write_all(STDERR_FILENO, b"solve: standard input cannot be read\n");
+    }
+}
 
 // The first n bytes.
 fn print(text: &[u8], n: usize)
     requires { ⌜ n ≤ length (now text) ⌝ }
 {
-    io::write_all(STDOUT_FILENO, &text[..n]);
+    let written = io::write_all(STDOUT_FILENO, &text[..n]);
+    tell_unwritten(written);
 }
 
 // The first n bytes of the buffer.
@@ -118,8 +135,23 @@ fn show(file: &[u8], n: usize) {
     }
 }
 
+// Whether the reading that gave n bytes of 65,536 ended with the file, and did not fail: one more read tells. A terminal, which would ask for its end a second
+// time, is believed.
+fn read_whole(n: usize) -> bool {
+    if n == 65536 {
+        return true;
+    }
+    if libc::isatty(STDIN_FILENO) == 1 {
+        return true;
+    }
+    let mut more = [0u8; 1];
+    libc::read(STDIN_FILENO, &mut more) >= 0
+}
+
 fn main() {
     let mut file = io::large_buffer();
-    let n = io::read_full(0, &mut file);
+    let n = io::read_full(STDIN_FILENO, &mut file);
+    let read = read_whole(n);
+    tell_unread(read);
     show(&file, n);
 }

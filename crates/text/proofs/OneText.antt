@@ -8,9 +8,8 @@ use lib.Dec.{ltb, leb}
 use lib.ListN.{length, getD, replicate, length-map, List·getD-eq-default}
 use lib.Seq.{ext-getD}
 use borrow.Author.Tests.{ltb-true, ltb-false, leb-true, leb-false}
-use Rattle.sets.specs.Words.{bitsOf, setsIn}
-use Rattle.bits.specs.Member.{has, within}
-use Rattle.bits.proofs.Membership.{has-within, zero-within}
+use Rattle.sets.specs.Member.{has, within}
+use Rattle.sets.proofs.Membership.{has-within, zero-within}
 use Rattle.grammar.specs.Format.{Run}
 use Rattle.grammar.specs.Format.Run.{got, fault}
 use Rattle.grammar.specs.Place.{reading}
@@ -46,13 +45,12 @@ one-game g h S T e = one-value gameFormat (gameText g) g h (game-complete g S) (
 
 -- an accepted game is within the shape's limits
 graph-shaped : (g : Graph) → GraphFits g → length (g .moves) ≡ 64 → ShapedGraph g
-unfolding bitsOf setsIn
 graph-shaped g F l =
     let most = F .most in
     record {
       some = F .some;
       most = F .most;
-      initial = has-within (g .initial .low) (g .states) (F .initial-below);
+      initial = has-within (g .initial) (g .states) (F .initial-below);
       rows = l;
       row = λ s. by-cases (ltb s (g .states))
           (λ b. has-within (getD (g .moves) s 0) 64 (λ j h. let m = F .row-below s j (ltb-true s (g .states) b) h in omega arith))
@@ -84,25 +82,22 @@ sets-shaped n a ws m h l below past =
         (λ b. past j h (ltb-true j 4 b))
         (λ b. let q = ltb-false j 4 b in List·getD-eq-default ws 0 (omega arith))
 
-in-zero : (x : InSet) → bitsOf (x .0) ≡ 0 → x ≡ noInput
-unfolding bitsOf
-in-zero x h = λ i. record { 0 = record { low = h i } }
+in-zero : (x : InSet) → x .0 ≡ 0 → x ≡ noInput
+in-zero x h = λ i. record { 0 = h i }
 
-out-zero : (x : OutSet) → bitsOf (x .0) ≡ 0 → x ≡ noOutput
-unfolding bitsOf
-out-zero x h = λ i. record { 0 = record { low = h i } }
+out-zero : (x : OutSet) → x .0 ≡ 0 → x ≡ noOutput
+out-zero x h = λ i. record { 0 = h i }
 
 requirement-shaped : (q : Requirement) (a b : ℕ) → a ≤ 64 → b ≤ 64 → RequirementFits q a b → length (q .assumptions) ≡ 4 → length (q .guarantees) ≡ 4
     → ShapedRequirement q
-unfolding bitsOf
 requirement-shaped q a b la lb F m n =
     record {
       assumptions =
-          sets-shaped (q .assumed) a (inWords (q .assumptions)) la (F .few-assumed) (length-map (q .assumptions) (λ (x : InSet). x .0 .low) ∙ m)
+          sets-shaped (q .assumed) a (inWords (q .assumptions)) la (F .few-assumed) (length-map (q .assumptions) (λ (x : InSet). x .0) ∙ m)
           (λ j s l h. F .assumption-below j s l (ap (λ (x : ℕ). has x s) (in-word (q .assumptions) j) ∙ h))
           (λ j l h. sym (in-word (q .assumptions) j) ∙ F .assumption-past j l h);
       guarantees =
-          sets-shaped (q .guaranteed) b (outWords (q .guarantees)) lb (F .few-guaranteed) (length-map (q .guarantees) (λ (x : OutSet). x .0 .low) ∙ n)
+          sets-shaped (q .guaranteed) b (outWords (q .guarantees)) lb (F .few-guaranteed) (length-map (q .guarantees) (λ (x : OutSet). x .0) ∙ n)
           (λ j s l h. F .guarantee-below j s l (ap (λ (x : ℕ). has x s) (out-word (q .guarantees) j) ∙ h))
           (λ j l h. sym (out-word (q .guarantees) j) ∙ F .guarantee-past j l h);
     }

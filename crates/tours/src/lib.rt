@@ -6,7 +6,7 @@ use game::OutSet;
 ghost use mathlib.Core.Path.{_≡_};
 ghost use mathlib.Core.Bool.{true};
 ghost use lib.ListN.{length};
-ghost use Rattle.bits.specs.Member.{has};
+ghost use Rattle.sets.specs.Member.{has};
 ghost use Rattle.environment_table.specs.Table.{Roomy, Filled};
 ghost use Rattle.environment_table.specs.Touring.{Left, Aims};
 

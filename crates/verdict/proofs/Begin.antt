@@ -7,7 +7,7 @@ use borrow.Author.Tests.{lt-ltb}
 use Rattle.finite.specs.Bounded.{all, any}
 use Rattle.finite.proofs.Bounded.{all-same, any-same, any-intro}
 use Rattle.finite.proofs.Loops.{any-end, all-end, all-stop}
-use Rattle.bits.specs.Member.{has}
+use Rattle.sets.specs.Member.{has}
 use Rattle.graphs.specs.Graph.{begins}
 use Rattle.game.specs.declared.Game.{Game}
 use Rattle.play.specs.Play.{graphOf, separatedOf}

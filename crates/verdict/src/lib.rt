@@ -12,7 +12,7 @@ fn opens_with(g: Game, s: &[u64], cores: u64, i: usize, o: usize) -> bool
     requires { ⌜ Reading g (now s) cores × (i < g .input .states) × (o < g .output .states) ⌝ }
     ensures { λ r. ⌜ r ≡ opensWith g i o ⌝ }
 {
-    if !bits::member(g.output.initial, o) {
+    if !sets::member(g.output.initial, o) {
         return false;
     }
     stored::won(s, g.input.states, cores, i, o)
@@ -39,7 +39,7 @@ fn opens_if(g: Game, s: &[u64], cores: u64, i: usize) -> bool
     requires { ⌜ Reading g (now s) cores × (i < g .input .states) ⌝ }
     ensures { λ r. ⌜ r ≡ opensIf g i ⌝ }
 {
-    if !bits::member(g.input.initial, i) {
+    if !sets::member(g.input.initial, i) {
         return true;
     }
     opens(g, s, cores, i)

@@ -10,8 +10,8 @@ use mathlib.Core.List.{List}
 use mathlib.Core.Logic.{_≢_}
 use native.Mathlib.Omega.{arith}
 use lib.ListN.{length, getD}
-use Rattle.bits.specs.Member.{has, within}
-use Rattle.bits.proofs.Compare.{nonzero-member}
+use Rattle.sets.specs.Member.{has, within}
+use Rattle.sets.proofs.Compare.{nonzero-member}
 use Rattle.game.specs.declared.Game.{Game}
 use Rattle.play.specs.Play.{separatedOf}
 use Rattle.theory.specs.Tour.{goalAt}

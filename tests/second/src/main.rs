@@ -1,6 +1,7 @@
 //! The command line of the second solver.
 
 use second::compare::{self, Options};
+use second::solve::Solved;
 use second::walks::{self, Side};
 use std::io::{Read, Write};
 use std::process::ExitCode;
@@ -8,6 +9,7 @@ use std::time::{SystemTime, UNIX_EPOCH};
 
 const HELP: &str = "\
 second solve                       game on standard input, print on standard output
+second won                         game on standard input, how many positions are won and how many there are on standard output
 second walks GAMEFILE PRINTFILE    does the printed table win, by walks alone?
 second compare PROGRAM [options]   compare with another solve program
     --games N     small accepted games, default 20000
@@ -24,6 +26,7 @@ fn main() -> ExitCode {
     let words: Vec<&str> = words.iter().map(String::as_str).collect();
     let done = match words.as_slice() {
         ["solve"] => solve(),
+        ["won"] => won(),
         ["walks", game, print] => check(game, print),
         ["compare", program, options @ ..] => options_of(program, options).and_then(|options| compare::run(&options)),
         ["--help" | "-h" | "help"] => {
@@ -42,11 +45,25 @@ fn main() -> ExitCode {
     }
 }
 
-fn solve() -> Result<bool, String> {
+fn standard_input() -> Result<Vec<u8>, String> {
     let mut text = Vec::new();
     std::io::stdin().read_to_end(&mut text).map_err(|error| error.to_string())?;
-    let print = second::printed(&text);
+    Ok(text)
+}
+
+fn solve() -> Result<bool, String> {
+    let print = second::printed(&standard_input()?);
     std::io::stdout().write_all(print.as_bytes()).map_err(|error| error.to_string())?;
+    Ok(true)
+}
+
+fn won() -> Result<bool, String> {
+    let game = second::text::read(&standard_input()?).map_err(|refusal| format!("the game is refused: {refusal:?}"))?;
+    if let Some(number) = game.refusal() {
+        return Err(format!("the game is refused: {number}"));
+    }
+    let (won, positions) = Solved::new(&game).count();
+    println!("{won} {positions}");
     Ok(true)
 }
 

@@ -269,6 +269,12 @@ impl<'a> Solved<'a> {
         solved
     }
 
+    /// How many positions are won, and how many there are.
+    pub fn count(&self) -> (usize, usize) {
+        let won = self.won.iter().flatten().filter(|&&won| won).count();
+        (won, self.game.inputs.len() * self.game.outputs.len())
+    }
+
     /// A play ends up in one component of either graph. There the panel can
     /// visit all of its component, and the system all of its own, so a play
     /// that stays is good for the system exactly when the two components suit.

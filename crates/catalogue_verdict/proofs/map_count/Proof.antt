@@ -4,7 +4,7 @@ use Prim.Native.Nat.{ℕ, _-_, _*_, _≤_}
 use mathlib.Core.Path.{_≡_, _∙_, ap}
 use lib.ListN.{length, getD}
 use Rattle.finite.proofs.Bounded.{count-le}
-use Rattle.bits.specs.Member.{has}
+use Rattle.sets.specs.Member.{has}
 use Rattle.catalogue_verdict.specs.Judged.{marks}
 use Rattle.catalogue_verdict.proofs.Counting.{marks-start, marks-next}
 use Rattle.catalogue_verdict.proofs.map_count.Statement.{statement}

@@ -3,7 +3,7 @@ use native.Mathlib.Omega.{arith}
 use Prim.Native.Nat.{ℕ, _-_, _≤_}
 use mathlib.Core.Path.{_≡_, _∙_, ap}
 use Rattle.finite.specs.Bounded.{count}
-use Rattle.bits.specs.Member.{has}
+use Rattle.sets.specs.Member.{has}
 use Rattle.catalogue_verdict.proofs.Counting.{count-start, count-in, count-out}
 use Rattle.catalogue_verdict.proofs.row_count.Statement.{statement}
 use Rattle.catalogue_verdict.proofs.row_count.Tie as tie

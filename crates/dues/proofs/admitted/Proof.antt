@@ -1,7 +1,7 @@
--- `admitted` drops what a requirement that is due does not admit.
+-- `admitted`.
 use mathlib.Core.Path.{sym, _∙_}
-use Rattle.dues.proofs.Steps.{kept-due, kept-free}
 use borrow.Author.Needs.{needs}
+use Rattle.dues.proofs.Steps.{kept-due, kept-free}
 use Rattle.dues.proofs.admitted.Statement.{statement}
 use Rattle.dues.proofs.admitted.Tie as tie
 

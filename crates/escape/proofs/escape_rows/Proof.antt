@@ -5,7 +5,7 @@ use Prim.Native.Nat.{_<_}
 use mathlib.Core.Path.{_≡_}
 use lib.ListN.{length}
 use Rattle.finite.specs.Bounded.{count}
-use Rattle.bits.specs.Member.{has}
+use Rattle.sets.specs.Member.{has}
 use Rattle.environment_table.specs.Table.{Same, Putting}
 use Rattle.environment_table.specs.Pressing.{Going}
 use Rattle.environment_table.proofs.Places.{roomy-more, same-small}

@@ -4,8 +4,8 @@ use Prim.Native.Nat.{_<_, _≤_, _-_}
 use mathlib.Core.Path.{_≡_, refl}
 use lib.ListN.{length, getD}
 use mathlib.Core.Bool.{true}
-use Rattle.bits.specs.Member.{pack}
-use Rattle.bits.proofs.Collect.{collect-none, collect-next, collect-end}
+use Rattle.sets.specs.Member.{pack}
+use Rattle.sets.proofs.Collect.{collect-none, collect-next, collect-end}
 use Rattle.graphs.specs.Component.{joined}
 use Rattle.play.specs.Play.{graphOf}
 use Rattle.ways.specs.Search.{Toward}

@@ -4,23 +4,23 @@ use borrow.Author.Needs.{needs}
 use native.Mathlib.Omega.{arith}
 use lib.ListN.{getD}
 use Rattle.finite.specs.Bounded.{count}
-use Rattle.bits.specs.Member.{has, meets}
-use Rattle.bits.proofs.Visit.{Collected, word-start, collected-small, collected-falls, collected-next, collected-end}
+use Rattle.sets.specs.Member.{has, meets}
+use Rattle.sets.proofs.Visit.{Collected, word-start, collected-small, collected-falls, collected-next, collected-end}
 use Rattle.environment_table.proofs.Outward.{exits-all}
 use Rattle.escape.proofs.exits.Statement.{statement}
 use Rattle.escape.proofs.exits.Tie as tie
 
 abbrev Inv-loop : tie.InvT-loop
-Inv-loop moves c out x₀ rest₀ x rest = Collected 64 rest₀ 64 (λ k. meets 64 (getD moves k 0) out) rest x
+Inv-loop moves c out x₀ rest₀ x rest = Collected rest₀ 64 (λ k. meets 64 (getD moves k 0) out) rest x
 
 abbrev μ-loop : tie.MeasureT-loop
 μ-loop moves c out x₀ rest₀ x rest = count 64 (has rest)
 
 small : (c : tie.After-lowest Inv-loop μ-loop) → c .lowest .result < 64
-small c = collected-small 64 _ _ _ (c .before .before .loop .rest) _ (c .before .before .loop .inv) (c .before .loop-test .taken) _ (c .lowest .ensures)
+small c = collected-small _ _ _ (c .before .before .loop .rest) _ (c .before .before .loop .inv) (c .before .loop-test .taken) _ (c .lowest .ensures)
 
 loop-holds : tie.Need-loop-holds Inv-loop μ-loop
-loop-holds c = word-start 64 _ _ (c .fits .c .fits)
+loop-holds c = word-start _ _ (c .fits .c .fits)
 
 lowest-requires : tie.Need-lowest-requires Inv-loop μ-loop
 lowest-requires c κs = search needs
@@ -47,19 +47,19 @@ loop-less : tie.Need-loop-less Inv-loop μ-loop
 loop-less c =
     let l = c .before .before .before .before .before in
     let b = l .before .before in
-    collected-falls 64 _ _ _ (b .loop .rest) _ (b .loop .inv) (l .before .loop-test .taken) _ (l .lowest .ensures) _ _ (c .before .insert .ensures)
+    collected-falls _ _ _ (b .loop .rest) _ (b .loop .inv) (l .before .loop-test .taken) _ (l .lowest .ensures) _ _ (c .before .insert .ensures)
     (c .difference .ensures)
 
 loop-again : tie.Need-loop-again Inv-loop μ-loop
 loop-again c =
     let l = c .before .before .before .before .before in
     let b = l .before .before in
-    collected-next 64 _ _ _ (b .loop .rest) _ (b .loop .inv) (l .before .loop-test .taken) _ (l .lowest .ensures) _ _ (c .before .insert .ensures)
+    collected-next _ _ _ (b .loop .rest) _ (b .loop .inv) (l .before .loop-test .taken) _ (l .lowest .ensures) _ _ (c .before .insert .ensures)
     (c .difference .ensures)
     (omega (arith, c .difference .ok)) (c .before .before .before .meets .ensures) (c .before .before .insert-if .ensures)
 
 returns : tie.Need-returns Inv-loop μ-loop
-returns c = exits-all _ _ _ (collected-end 64 _ _ _ (c .before .loop .rest) _ (c .before .loop .inv) (c .loop-test .left))
+returns c = exits-all _ _ _ (collected-end _ _ _ (c .before .loop .rest) _ (c .before .loop .inv) (c .loop-test .left))
 
 pub exits-spec : {M : Type 1} → statement M
 exits-spec =

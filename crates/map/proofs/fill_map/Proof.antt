@@ -4,10 +4,10 @@ use mathlib.Core.List.{_++_}
 use lib.ListN.{drop}
 use Rattle.finite.specs.Tabulate.{tabulate}
 use Rattle.finite.proofs.Front.{front-none}
-use Rattle.map.proofs.Scratch.{filled-length, filled-more, filled-end}
-use Rattle.map.specs.Read.{mapRow}
+use Rattle.marks.proofs.Filled.{filled-length, filled-more, filled-end}
+use Rattle.marks.specs.Marks.{mapRow}
 use mathlib.Core.Path.{_≡_}
-use Prim.Native.Nat.{_+_, _-_, _≤_}
+use Prim.Native.Nat.{_-_, _≤_}
 use Rattle.map.proofs.fill_map.Statement.{statement}
 use Rattle.map.proofs.fill_map.Tie as tie
 

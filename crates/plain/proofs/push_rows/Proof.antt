@@ -6,7 +6,7 @@ use mathlib.Core.Path.{_≡_, refl}
 use mathlib.Core.Bool.{true}
 use lib.ListN.{length}
 use Rattle.finite.specs.Bounded.{count}
-use Rattle.bits.specs.Member.{has}
+use Rattle.sets.specs.Member.{has}
 use Rattle.environment_table.specs.Table.{Same, Putting}
 use Rattle.environment_table.proofs.Places.{roomy-more, same-small}
 use Rattle.environment_table.proofs.Members.{Visiting, visit-start, visit-small, visit-in, visit-falls, visit-next, visit-end}

@@ -3,7 +3,7 @@ use Prim.Native.Nat.{ℕ, _≤_, _-_}
 use mathlib.Core.Path.{_≡_}
 use borrow.Author.Needs.{needs}
 use native.Mathlib.Omega.{arith}
-use Rattle.bits.specs.Member.{has}
+use Rattle.sets.specs.Member.{has}
 use Rattle.environment_table.specs.Reading.{reachedAt}
 use Rattle.environment_table.proofs.Reading.{reached-start, reached-turn, reached-end}
 use Rattle.plain.proofs.reached.Statement.{statement}

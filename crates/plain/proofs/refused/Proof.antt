@@ -2,8 +2,8 @@
 use native.Mathlib.Omega.{arith}
 use Prim.Native.Nat.{_≤_, _-_}
 use mathlib.Core.Path.{_≡_}
-use Rattle.bits.specs.Member.{pack}
-use Rattle.bits.proofs.Collect.{collect-none, collect-next, collect-end}
+use Rattle.sets.specs.Member.{pack}
+use Rattle.sets.proofs.Collect.{collect-none, collect-next, collect-end}
 use Rattle.environment_table.specs.Reading.{refusedAt}
 use Rattle.environment_table.proofs.Reading.{refused-at}
 use Rattle.plain.proofs.refused.Statement.{statement}

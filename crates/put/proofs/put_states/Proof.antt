@@ -11,7 +11,7 @@ use Rattle.put.proofs.put_states.Tie as tie
 
 abbrev Inv-loop : tie.InvT-loop
 Inv-loop buffer₀ at w h n initial to₀ s₀ buffer to s =
-    Remains buffer₀ at (stateLines w n 0 h) buffer to (stateLines w (n - s) s h) × (n ≤ 64) × (w < 10) × (n ≡ h .states) × (initial ≡ h .initial .low) ×
+    Remains buffer₀ at (stateLines w n 0 h) buffer to (stateLines w (n - s) s h) × (n ≤ 64) × (w < 10) × (n ≡ h .states) × (initial ≡ h .initial) ×
     (at + length (stateLines w n 0 h) ≤ 2 ^ 32)
 
 abbrev μ-loop : tie.MeasureT-loop

@@ -13,6 +13,12 @@ slice-aggregate-read-full c = search needs
 read-full-requires : tie.Need-read-full-requires
 read-full-requires c κs = omega arith
 
+read-whole-requires : tie.Need-read-whole-requires
+read-whole-requires c κs = search needs
+
+tell-unread-requires : tie.Need-tell-unread-requires
+tell-unread-requires c κs = search needs
+
 slice-aggregate-show : tie.Need-slice-aggregate-show
 slice-aggregate-show c = search needs
 
@@ -29,6 +35,8 @@ main-spec =
     large-buffer-requires
     slice-aggregate-read-full
     read-full-requires
+    read-whole-requires
+    tell-unread-requires
     slice-aggregate-show
     show-requires
     returns)

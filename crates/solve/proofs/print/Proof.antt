@@ -11,8 +11,11 @@ slice-aggregate-write-all c = sym (length-take-le (c .before .before .args .n) (
 write-all-requires : tie.Need-write-all-requires
 write-all-requires c κs = search needs
 
+tell-unwritten-requires : tie.Need-tell-unwritten-requires
+tell-unwritten-requires c κs = search needs
+
 returns : tie.Need-returns
 returns c = search needs
 
 pub print-spec : {M : Type 1} → statement M
-print-spec = tie.close (tie.spec slice-aggregate-write-all write-all-requires returns)
+print-spec = tie.close (tie.spec slice-aggregate-write-all write-all-requires tell-unwritten-requires returns)

@@ -7,18 +7,18 @@ use Rattle.scan.proofs.set_lists.out_sets.Tie as tie
 array-read-t5 : tie.Need-array-read-t5
 array-read-t5 c = search needs
 
-array-read-t10 : tie.Need-array-read-t10
-array-read-t10 c = search needs
+array-read-t9 : tie.Need-array-read-t9
+array-read-t9 c = search needs
 
-array-read-t15 : tie.Need-array-read-t15
-array-read-t15 c = search needs
+array-read-t13 : tie.Need-array-read-t13
+array-read-t13 c = search needs
 
-array-read-t20 : tie.Need-array-read-t20
-array-read-t20 c = search needs
+array-read-t17 : tie.Need-array-read-t17
+array-read-t17 c = search needs
 
 returns : tie.Need-returns
 returns c = four-out (c .args .t1) (c .pre)
 
 pub out-sets-spec : {M : Type 1} → statement M
 out-sets-spec =
-    tie.close (tie.spec array-read-t5 array-read-t10 array-read-t15 array-read-t20 returns)
+    tie.close (tie.spec array-read-t5 array-read-t9 array-read-t13 array-read-t17 returns)

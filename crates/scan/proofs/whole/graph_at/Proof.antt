@@ -12,7 +12,7 @@ use Rattle.scan.proofs.whole.graph_at.Tie as tie
 
 abbrev Inv-loop : tie.InvT-loop
 Inv-loop s i w n moves₀ initial₀ at₀ t₀ moves initial at t =
-    (run (statesFormat w n 0 (emptyGraph n)) (bytes s) i ≡ run (statesFormat w (n - t) t (record { states = n; initial = record { low = initial }; moves = moves }))
+    (run (statesFormat w n 0 (emptyGraph n)) (bytes s) i ≡ run (statesFormat w (n - t) t (record { states = n; initial = initial; moves = moves }))
     (bytes s) at) × (n ≤ 64) × (w < 10)
 
 abbrev μ-loop : tie.MeasureT-loop

@@ -1,0 +1,2 @@
+-- Laws of the closures in their areas of scratch.
+pub mod Parts

@@ -1,0 +1,2 @@
+-- The closures in their areas of scratch.
+pub mod Areas

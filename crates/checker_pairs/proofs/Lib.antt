@@ -1,4 +1,0 @@
--- Laws of the pairs.
-pub mod Keeping
-pub mod Emptying
-pub mod Serving

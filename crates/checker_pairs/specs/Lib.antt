@@ -1,2 +1,0 @@
--- Requirements and guarantees, one after the other.
-pub mod Pairs

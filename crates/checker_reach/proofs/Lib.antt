@@ -1,3 +1,0 @@
--- Laws of what a table reaches.
-pub mod Opening
-pub mod Gaps

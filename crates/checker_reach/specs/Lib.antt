@@ -1,2 +1,0 @@
--- What a table reaches.
-pub mod Reach

@@ -1,5 +1,0 @@
--- Laws of the attempts.
-pub mod Cuts
-pub mod Walking
-pub mod Courses
-pub mod Attempts

@@ -1,2 +1,0 @@
--- Attempts at rounds.
-pub mod Rounds

@@ -1,2 +1,0 @@
--- Laws of tables as places.
-pub mod Leads

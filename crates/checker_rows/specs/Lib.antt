@@ -1,2 +1,0 @@
--- A table as places.
-pub mod Rows

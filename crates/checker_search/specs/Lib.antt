@@ -1,3 +1,0 @@
--- Searches over places, told of lists.
-pub mod Turns
-pub mod Queues

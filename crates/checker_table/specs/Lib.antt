@@ -1,1 +1,0 @@
--- What the checker's searches show of a table.

@@ -1,2 +1,0 @@
--- Laws of sets of counters.
-pub mod Highest

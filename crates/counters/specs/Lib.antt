@@ -1,2 +1,0 @@
--- What the contracts on sets of counters cite.
-pub mod Counters

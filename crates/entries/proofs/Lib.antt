@@ -1,2 +1,0 @@
--- Laws of entries.
-pub mod Packed

@@ -1,0 +1,142 @@
+// The solver of the lecture room: the won map on the joined positions, from the last components of the joined graph backward.
+ghost use mathlib.Core.Path.{_≡_};
+ghost use mathlib.Core.Bool.{false};
+ghost use mathlib.Core.List.{_++_};
+ghost use Prim.Native.Nat.{_*_, _+_, _≤_, _<_};
+ghost use lib.ListN.{length, drop};
+ghost use Rattle.finite.specs.Tabulate.{tabulate};
+ghost use Rattle.joint.specs.Joint.{rankAt};
+ghost use Rattle.game.specs.declared.Acceptance.the-variants.{Accepted};
+ghost use Rattle.game.specs.Acceptance.{acceptance};
+ghost use Rattle.play.specs.Play.{separatedOf};
+ghost use Rattle.scratch.specs.Scratch.{cleared};
+ghost use Rattle.marks.specs.Marks.{mapRow};
+ghost use Rattle.joined_reach.specs.Words.{Small, Kept};
+ghost use Rattle.joined_component.specs.Component.{known};
+ghost use Rattle.joined.specs.Order.{Backward, Advanced, Passed, Solved};
+ghost use Rattle.joined.specs.Joined.{JoinedMade};
+use game::Acceptance;
+use game::Game;
+use game::InState;
+use game::OutState;
+use joined_reach::AHEAD;
+use joined_reach::KNOWN;
+use joined_reach::WON;
+
+// Settles the component of (i, o), n positions being ahead of it: all components that it leads to are settled.
+fn settle_component(g: Game, s: &mut [u64], i: InState, o: OutState, n: u64)
+    requires { ⌜ Small g × (4096 ≤ length (now s)) × Backward g n (now s) × (i .0 < g .input .states) × (o .0 < g .output .states)
+        × (rankAt (separatedOf g) (i .0) (o .0) ≡ n) × (known g (now s) (i .0) (o .0) ≡ false) ⌝ }
+    ensures { λ _. ⌜ Advanced g n (i .0) (o .0) (now (s .entry)) (now (s .exit)) ⌝ }
+{
+    joined_reach::close(g, s, i, o);
+    joined_component::draw_component(g, s, n);
+    joined_settle::settle(g, s, i, o);
+    joined_component::join(g, s, KNOWN);
+}
+
+// Settles the component of (i, o) where that has not been done.
+fn settle_position(g: Game, s: &mut [u64], i: InState, o: OutState, n: u64)
+    requires { ⌜ Small g × (4096 ≤ length (now s)) × Backward g n (now s) × (i .0 < g .input .states) × (o .0 < g .output .states)
+        × (rankAt (separatedOf g) (i .0) (o .0) ≡ n) ⌝ }
+    ensures { λ _. ⌜ Advanced g n (i .0) (o .0) (now (s .entry)) (now (s .exit)) ⌝ }
+{
+    let row = i.0;
+    if !sets::member(s[KNOWN + row], o.0) {
+        settle_component(g, s, i, o, n);
+    }
+}
+
+// Settles all components with n positions ahead.
+fn settle_rank(g: Game, s: &mut [u64], n: u64)
+    requires { ⌜ Small g × (4096 ≤ length (now s)) × Backward g n (now s) ⌝ }
+    ensures { λ _. ⌜ Passed g n (g .input .states * g .output .states) (now (s .entry)) (now (s .exit)) ⌝ }
+{
+    let m = g.output.states;
+    let positions = g.input.states * m;
+    let mut c: usize = 0;
+    while c < positions {
+        if s[AHEAD + c] == n {
+            let i = c / m;
+            let o = c % m;
+            settle_position(g, s, InState(i), OutState(o), n);
+        }
+        c += 1;
+    }
+}
+
+// Marks the won positions. The last components have the fewest positions ahead, so they are settled first.
+fn solve(g: Game, s: &mut [u64])
+    requires { ⌜ Small g × (4096 ≤ length (now s)) ⌝ }
+    ensures { λ _. ⌜ Kept 0 2048 (now (s .entry)) (now (s .exit)) × Solved g (now (s .exit)) ⌝ }
+{
+    joined_reach::count_ahead(g, s);
+    scratch::clear(s, 160);
+    let positions = g.input.states * g.output.states;
+    let mut n: usize = 1;
+    while n <= positions {
+        settle_rank(g, s, n as u64);
+        n += 1;
+    }
+}
+
+// Writes the marks to the map.
+fn write_map(g: Game, s: &[u64], map: &mut [u64])
+    requires { ⌜ Small g × (4096 ≤ length (now s)) × Solved g (now s) × (g .input .states ≤ length (now map)) ⌝ }
+    ensures { λ _. ⌜ now (map .exit) ≡ tabulate (g .input .states) (mapRow g) ++ drop (g .input .states) (now (map .entry)) ⌝ }
+{
+    let mut i: usize = 0;
+    while i < g.input.states {
+        map[i] = s[WON + i];
+        i += 1;
+    }
+}
+
+// Writes the map of a small accepted game and clears scratch.
+fn make_map(g: Game, scratch: &mut [u64], map: &mut [u64])
+    requires { ⌜ Small g × (4096 ≤ length (now scratch)) × (g .input .states ≤ length (now map)) ⌝ }
+    ensures { λ _. ⌜ (now (scratch .exit) ≡ cleared 4096 (now (scratch .entry)))
+        × (now (map .exit) ≡ tabulate (g .input .states) (mapRow g) ++ drop (g .input .states) (now (map .entry))) ⌝ }
+{
+    solve(g, scratch);
+    write_map(g, scratch, map);
+    scratch::clear(scratch, 4096);
+}
+
+// The answer of the call.
+pub enum Mapped {
+    Done,
+    Refused(u8),
+}
+
+// The map of an accepted game, where the counts are small and the buffers long enough.
+fn map_accepted(g: Game, scratch: &mut [u64], map: &mut [u64]) -> Mapped
+    requires { ⌜ acceptance g ≡ Accepted ⌝ }
+    ensures { λ r. ⌜ JoinedMade g (now (scratch .entry)) (now (scratch .exit)) (now (map .entry)) (now (map .exit)) r ⌝ }
+{
+    if g.input.states > 32 {
+        return Mapped::Refused(24);
+    }
+    if g.output.states > 32 {
+        return Mapped::Refused(24);
+    }
+    if scratch.len() < 4096 {
+        return Mapped::Refused(8);
+    }
+    if map.len() < g.input.states {
+        return Mapped::Refused(8);
+    }
+    make_map(g, scratch, map);
+    Mapped::Done
+}
+
+// Marks the won positions, one set of outputs for each input, in a game of at most 32 states a graph.
+pub fn joined_map(g: Game, scratch: &mut [u64], map: &mut [u64]) -> Mapped
+    ensures { λ r. ⌜ JoinedMade g (now (scratch .entry)) (now (scratch .exit)) (now (map .entry)) (now (map .exit)) r ⌝ }
+{
+    let accepted = acceptance::accept(g);
+    match accepted {
+        Acceptance::Refused(n) => Mapped::Refused(n),
+        Acceptance::Accepted => map_accepted(g, scratch, map),
+    }
+}

@@ -1,0 +1,120 @@
+-- Sets of joined positions in scratch.
+--
+--   small-in, small-out                       : the moves of a graph of at most 32 states, as words
+--   move-below                                : what an input moves to is an input
+--   belongs-has, belongs-below, belongs-in    : what belongs to a set
+--   found-has                                 : what belongs to the set of found positions, whose rows stand first
+--   kept-self, kept-set, kept-cleared         : what changes some words alone
+--   kept-then, kept-wider                     : one change after the other; a wider span
+--   cleared-zero                              : words that are cleared
+use Prim.Native.Nat.{ℕ, _+_, _-_, _≤_, _<_}
+use mathlib.Core.Path.{_≡_, refl, sym, _∙_, ap}
+use mathlib.Core.Bool.{true, _&&_}
+use mathlib.Core.List.{List}
+use native.Mathlib.Nat.{zero-add}
+use native.Mathlib.Omega.{arith}
+use lib.Dec.{ltb}
+use lib.ListN.{length, getD, set, drop, length-set}
+use lib.Seq.{getD-set-other, getD-drop}
+use borrow.Author.Tests.{lt-ltb, ltb-true}
+use Rattle.finite.proofs.Truth.{same-test, and-left, and-right, and-intro}
+use Rattle.finite.proofs.Front.{front-length, front-rest, front-at}
+use Rattle.sets.specs.Member.{has}
+use Rattle.graphs.specs.Graph.{edge}
+use Rattle.graphs.proofs.Graph.{edge-to, edge-intro, edge-moves}
+use Rattle.game.specs.declared.Game.{Game}
+use Rattle.game.specs.declared.Graph.{Graph as Record}
+use Rattle.game.specs.Fits.{GraphFits}
+use Rattle.play.specs.Play.{graphOf}
+use Rattle.scratch.specs.Scratch.{cleared}
+use Rattle.joined_reach.specs.Words.{belongs, Small, Kept}
+
+-- ---- moves
+
+module _ (h : Record) (F : GraphFits h) where
+  moved-edge : (k t : ℕ) → k < h .states → has (getD (h .moves) k 0) t ≡ edge (graphOf h) k t
+  unfolding graphOf
+  moved-edge k t a =
+      same-test (has (getD (h .moves) k 0) t) (edge (graphOf h) k t) (λ e. edge-intro (graphOf h) k t a (F .row-below k t a e) e)
+      (λ e. edge-moves (graphOf h) k t e)
+
+pub small-in : {g : Game} → Small g → (i j : ℕ) → i < g .input .states → has (getD (g .input .moves) i 0) j ≡ edge (graphOf (g .input)) i j
+small-in {g} S i j b = moved-edge (g .input) (S .fits .input) i j b
+
+pub small-out : {g : Game} → Small g → (o p : ℕ) → o < g .output .states → has (getD (g .output .moves) o 0) p ≡ edge (graphOf (g .output)) o p
+small-out {g} S o p b = moved-edge (g .output) (S .fits .output) o p b
+
+pub move-below : (g : Game) (x r : ℕ) → ((k : ℕ) → has x k ≡ edge (graphOf (g .input)) r k) → (j : ℕ) → has x j ≡ true → j < g .input .states
+unfolding graphOf
+move-below g x r e j h = edge-to (graphOf (g .input)) r j (sym (e j) ∙ h)
+
+-- ---- sets
+
+module _ (n a : ℕ) (l : List ℕ) where
+  pub belongs-has : (i o : ℕ) → i < n → belongs n a l i o ≡ has (getD l (a + i) 0) o
+  unfolding belongs
+  belongs-has i o b = rw (lt-ltb i n b) refl
+
+  pub belongs-below : (i o : ℕ) → belongs n a l i o ≡ true → i < n
+  unfolding belongs
+  belongs-below i o h = ltb-true i n (and-left (ltb i n) (has (getD l (a + i) 0) o) h)
+
+  pub belongs-in : (i o : ℕ) → belongs n a l i o ≡ true → has (getD l (a + i) 0) o ≡ true
+  unfolding belongs
+  belongs-in i o h = and-right (ltb i n) (has (getD l (a + i) 0) o) h
+
+  -- a set whose words are not changed
+  pub belongs-same : (m : List ℕ) → ((i : ℕ) → i < n → getD m (a + i) 0 ≡ getD l (a + i) 0) → (i o : ℕ) → belongs n a m i o ≡ belongs n a l i o
+  unfolding belongs
+  belongs-same m e i o =
+      same-test (ltb i n && has (getD m (a + i) 0) o) (ltb i n && has (getD l (a + i) 0) o)
+      (λ h. let b = ltb-true i n (and-left (ltb i n) (has (getD m (a + i) 0) o) h) in
+      and-intro (lt-ltb i n b) (ap (λ (x : ℕ). has x o) (sym (e i b)) ∙ and-right (ltb i n) (has (getD m (a + i) 0) o) h))
+      (λ h. let b = ltb-true i n (and-left (ltb i n) (has (getD l (a + i) 0) o) h) in
+      and-intro (lt-ltb i n b) (ap (λ (x : ℕ). has x o) (e i b) ∙ and-right (ltb i n) (has (getD l (a + i) 0) o) h))
+
+pub found-has : (n : ℕ) (l : List ℕ) (i o : ℕ) → i < n → belongs n 0 l i o ≡ has (getD l i 0) o
+found-has n l i o b = belongs-has n 0 l i o b ∙ ap (λ (k : ℕ). has (getD l k 0) o) (zero-add i)
+
+-- ---- words that stay
+
+pub kept-self : (a b : ℕ) (l : List ℕ) → Kept a b l l
+kept-self a b l = record { long = refl; low = λ k h. refl; high = λ k h. refl }
+
+pub kept-set : (a b : ℕ) (l : List ℕ) (k v : ℕ) → a ≤ k → k < b → Kept a b l (set l k v)
+kept-set a b l k v h j = record {
+  long = length-set l k v;
+  low = λ q e. getD-set-other l k q v 0 (omega arith);
+  high = λ q e. getD-set-other l k q v 0 (omega arith);
+}
+
+pub cleared-zero : (n : ℕ) (l m : List ℕ) → m ≡ cleared n l → (k : ℕ) → k < n → getD m k 0 ≡ 0
+unfolding cleared
+cleared-zero n l m e k b = ap (λ (x : List ℕ). getD x k 0) e ∙ front-at (λ k. 0) l n k 0 b
+
+pub kept-then : {a b : ℕ} {l m n : List ℕ} → Kept a b l m → Kept a b m n → Kept a b l n
+kept-then {l = l} K L = record {
+  long = L .long ∙ K .long;
+  low = λ k h. L .low k h ∙ K .low k h;
+  high = λ k h. L .high k h ∙ K .high k h;
+}
+
+pub kept-wider : {a b : ℕ} (c d : ℕ) {l m : List ℕ} → c ≤ a → b ≤ d → Kept a b l m → Kept c d l m
+kept-wider c d h j K = record { long = K .long; low = λ k e. K .low k (omega arith); high = λ k e. K .high k (omega arith) }
+
+pub kept-cleared : (n : ℕ) (l m : List ℕ) → n ≤ length l → m ≡ cleared n l → Kept 0 n l m
+unfolding cleared
+kept-cleared n l m b e = record {
+  long = ap length e ∙ front-length (λ k. 0) l n b;
+  low = λ k h. absurd (omega arith);
+  high = λ k h. past k h;
+}
+  where
+    same : drop n m ≡ drop n l
+    same = ap (drop n) e ∙ front-rest (λ k. 0) l n
+
+    past : (k : ℕ) → n ≤ k → getD m k 0 ≡ getD l k 0
+    past k h =
+        let q : n + (k - n) ≡ k = omega arith in
+        ap (λ (x : ℕ). getD m x 0) (sym q) ∙ sym (getD-drop n m (k - n) 0) ∙ ap (λ (x : List ℕ). getD x (k - n) 0) same
+        ∙ getD-drop n l (k - n) 0 ∙ ap (λ (x : ℕ). getD l x 0) q

@@ -1,0 +1,147 @@
+// What a joined position reaches: the positions that both graphs, moving at once, lead to from it. A set of joined positions is one word an input.
+ghost use mathlib.Core.Path.{_≡_};
+ghost use mathlib.Core.Logic.{_≢_};
+ghost use mathlib.Core.Bool.{true};
+ghost use Prim.Native.Nat.{ℕ, _*_, _≤_, _<_};
+ghost use lib.ListN.{length};
+ghost use Rattle.sets.specs.Member.{has};
+ghost use Rattle.graphs.specs.Graph.{edge};
+ghost use Rattle.play.specs.Play.{graphOf};
+ghost use Rattle.joined_reach.specs.Words.{Small};
+ghost use Rattle.joined_reach.specs.Reach.{Next, Grown, Entered, Within, Waiting, Followed, Reached, foundBelow, Counted};
+use game::Game;
+use game::InSet;
+use game::InState;
+use game::OutSet;
+use game::OutState;
+
+// Where the sets begin in scratch: what is found, what of it has been followed, what is won, what is known, and a component. Each has 32 words.
+pub const FOUND: usize = 0;
+
+pub const FOLLOWED: usize = 32;
+
+pub const WON: usize = 64;
+
+pub const KNOWN: usize = 96;
+
+pub const COMPONENT: usize = 128;
+// Where it stands, for each position, how many positions it reaches: 1,024 words.
+pub const AHEAD: usize = 1024;
+
+// The inputs that i moves to.
+pub fn input_moves(g: Game, i: InState) -> InSet
+    requires { ⌜ Small g × (i .0 < g .input .states) ⌝ }
+    ensures { λ r. ⌜ ((j : ℕ) → has (r .0) j ≡ edge (graphOf (g .input)) (i .0) j) ⌝ }
+{
+    game::in_moves(g, i)
+}
+
+// The outputs that o moves to.
+pub fn output_moves(g: Game, o: OutState) -> OutSet
+    requires { ⌜ Small g × (o .0 < g .output .states) ⌝ }
+    ensures { λ r. ⌜ ((p : ℕ) → has (r .0) p ≡ edge (graphOf (g .output)) (o .0) p) ⌝ }
+{
+    game::out_moves(g, o)
+}
+
+// The outputs that some member of x moves to.
+fn next_outputs(g: Game, x: OutSet) -> OutSet
+    requires { ⌜ Small g × ((p : ℕ) → has (x .0) p ≡ true → p < g .output .states) ⌝ }
+    ensures { λ r. ⌜ Next g (x .0) (r .0) ⌝ }
+{
+    let mut y: u64 = 0;
+    let mut rest = x.0;
+    while rest != 0 {
+        let moves = output_moves(g, OutState(sets::lowest(rest)));
+        y = sets::union(y, moves.0);
+        rest = sets::without_lowest(rest);
+    }
+    OutSet(y)
+}
+
+// Adds the outputs y to row j of what is found. Where the row grows, j waits to be followed.
+fn grow(s: &mut [u64], j: InState, y: OutSet, waiting: InSet) -> InSet
+    requires { ⌜ (j .0 < 32) × (4096 ≤ length (now s)) ⌝ }
+    ensures { λ r. ⌜ Grown (j .0) (y .0) (waiting .0) (r .0) (now (s .entry)) (now (s .exit)) ⌝ }
+{
+    let place = j.0;
+    let row = s[FOUND + place];
+    if sets::is_subset(y.0, row) {
+        return waiting;
+    }
+    s[FOUND + place] = sets::union(row, y.0);
+    InSet(sets::insert(waiting.0, place))
+}
+
+// Adds the outputs y to the rows of all inputs that r moves to: both graphs move at once.
+fn enter(g: Game, s: &mut [u64], r: InState, y: OutSet, waiting: InSet) -> InSet
+    requires { ⌜ Small g × (r .0 < g .input .states) × (4096 ≤ length (now s)) ⌝ }
+    ensures { λ w. ⌜ Entered g (r .0) (y .0) (waiting .0) (w .0) (now (s .entry)) (now (s .exit)) ⌝ }
+{
+    let moves = input_moves(g, r);
+    let mut left = waiting;
+    let mut rest = moves.0;
+    while rest != 0 {
+        left = grow(s, InState(sets::lowest(rest)), y, left);
+        rest = sets::without_lowest(rest);
+    }
+    left
+}
+
+// Follows the lowest row that waits: the moves of what was found there since it was followed last.
+fn follow(g: Game, s: &mut [u64], waiting: InSet) -> InSet
+    requires { ⌜ Small g × (4096 ≤ length (now s)) × (waiting .0 ≢ 0) × Waiting g (waiting .0) (now s) ⌝ }
+    ensures { λ w. ⌜ Followed g (waiting .0) (w .0) (now (s .entry)) (now (s .exit)) ⌝ }
+{
+    let r = sets::lowest(waiting.0);
+    let found = s[FOUND + r];
+    let new = sets::difference(found, s[FOLLOWED + r]);
+    let y = next_outputs(g, OutSet(new));
+    s[FOLLOWED + r] = found;
+    let rest = sets::without_lowest(waiting.0);
+    enter(g, s, InState(r), y, InSet(rest))
+}
+
+// Finds the positions that (i, o) reaches.
+pub fn close(g: Game, s: &mut [u64], i: InState, o: OutState)
+    requires { ⌜ Small g × (i .0 < g .input .states) × (o .0 < g .output .states) × (4096 ≤ length (now s)) ⌝ }
+    ensures { λ _. ⌜ Reached g (i .0) (o .0) (now (s .entry)) (now (s .exit)) ⌝ }
+{
+    let row = i.0;
+    let output = o.0;
+    scratch::clear(s, 64);
+    s[FOUND + row] = sets::insert(0, output);
+    let mut waiting = InSet(sets::insert(0, row));
+    while waiting.0 != 0 {
+        waiting = follow(g, s, waiting);
+    }
+}
+
+// How many positions are found.
+fn count_found(g: Game, s: &[u64]) -> usize
+    requires { ⌜ Small g × (4096 ≤ length (now s)) × Within g (now s) ⌝ }
+    ensures { λ r. ⌜ r ≡ foundBelow g (now (s .entry)) (g .input .states * g .output .states) ⌝ }
+{
+    let mut n: usize = 0;
+    let mut i: usize = 0;
+    while i < g.input.states {
+        n += sets::count(s[FOUND + i]);
+        i += 1;
+    }
+    n
+}
+
+// Writes down for each position how many positions are ahead of it: those that it reaches, itself counted.
+pub fn count_ahead(g: Game, s: &mut [u64])
+    requires { ⌜ Small g × (4096 ≤ length (now s)) ⌝ }
+    ensures { λ _. ⌜ Counted g (now (s .entry)) (now (s .exit)) ⌝ }
+{
+    let m = g.output.states;
+    let positions = g.input.states * m;
+    let mut c: usize = 0;
+    while c < positions {
+        close(g, s, InState(c / m), OutState(c % m));
+        s[AHEAD + c] = count_found(g, s) as u64;
+        c += 1;
+    }
+}

@@ -1,0 +1,5 @@
+-- Replies: what a position forces. Growth, Loss: the sweeps of a component. Whole: a component is settled.
+pub mod Replies
+pub mod Growth
+pub mod Loss
+pub mod Whole

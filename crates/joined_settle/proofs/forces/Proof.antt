@@ -1,0 +1,106 @@
+-- `forces`.
+use Prim.Native.Nat.{_<_}
+use native.Mathlib.Omega.{arith}
+use Rattle.finite.specs.Bounded.{count}
+use Rattle.finite.proofs.Loops.{failed, passed}
+use Rattle.sets.specs.Member.{has}
+use Rattle.sets.proofs.Passing.{Passing}
+use Rattle.joined_reach.proofs.Words.{move-below}
+use Rattle.joined_component.proofs.Visits.{pass-start, pass-member, pass-falls, pass-more}
+use Rattle.joined_component.proofs.Tests.{enters}
+use Rattle.joined_settle.proofs.Replies.{replied, not-replied}
+use borrow.Author.Needs.{needs}
+use Rattle.joined_settle.proofs.forces.Statement.{statement}
+use Rattle.joined_settle.proofs.forces.Tie as tie
+
+abbrev Inv-loop : tie.InvT-loop
+Inv-loop s moves rest₀ rest = Passing rest₀ 32 (enters s 64 (moves .0)) rest
+
+abbrev μ-loop : tie.MeasureT-loop
+μ-loop s moves rest₀ rest = count 64 (has rest)
+
+output-moves-requires : tie.Need-output-moves-requires Inv-loop μ-loop
+output-moves-requires c κs = (c .before .pre .0, c .before .pre .2)
+
+input-moves-requires : tie.Need-input-moves-requires Inv-loop μ-loop
+input-moves-requires c κs = (c .before .before .pre .0, c .before .before .pre .1)
+
+loop-holds : tie.Need-loop-holds Inv-loop μ-loop
+loop-holds c =
+    let b = c .before .before .before in
+    pass-start _ _ _ (omega (arith, c .input-moves .ok)) (λ j h. omega (arith, move-below (b .args .g) _ _ (c .input-moves .ensures) j h, b .pre .0 .inputs))
+
+lowest-requires : tie.Need-lowest-requires Inv-loop μ-loop
+lowest-requires c κs = search needs
+
+few : (c : tie.After-lowest Inv-loop μ-loop) → c .lowest .result < 32
+few c =
+    let l = c .before .before in
+    pass-member _ _ _ (l .loop .rest) (l .loop .inv) (c .before .loop-test .taken) _ (c .lowest .ensures) .0
+
+add-meets : tie.Need-add-meets Inv-loop μ-loop
+add-meets c = omega (arith, few c)
+
+mul-meets : tie.Need-mul-meets Inv-loop μ-loop
+mul-meets c = omega (arith, few c)
+
+shared-slice-read-meets : tie.Need-shared-slice-read-meets Inv-loop μ-loop
+shared-slice-read-meets c = omega (arith, few (c .before))
+
+meets-requires : tie.Need-meets-requires Inv-loop μ-loop
+meets-requires c κs = search needs
+
+returns : tie.Need-returns Inv-loop μ-loop
+unfolding enters
+returns c =
+    let e = c .before .before .before in
+    let l = e .before .before in
+    let v = l .before in
+    let b = v .before .before .before in
+    not-replied _ (b .pre .0) 64 _ _ _ _ _ (v .input-moves .ensures) (v .before .output-moves .ensures) _
+    (pass-member _ _ _ (l .loop .rest) (l .loop .inv) (e .before .loop-test .taken) _ (e .lowest .ensures) .1)
+    (failed (c .before .meets .ensures) (c .if1 .taken))
+
+without-lowest-requires : tie.Need-without-lowest-requires Inv-loop μ-loop
+without-lowest-requires c κs = c .before .before .before .before .loop-test .taken
+
+loop-less : tie.Need-loop-less Inv-loop μ-loop
+loop-less c =
+    let e = c .before .before .before .before in
+    let l = e .before .before in
+    pass-falls _ _ _ (l .loop .rest) (l .loop .inv) (e .before .loop-test .taken) _ (e .lowest .ensures) _ (c .without-lowest .ensures)
+
+loop-again : tie.Need-loop-again Inv-loop μ-loop
+unfolding enters
+loop-again c =
+    let e = c .before .before .before .before in
+    let l = e .before .before in
+    pass-more _ _ _ (l .loop .rest) (l .loop .inv) (e .before .loop-test .taken) _ (e .lowest .ensures) _ (c .without-lowest .ensures)
+    (omega (arith, c .without-lowest .ok)) (passed (c .before .before .meets .ensures) (c .before .if1 .left))
+
+returns-2 : tie.Need-returns-2 Inv-loop μ-loop
+returns-2 c =
+    let l = c .before in
+    let v = l .before in
+    let b = v .before .before .before in
+    replied _ (b .pre .0) 64 _ _ _ _ _ (v .input-moves .ensures) (v .before .output-moves .ensures) (l .loop .rest) (l .loop .inv) (c .loop-test .left)
+
+pub forces-spec : {M : Type 1} → statement M
+forces-spec =
+    tie.close
+    (tie.spec
+    Inv-loop
+    μ-loop
+    output-moves-requires
+    input-moves-requires
+    loop-holds
+    lowest-requires
+    add-meets
+    mul-meets
+    shared-slice-read-meets
+    meets-requires
+    returns
+    without-lowest-requires
+    loop-less
+    loop-again
+    returns-2)

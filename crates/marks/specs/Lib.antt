@@ -1,0 +1,2 @@
+-- A map of won positions.
+pub mod Marks

@@ -1,0 +1,19 @@
+-- `nanpuwiq_panel_begin` meets its contract.
+use mathlib.Core.Path.{ap, _∙_}
+use borrow.Author.Needs.{needs}
+use Rattle.player.specs.Player.{movedOf}
+use Rattle.results.specs.Results.{nowhere}
+use Rattle.nanpuwiq.proofs.nanpuwiq_panel_begin.Statement.{statement}
+use Rattle.nanpuwiq.proofs.nanpuwiq_panel_begin.Tie as tie
+
+begin-requires : tie.Need-begin-requires
+begin-requires c κs = search needs
+
+first-move-requires : tie.Need-first-move-requires
+first-move-requires c κs = search needs
+
+returns : tie.Need-returns
+returns c = c .first-move .ensures ∙ ap (movedOf nowhere) (c .before .begin .ensures .answer)
+
+pub nanpuwiq-panel-begin-spec : {M : Type 1} → statement M
+nanpuwiq-panel-begin-spec = tie.close (tie.spec begin-requires first-move-requires returns)

@@ -1,0 +1,2 @@
+-- Laws for the panel's move.
+pub mod Picks

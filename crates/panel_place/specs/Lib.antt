@@ -1,0 +1,2 @@
+-- What the contracts of the panel's move cite.
+pub mod Picks

@@ -1,0 +1,4 @@
+-- Laws of the panel's table played against.
+pub mod Answers
+pub mod Inverse
+pub mod Plays

@@ -1,0 +1,131 @@
+-- A panel's table played against, step by step. The panel's move is told first, then the output is picked.
+--
+--   fitting g l            == the list l has the length of a panel's table
+--   startMove g l          == the move that the start of the table l names
+--   rowEntry g l p         == the entry of the row at position p
+--   rowMove g l p          == the move that it names
+--   firstMove g l          == the answer to first, for an accepted game
+--   firstPlace g l o       == the answer to begin with output o, for an accepted game
+--   nextMove g l p         == the answer to next at position p, for an accepted game
+--   nextPlace g l p q      == the answer to step from position p with output q, for an accepted game
+--   pickAfter a m          == m where a is accepted; else the refusal
+--   panelFirst g l, panelBegin g l o, panelNext g l p, panelStep g l p q    == the answers to first, begin, next and step
+--   startNames g l, rowNames g l p    == the start, and the row at position p, name a counter in range and an input that is initial, a move
+--   firstTests g l, beginTests g l o, nextTests g l p, stepTests g l p q    == their tests under their numbers, in the order in which they are tried
+--   Picks ts a r           == r is the answer a, and its number that of the tests ts
+use Prim.Native.Nat.{ℕ, _+_, _*_}
+use mathlib.Core.Path.{_≡_}
+use mathlib.Core.Bool.{Bool, _&&_}
+use mathlib.Core.List.{List, [], _∷_, _++_}
+use lib.Dec.{eqb}
+use lib.ListN.{length, getD}
+use Rattle.graphs.specs.Graph.{edge, begins}
+use Rattle.game.specs.declared.OutState.{OutState}
+use Rattle.game.specs.declared.Game.{Game}
+use Rattle.game.specs.declared.Acceptance.{Acceptance}
+use Rattle.game.specs.declared.Acceptance.the-variants as acceptance·
+use Rattle.game.specs.Acceptance.{acceptance}
+use Rattle.game.specs.Numbers.{firstOf, gameTests}
+use Rattle.play.specs.Play.{graphOf, separatedOf}
+use Rattle.theory.specs.Entries.{environmentCounters, environmentEntries}
+use Rattle.demands.specs.Demands.{environmentOf}
+use Rattle.place.specs.declared.Position.{Position}
+use Rattle.place.specs.declared.Played.{Played}
+use Rattle.place.specs.Place.{provided, names, hasPosition}
+use Rattle.player.specs.Player.{afterAcceptance}
+use Rattle.panel_place.specs.declared.Picked.{Picked}
+use Rattle.panel_place.specs.declared.Picked.the-variants.{Refused}
+use Rattle.panel_place.specs.Picks.{granted, picks, joined, numberOf}
+
+-- as for a player: "16 table not of the controller's length, or a place the game lacks"
+unfoldable pub fitting : Game → List ℕ → Bool
+fitting g l = eqb (length l) (length (environmentEntries (separatedOf g)))
+
+-- "A panel table .. has one start, giving memory and an initial input"
+unfoldable pub startMove : Game → List ℕ → Picked
+startMove g l = picks (environmentCounters (separatedOf g)) (begins (graphOf (g .input))) (environmentOf g l .start)
+
+-- "Panel: one start entry, then rows by input, counter, output"
+unfoldable pub rowEntry : Game → List ℕ → Position → ℕ
+rowEntry g l p = getD l (1 + ((p .input .0 * environmentCounters (separatedOf g) + p .counter) * g .output .states + p .output .0)) 65535
+
+-- "its step gives memory and input move from memory, input and output"
+unfoldable pub rowMove : Game → List ℕ → Position → Picked
+rowMove g l p =
+    picks (environmentCounters (separatedOf g)) (edge (graphOf (g .input)) (p .input .0)) (environmentOf g l .step (p .counter) (p .input .0) (p .output .0))
+
+unfoldable pub firstMove : Game → List ℕ → Picked
+firstMove g l = granted (fitting g l) 16 (startMove g l)
+
+-- "the panel's start with any initial output": 14 where it is not initial
+unfoldable pub firstPlace : Game → List ℕ → OutState → Played
+firstPlace g l o = provided (fitting g l) 16 (provided (begins (graphOf (g .output)) (o .0)) 14 (joined o (startMove g l)))
+
+unfoldable pub nextMove : Game → List ℕ → Position → Picked
+nextMove g l p = granted (fitting g l && hasPosition g (environmentCounters (separatedOf g)) p) 16 (rowMove g l p)
+
+-- "an input move, then an output move, one by the table's step, which also gives the memory, the other any move": 14 where it is none
+unfoldable pub nextPlace : Game → List ℕ → Position → OutState → Played
+nextPlace g l p q =
+    provided (fitting g l && hasPosition g (environmentCounters (separatedOf g)) p) 16
+    (provided (edge (graphOf (g .output)) (p .output .0) (q .0)) 14 (joined q (rowMove g l p)))
+
+-- "Whoever drives a player, after 1 to 7"
+unfoldable pub pickAfter : Acceptance → Picked → Picked
+pickAfter acceptance·.Accepted m = m
+pickAfter (acceptance·.Refused n) m = Refused n
+
+unfoldable pub panelFirst : Game → List ℕ → Picked
+panelFirst g l = pickAfter (acceptance g) (firstMove g l)
+
+unfoldable pub panelBegin : Game → List ℕ → OutState → Played
+panelBegin g l o = afterAcceptance (acceptance g) (firstPlace g l o)
+
+unfoldable pub panelNext : Game → List ℕ → Position → Picked
+panelNext g l p = pickAfter (acceptance g) (nextMove g l p)
+
+unfoldable pub panelStep : Game → List ℕ → Position → OutState → Played
+panelStep g l p q = afterAcceptance (acceptance g) (nextPlace g l p q)
+
+-- "15 the row is none, or names a counter out of range or an output that is no move (at the start, not initial)", here an input
+unfoldable pub startNames : Game → List ℕ → Bool
+startNames g l = names (environmentCounters (separatedOf g)) (begins (graphOf (g .input))) (environmentOf g l .start)
+
+unfoldable pub rowNames : Game → List ℕ → Position → Bool
+rowNames g l p =
+    names (environmentCounters (separatedOf g)) (edge (graphOf (g .input)) (p .input .0)) (environmentOf g l .step (p .counter) (p .input .0) (p .output .0))
+
+-- "Whoever drives a player, after 1 to 7: 16 ..; 14 ..; 15 .."
+unfoldable pub firstTests : Game → List ℕ → List (ℕ × Bool)
+firstTests g l =
+    gameTests g
+    ++ (16, fitting g l)
+    ∷ (15, startNames g l)
+    ∷ []
+
+unfoldable pub beginTests : Game → List ℕ → OutState → List (ℕ × Bool)
+beginTests g l o =
+    gameTests g
+    ++ (16, fitting g l)
+    ∷ (14, begins (graphOf (g .output)) (o .0))
+    ∷ (15, startNames g l)
+    ∷ []
+
+unfoldable pub nextTests : Game → List ℕ → Position → List (ℕ × Bool)
+nextTests g l p =
+    gameTests g
+    ++ (16, fitting g l && hasPosition g (environmentCounters (separatedOf g)) p)
+    ∷ (15, rowNames g l p)
+    ∷ []
+
+unfoldable pub stepTests : Game → List ℕ → Position → OutState → List (ℕ × Bool)
+stepTests g l p q =
+    gameTests g
+    ++ (16, fitting g l && hasPosition g (environmentCounters (separatedOf g)) p)
+    ∷ (14, edge (graphOf (g .output)) (p .output .0) (q .0))
+    ∷ (15, rowNames g l p)
+    ∷ []
+
+pub record Picks (ts : List (ℕ × Bool)) (a r : Picked) : Type 0 where
+  pub answer : r ≡ a
+  pub number : numberOf r ≡ firstOf ts

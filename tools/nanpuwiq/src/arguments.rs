@@ -1,0 +1,90 @@
+//! The words after a subcommand: options, their values, and files.
+use crate::failure::Failure;
+use crate::subcommand::Subcommand;
+use std::ffi::{OsStr, OsString};
+
+/// What was given to a subcommand.
+pub struct Arguments {
+    command: &'static str,
+    options: Vec<(&'static str, Vec<OsString>)>,
+    files: Vec<OsString>,
+}
+
+impl Arguments {
+    /// The words by the subcommand's options. After `--` every word is a file.
+    pub fn of(subcommand: &Subcommand, words: &[OsString]) -> Result<Arguments, Failure> {
+        let (command, known) = (subcommand.name, subcommand.options);
+        let mut arguments = Arguments { command, options: Vec::new(), files: Vec::new() };
+        let mut words = words.iter();
+        while let Some(word) = words.next() {
+            if word == "--" {
+                arguments.files.extend(words.cloned());
+                break;
+            }
+            if word == "-" || !word.to_string_lossy().starts_with('-') {
+                arguments.files.push(word.clone());
+                continue;
+            }
+            let Some(&(name, values)) = known.iter().find(|(name, _)| word == name) else {
+                return Err(arguments.wrong(&format!("no option '{}'", word.to_string_lossy())));
+            };
+            let values: Vec<OsString> = words.by_ref().take(values).cloned().collect();
+            arguments.add(name, values, known)?;
+        }
+        Ok(arguments)
+    }
+
+    fn add(&mut self, name: &'static str, values: Vec<OsString>, known: &[(&str, usize)]) -> Result<(), Failure> {
+        if known.iter().any(|&(other, count)| other == name && count != values.len()) {
+            return Err(self.wrong(&format!("{name} without its value")));
+        }
+        if self.has(name) {
+            return Err(self.wrong(&format!("{name} twice")));
+        }
+        self.options.push((name, values));
+        Ok(())
+    }
+
+    pub fn has(&self, name: &str) -> bool {
+        self.options.iter().any(|(given, _)| *given == name)
+    }
+
+    /// The values of an option.
+    pub fn values(&self, name: &str) -> Option<&[OsString]> {
+        self.options.iter().find(|(given, _)| *given == name).map(|(_, values)| values.as_slice())
+    }
+
+    /// The value of an option that takes one.
+    pub fn value(&self, name: &str) -> Option<&OsStr> {
+        self.values(name).and_then(|values| values.first()).map(OsString::as_os_str)
+    }
+
+    /// The one of these options that was given; more than one is wrong use.
+    pub fn one_of(&self, names: &[&'static str]) -> Result<Option<&'static str>, Failure> {
+        let given: Vec<&'static str> = names.iter().copied().filter(|name| self.has(name)).collect();
+        match given[..] {
+            [] => Ok(None),
+            [name] => Ok(Some(name)),
+            _ => Err(self.wrong(&format!("one of {} at a time", names.join(", ")))),
+        }
+    }
+
+    /// The one file that the subcommand takes.
+    pub fn file(&self) -> Result<&OsStr, Failure> {
+        self.file_if_any()?.ok_or_else(|| self.wrong("which file?"))
+    }
+
+    /// The file, where it may be left out.
+    pub fn file_if_any(&self) -> Result<Option<&OsStr>, Failure> {
+        match &self.files[..] {
+            [] => Ok(None),
+            [file] => Ok(Some(file)),
+            _ => Err(self.wrong("more than one file")),
+        }
+    }
+
+    /// Wrong use of this subcommand.
+    pub fn wrong(&self, words: &str) -> Failure {
+        Failure::usage_of(self.command, words)
+    }
+}

@@ -1,0 +1,150 @@
+//! A refusal in words: what is at fault, and the line and the column where that can be told.
+use crate::shape::{self, Number, Row, Shape};
+use crate::sizes::{self, PROGRAM_ROOM};
+use crate::words::{count, grouped};
+use nanpuwiq::{words, Error, Game};
+
+/// What is at fault and where: a place in the text, from 0.
+pub struct Finding {
+    pub place: Option<usize>,
+    pub words: String,
+}
+
+impl Finding {
+    /// `FILE:LINE:COLUMN: words`.
+    pub fn line(&self, name: &str, text: &[u8]) -> String {
+        match self.place {
+            Some(place) => {
+                let (line, column) = line_column(text, place);
+                format!("{name}:{line}:{column}: {}", self.words)
+            }
+            None => format!("{name}: {}", self.words),
+        }
+    }
+}
+
+/// The line and the column of a place, both from 1; a column counts bytes.
+pub fn line_column(text: &[u8], place: usize) -> (usize, usize) {
+    let before = &text[..place.min(text.len())];
+    let line = before.iter().filter(|byte| **byte == b'\n').count() + 1;
+    let column = before.iter().rev().take_while(|byte| **byte != b'\n').count() + 1;
+    (line, column)
+}
+
+/// The refusal of a text, in words. The place of 11 is the library's.
+pub fn of_text(text: &[u8], error: Error) -> Finding {
+    let (place, told) = match error.number {
+        11 => (Some(error.place), misshapen(text, error.place)),
+        12 => (None, "the file has over 40,960 bytes: no game's text is that long".to_string()),
+        2 => located(text, past_count),
+        3 => located(text, no_initial),
+        7 => located(text, set_past_count),
+        9 | 10 => (None, short_room(text, error.number)),
+        number => (None, words(number).to_string()),
+    };
+    Finding { place, words: format!("{told} (refused {})", error.number) }
+}
+
+/// Why the bytes from this place on are no game's text.
+fn misshapen(text: &[u8], place: usize) -> String {
+    if let Some(told) = foreign_mark(text) {
+        return told;
+    }
+    match text.get(place) {
+        Some(b'\r') => {
+            "the line ends in a carriage return and a newline (CRLF, as on Windows): every line ends in a newline alone"
+                .to_string()
+        }
+        Some(b'\t') => "a tab: one blank separates items, and there is none elsewhere".to_string(),
+        None if text.is_empty() => "the file is empty: it begins with '(game '".to_string(),
+        None if lacks_newline(text) => "the last newline is missing: every line ends in one, the last too".to_string(),
+        None => format!("the file ends too early: {}", by_shape(text)),
+        Some(_) => by_shape(text),
+    }
+}
+
+/// Marks that editors put before a text.
+fn foreign_mark(text: &[u8]) -> Option<String> {
+    if text.starts_with(b"\xef\xbb\xbf") {
+        return Some("the file begins with a byte-order mark: save it as plain text without one".to_string());
+    }
+    let wide = text.starts_with(b"\xff\xfe") || text.starts_with(b"\xfe\xff");
+    wide.then(|| "the file is UTF-16 text: save it as plain ASCII".to_string())
+}
+
+/// Whether one newline more makes it a text of the right shape.
+fn lacks_newline(text: &[u8]) -> bool {
+    shape::read(&[text, b"\n"].concat()).is_ok()
+}
+
+fn by_shape(text: &[u8]) -> String {
+    match shape::read(text) {
+        Err(told) if told.ends_with("found a blank") => {
+            format!("{told}: one blank separates items, and there is none elsewhere")
+        }
+        Err(told) => told,
+        Ok(_) => words(11).to_string(),
+    }
+}
+
+/// A fault of a text that has the right shape.
+fn located(text: &[u8], fault: fn(&Shape) -> Option<(usize, String)>) -> (Option<usize>, String) {
+    match shape::read(text).ok().as_ref().and_then(fault) {
+        Some((place, told)) => (Some(place), told),
+        None => (None, "the game is at fault".to_string()),
+    }
+}
+
+fn past_count(shape: &Shape) -> Option<(usize, String)> {
+    let past = |rows: &[Row], side: &str| {
+        let past = rows.iter().flat_map(|row| &row.moves).find(|to| to.value >= rows.len())?;
+        Some((past.place, format!("a move to {side} {}: {}", past.value, counted(rows.len(), side))))
+    };
+    past(&shape.inputs, "input").or_else(|| past(&shape.outputs, "output"))
+}
+
+fn no_initial(shape: &Shape) -> Option<(usize, String)> {
+    let none = |rows: &[Row], side: &str| {
+        let first = rows.first().filter(|_| rows.iter().all(|row| !row.initial))?;
+        Some((
+            first.place,
+            format!("no {side} is initial: the number after the state's is 1 where it is, and one at least must be"),
+        ))
+    };
+    none(&shape.inputs, "input").or_else(|| none(&shape.outputs, "output"))
+}
+
+fn set_past_count(shape: &Shape) -> Option<(usize, String)> {
+    let past = |sets: &[Vec<Number>], count: usize, side: &str| {
+        let past = sets.iter().flatten().find(|state| state.value >= count)?;
+        Some((past.place, format!("a set with {side} {}: {}", past.value, counted(count, side))))
+    };
+    shape.requirements.iter().find_map(|q| {
+        past(&q.input_sets, shape.inputs.len(), "input").or_else(|| past(&q.output_sets, shape.outputs.len(), "output"))
+    })
+}
+
+/// "there are 3 inputs, numbered from 0 to 2"
+fn counted(count: usize, side: &str) -> String {
+    match count {
+        1 => format!("there is one {side}, number 0"),
+        _ => format!("there are {count} {side}s, numbered from 0 to {}", count - 1),
+    }
+}
+
+/// A table that the program's room does not hold, and the length that would do.
+fn short_room(text: &[u8], number: u8) -> String {
+    let Ok(game) = Game::read(text) else {
+        return words(number).to_string();
+    };
+    let (whose, entries) = match number {
+        9 => ("controller", sizes::controller_entries(&game)),
+        _ => ("panel", sizes::panel_entries(&game)),
+    };
+    let (needed, room) = (count(entries, "entry", "entries"), grouped(PROGRAM_ROOM));
+    format!(
+        "the {whose}'s table of this game has {needed}, and the programs lend {room} for each table: \
+         a caller of the library that lends {} is answered, and so are play, draw and export",
+        grouped(entries)
+    )
+}

@@ -1,0 +1,76 @@
+//! The command `nanpuwiq`: can the old panel run the new drive? Every answer comes from the proved library, through the crate `nanpuwiq`;
+//! what is here reads files, asks people and writes text, and is tested, not proved.
+//!
+//! Each subcommand has a file, with its options and its help (`subcommand`).
+//!
+//! There is no `fn main`: Rust's start opens /dev/null in the place of a standard stream that is closed, and then a write to a closed output would succeed.
+#![no_main]
+
+mod answer;
+mod arguments;
+mod diagnosis;
+mod draw;
+mod explain;
+mod export;
+mod failure;
+mod files;
+mod forms;
+mod graphs;
+mod kit;
+mod kit_file;
+mod map;
+mod names;
+mod panel;
+mod play;
+mod requirements;
+mod shape;
+mod sizes;
+mod solve;
+mod standard;
+mod subcommand;
+mod words;
+
+use arguments::Arguments;
+use failure::{Failure, Status};
+use std::ffi::{OsStr, OsString};
+use std::os::raw::{c_char, c_int};
+
+/// C's entry. The standard library has the arguments already: on Linux it takes them before this is called.
+#[no_mangle]
+pub extern "C" fn main(_count: c_int, _words: *const *const c_char) -> c_int {
+    standard::keep_broken_pipes();
+    let words: Vec<OsString> = std::env::args_os().skip(1).collect();
+    let status = match standard::check_output().and_then(|()| command(&words)) {
+        Ok(status) => status,
+        Err(failure) => failure.tell(),
+    };
+    status.number()
+}
+
+/// Runs what the words ask for.
+fn command(words: &[OsString]) -> Result<Status, Failure> {
+    let Some((first, rest)) = words.split_first() else {
+        return Err(Failure::usage("which subcommand?"));
+    };
+    if is_any(first, &["--help", "-h", "help"]) {
+        return told(&subcommand::help());
+    }
+    if is_any(first, &["--version", "-V"]) {
+        return told(&format!("nanpuwiq {}\n", nanpuwiq::VERSION));
+    }
+    match subcommand::ALL.iter().find(|subcommand| first == subcommand.name) {
+        Some(subcommand) if rest.iter().any(|word| is_any(word, &["--help", "-h"])) => told(subcommand.help),
+        Some(subcommand) => (subcommand.run)(Arguments::of(subcommand, rest)?),
+        None => Err(Failure::usage(&format!("no subcommand '{}'", first.to_string_lossy()))),
+    }
+}
+
+fn is_any(word: &OsStr, names: &[&str]) -> bool {
+    names.iter().any(|name| word == *name)
+}
+
+/// Prints what was asked about the command itself.
+fn told(text: &str) -> Result<Status, Failure> {
+    standard::write(text.as_bytes())?;
+    Ok(Status::Fine)
+}
