@@ -109,6 +109,26 @@ typedef struct {
     size_t entries;  /* how many entries of the winner's buffer are filled; of the kit's, where the system wins a kit */
 } nanpuwiq_solved;
 
+/* What made a position won or lost. On a refusal ground, first and second are 0; first and second are 0 where the ground names nothing. */
+typedef struct {
+    uint8_t code;
+    uint8_t ground;  /* one of the grounds below */
+    size_t first;    /* the number of the home, the next input, the state entered, or the requirement, from 0 */
+    size_t second;   /* the output set, from 0 within its requirement */
+} nanpuwiq_explained;
+
+/* The grounds, in the order in which they are tried. */
+enum {
+    NANPUWIQ_INPUT_STUCK = 1,   /* won: the input has no move */
+    NANPUWIQ_BY_REPLIES = 2,    /* won: every next input has a won reply; the input's component is not stayable */
+    NANPUWIQ_AT_HOME = 3,       /* won with a home: the output reaches component `first`, where the controller stays while the input does */
+    NANPUWIQ_OUTPUT_STUCK = 4,  /* lost: the output has no move, and the input has one */
+    NANPUWIQ_UNANSWERED = 5,    /* lost: no output move makes a won position with the next input `first`; the input's component is not stayable */
+    NANPUWIQ_BY_WAY_OUT = 6,    /* lost: a move out of the input's component enters `first`, which is lost with this output */
+    NANPUWIQ_UNSERVED = 7,      /* lost: requirement `first` is due there, and the output's component, a stayable one, misses its output set `second` */
+    NANPUWIQ_PUSHED_ON = 8      /* lost: the output's component is not stayable */
+};
+
 /* The reader's answer. Place is 0 but for code 11; the game is all zero on a refusal. */
 typedef struct {
     uint8_t code;
@@ -182,6 +202,10 @@ uint8_t nanpuwiq_won_map(nanpuwiq_game game, uint64_t *scratch, size_t scratch_w
  * (docs/LECTURE.md), for graphs of at most NANPUWIQ_JOINED_STATES states. Where both calls answer 0, the words they write are the same.
  * Code 0, 1 to 7, 24, or 8. On 0 scratch's first NANPUWIQ_JOINED_SCRATCH words are zero and the rest is as it was. */
 uint8_t nanpuwiq_joined_map(nanpuwiq_game game, uint64_t *scratch, size_t scratch_words, uint64_t *map, size_t map_words);
+/* What made the position of an input and an output won or lost: the first ground that fits, with the lowest numbers.
+ * What it names holds with won and lost as the won map has them; the grounds 1 to 3 are given exactly where the position is won.
+ * Code 0, 1 to 7, 25 a position outside the game, or 8. On 0 scratch's first nanpuwiq_scratch_words(game) words are zero and the rest is as it was. */
+nanpuwiq_explained nanpuwiq_explain(nanpuwiq_game game, uint64_t *scratch, size_t scratch_words, nanpuwiq_in_state input, nanpuwiq_out_state output);
 
 /* Names the side that wins and fills the front of its buffer with a table that wins for it; no table of any finite size wins for the other.
  * The rest of that buffer and all of the other stay as they were; scratch's first nanpuwiq_scratch_words(game) words are zero and the rest is as it was.

@@ -152,6 +152,66 @@ static void scratch_of_the_largest(void)
     same("64 states, map: the word after it", scratch[192], UINT64_MAX);
 }
 
+static void explained(const char *what, nanpuwiq_explained got, uint8_t code, uint8_t ground, size_t first, size_t second)
+{
+    same(what, got.code, code);
+    same(what, got.ground, ground);
+    same(what, got.first, first);
+    same(what, got.second, second);
+}
+
+/* Inputs 0 stuck; 1 to 0 and 2; 2 to itself; 3 to 2 and 3. Outputs 0 to itself; 1 stuck; 2 to 0; 3 to itself; 4 to 1 and 3. If {3} then {0}; if {2} then
+ * {0, 3} and {0}. */
+static nanpuwiq_game eight(void)
+{
+    nanpuwiq_game g = {0};
+    const uint64_t in[] = {0, 5, 4, 12}, out[] = {1, 0, 1, 8, 10};
+    g.input.states = 4;
+    g.input.initial = 1;
+    memcpy(g.input.moves, in, sizeof in);
+    g.output.states = 5;
+    g.output.initial = 1;
+    memcpy(g.output.moves, out, sizeof out);
+    g.k = 2;
+    g.requirements[0].assumptions[0].states = 8;
+    g.requirements[0].assumed = 1;
+    g.requirements[0].guarantees[0].states = 1;
+    g.requirements[0].guaranteed = 1;
+    g.requirements[1].assumptions[0].states = 4;
+    g.requirements[1].assumed = 1;
+    g.requirements[1].guarantees[0].states = 9;
+    g.requirements[1].guarantees[1].states = 1;
+    g.requirements[1].guaranteed = 2;
+    return g;
+}
+
+static nanpuwiq_explained explain(nanpuwiq_game g, uint64_t *scratch, size_t words, size_t i, size_t o)
+{
+    return nanpuwiq_explain(g, scratch, words, (nanpuwiq_in_state){i}, (nanpuwiq_out_state){o});
+}
+
+static void explaining(void)
+{
+    nanpuwiq_game g = eight();
+    uint64_t scratch[14];
+    memset(scratch, 255, sizeof scratch);
+    explained("explain, outside", explain(g, scratch, 0, 4, 0), 25, 0, 0, 0);
+    explained("explain, scratch short", explain(g, scratch, 12, 0, 0), 8, 0, 0, 0);
+    same("explain refused: scratch", scratch[0], UINT64_MAX);
+    explained("input stuck", explain(g, scratch, 14, 0, 1), 0, NANPUWIQ_INPUT_STUCK, 0, 0);
+    same("explain: the last word", scratch[12], 0);
+    same("explain: the word after it", scratch[13], UINT64_MAX);
+    explained("by replies", explain(g, scratch, 14, 1, 2), 0, NANPUWIQ_BY_REPLIES, 0, 0);
+    explained("at home", explain(g, scratch, 14, 2, 2), 0, NANPUWIQ_AT_HOME, 0, 0);
+    explained("output stuck", explain(g, scratch, 14, 3, 1), 0, NANPUWIQ_OUTPUT_STUCK, 0, 0);
+    explained("unanswered", explain(g, scratch, 14, 1, 4), 0, NANPUWIQ_UNANSWERED, 2, 0);
+    explained("by a way out", explain(g, scratch, 14, 3, 3), 0, NANPUWIQ_BY_WAY_OUT, 2, 0);
+    explained("unserved", explain(g, scratch, 14, 2, 3), 0, NANPUWIQ_UNSERVED, 1, 1);
+    explained("pushed on", explain(g, scratch, 14, 2, 4), 0, NANPUWIQ_PUSHED_ON, 0, 0);
+    g.output.initial = 0;
+    explained("explain, no initial output", explain(g, scratch, 14, 4, 0), 3, 0, 0, 0);
+}
+
 static void texts(void)
 {
     nanpuwiq_game g = example();
@@ -1098,6 +1158,7 @@ int main(void)
     map_of_the_joined_positions();
     solving();
     scratch_of_the_largest();
+    explaining();
     texts();
     playing();
     advancing();

@@ -35,6 +35,14 @@ pub struct PanelMoved {
 }
 
 #[repr(C)]
+pub struct ExplainResult {
+    pub code: u8,
+    pub ground: u8,
+    pub first: usize,
+    pub second: usize,
+}
+
+#[repr(C)]
 pub struct CompareResult {
     pub code: u8,
     pub agree: bool,
@@ -58,6 +66,7 @@ extern "C" {
     fn nanpuwiq_accept(game: Game) -> u8;
     fn nanpuwiq_won_map(game: Game, scratch: *mut u64, scratch_words: usize, map: *mut u64, map_words: usize) -> u8;
     fn nanpuwiq_joined_map(game: Game, scratch: *mut u64, scratch_words: usize, map: *mut u64, map_words: usize) -> u8;
+    fn nanpuwiq_explain(game: Game, scratch: *mut u64, scratch_words: usize, input: InState, output: OutState) -> ExplainResult;
     fn nanpuwiq_solve(
         game: Game,
         scratch: *mut u64,
@@ -104,6 +113,10 @@ pub fn won_map(game: Game, scratch: &mut [u64], map: &mut [u64]) -> u8 {
 
 pub fn joined_map(game: Game, scratch: &mut [u64], map: &mut [u64]) -> u8 {
     unsafe { nanpuwiq_joined_map(game, scratch.as_mut_ptr(), scratch.len(), map.as_mut_ptr(), map.len()) }
+}
+
+pub fn explain(game: Game, scratch: &mut [u64], input: InState, output: OutState) -> ExplainResult {
+    unsafe { nanpuwiq_explain(game, scratch.as_mut_ptr(), scratch.len(), input, output) }
 }
 
 pub fn solve(game: Game, scratch: &mut [u64], controller: &mut [u16], panel: &mut [u16]) -> SolveResult {

@@ -127,7 +127,7 @@ pub struct PanelMove {
     pub counter: usize,
 }
 
-/// A refusal: its number, 1 to 18 or 24, and for 11 how far the bytes could be a game's text (else 0).
+/// A refusal: its number, 1 to 18, 24 or 25, and for 11 how far the bytes could be a game's text (else 0).
 #[derive(Clone, Copy, Debug, PartialEq, Eq)]
 pub struct Error {
     pub number: u8,
@@ -151,6 +151,55 @@ impl fmt::Display for Error {
 }
 
 impl std::error::Error for Error {}
+
+/// What made a position won or lost: the first ground that fits, in this order, with the lowest numbers.
+///
+/// A component is a largest set of states that reach one another, or a lone state; its number is its smallest state, and it is stayable where a move lies
+/// inside it.
+#[derive(Clone, Copy, Debug, PartialEq, Eq)]
+pub enum Ground {
+    /// Won: the input has no move.
+    InputStuck,
+    /// Won: every next input has a reply that makes a won position; the input's component is not stayable.
+    ByReplies,
+    /// Won: the output reaches this component, where the controller stays while the input stays in its own.
+    AtHome(OutState),
+    /// Lost: the output has no move.
+    OutputStuck,
+    /// Lost: no output move makes a won position with this next input; the input's component is not stayable.
+    Unanswered(InState),
+    /// Lost: a move out of the input's component enters this state, which is lost with this output.
+    ByWayOut(InState),
+    /// Lost: this requirement, from 0, is due in the input's component, and the output's component, a stayable one, misses this output set, from 0
+    /// within the requirement.
+    Unserved(usize, usize),
+    /// Lost: the output's component is not stayable.
+    PushedOn,
+}
+
+impl Ground {
+    /// Whether the position is won.
+    pub fn is_won(self) -> bool {
+        matches!(self, Ground::InputStuck | Ground::ByReplies | Ground::AtHome(_))
+    }
+}
+
+impl fmt::Display for Ground {
+    fn fmt(&self, f: &mut fmt::Formatter<'_>) -> fmt::Result {
+        match self {
+            Ground::InputStuck => write!(f, "won: the input has no move"),
+            Ground::ByReplies => write!(f, "won: every next input has a winning reply"),
+            Ground::AtHome(home) => write!(f, "won: the outputs of component {} serve all that is due", home.0),
+            Ground::OutputStuck => write!(f, "lost: the output has no move"),
+            Ground::Unanswered(next) => write!(f, "lost: next input {} has no winning reply", next.0),
+            Ground::ByWayOut(entered) => write!(f, "lost: the inputs can leave to input {}, which is lost with this output", entered.0),
+            Ground::Unserved(requirement, set) => {
+                write!(f, "lost: requirement {requirement} is due, and the outputs here never visit its output set {set}")
+            }
+            Ground::PushedOn => write!(f, "lost: the output cannot stay where it is, and wherever it goes is lost"),
+        }
+    }
+}
 
 /// The side that wins.
 #[derive(Clone, Copy, Debug, PartialEq, Eq)]
@@ -331,6 +380,27 @@ impl Game {
         let mut map = vec![0; self.input.states.min(STATES)];
         self.joined_map_into(&mut vec![0; JOINED_SCRATCH], &mut map)?;
         Ok(map)
+    }
+
+    /// What made a position won or lost: 1 to 7, 25 a position outside the game, 8.
+    pub fn explain_into(&self, scratch: &mut [u64], input: InState, output: OutState) -> Result<Ground, Error> {
+        let r = entries::explain(*self, scratch, input, output);
+        refusal(r.code)?;
+        Ok(match r.ground {
+            1 => Ground::InputStuck,
+            2 => Ground::ByReplies,
+            3 => Ground::AtHome(OutState(r.first)),
+            4 => Ground::OutputStuck,
+            5 => Ground::Unanswered(InState(r.first)),
+            6 => Ground::ByWayOut(InState(r.first)),
+            7 => Ground::Unserved(r.first, r.second),
+            _ => Ground::PushedOn,
+        })
+    }
+
+    /// What made a position won or lost.
+    pub fn explain(&self, input: InState, output: OutState) -> Result<Ground, Error> {
+        self.explain_into(&mut [0; SCRATCH_MOST], input, output)
     }
 
     /// The side that wins, and how many entries of its buffer are filled with its table: 1 to 7, 8, 9, 10.

@@ -4,11 +4,17 @@ use game::Graph;
 use game::InSet;
 use game::OutSet;
 use game::Requirement;
+use sets::Set;
 ghost use Prim.Native.Nat.{_<_};
+
+// The set that a word holds.
+fn set(x: u64) -> Set {
+    Set { low: x }
+}
 
 // Every state moves to state 0, which is the initial one.
 fn graph(states: usize) -> Graph {
-    let mut moves = [0u64; 64];
+    let mut moves = [0u64; sets::ROW_WORDS];
     let mut s = 0;
     while s < 64 {
         if s < states {
@@ -18,16 +24,18 @@ fn graph(states: usize) -> Graph {
     }
     Graph {
         states,
-        initial: 1,
+        initial: set(1),
         moves,
     }
 }
 
 fn unused() -> Requirement {
+    let x = InSet(set(0));
+    let y = OutSet(set(0));
     Requirement {
-        assumptions: [InSet(0); 4],
+        assumptions: [x; 4],
         assumed: 0,
-        guarantees: [OutSet(0); 4],
+        guarantees: [y; 4],
         guaranteed: 0,
     }
 }
@@ -44,14 +52,14 @@ pub fn plain(inputs: usize, outputs: usize) -> Game {
 
 pub fn in_initial(mut g: Game, x: u64) -> Game {
     let mut h = g.input;
-    h.initial = x;
+    h.initial = set(x);
     g.input = h;
     g
 }
 
 pub fn out_initial(mut g: Game, x: u64) -> Game {
     let mut h = g.output;
-    h.initial = x;
+    h.initial = set(x);
     g.output = h;
     g
 }
@@ -95,7 +103,7 @@ pub fn assumption(mut g: Game, j: usize, x: u64) -> Game
     requires { ⌜ j < 4 ⌝ }
 {
     let mut q = g.requirements[0];
-    q.assumptions[j] = InSet(x);
+    q.assumptions[j] = InSet(set(x));
     g.requirements[0] = q;
     g
 }
@@ -105,7 +113,7 @@ pub fn guarantee(mut g: Game, j: usize, x: u64) -> Game
     requires { ⌜ j < 4 ⌝ }
 {
     let mut q = g.requirements[0];
-    q.guarantees[j] = OutSet(x);
+    q.guarantees[j] = OutSet(set(x));
     g.requirements[0] = q;
     g
 }

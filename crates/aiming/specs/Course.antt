@@ -14,13 +14,15 @@ use mathlib.Core.List.{List}
 use mathlib.Core.Logic.{_≢_}
 use lib.ListN.{length, getD}
 use lib.Bits.{bitAnd}
-use Rattle.sets.specs.Member.{has, pack, within}
+use Rattle.bits.specs.Member.{has, pack, within}
+use Rattle.sets.specs.Words.{capacity}
 use Rattle.graphs.specs.Graph.{Graph}
 use Rattle.graphs.specs.Component.{joined, nontrivial, meetsAt}
 use Rattle.arena.specs.Table.{Answer}
 use Rattle.theory.specs.Tour.{goalAt, tour}
 use Rattle.touring.specs.declared.Stretch.{Stretch}
 use Rattle.touring.specs.Goal.{firstFrom}
+use Rattle.touring.specs.Stretches.{setOf}
 use Rattle.layout.specs.declared.Layout.{Layout}
 use Rattle.layout.specs.Rows.{Rows, Filled}
 
@@ -32,7 +34,7 @@ pub record Course (z : Layout) (moves : List ℕ) (c over q : ℕ) : Type 0 wher
   pub entries : List ℕ
   pub table : Rows z row entries
   pub states : z .states ≡ graph .states
-  pub few : graph .states ≤ 64
+  pub few : graph .states ≤ capacity
   pub counters : z .counters ≡ max 1 (length sets)
   pub same : (s t : ℕ) → s < graph .states → t < graph .states → graph .moves s t ≡ has (getD moves s 0) t
   pub component : c ≡ pack (graph .states) (joined graph number)
@@ -63,5 +65,5 @@ pub record Headed (z : Layout) (c over q i e s h b : ℕ) : Type 0 where
 
 pub record Stretched (moves : List ℕ) (z : Layout) (c over q : ℕ) (t : Stretch) (j : ℕ) (l m : List ℕ) : Type 0 where
   pub long : length m ≡ length l
-  pub fills : (p : Course z moves c over q) → ((i : ℕ) → i < t .count → has (getD (t .words) i 0) ≡ goalAt (p .sets) (t .from + i))
+  pub fills : (p : Course z moves c over q) → ((i : ℕ) → i < t .count → has (setOf t i) ≡ goalAt (p .sets) (t .from + i))
       → Filled z (p .entries) (Headed z c over q (t .from) (t .from + j)) l m

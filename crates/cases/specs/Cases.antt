@@ -14,14 +14,15 @@
 use Prim.Native.Nat.{ℕ, _-_}
 use Prim.Native.String.{String}
 use mathlib.Core.Path.{_≡_}
-use mathlib.Core.List.{List, [], _∷_, _++_, map}
+use mathlib.Core.List.{List, [], _∷_, _++_}
 use lib.ListN.{length, replicate}
+use Rattle.sets.specs.Words.{capacity, setOf, wordsOf}
 use Rattle.game.specs.declared.Graph.{Graph}
 use Rattle.game.specs.declared.Requirement.{Requirement}
 use Rattle.game.specs.declared.Game.{Game}
 use Rattle.game.specs.declared.Acceptance.the-variants.{Accepted}
 use Rattle.game.specs.Acceptance.{acceptance}
-use Rattle.shape.specs.Text.{gameText, emptyRequirement}
+use Rattle.shape.specs.Text.{gameText, inSets, outSets, emptyRequirement}
 use Rattle.text.specs.declared.Reading.{Reading}
 use Rattle.text.specs.Read.{Reads}
 use Rattle.text.specs.OneText.{Arrays}
@@ -37,16 +38,16 @@ pub record Case : Type 0 where
 unfoldable pub padded : {A : Type 0} → ℕ → A → List A → List A
 padded n z l = l ++ replicate (n - length l) z
 
--- "A graph is a state count, a set of initial states, and 64 rows of moves"; a set is its word
+-- "A graph is a state count, a set of initial states, and 64 rows of moves"; a set is given by its number
 unfoldable pub graph : ℕ → List ℕ → Graph
-graph i rows = record { states = length rows; initial = i; moves = padded 64 0 rows }
+graph i rows = record { states = length rows; initial = setOf i; moves = wordsOf (padded capacity 0 rows) }
 
 -- "requirements as arrays of four sets each"
 unfoldable pub ifThen : List ℕ → List ℕ → Requirement
 ifThen a b = record {
-  assumptions = map (λ (x : ℕ). record { 0 = x }) (padded 4 0 a);
+  assumptions = inSets (padded 4 0 a);
   assumed = length a;
-  guarantees = map (λ (x : ℕ). record { 0 = x }) (padded 4 0 b);
+  guarantees = outSets (padded 4 0 b);
   guaranteed = length b;
 }
 

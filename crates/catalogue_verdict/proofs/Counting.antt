@@ -9,19 +9,19 @@ use mathlib.Core.Path.{_≡_, refl, sym, _∙_, ap, subst}
 use lib.ListN.{length, getD}
 use Rattle.finite.specs.Bounded.{one, count}
 use Rattle.finite.proofs.Bounded.{count-le}
-use Rattle.sets.specs.Member.{has}
+use Rattle.bits.specs.Member.{has}
+use Rattle.sets.specs.Words.{setsIn, setCount, wordsFor}
+use Rattle.sets.proofs.Rows.{words-held}
 use lib.Dec.{leb}
 use borrow.Author.Tests.{le-leb}
 use Rattle.finite.proofs.Truth.{and-intro}
-use Rattle.finite.proofs.Front.{front-length}
 use Rattle.game.specs.declared.Game.{Game}
 use Rattle.game.specs.declared.Acceptance.the-variants.{Accepted}
 use Rattle.game.specs.Acceptance.{acceptance}
 use Rattle.sizes.proofs.Lengths.{inputs-most, outputs-most}
 use Rattle.map.specs.declared.Mapped.{Mapped}
 use Rattle.map.specs.declared.Mapped.the-variants.{Done}
-use Rattle.marks.specs.Marks.{mapRow}
-use Rattle.map.specs.Map.{mapFits, mapRoom, mapAnswer, mapAfter, MapMade}
+use Rattle.map.specs.Map.{mapFits, mapRoom, mapAnswer, MapMade}
 use Rattle.scratch.specs.Scratch.{scratchLength}
 use Rattle.solver.specs.declared.Verdict.{Verdict}
 use Rattle.solver.specs.declared.Verdict.the-variants.{System, Environment, Refused as NotSolved}
@@ -68,26 +68,22 @@ module _ (l : List ℕ) (m : ℕ) where
 most-scratch : (g : Game) → acceptance g ≡ Accepted → scratchLength g ≤ 192
 most-scratch g a = omega (arith, inputs-most g a, outputs-most g a)
 
+pub map-long : (g : Game) (m : List ℕ) → acceptance g ≡ Accepted → length m ≡ 64 → g .input .states ≤ setCount m
+map-long g m a q = words-held m (g .input .states) (omega (arith, q, inputs-most g a))
+
 -- the map is made, so what it marks is what is won
 module _ {g : Game} {s s′ m m′ : List ℕ} {r : Mapped} (a : acceptance g ≡ Accepted) (M : MapMade g s s′ m m′ r) (p : length s ≡ 192)
     (q : length m ≡ 64) where
   map-fits : mapFits g 192 64 ≡ true
   unfolding mapFits
-  map-fits = and-intro (le-leb (scratchLength g) 192 (most-scratch g a)) (le-leb (g .input .states) 64 (inputs-most g a))
+  map-fits = and-intro (le-leb (scratchLength g) 192 (most-scratch g a)) (le-leb (wordsFor (g .input .states)) 64 (omega (arith, inputs-most g a)))
 
   map-done : r ≡ Done
   unfolding mapAnswer mapRoom
   map-done = M .answer ∙ (λ i. mapAnswer g (p i) (q i)) ∙ rw (a, mapAnswer) (rw (map-fits, mapRoom) refl)
 
-  pub map-long : g .input .states ≤ length m′
-  unfolding mapAfter
-  map-long =
-      let n = inputs-most g a in
-      let e = ap length (M .map ∙ ap (λ (x : Mapped). mapAfter g x m) map-done) in
-      omega (arith, e, front-length (mapRow g) m (g .input .states) (omega arith))
-
-  pub map-census : {w : ℕ} → w ≡ marks m′ (g .output .states) (g .input .states) → Census g w
-  map-census e = record { map = m′; won = M .won map-done; sum = e }
+  pub map-census : {w : ℕ} → w ≡ marks (setsIn m′) (g .output .states) (g .input .states) → Census g w
+  map-census e = record { map = setsIn m′; won = M .won map-done; sum = e }
 
 -- the solver's answer for the rooms of the solve program
 module _ {g : Game} {s s′ c c′ e e′ : List ℕ} {v : Verdict} (a : acceptance g ≡ Accepted) (S : Solved g s s′ c c′ e e′ v) (p : length s ≡ 192)

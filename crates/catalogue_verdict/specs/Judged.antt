@@ -1,7 +1,7 @@
 -- What one file of a catalogue comes to.
 --
 --   positions g      == how many positions the game g has
---   marks l m n      == how many members below m the first n words of l have together
+--   marks l m n      == how many members below m the first n sets of l have together
 --   Census g w       == w is the number of the won positions of g
 --   Comes g v o      == the game g comes to the outcome o, the solver's answer being v
 --   Answers g a o    == a file comes to the outcome o, the answer to it being a, and g the game that was read
@@ -13,7 +13,7 @@ use mathlib.Core.Logic.{_↔_}
 use mathlib.Core.Path.{_≡_}
 use lib.ListN.{getD}
 use Rattle.finite.specs.Bounded.{count}
-use Rattle.sets.specs.Member.{has}
+use Rattle.bits.specs.Member.{has}
 use Rattle.arena.specs.Win.{Won}
 use Rattle.game.specs.declared.Game.{Game}
 use Rattle.demands.specs.Demands.{playOf}

@@ -1,13 +1,14 @@
 // What one file of a catalogue comes to: the solve program's verdict, with the game's won positions and all its positions.
 use catalogue_tally::Outcome;
 use game::Game;
+use sets::Set;
 use solver::Verdict;
 use text::Answer;
 ghost use mathlib.Core.Path.{_≡_};
 ghost use Prim.Native.Nat.{_≤_, _*_};
-ghost use lib.ListN.{length};
 ghost use Rattle.finite.specs.Bounded.{count};
-ghost use Rattle.sets.specs.Member.{has};
+ghost use Rattle.bits.specs.Member.{has};
+ghost use Rattle.sets.specs.Words.{capacity, bitsOf, setsIn, setCount};
 ghost use Rattle.game.specs.declared.Acceptance.the-variants.{Accepted};
 ghost use Rattle.game.specs.Acceptance.{acceptance};
 ghost use Rattle.scratch.specs.Scratch.{scratchLength};
@@ -16,9 +17,9 @@ ghost use Rattle.catalogue_tally.specs.Figures.{Modest};
 ghost use Rattle.catalogue_verdict.specs.Judged.{marks, Census, Comes, Judged};
 
 // How many of the first m states a set has.
-fn row_count(x: u64, m: usize) -> usize
-    requires { ⌜ m ≤ 64 ⌝ }
-    ensures { λ r. ⌜ r ≡ count m (has x) ⌝ }
+fn row_count(x: Set, m: usize) -> usize
+    requires { ⌜ m ≤ capacity ⌝ }
+    ensures { λ r. ⌜ r ≡ count m (has (bitsOf x)) ⌝ }
 {
     let mut c: usize = 0;
     let mut s: usize = 0;
@@ -35,13 +36,13 @@ fn row_count(x: u64, m: usize) -> usize
 
 // How many positions a map of n inputs and m outputs marks.
 fn map_count(map: &[u64], n: usize, m: usize) -> usize
-    requires { ⌜ (n ≤ length (now map)) × (n ≤ 64) × (m ≤ 64) ⌝ }
-    ensures { λ r. ⌜ (r ≡ marks (now (map .entry)) m n) × (r ≤ 4096) ⌝ }
+    requires { ⌜ (n ≤ setCount (now map)) × (n ≤ capacity) × (m ≤ capacity) ⌝ }
+    ensures { λ r. ⌜ (r ≡ marks (setsIn (now (map .entry))) m n) × (r ≤ 4096) ⌝ }
 {
     let mut c: usize = 0;
     let mut i: usize = 0;
     while i < n {
-        let x = map[i];
+        let x = sets::row(map, i);
         c += row_count(x, m);
         i += 1;
     }

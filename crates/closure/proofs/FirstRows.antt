@@ -9,8 +9,9 @@ use lib.Dec.{eqb, ltb}
 use lib.ListN.{length, getD, drop}
 use borrow.Author.Tests.{eq-eqb, ne-eqb, lt-ltb}
 use Rattle.finite.proofs.Truth.{and-intro, or-left, or-right}
-use Rattle.sets.specs.Member.{has, pack}
-use Rattle.sets.proofs.Membership.{has-pack, ext}
+use Rattle.sets.specs.Words.{setsIn}
+use Rattle.bits.specs.Member.{has, pack}
+use Rattle.bits.proofs.Membership.{has-pack, ext}
 use Rattle.graphs.specs.Graph.{edge}
 use Rattle.graphs.specs.Rows.{rowsOf}
 use Rattle.graphs.specs.Closure.{nearby}
@@ -21,7 +22,7 @@ use Rattle.graphs.proofs.Front.{rows-length, rows-rest}
 
 -- row s: `(moves & below(n)) | (1 << s)`
 pub first-word : (h : Graph) (s below moved r : ℕ) → s < h .states → ((t : ℕ) → has below t ≡ ltb t (h .states))
-    → ((t : ℕ) → has moved t ≡ (has (getD (h .moves) s 0) t && has below t)) → ((t : ℕ) → has r t ≡ (has moved t || eqb t s))
+    → ((t : ℕ) → has moved t ≡ (has (getD (setsIn (h .moves)) s 0) t && has below t)) → ((t : ℕ) → has r t ≡ (has moved t || eqb t s))
     → r ≡ pack (h .states) (nearby (graphOf h) s)
 unfolding graphOf nearby edge
 first-word h s below moved r b hb hm hr =
@@ -31,7 +32,7 @@ first-word h s below moved r b hb hm hr =
     n = h .states
 
     mine : ℕ → Bool
-    mine t = has (getD (h .moves) s 0) t
+    mine t = has (getD (setsIn (h .moves)) s 0) t
 
     swap : (x y : Bool) → ((x && y) || false) ≡ (y && (y && x))
     swap true true = refl

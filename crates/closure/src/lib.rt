@@ -1,33 +1,35 @@
 // The reach of every state of a graph, by sweeps over all states.
 use game::Graph;
+use sets::Set;
 ghost use mathlib.Core.Path.{_≡_};
 ghost use Prim.Native.Nat.{_≤_};
-ghost use lib.ListN.{length};
+ghost use Rattle.sets.specs.Words.{capacity, bitsOf, setsIn, setCount};
 ghost use Rattle.closure.specs.Sweep.{grown, firstRows, Ran, Closed};
 
 // Row s becomes s and its moves. A move past the count is none.
 fn start(h: Graph, rows: &mut [u64])
-    requires { ⌜ (h .states ≤ 64) × (h .states ≤ length (now rows)) ⌝ }
-    ensures { λ r. ⌜ now (rows .exit) ≡ firstRows h (now (rows .entry)) ⌝ }
+    requires { ⌜ (h .states ≤ capacity) × (h .states ≤ setCount (now rows)) ⌝ }
+    ensures { λ r. ⌜ setsIn (now (rows .exit)) ≡ firstRows h (setsIn (now (rows .entry))) ⌝ }
 {
     let states = sets::below(h.states);
     let mut s = 0;
     while s < h.states {
-        rows[s] = sets::insert(sets::intersection(h.moves[s], states), s);
+        let moves = sets::row_of(&h.moves, s);
+        sets::put(rows, s, sets::insert(sets::intersection(moves, states), s));
         s += 1;
     }
 }
 
 // The set x with the rows of its members below n, those that join on the way included.
-fn joined(rows: &[u64], n: usize, x: u64) -> u64
-    requires { ⌜ (n ≤ 64) × (n ≤ length (now rows)) ⌝ }
-    ensures { λ r. ⌜ r ≡ grown (now (rows .entry)) n x ⌝ }
+fn joined(rows: &[u64], n: usize, x: Set) -> Set
+    requires { ⌜ (n ≤ capacity) × (n ≤ setCount (now rows)) ⌝ }
+    ensures { λ r. ⌜ bitsOf r ≡ grown (setsIn (now (rows .entry))) n (bitsOf x) ⌝ }
 {
     let mut y = x;
     let mut t = 0;
     while t < n {
         if sets::member(y, t) {
-            y = sets::union(y, rows[t]);
+            y = sets::union(y, sets::row(rows, t));
         }
         t += 1;
     }
@@ -36,16 +38,16 @@ fn joined(rows: &[u64], n: usize, x: u64) -> u64
 
 // One sweep over the states below n, in place, which moves the count of sweeps on. Whether it added a state to a row.
 fn sweep(rows: &mut [u64], n: usize, sweeps: &mut usize) -> bool
-    requires { ⌜ (n ≤ 64) × (n ≤ length (now rows)) × (now sweeps ≤ 64) ⌝ }
-    ensures { λ r. ⌜ Ran n (now (rows .entry)) (now (rows .exit)) r (now (sweeps .entry)) (now (sweeps .exit)) ⌝ }
+    requires { ⌜ (n ≤ capacity) × (n ≤ setCount (now rows)) × (now sweeps ≤ capacity) ⌝ }
+    ensures { λ r. ⌜ Ran n (setsIn (now (rows .entry))) (setsIn (now (rows .exit))) r (now (sweeps .entry)) (now (sweeps .exit)) ⌝ }
 {
     let mut added = false;
     let mut s = 0;
     while s < n {
-        let old = rows[s];
+        let old = sets::row(rows, s);
         let new = joined(rows, n, old);
-        if new != old {
-            rows[s] = new;
+        if !sets::same(new, old) {
+            sets::put(rows, s, new);
             added = true;
         }
         s += 1;
@@ -54,10 +56,10 @@ fn sweep(rows: &mut [u64], n: usize, sweeps: &mut usize) -> bool
     added
 }
 
-// Row s becomes the set of the states that s reaches; later words stay. Sweeps end at the first that adds no state; their number is the answer.
+// Row s becomes the set of the states that s reaches; later sets stay. Sweeps end at the first that adds no state; their number is the answer.
 pub fn close(h: Graph, rows: &mut [u64]) -> usize
-    requires { ⌜ (h .states ≤ 64) × (h .states ≤ length (now rows)) ⌝ }
-    ensures { λ r. ⌜ Closed h (now (rows .entry)) (now (rows .exit)) r ⌝ }
+    requires { ⌜ (h .states ≤ capacity) × (h .states ≤ setCount (now rows)) ⌝ }
+    ensures { λ r. ⌜ Closed h (setsIn (now (rows .entry))) (setsIn (now (rows .exit))) r ⌝ }
 {
     start(h, rows);
     let mut sweeps = 0;

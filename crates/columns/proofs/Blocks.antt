@@ -9,14 +9,15 @@ use mathlib.Core.List.{List}
 use mathlib.Core.Logic.{_≢_}
 use native.Mathlib.Omega.{arith}
 use native.Mathlib.Decide.{ℕ-discrete}
-use lib.Dec.{eqb, ltb}
+use lib.Dec.{eqb}
 use lib.ListN.{length}
 use Rattle.finite.specs.Bounded.{least, count}
 use Rattle.finite.proofs.Truth.{clash}
-use Rattle.sets.specs.Member.{has}
-use Rattle.sets.proofs.Membership.{has-zero}
-use Rattle.sets.proofs.Remove.{less-in, less-other, less-falls}
-use Rattle.sets.proofs.Visit.{lowest-below, lowest-in, lowest-less, cut-in, cut-all}
+use Rattle.bits.specs.Member.{has}
+use Rattle.bits.proofs.Membership.{has-zero}
+use Rattle.bits.proofs.Remove.{less-in, less-other, less-falls}
+use Rattle.bits.proofs.Visit.{small-word, lowest-below, lowest-in, lowest-less}
+use Rattle.sets.specs.Words.{capacity}
 use Rattle.filling.specs.Grows.{Right, Grows}
 use Rattle.filling.proofs.Grows.{grows-none, grows-more}
 use Rattle.columns.specs.Column.{Fits, Columned, Column, BlockFits, BlockAgrees, Block}
@@ -28,37 +29,38 @@ pub record ColumnsPart (E l m : List ℕ) (base width over which left : ℕ) : T
 pub record Blocking (l m : List ℕ) (base width over which first more left : ℕ) : Type 0 where
   pub long : length m ≡ length l
   pub inside : (x : ℕ) → has left x ≡ true → (x < width) × (has over x ≡ true)
-  pub small : left < 2 ^ 64
+  pub narrow : width ≤ capacity
   pub fills : (E : List ℕ) → BlockAgrees E base width over which first more → length E ≤ length l → ColumnsPart E l m base width over which left
 
--- b is all below the width, left what `over` has of them
-pub blocking-start : (l : List ℕ) (base width over which first more left b : ℕ) → ((s : ℕ) → has b s ≡ ltb s width)
-    → ((s : ℕ) → has left s ≡ (has over s && has b s))
-    → left < 2 ^ 64 → Blocking l l base width over which first more left
-blocking-start l base width over which first more left b f i small = record {
+pub blocking-start : (l : List ℕ) (base width over which first more : ℕ) → ((x : ℕ) → has over x ≡ true → x < width)
+    → width ≤ capacity → Blocking l l base width over which first more over
+blocking-start l base width over which first more below narrow = record {
   long = refl;
-  inside = cut-in over b left width f i;
-  small = small;
-  fills = λ E A n. record { grows = grows-none E l; right = λ x h lt o w q. clash (cut-all over b left width f i x lt o) q };
+  inside = λ x o. (below x o, o);
+  narrow = narrow;
+  fills = λ E A n. record { grows = grows-none E l; right = λ x h lt o w q. clash o q };
 }
 
 module _ (l m : List ℕ) (base width over which first more left x : ℕ) (C : Blocking l m base width over which first more left)
-    (ne : left ≢ 0) (e : x ≡ least 64 (has left)) where
+    (ne : left ≢ 0) (e : x ≡ least capacity (has left)) where
+  small : left < 2 ^ capacity
+  small = small-word capacity left (λ s a. omega (arith, C .narrow, C .inside s a .0))
+
   pub block-column : (x < width) × (has over x ≡ true)
-  block-column = C .inside x (lowest-in left x (C .small) ne e)
+  block-column = C .inside x (lowest-in capacity left x small ne e)
 
   pub block-fits : BlockFits (length l) base width over which first more → Fits (length m) (base + x) width which first more
   block-fits B = let F = B .columns x (block-column .0) (block-column .1) in record { below = λ h w. omega (arith, F .below h w, C .long); small = F .small }
 
-  module _ (r : ℕ) (d : (s : ℕ) → has r s ≡ (has left s && not (eqb s (least 64 (has left))))) where
+  module _ (r : ℕ) (d : (s : ℕ) → has r s ≡ (has left s && not (eqb s (least capacity (has left))))) where
     less : (s : ℕ) → has r s ≡ (has left s && not (eqb s x))
-    less = lowest-less left x r e d
+    less = lowest-less capacity left x r e d
 
-    pub blocking-turn : (k : List ℕ) → Column m k (base + x) width which first more → r < 2 ^ 64 → Blocking l k base width over which first more r
-    blocking-turn k R small = record {
+    pub blocking-turn : (k : List ℕ) → Column m k (base + x) width which first more → Blocking l k base width over which first more r
+    blocking-turn k R = record {
       long = R .long ∙ C .long;
       inside = λ s a. C .inside s (less-in left x r less s a);
-      small = small;
+      narrow = C .narrow;
       fills = fills;
     }
       where
@@ -76,8 +78,8 @@ module _ (l m : List ℕ) (base width over which first more left x : ℕ) (C : B
             right y h lt o w q (no t) =
                 now .grows .kept (base + y + width * h) (A .columns y lt o .below h w) (p .right y h lt o w (sym (less-other left x r less y t) ∙ q))
 
-    pub blocking-falls : count 64 (has r) < count 64 (has left)
-    blocking-falls = less-falls left x r less 64 (lowest-below left x (C .small) ne e) (lowest-in left x (C .small) ne e)
+    pub blocking-falls : count capacity (has r) < count capacity (has left)
+    blocking-falls = less-falls left x r less capacity (lowest-below capacity left x small ne e) (lowest-in capacity left x small ne e)
 
 pub blocking-end : (l m : List ℕ) (base width over which first more left : ℕ) → Blocking l m base width over which first more left → left ≡ 0
     → Block l m base width over which first more

@@ -13,10 +13,11 @@ use lib.Dec.{eqb}
 use lib.ListN.{length, set, length-set}
 use Rattle.finite.specs.Bounded.{least, count}
 use Rattle.finite.proofs.Truth.{clash}
-use Rattle.sets.specs.Member.{has}
-use Rattle.sets.proofs.Membership.{has-zero}
-use Rattle.sets.proofs.Remove.{less-in, less-other, less-falls}
-use Rattle.sets.proofs.Visit.{lowest-below, lowest-in, lowest-less}
+use Rattle.bits.specs.Member.{has}
+use Rattle.bits.proofs.Membership.{has-zero, has-lt}
+use Rattle.bits.proofs.Remove.{less-in, less-other, less-falls}
+use Rattle.bits.proofs.Visit.{small-word, lowest-below, lowest-in, lowest-less}
+use Rattle.counters.specs.Counters.{counterCapacity}
 use Rattle.filling.specs.Grows.{Right, Grows}
 use Rattle.filling.proofs.Grows.{grows-none, grows-more, grows-set, right-set}
 use Rattle.columns.specs.Column.{Agrees, Column}
@@ -29,10 +30,10 @@ pub record Part (E l m : List ℕ) (base step which rest : ℕ) : Type 0 where
 pub record Columning (l m : List ℕ) (base step which first more rest : ℕ) : Type 0 where
   pub long : length m ≡ length l
   pub inside : (h : ℕ) → has rest h ≡ true → has which h ≡ true
-  pub small : rest < 2 ^ 64
+  pub small : rest < 2 ^ counterCapacity
   pub fills : (E : List ℕ) → Agrees E base step which first more → length E ≤ length l → Part E l m base step which rest
 
-pub columning-start : (l : List ℕ) (base step which first more : ℕ) → which < 2 ^ 64 → Columning l l base step which first more which
+pub columning-start : (l : List ℕ) (base step which first more : ℕ) → which < 2 ^ counterCapacity → Columning l l base step which first more which
 columning-start l base step which first more b = record {
   long = refl;
   inside = λ h e. e;
@@ -41,18 +42,18 @@ columning-start l base step which first more b = record {
 }
 
 module _ (l m : List ℕ) (base step which first more rest h r : ℕ) (C : Columning l m base step which first more rest)
-    (ne : rest ≢ 0) (e : h ≡ least 64 (has rest)) (d : (s : ℕ) → has r s ≡ (has rest s && not (eqb s (least 64 (has rest))))) where
+    (ne : rest ≢ 0) (e : h ≡ least counterCapacity (has rest)) (d : (s : ℕ) → has r s ≡ (has rest s && not (eqb s (least counterCapacity (has rest))))) where
   less : (s : ℕ) → has r s ≡ (has rest s && not (eqb s h))
-  less = lowest-less rest h r e d
+  less = lowest-less counterCapacity rest h r e d
 
   column-member : has which h ≡ true
-  column-member = C .inside h (lowest-in rest h (C .small) ne e)
+  column-member = C .inside h (lowest-in counterCapacity rest h (C .small) ne e)
 
-  pub columning-turn : r < 2 ^ 64 → Columning l (set m (base + step * h) (first + more * h)) base step which first more r
-  columning-turn small = record {
+  pub columning-turn : Columning l (set m (base + step * h) (first + more * h)) base step which first more r
+  columning-turn = record {
     long = length-set m (base + step * h) (first + more * h) ∙ C .long;
     inside = λ s a. C .inside s (less-in rest h r less s a);
-    small = small;
+    small = small-word counterCapacity r (λ s a. has-lt counterCapacity rest s (C .small) (less-in rest h r less s a));
     fills = fills;
   }
     where
@@ -72,8 +73,11 @@ module _ (l m : List ℕ) (base step which first more rest h r : ℕ) (C : Colum
           right s a b (yes q) = rw q (right-set E m (base + step * h) (first + more * h) below (A .entry h column-member))
           right s a b (no q) = now .kept (base + step * s) (A .below s a) (p .right s a (sym (less-other rest h r less s q) ∙ b))
 
-  pub column-falls : count 64 (has r) < count 64 (has rest)
-  column-falls = less-falls rest h r less 64 (lowest-below rest h (C .small) ne e) (lowest-in rest h (C .small) ne e)
+  pub column-falls : count counterCapacity (has r) < count counterCapacity (has rest)
+  column-falls =
+      less-falls rest h r less counterCapacity
+      (lowest-below counterCapacity rest h (C .small) ne e)
+      (lowest-in counterCapacity rest h (C .small) ne e)
 
 pub columning-end : (l m : List ℕ) (base step which first more rest : ℕ) → Columning l m base step which first more rest → rest ≡ 0
     → Column l m base step which first more

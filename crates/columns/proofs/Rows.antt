@@ -1,12 +1,15 @@
 -- Laws of rows and of blocks written row by row.
 --
 --   run-*             : how a run begins and goes on
---   run-row, column-row    : a run of all below the width, and a column with steps of 1, are rows
+--   run-row           : a run of all below the width is a row
+--   Scattering        == a row written but for the columns of a set `rest`
+--   scattering-*      : how it begins, goes on and ends
+--   inside-below, fits-inside, block-over, block-none : the columns of a set that are below the width
 --   Rowing            == a block written but for the counters of a set `left`
 --   rowing-*          : how it begins, goes on and ends
 use Prim.Native.Nat.{ℕ, _+_, _*_, _<_, _≤_, _^_}
 use mathlib.Core.Path.{_≡_, refl, sym, _∙_, ap}
-use mathlib.Core.Bool.{Bool, true, false, _&&_, not}
+use mathlib.Core.Bool.{true, false, _&&_, not}
 use mathlib.Core.List.{List}
 use mathlib.Core.Logic.{_≢_}
 use native.Mathlib.Omega.{arith}
@@ -15,17 +18,17 @@ use lib.Dec.{eqb, ltb}
 use lib.ListN.{length, getD, set, length-set}
 use borrow.Author.Tests.{lt-ltb, ltb-true}
 use Rattle.finite.specs.Bounded.{least, count}
-use Rattle.finite.proofs.Truth.{clash, and-intro, and-left, and-right}
-use Rattle.sets.specs.Member.{has}
-use Rattle.sets.proofs.Membership.{has-zero}
-use Rattle.sets.proofs.Compare.{nonzero-below}
-use Rattle.sets.proofs.Remove.{less-in, less-other, less-falls}
+use Rattle.finite.proofs.Truth.{clash}
+use Rattle.bits.specs.Member.{has}
+use Rattle.bits.proofs.Membership.{has-zero, has-lt}
+use Rattle.bits.proofs.Compare.{nonzero-member}
+use Rattle.bits.proofs.Remove.{less-in, less-other, less-falls}
+use Rattle.sets.specs.Words.{capacity}
+use Rattle.counters.specs.Counters.{counterCapacity}
 use Rattle.filling.specs.Grows.{Right, Grows}
 use Rattle.filling.proofs.Grows.{grows-none, grows-more, grows-set, right-set}
 use Rattle.columns.specs.Column.{
   Fits,
-  Agrees,
-  Column,
   RunAgrees,
   Run,
   RowFits,
@@ -34,9 +37,10 @@ use Rattle.columns.specs.Column.{
   Row,
   BlockFits,
   BlockAgrees,
+  Blocked,
   Block,
 }
-use Rattle.sets.proofs.Visit.{lowest-below, lowest-in, lowest-less}
+use Rattle.bits.proofs.Visit.{small-word, lowest-below, lowest-in, lowest-less, cut-in, cut-all}
 
 -- ---- runs
 
@@ -90,68 +94,134 @@ module _ (over b width : ℕ) (e : over ≡ b) (f : (s : ℕ) → has b s ≡ lt
       agrees : (E : List ℕ) → RowAgrees E base over value → RunAgrees E base width value
       agrees E A = record { below = λ x lt. A .below x (full-in x lt); entry = λ x lt. A .entry x (full-in x lt) }
 
-pub column-fits : (n base width over value : ℕ) → value < 65536 → RowFits n base width over → Fits n base 1 over value 0
-column-fits n base width over value v F = record { below = λ h e. omega (arith, F .below h e); small = λ h e. omega arith }
+-- a row but for the columns of `rest`
+pub record RowPart (E l m : List ℕ) (base over rest : ℕ) : Type 0 where
+  pub grows : Grows E l m
+  pub right : (x : ℕ) → has over x ≡ true → has rest x ≡ false → Right E m (base + x)
 
-pub column-row : (l m : List ℕ) (base over value : ℕ) → Column l m base 1 over value 0 → Row l m base over value
-column-row l m base over value C = record {
+pub record Scattering (n : ℕ) (l m : List ℕ) (base width over value rest : ℕ) : Type 0 where
+  pub fits : RowFits n base width over
+  pub long : length m ≡ length l
+  pub inside : (x : ℕ) → has rest x ≡ true → has over x ≡ true
+  pub fills : (E : List ℕ) → RowAgrees E base over value → length E ≤ length l → RowPart E l m base over rest
+
+pub scattering-start : (n : ℕ) (l : List ℕ) (base width over value : ℕ) → RowFits n base width over → Scattering n l l base width over value over
+scattering-start n l base width over value F = record {
+  fits = F;
+  long = refl;
+  inside = λ x e. e;
+  fills = λ E A k. record { grows = grows-none E l; right = λ x e f. clash e f };
+}
+
+module _ (n : ℕ) (l m : List ℕ) (base width over value rest x : ℕ) (C : Scattering n l m base width over value rest)
+    (ne : rest ≢ 0) (e : x ≡ least capacity (has rest)) where
+  small : rest < 2 ^ capacity
+  small = small-word capacity rest (λ s a. omega (arith, C .fits .narrow, C .fits .inside s (C .inside s a)))
+
+  scattered-in : has over x ≡ true
+  scattered-in = C .inside x (lowest-in capacity rest x small ne e)
+
+  pub scattered-below : base + x < n
+  scattered-below = C .fits .below x scattered-in
+
+  module _ (r : ℕ) (d : (s : ℕ) → has r s ≡ (has rest s && not (eqb s (least capacity (has rest))))) where
+    gone : (s : ℕ) → has r s ≡ (has rest s && not (eqb s x))
+    gone = lowest-less capacity rest x r e d
+
+    pub scattering-turn : Scattering n l (set m (base + x) value) base width over value r
+    scattering-turn = record {
+      fits = C .fits;
+      long = length-set m (base + x) value ∙ C .long;
+      inside = λ s a. C .inside s (less-in rest x r gone s a);
+      fills = fills;
+    }
+      where
+        fills : (E : List ℕ) → RowAgrees E base over value → length E ≤ length l → RowPart E l (set m (base + x) value) base over r
+        fills E A k = record { grows = grows-more E (p .grows) now; right = λ s a b. right s a b (ℕ-discrete s x) }
+          where
+            p : RowPart E l m base over rest
+            p = C .fills E A k
+
+            below : base + x < length m
+            below = omega (arith, A .below x scattered-in, C .long)
+
+            now : Grows E m (set m (base + x) value)
+            now = grows-set E m (base + x) value (A .below x scattered-in) below (A .entry x scattered-in)
+
+            right : (s : ℕ) → has over s ≡ true → has r s ≡ false → Dec (s ≡ x) → Right E (set m (base + x) value) (base + s)
+            right s a b (yes q) = rw q (right-set E m (base + x) value below (A .entry x scattered-in))
+            right s a b (no q) = now .kept (base + s) (A .below s a) (p .right s a (sym (less-other rest x r gone s q) ∙ b))
+
+    pub scattering-falls : count capacity (has r) < count capacity (has rest)
+    scattering-falls = less-falls rest x r gone capacity (lowest-below capacity rest x small ne e) (lowest-in capacity rest x small ne e)
+
+pub scattering-end : (n : ℕ) (l m : List ℕ) (base width over value rest : ℕ) → Scattering n l m base width over value rest → rest ≡ 0
+    → Row l m base over value
+scattering-end n l m base width over value rest C e = record {
   long = C .long;
-  fills = λ E A n. record {
-    grows = C .fills E (agrees E A) n .grows;
-    right = λ x h. rw (one x) (C .fills E (agrees E A) n .right x h);
+  fills = λ E A k. record {
+    grows = C .fills E A k .grows;
+    right = λ x a. C .fills E A k .right x a (ap (λ (y : ℕ). has y x) e ∙ has-zero x);
   };
 }
-  where
-    one : (x : ℕ) → base + x ≡ base + 1 * x
-    one x = omega arith
-
-    none : (x : ℕ) → value + 0 * x ≡ value
-    none x = omega arith
-
-    agrees : (E : List ℕ) → RowAgrees E base over value → Agrees E base 1 over value 0
-    agrees E A = record {
-      below = λ h e. omega (arith, A .below h e);
-      entry = λ h e. none h ∙ A .entry h e ∙ ap (λ (k : ℕ). getD E k 0) (one h);
-    }
 
 -- ---- what a block's rows need
 
--- the members of `over` below the width, of which there are some
-pub record Narrowed (over width inside : ℕ) : Type 0 where
-  pub is : (s : ℕ) → has inside s ≡ (has over s && ltb s width)
+-- columns below the width, of which there are some
+pub record Narrowed (width inside : ℕ) : Type 0 where
+  pub within : (x : ℕ) → has inside x ≡ true → x < width
   pub some : inside ≢ 0
-  pub small : inside < 2 ^ 64
 
-pub narrow : (over width inside b : ℕ) → ((s : ℕ) → has b s ≡ ltb s width) → ((s : ℕ) → has inside s ≡ (has over s && has b s)) → (s : ℕ)
-    → has inside s ≡ (has over s && ltb s width)
-narrow over width inside b f i s = i s ∙ ap (λ (t : Bool). has over s && t) (f s)
-
-module _ (over width inside : ℕ) (i : (s : ℕ) → has inside s ≡ (has over s && ltb s width)) where
-  inside-over : (x : ℕ) → has inside x ≡ true → has over x ≡ true
-  inside-over x e = and-left (has over x) (ltb x width) (sym (i x) ∙ e)
-
+-- the columns of `over` below the width; b is all below it
+module _ (over width inside b : ℕ) (f : (s : ℕ) → has b s ≡ ltb s width) (i : (s : ℕ) → has inside s ≡ (has over s && has b s)) where
   pub inside-below : (x : ℕ) → has inside x ≡ true → x < width
-  inside-below x e = ltb-true x width (and-right (has over x) (ltb x width) (sym (i x) ∙ e))
+  inside-below x e = cut-in over b inside width f i x e .0
+
+  inside-over : (x : ℕ) → has inside x ≡ true → has over x ≡ true
+  inside-over x e = cut-in over b inside width f i x e .1
 
   inside-in : (x : ℕ) → x < width → has over x ≡ true → has inside x ≡ true
-  inside-in x lt e = i x ∙ and-intro e (lt-ltb x width lt)
+  inside-in = cut-all over b inside width f i
 
-module _ (n base width over which first more inside : ℕ) (B : BlockFits n base width over which first more) (I : Narrowed over width inside)
+  -- a block of these is the block of `over`
+  pub fits-inside : {n base which first more : ℕ} → BlockFits n base width over which first more → BlockFits n base width inside which first more
+  fits-inside B = record { narrow = B .narrow; inside = B .inside; columns = λ x lt o. B .columns x lt (inside-over x o) }
+
+  pub block-over : {l m : List ℕ} {base which first more : ℕ} → Block l m base width inside which first more → Block l m base width over which first more
+  block-over {l} {m} {base} {which} {first} {more} B = record { long = B .long; fills = λ E A n. go E (B .fills E (agrees E A) n) }
+    where
+      agrees : (E : List ℕ) → BlockAgrees E base width over which first more → BlockAgrees E base width inside which first more
+      agrees E A = record { columns = λ x lt o. A .columns x lt (inside-over x o) }
+
+      go : (E : List ℕ) → Blocked E l m base width inside which width → Blocked E l m base width over which width
+      go E D = record { grows = D .grows; right = λ x h lt o w. D .right x h lt (inside-in x lt o) w }
+
+  -- where there are none there is nothing to write
+  pub block-none : (l : List ℕ) (base which first more : ℕ) → inside ≡ 0 → Block l l base width over which first more
+  block-none l base which first more z = record {
+    long = refl;
+    fills = λ E A n. record {
+      grows = grows-none E l;
+      right = λ x h lt o w. clash (inside-in x lt o) (ap (λ (y : ℕ). has y x) z ∙ has-zero x);
+    };
+  }
+
+module _ (n base width which first more inside : ℕ) (B : BlockFits n base width inside which first more) (I : Narrowed width inside)
     (h : ℕ) (w : has which h ≡ true) where
   column-of : (x : ℕ) → has inside x ≡ true → Fits n (base + x) width which first more
-  column-of x e = B .columns x (inside-below over width inside (I .is) x e) (inside-over over width inside (I .is) x e)
+  column-of x e = B .columns x (I .within x e) e
 
-  some : (x : ℕ) × (x < 64) × (has inside x ≡ true)
-  some = nonzero-below 64 inside (I .small) (I .some)
+  some : (x : ℕ) × (has inside x ≡ true)
+  some = nonzero-member inside (I .some)
 
   pub row-fits : (k : ℕ) → k ≡ n → RowFits k (base + width * h) width inside
-  row-fits k q = record { narrow = B .narrow; below = λ x e. omega (arith, column-of x e .below h w) }
+  row-fits k q = record { narrow = B .narrow; inside = I .within; below = λ x e. omega (arith, column-of x e .below h w) }
 
   pub row-entry : first + more * h < 65536
-  row-entry = column-of (some .0) (some .2) .small h w
+  row-entry = column-of (some .0) (some .1) .small h w
 
   pub row-place : base + width * h < n
-  row-place = omega (arith, column-of (some .0) (some .2) .below h w)
+  row-place = omega (arith, column-of (some .0) (some .1) .below h w)
 
 -- ---- a block but for the counters of `left`
 
@@ -162,10 +232,10 @@ pub record RowsPart (E l m : List ℕ) (base width over which left : ℕ) : Type
 pub record Rowing (l m : List ℕ) (base width over which first more left : ℕ) : Type 0 where
   pub long : length m ≡ length l
   pub inside : (h : ℕ) → has left h ≡ true → has which h ≡ true
-  pub small : left < 2 ^ 64
+  pub small : left < 2 ^ counterCapacity
   pub fills : (E : List ℕ) → BlockAgrees E base width over which first more → length E ≤ length l → RowsPart E l m base width over which left
 
-pub rowing-start : (l : List ℕ) (base width over which first more : ℕ) → which < 2 ^ 64 → Rowing l l base width over which first more which
+pub rowing-start : (l : List ℕ) (base width over which first more : ℕ) → which < 2 ^ counterCapacity → Rowing l l base width over which first more which
 rowing-start l base width over which first more b = record {
   long = refl;
   inside = λ h e. e;
@@ -174,19 +244,18 @@ rowing-start l base width over which first more b = record {
 }
 
 module _ (l m : List ℕ) (base width over which first more left h r : ℕ) (C : Rowing l m base width over which first more left)
-    (ne : left ≢ 0) (e : h ≡ least 64 (has left)) (d : (s : ℕ) → has r s ≡ (has left s && not (eqb s (least 64 (has left))))) where
+    (ne : left ≢ 0) (e : h ≡ least counterCapacity (has left)) (d : (s : ℕ) → has r s ≡ (has left s && not (eqb s (least counterCapacity (has left))))) where
   less : (s : ℕ) → has r s ≡ (has left s && not (eqb s h))
-  less = lowest-less left h r e d
+  less = lowest-less counterCapacity left h r e d
 
   row-member : has which h ≡ true
-  row-member = C .inside h (lowest-in left h (C .small) ne e)
+  row-member = C .inside h (lowest-in counterCapacity left h (C .small) ne e)
 
-  pub rowing-turn : (k : List ℕ) (inside : ℕ) → Narrowed over width inside → Row m k (base + width * h) inside (first + more * h) → r < 2 ^ 64
-      → Rowing l k base width over which first more r
-  rowing-turn k inside I R small = record {
+  pub rowing-turn : (k : List ℕ) → Narrowed width over → Row m k (base + width * h) over (first + more * h) → Rowing l k base width over which first more r
+  rowing-turn k I R = record {
     long = R .long ∙ C .long;
     inside = λ s a. C .inside s (less-in left h r less s a);
-    small = small;
+    small = small-word counterCapacity r (λ s a. has-lt counterCapacity left s (C .small) (less-in left h r less s a));
     fills = fills;
   }
     where
@@ -199,25 +268,25 @@ module _ (l m : List ℕ) (base width over which first more left h r : ℕ) (C :
           p : RowsPart E l m base width over which left
           p = C .fills E A n
 
-          agrees : RowAgrees E (base + width * h) inside (first + more * h)
+          agrees : RowAgrees E (base + width * h) over (first + more * h)
           agrees = record {
-            below =
-                λ x q. omega (arith, A .columns x (inside-below over width inside (I .is) x q) (inside-over over width inside (I .is) x q) .below h row-member);
-            entry =
-                λ x q. A .columns x (inside-below over width inside (I .is) x q) (inside-over over width inside (I .is) x q) .entry h row-member ∙ ap
-                (λ (z : ℕ). getD E z 0) (sym (swap x h));
+            below = λ x q. omega (arith, A .columns x (I .within x q) q .below h row-member);
+            entry = λ x q. A .columns x (I .within x q) q .entry h row-member ∙ ap (λ (z : ℕ). getD E z 0) (sym (swap x h));
           }
 
-          now : Rowed E m k (base + width * h) inside
+          now : Rowed E m k (base + width * h) over
           now = R .fills E agrees (omega (arith, C .long))
 
           right : (x s : ℕ) → x < width → has over x ≡ true → has which s ≡ true → has r s ≡ false → Dec (s ≡ h) → Right E k (base + x + width * s)
-          right x s lt o a q (yes t) = rw (t, sym (swap x h)) (now .right x (inside-in over width inside (I .is) x lt o))
+          right x s lt o a q (yes t) = rw (t, sym (swap x h)) (now .right x o)
           right x s lt o a q (no t) =
               now .grows .kept (base + x + width * s) (A .columns x lt o .below s a) (p .right x s lt o a (sym (less-other left h r less s t) ∙ q))
 
-  pub rowing-falls : count 64 (has r) < count 64 (has left)
-  rowing-falls = less-falls left h r less 64 (lowest-below left h (C .small) ne e) (lowest-in left h (C .small) ne e)
+  pub rowing-falls : count counterCapacity (has r) < count counterCapacity (has left)
+  rowing-falls =
+      less-falls left h r less counterCapacity
+      (lowest-below counterCapacity left h (C .small) ne e)
+      (lowest-in counterCapacity left h (C .small) ne e)
 
 pub rowing-end : (l m : List ℕ) (base width over which first more left : ℕ) → Rowing l m base width over which first more left → left ≡ 0
     → Block l m base width over which first more
@@ -226,16 +295,5 @@ rowing-end l m base width over which first more left C e = record {
   fills = λ E A n. record {
     grows = C .fills E A n .grows;
     right = λ x h lt o a. C .fills E A n .right x h lt o a (ap (λ (z : ℕ). has z h) e ∙ has-zero h);
-  };
-}
-
--- where nothing of `over` is below the width there is nothing to write
-pub block-none : (l : List ℕ) (base width over which first more inside : ℕ) → ((s : ℕ) → has inside s ≡ (has over s && ltb s width)) → inside ≡ 0
-    → Block l l base width over which first more
-block-none l base width over which first more inside i z = record {
-  long = refl;
-  fills = λ E A n. record {
-    grows = grows-none E l;
-    right = λ x h lt o w. clash (inside-in over width inside i x lt o) (ap (λ (y : ℕ). has y x) z ∙ has-zero x);
   };
 }

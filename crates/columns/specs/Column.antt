@@ -7,14 +7,16 @@
 --   Column l m base step which first more          == so it is for every such E
 --   FrontFits, FrontAgrees, Fronted, Front         == the same for each h below `done` of the h below a count
 --   Run l m base width value done                  == so it is of the value at the places base + x for x below `done`, where E holds it for x < width
---   RowFits, Row                                   == the same of the value at base + x for each x of a set `over`
+--   RowFits, Row                                   == the same of the value at base + x for each x < width of a set `over`
 --   BlockFits, BlockAgrees, Blocked, Block         == the same of columns at base + x for each x < width of a set `over`, with steps of width
 use Prim.Native.Nat.{ℕ, _+_, _*_, _<_, _≤_}
 use mathlib.Core.Path.{_≡_}
 use mathlib.Core.Bool.{true}
 use mathlib.Core.List.{List}
 use lib.ListN.{length, getD}
-use Rattle.sets.specs.Member.{has}
+use Rattle.bits.specs.Member.{has}
+use Rattle.sets.specs.Words.{capacity}
+use Rattle.counters.specs.Counters.{counterCapacity}
 use Rattle.filling.specs.Grows.{Right, Grows}
 
 pub record Fits (n base step which first more : ℕ) : Type 0 where
@@ -34,7 +36,7 @@ pub record Column (l m : List ℕ) (base step which first more : ℕ) : Type 0 w
   pub fills : (E : List ℕ) → Agrees E base step which first more → length E ≤ length l → Columned E l m base step which
 
 pub record FrontFits (n base step count first more : ℕ) : Type 0 where
-  pub few : count ≤ 64
+  pub few : count ≤ counterCapacity
   pub below : (h : ℕ) → h < count → base + step * h < n
   pub small : (h : ℕ) → h < count → first + more * h < 65536
 
@@ -65,7 +67,8 @@ pub record Run (l m : List ℕ) (base width value done : ℕ) : Type 0 where
   pub fills : (E : List ℕ) → RunAgrees E base width value → Ran E l m base done
 
 pub record RowFits (n base width over : ℕ) : Type 0 where
-  pub narrow : width ≤ 64
+  pub narrow : width ≤ capacity
+  pub inside : (x : ℕ) → has over x ≡ true → x < width
   pub below : (x : ℕ) → has over x ≡ true → base + x < n
 
 -- E holds the value at base + x for x of `over`
@@ -82,7 +85,7 @@ pub record Row (l m : List ℕ) (base over value : ℕ) : Type 0 where
   pub fills : (E : List ℕ) → RowAgrees E base over value → length E ≤ length l → Rowed E l m base over
 
 pub record BlockFits (n base width over which first more : ℕ) : Type 0 where
-  pub narrow : width ≤ 64
+  pub narrow : width ≤ capacity
   pub inside : base + width ≤ n
   pub columns : (x : ℕ) → x < width → has over x ≡ true → Fits n (base + x) width which first more
 

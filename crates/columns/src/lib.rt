@@ -1,8 +1,13 @@
-// What the fillings of both tables share: entries written for sets of counters and of places. Nothing here knows of sides: counters, places and sets
-// are plain numbers and words.
+// What the fillings of both tables share: entries written for sets of counters and of columns. Nothing here knows of sides.
+use counters::CounterSet;
+use sets::Set;
 ghost use Prim.Native.Nat.{ℕ, _+_, _<_};
 ghost use lib.ListN.{length};
+ghost use Rattle.sets.specs.Words.{bitsOf};
 ghost use Rattle.columns.specs.Column.{Fits, Column, FrontFits, Front, Run, RowFits, Row, BlockFits, Block};
+
+// From so many counters on a column is written faster than a row.
+const MANY: usize = 8;
 
 // first + more × h at place base + step × h, for each h below count. Counted, as that is faster than asking a set for its next member.
 fn front(room: &mut [u16], base: usize, step: usize, count: usize, first: u16, more: u16)
@@ -17,25 +22,25 @@ fn front(room: &mut [u16], base: usize, step: usize, count: usize, first: u16, m
 }
 
 // The same for each h of any set `which`, lowest first.
-fn members(room: &mut [u16], base: usize, step: usize, which: u64, first: u16, more: u16)
-    requires { ⌜ Fits (length (now room)) base step which first more ⌝ }
-    ensures { λ r. ⌜ Column (now (room .entry)) (now (room .exit)) base step which first more ⌝ }
+fn members(room: &mut [u16], base: usize, step: usize, which: CounterSet, first: u16, more: u16)
+    requires { ⌜ Fits (length (now room)) base step (which .0) first more ⌝ }
+    ensures { λ r. ⌜ Column (now (room .entry)) (now (room .exit)) base step (which .0) first more ⌝ }
 {
     let mut rest = which;
-    while rest != 0 {
-        let h = sets::lowest(rest);
+    while !counters::is_empty(rest) {
+        let h = counters::lowest(rest);
         room[base + step * h] = first + more * (h as u16);
-        rest = sets::without_lowest(rest);
+        rest = counters::without_lowest(rest);
     }
 }
 
 // The same, counted where the set is all counters below some count: then the count is the lowest that does not belong.
-pub fn column(room: &mut [u16], base: usize, step: usize, which: u64, first: u16, more: u16)
-    requires { ⌜ Fits (length (now room)) base step which first more ⌝ }
-    ensures { λ r. ⌜ Column (now (room .entry)) (now (room .exit)) base step which first more ⌝ }
+pub fn column(room: &mut [u16], base: usize, step: usize, which: CounterSet, first: u16, more: u16)
+    requires { ⌜ Fits (length (now room)) base step (which .0) first more ⌝ }
+    ensures { λ r. ⌜ Column (now (room .entry)) (now (room .exit)) base step (which .0) first more ⌝ }
 {
-    let count = sets::lowest(sets::difference(sets::below(64), which));
-    if which == sets::below(count) {
+    let count = counters::lowest(counters::difference(counters::below(counters::CAPACITY), which));
+    if counters::same(which, counters::below(count)) {
         front(room, base, step, count, first, more);
         return;
     }
@@ -54,16 +59,29 @@ fn run(room: &mut [u16], base: usize, width: usize, value: u16)
     }
 }
 
-// The value at base + x for each x of the set `over`. Where that is all below width the places are one run.
-fn row(room: &mut [u16], base: usize, width: usize, over: u64, value: u16)
-    requires { ⌜ RowFits (length (now room)) base width over ⌝ }
-    ensures { λ r. ⌜ Row (now (room .entry)) (now (room .exit)) base over value ⌝ }
+// The value at base + x for each x of the set `over`, lowest first.
+fn scattered(room: &mut [u16], base: usize, width: usize, over: Set, value: u16)
+    requires { ⌜ RowFits (length (now room)) base width (bitsOf over) ⌝ }
+    ensures { λ r. ⌜ Row (now (room .entry)) (now (room .exit)) base (bitsOf over) value ⌝ }
 {
-    if over == sets::below(width) {
+    let mut rest = over;
+    while !sets::is_empty(rest) {
+        let x = sets::lowest(rest);
+        room[base + x] = value;
+        rest = sets::without_lowest(rest);
+    }
+}
+
+// The same, where `over` is all below width as one run.
+fn row(room: &mut [u16], base: usize, width: usize, over: Set, value: u16)
+    requires { ⌜ RowFits (length (now room)) base width (bitsOf over) ⌝ }
+    ensures { λ r. ⌜ Row (now (room .entry)) (now (room .exit)) base (bitsOf over) value ⌝ }
+{
+    if sets::same(over, sets::below(width)) {
         run(room, base, width, value);
         return;
     }
-    members(room, base, 1, over, value, 0);
+    scattered(room, base, width, over, value);
 }
 
 // A column at base + x for each x < width of the set `over`, with steps of width: row by row, so that places follow one another.
@@ -71,21 +89,21 @@ fn by_rows(
     room: &mut [u16],
     base: usize,
     width: usize,
-    over: u64,
-    which: u64,
+    over: Set,
+    which: CounterSet,
     first: u16,
     more: u16,
 )
-    requires { ⌜ BlockFits (length (now room)) base width over which first more ⌝ }
-    ensures { λ r. ⌜ Block (now (room .entry)) (now (room .exit)) base width over which first more ⌝ }
+    requires { ⌜ BlockFits (length (now room)) base width (bitsOf over) (which .0) first more ⌝ }
+    ensures { λ r. ⌜ Block (now (room .entry)) (now (room .exit)) base width (bitsOf over) (which .0) first more ⌝ }
 {
     let inside = sets::intersection(over, sets::below(width));
-    if inside == 0 {
+    if sets::is_empty(inside) {
         return;
     }
     let mut left = which;
-    while left != 0 {
-        let h = sets::lowest(left);
+    while !counters::is_empty(left) {
+        let h = counters::lowest(left);
         row(
             room,
             base + width * h,
@@ -93,7 +111,7 @@ fn by_rows(
             inside,
             first + more * (h as u16),
         );
-        left = sets::without_lowest(left);
+        left = counters::without_lowest(left);
     }
 }
 
@@ -102,16 +120,16 @@ fn by_columns(
     room: &mut [u16],
     base: usize,
     width: usize,
-    over: u64,
-    which: u64,
+    over: Set,
+    which: CounterSet,
     first: u16,
     more: u16,
 )
-    requires { ⌜ BlockFits (length (now room)) base width over which first more ⌝ }
-    ensures { λ r. ⌜ Block (now (room .entry)) (now (room .exit)) base width over which first more ⌝ }
+    requires { ⌜ BlockFits (length (now room)) base width (bitsOf over) (which .0) first more ⌝ }
+    ensures { λ r. ⌜ Block (now (room .entry)) (now (room .exit)) base width (bitsOf over) (which .0) first more ⌝ }
 {
     let mut left = sets::intersection(over, sets::below(width));
-    while left != 0 {
+    while !sets::is_empty(left) {
         let x = sets::lowest(left);
         column(room, base + x, width, which, first, more);
         left = sets::without_lowest(left);
@@ -123,16 +141,16 @@ pub fn block(
     room: &mut [u16],
     base: usize,
     width: usize,
-    over: u64,
-    which: u64,
+    over: Set,
+    which: CounterSet,
     first: u16,
     more: u16,
 )
-    requires { ⌜ BlockFits (length (now room)) base width over which first more ⌝ }
-    ensures { λ r. ⌜ Block (now (room .entry)) (now (room .exit)) base width over which first more ⌝ }
+    requires { ⌜ BlockFits (length (now room)) base width (bitsOf over) (which .0) first more ⌝ }
+    ensures { λ r. ⌜ Block (now (room .entry)) (now (room .exit)) base width (bitsOf over) (which .0) first more ⌝ }
 {
     let whole = sets::is_subset(sets::below(width), over);
-    let many = sets::is_subset(sets::below(8), which);
+    let many = counters::is_subset(counters::below(MANY), which);
     if many && !whole {
         by_columns(room, base, width, over, which, first, more);
         return;

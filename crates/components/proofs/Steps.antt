@@ -1,15 +1,16 @@
 -- What the functions' needs cite.
 use Prim.Native.Nat.{ℕ, _+_}
 use native.Mathlib.Numerals.{add-one}
-use mathlib.Core.Path.{_≡_, refl, _∙_, ap}
+use mathlib.Core.Path.{_≡_, refl, _∙_, ap, ap₂}
 use mathlib.Core.Bool.{Bool, true, false, _&&_, _||_, or-comm}
 use mathlib.Core.List.{List}
 use lib.ListN.{getD}
 use Rattle.finite.specs.Bounded.{any}
-use Rattle.sets.specs.Member.{has, pack, meets}
-use Rattle.sets.proofs.Membership.{has-zero}
+use Rattle.bits.specs.Member.{has, pack, meets}
+use Rattle.bits.proofs.Membership.{has-zero}
+use Rattle.sets.specs.Words.{capacity}
 use Rattle.graphs.specs.Rows.{rel}
-use Rattle.components.specs.Component.{together, turns, enters}
+use Rattle.components.specs.Component.{together, nontrivialAt, enters}
 
 pub both-true : (a b : Bool) {r : Bool} → r ≡ b → a ≡ true → r ≡ (a && b)
 both-true a b e h = rw h e
@@ -21,9 +22,10 @@ pub together-at : (rows : List ℕ) (s t : ℕ) {r : Bool} → r ≡ (has (getD 
 unfolding together rel
 together-at rows s t e = e
 
-pub turns-at : (moves rows : List ℕ) (n s x : ℕ) {r : Bool} → x ≡ pack n (together rows s) → r ≡ meets 64 (getD moves s 0) x → r ≡ turns moves rows n s
-unfolding turns
-turns-at moves rows n s x e h = h ∙ ap (λ (y : ℕ). meets 64 (getD moves s 0) y) e
+pub nontrivial-at : (moves rows : List ℕ) (n s x y : ℕ) {r : Bool} → y ≡ getD moves s 0 → x ≡ pack n (together rows s) → r ≡ meets capacity y x
+    → r ≡ nontrivialAt moves rows n s
+unfolding nontrivialAt
+nontrivial-at moves rows n s x y f e h = h ∙ ap₂ (λ (u v : ℕ). meets capacity u v) f e
 
 pub enters-none : (moves : List ℕ) (c t : ℕ) → has 0 t ≡ enters moves c 0 t
 unfolding enters any

@@ -1,17 +1,17 @@
 // The controller's table, filled in any order: every entry that is written is the right one. Functions that take one sort of states alone take plain
-// numbers and words.
+// numbers and sets.
 use controller_rows::Home;
 use controller_rows::Size;
 use game::Game;
 use game::InSet;
-use game::OutSet;
 use game::OutState;
 use opening::starts;
 use opening::unsettled;
 ghost use mathlib.Core.Path.{_≡_};
 ghost use Prim.Native.Nat.{_≤_, _<_};
 ghost use lib.ListN.{length, drop};
-ghost use Rattle.stored.specs.Stored.{Ready};
+ghost use Rattle.sets.specs.Words.{bitsOf};
+ghost use Rattle.scratch.specs.Stored.{Ready};
 ghost use Rattle.game.specs.Acceptance.{acceptance};
 ghost use Rattle.game.specs.declared.Acceptance.the-variants.{Accepted};
 ghost use Rattle.play.specs.Play.{separatedOf};
@@ -19,35 +19,34 @@ ghost use Rattle.theory.specs.Entries.{controllerEntries};
 ghost use mathlib.Core.List.{_++_};
 ghost use Rattle.controller_table.specs.Filled.{Filled, At, Below, Sized, Given};
 
-// The rows whose home is d.
-fn settle(g: Game, s: &[u64], room: &mut [u16], z: Size, cores: InSet, d: usize)
-    requires { ⌜ Given g z (now s) (cores .0) × (d < z .outputs) × (length (controllerEntries (separatedOf g)) ≤ length (now room)) ⌝ }
-    ensures { λ r. ⌜ Filled (separatedOf g) (At (separatedOf g) d) (now (room .entry)) (now (room .exit)) ⌝ }
+// The rows whose home is d; c are the inputs in nontrivial components.
+fn settle(g: Game, s: &[u64], room: &mut [u16], z: Size, c: InSet, d: OutState)
+    requires { ⌜ Given g z (now s) (bitsOf (c .0)) × (d .0 < z .outputs) × (length (controllerEntries (separatedOf g)) ≤ length (now room)) ⌝ }
+    ensures { λ r. ⌜ Filled (separatedOf g) (At (separatedOf g) (d .0)) (now (room .entry)) (now (room .exit)) ⌝ }
 {
-    let inputs = resident::residents(s, z.inputs, cores, OutState(d), OutState(d));
-    if inputs.0 == 0 {
+    let inputs = resident::residents(s, z.inputs, c, d, d);
+    if sets::is_empty(inputs.0) {
         return;
     }
-    let outputs = z.inputs + z.inputs;
-    let component = components::component(&s[outputs..], z.outputs, d);
+    let component = scratch::out_component(s, z.inputs, z.outputs, d);
     let w = Home {
-        state: OutState(d),
-        component: OutSet(component),
+        state: d,
+        component,
         inputs,
     };
-    resident::approach(g, s, room, z, cores, w);
+    resident::approach(g, s, room, z, c, w);
     visit::tour(g, room, z, w);
 }
 
 // The rows with a home.
-fn settle_all(g: Game, s: &[u64], room: &mut [u16], z: Size, cores: InSet)
-    requires { ⌜ Given g z (now s) (cores .0) × (length (controllerEntries (separatedOf g)) ≤ length (now room)) ⌝ }
+fn settle_all(g: Game, s: &[u64], room: &mut [u16], z: Size, c: InSet)
+    requires { ⌜ Given g z (now s) (bitsOf (c .0)) × (length (controllerEntries (separatedOf g)) ≤ length (now room)) ⌝ }
     ensures { λ r. ⌜ Filled (separatedOf g) (Below (separatedOf g) (z .outputs)) (now (room .entry)) (now (room .exit)) ⌝ }
 {
     let m = z.outputs;
     let mut d = 0;
     while d < m {
-        settle(g, s, room, z, cores, d);
+        settle(g, s, room, z, c, OutState(d));
         d += 1;
     }
 }
@@ -62,19 +61,18 @@ fn size_of(g: Game) -> Size
         inputs: g.input.states,
         outputs: g.output.states,
         counters,
-        all: sets::below(counters),
+        all: counters::below(counters),
     }
 }
 
-// Writes the controller's table into the front of the buffer, from the scratch s of an accepted game.
-pub fn fill(g: Game, s: &[u64], room: &mut [u16])
-    requires { ⌜ (acceptance g ≡ Accepted) × Ready g (now s) × (length (controllerEntries (separatedOf g)) ≤ length (now room)) ⌝ }
+// Writes the controller's table into the front of the buffer, from the scratch s of an accepted game; c are the inputs in nontrivial components.
+pub fn fill(g: Game, s: &[u64], c: InSet, room: &mut [u16])
+    requires { ⌜ (acceptance g ≡ Accepted) × Ready g (now s) (bitsOf (c .0)) × (length (controllerEntries (separatedOf g)) ≤ length (now room)) ⌝ }
     ensures { λ r. ⌜ now (room .exit) ≡ controllerEntries (separatedOf g) ++ drop (length (controllerEntries (separatedOf g))) (now (room .entry)) ⌝ }
 {
     let z = size_of(g);
-    let cores = InSet(components::cores(g.input, s));
-    starts::starts(room, s, z, cores, game::in_initial(g), game::out_initial(g));
+    starts::starts(room, s, z, c, game::in_initial(g), game::out_initial(g));
     let h = g.output;
-    unsettled::plains(room, s, z, cores, &h.moves);
-    settle_all(g, s, room, z, cores);
+    unsettled::plains(room, s, z, c, &h.moves);
+    settle_all(g, s, room, z, c);
 }

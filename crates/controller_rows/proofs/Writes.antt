@@ -6,20 +6,26 @@
 --   row-of, rows-of                  : what was written
 --   long-..                          : lengths are kept
 --   table-long                       : the table fits any buffer of the length
---   settles-in, settles-out, start-in, start-out : the tests by cases
+--   lowest-both, settles-in, settles-out, start-in, start-out : the tests by cases
 use Prim.Native.Nat.{ℕ, _+_, _*_, _≤_, _<_}
 use native.Mathlib.Nat.{mul-le-mul, mul-le-mul-left, mul-le-mul-right, mul-suc, suc-mul, mul-comm, add-mul, zero-mul}
 use mathlib.Core.Path.{_≡_, refl, sym, _∙_, ap}
-use mathlib.Core.Bool.{Bool, true, false}
+use mathlib.Core.Bool.{Bool, true, false, _&&_}
 use mathlib.Core.List.{List}
 use native.Mathlib.Omega.{arith}
 use native.Mathlib.Decide.{decLt}
-use lib.Bits.{bitAnd}
 use lib.ListN.{length, set, length-set}
 use borrow.Author.Tests.{lt-ltb, le-ltb, ltb-true}
 use Rattle.finite.specs.Bounded.{least}
-use Rattle.sets.specs.Member.{has, pack, meets}
-use Rattle.stored.specs.Stored.{wonAt}
+use Rattle.finite.proofs.Bounded.{least-same}
+use Rattle.bits.specs.Member.{has, pack, both, meets}
+use Rattle.sets.specs.Words.{capacity}
+use Rattle.arena.specs.Table.{none, gives}
+use Rattle.theory.specs.Entries.{entry}
+use Rattle.scratch.specs.Stored.{wonAt}
+use Rattle.counters.specs.Counters.{mostCounters}
+use Rattle.entries.specs.Step.{entryStep}
+use Rattle.entries.proofs.Packed.{none-entry, entry-small, entry-steps}
 use Rattle.columns.specs.Column.{Fits, Column, BlockFits, Block}
 use Rattle.controller_rows.specs.declared.Size.{Size}
 use Rattle.controller_rows.specs.Writes.{first, more, Stays, base, Table, Row, Rows, settlesAt, Plain, Plains, Away, startOf, Start, Starts}
@@ -27,23 +33,23 @@ use Rattle.controller_rows.proofs.Each.{each-long}
 
 -- ---- entries for every counter
 
-pub stays-state : (p : ℕ) → p < 64 → Stays p p 64
+pub stays-state : (p f : ℕ) → p < capacity → f ≡ entry (gives 0 p) → Stays p f entryStep
 unfolding first more
-stays-state p h = record { first = rw (lt-ltb p 64 h, first) refl; more = rw (lt-ltb p 64 h, more) refl }
+stays-state p f h e = record { first = e ∙ rw (lt-ltb p capacity h, first) refl; more = rw (lt-ltb p capacity h, more) refl }
 
-pub stays-none : (p : ℕ) → 64 ≤ p → Stays p 65535 0
+pub stays-none : (p : ℕ) → capacity ≤ p → Stays p 65535 0
 unfolding first more
-stays-none p h = record { first = rw (le-ltb p 64 h, first) refl; more = rw (le-ltb p 64 h, more) refl }
+stays-none p h = record { first = none-entry ∙ rw (le-ltb p capacity h, first) refl; more = rw (le-ltb p capacity h, more) refl }
 
-pub stays-small : (p f m h : ℕ) → Stays p f m → h < 32 → f + m * h < 65536
-stays-small p f m h e b = go (decLt p 64)
+pub stays-small : (p f m h : ℕ) → Stays p f m → h < mostCounters → f + m * h < 65536
+stays-small p f m h e b = go (decLt p capacity)
   where
-    go : Dec (p < 64) → f + m * h < 65536
+    go : Dec (p < capacity) → f + m * h < 65536
     go (yes l) =
-        let v = stays-state p l in
-        let x : f ≡ p = e .first ∙ sym (v .first) in
-        let y : m ≡ 64 = e .more ∙ sym (v .more) in
-        rw (x, y) (omega arith)
+        let v = stays-state p (entry (gives 0 p)) l refl in
+        let x : f ≡ entry (gives 0 p) = e .first ∙ sym (v .first) in
+        let y : m ≡ entryStep = e .more ∙ sym (v .more) in
+        rw (x, y) (omega (arith, entry-steps h p, entry-small h p l b))
     go (no l) =
         let v = stays-none p (omega arith) in
         let x : f ≡ 65535 = e .first ∙ sym (v .first) in
@@ -52,12 +58,12 @@ stays-small p f m h e b = go (decLt p 64)
 
 -- ---- places
 
-pub counters-small : (M o : ℕ) → M ≤ 32 → o < 64 → o * M ≤ 2016
+pub counters-small : (M o : ℕ) → M ≤ mostCounters → o < capacity → o * M ≤ capacity * mostCounters
 counters-small M o b d =
-    let a : o ≤ 63 = omega arith in
+    let a : o ≤ capacity = omega arith in
     mul-le-mul a b
 
-pub base-small : (n M o : ℕ) → n ≤ 64 → M ≤ 32 → o < 64 → o * M * n ≤ 129024
+pub base-small : (n M o : ℕ) → n ≤ capacity → M ≤ mostCounters → o < capacity → o * M * n ≤ capacity * mostCounters * capacity
 base-small n M o a b d = mul-le-mul (counters-small M o b d) a
 
 pub base-at : (z : Size) (o : ℕ) → z .inputs + o * z .counters * z .inputs ≡ base z o
@@ -65,7 +71,7 @@ unfolding base
 base-at z o = refl
 
 module _ (z : Size) (long : ℕ) (t : Table z long) where
-  pub counter-below : (h : ℕ) → has (z .all) h ≡ true → h < z .counters
+  pub counter-below : (h : ℕ) → has (z .all .0) h ≡ true → h < z .counters
   counter-below h e = ltb-true h (z .counters) (sym (t .all h) ∙ e)
 
   pub rows-below : (o : ℕ) → o < z .outputs → base z o + z .inputs * z .counters ≤ long
@@ -108,10 +114,10 @@ table-long t e = record { inputs = t .inputs; outputs = t .outputs; some = t .so
 -- ---- what was written
 
 module _ (z : Size) (o : ℕ) where
-  pub row-of : (j p : ℕ) {at f m : ℕ} {l r : List ℕ} → at ≡ base z o → Stays p f m → Column l r (at + j) (z .inputs) (z .all) f m → Row z o j p l r
+  pub row-of : (j p : ℕ) {at f m : ℕ} {l r : List ℕ} → at ≡ base z o → Stays p f m → Column l r (at + j) (z .inputs) (z .all .0) f m → Row z o j p l r
   row-of j p e s c = record { column = rw (← e, ← s .first, ← s .more) c }
 
-  pub rows-of : (w p : ℕ) {at f m : ℕ} {l r : List ℕ} → at ≡ base z o → Stays p f m → Block l r at (z .inputs) w (z .all) f m → Rows z o w p l r
+  pub rows-of : (w p : ℕ) {at f m : ℕ} {l r : List ℕ} → at ≡ base z o → Stays p f m → Block l r at (z .inputs) w (z .all .0) f m → Rows z o w p l r
   rows-of w p e s c = record { block = rw (← e, ← s .first, ← s .more) c }
 
 module _ {z : Size} {o : ℕ} {l m : List ℕ} where
@@ -121,47 +127,52 @@ module _ {z : Size} {o : ℕ} {l m : List ℕ} where
   pub rows-at : {w w′ p p′ : ℕ} → w ≡ w′ → p ≡ p′ → Rows z o w p l m → Rows z o w′ p′ l m
   rows-at d e r = rw (← d, ← e) r
 
-pub start-of : {z : Size} {s : List ℕ} {cores ins outs i v : ℕ} {l : List ℕ} → v ≡ startOf z s cores ins outs i → Start z s cores ins outs i l (set l i v)
+pub start-of : {z : Size} {s : List ℕ} {c ins outs i v : ℕ} {l : List ℕ} → v ≡ startOf z s c ins outs i → Start z s c ins outs i l (set l i v)
 start-of {i = i} {l = l} e = record { written = ap (set l i) e }
 
-pub starts-at : {z : Size} {s : List ℕ} {cores ins ins′ outs outs′ k : ℕ} {l m : List ℕ} → ins ≡ ins′ → outs ≡ outs′
-    → Starts z s cores ins outs k l m → Starts z s cores ins′ outs′ k l m
+pub starts-at : {z : Size} {s : List ℕ} {c ins ins′ outs outs′ k : ℕ} {l m : List ℕ} → ins ≡ ins′ → outs ≡ outs′
+    → Starts z s c ins outs k l m → Starts z s c ins′ outs′ k l m
 starts-at d e r = rw (← d, ← e) r
 
 -- ---- lengths
 
 module _ {z : Size} {l m : List ℕ} where
-  pub long-plain : {s : List ℕ} {cores o moves k : ℕ} → Plain z s cores o moves k l m → length m ≡ length l
+  pub long-plain : {s : List ℕ} {c o moves k : ℕ} → Plain z s c o moves k l m → length m ≡ length l
   long-plain e = each-long (λ j a b r. r .column .long) (e .each)
 
-  pub long-starts : {s : List ℕ} {cores ins outs k : ℕ} → Starts z s cores ins outs k l m → length m ≡ length l
+  pub long-starts : {s : List ℕ} {c ins outs k : ℕ} → Starts z s c ins outs k l m → length m ≡ length l
   long-starts e = each-long (λ i a b r. ap length (r .written) ∙ length-set a i _) (e .each)
 
-  pub long-away : {s : List ℕ} {cores d comp k : ℕ} {next : List ℕ} → Away z s cores d comp next k l m → length m ≡ length l
+  pub long-away : {s : List ℕ} {c d comp k : ℕ} {next : List ℕ} → Away z s c d comp next k l m → length m ≡ length l
   long-away e = each-long (λ o a b r. r .block .long) (e .each)
 
 module _ {z : Size} {l m : List ℕ} where
-  pub long-plains : {s : List ℕ} {cores : ℕ} {rows : List ℕ} {k : ℕ} → Plains z s cores rows k l m → length m ≡ length l
+  pub long-plains : {s : List ℕ} {c : ℕ} {rows : List ℕ} {k : ℕ} → Plains z s c rows k l m → length m ≡ length l
   long-plains e = each-long (λ o a b r. long-plain r) (e .each)
 
 -- ---- tests
 
-module _ (cores j row reach : ℕ) where
-  pub settles-in : {r : Bool} → has cores j ≡ true → r ≡ meets 64 row reach → r ≡ settlesAt cores j row reach
+-- the lowest state of two sets
+pub lowest-both : (x y r : ℕ) {p : ℕ} → ((s : ℕ) → has r s ≡ (has x s && has y s)) → p ≡ least capacity (has r) → p ≡ least capacity (both x y)
+unfolding both
+lowest-both x y r h e = e ∙ least-same capacity (has r) (both x y) (λ s b. h s)
+
+module _ (c j row reach : ℕ) where
+  pub settles-in : {r : Bool} → has c j ≡ true → r ≡ meets capacity row reach → r ≡ settlesAt c j row reach
   unfolding settlesAt
   settles-in h e = rw h e
 
-  pub settles-out : has cores j ≡ false → false ≡ settlesAt cores j row reach
+  pub settles-out : has c j ≡ false → false ≡ settlesAt c j row reach
   unfolding settlesAt
   settles-out h = rw h refl
 
-module _ (z : Size) (s : List ℕ) (cores ins outs i : ℕ) where
-  pub start-in : {p x f m : ℕ} → has ins i ≡ true → x ≡ pack (z .outputs) (wonAt s (z .inputs) cores i) → p ≡ least 64 (has (bitAnd outs x)) → Stays p f m
-      → f ≡ startOf z s cores ins outs i
+module _ (z : Size) (s : List ℕ) (c ins outs i : ℕ) where
+  pub start-in : {p x f m : ℕ} → has ins i ≡ true → x ≡ pack (z .outputs) (wonAt s (z .inputs) c i) → p ≡ least capacity (both outs x) → Stays p f m
+      → f ≡ startOf z s c ins outs i
   unfolding startOf
   start-in {p} {x} h a b e =
-      rw (h, startOf) (e .first ∙ ap (λ (k : ℕ). first k) (b ∙ ap (λ (y : ℕ). least 64 (has (bitAnd outs y))) a))
+      rw (h, startOf) (e .first ∙ ap (λ (k : ℕ). first k) (b ∙ ap (λ (y : ℕ). least capacity (both outs y)) a))
 
-  pub start-out : has ins i ≡ false → 65535 ≡ startOf z s cores ins outs i
+  pub start-out : has ins i ≡ false → 65535 ≡ startOf z s c ins outs i
   unfolding startOf
-  start-out h = rw (h, startOf) refl
+  start-out h = none-entry ∙ rw (h, startOf) refl

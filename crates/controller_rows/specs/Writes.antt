@@ -7,24 +7,28 @@
 --   Row z o j p l m                == the rows of (o, j) were written: state p, the counter stays
 --   Rows z o w p l m               == the same for each input of the set w
 --
--- told from scratch s, cores being the inputs in nontrivial components:
---   settlesAt cores j row reach    == j is in a nontrivial component, and one of its homes, the row, is in reach
---   homeAt cores j row reach d     == and the lowest such home is d
---   residesAt s n cores o d j      == the home of j at output o is d
---   Plain z s cores o moves k      == for each input j < k with no home in reach of o: the lowest of the moves to a member of the row of j, or none
---   Plains z s cores rows k        == the same for each output o < k
---   Away z s cores d comp next k   == for each output o < k outside the set comp the inputs that reside at d go on by next
+-- told from the sets s of scratch, c being the inputs in nontrivial components:
+--   settlesAt c j row reach        == j is in a nontrivial component, and one of its homes, the row, is in reach
+--   homeAt c j row reach d         == and the lowest such home is d
+--   residesAt s n c o d j          == the home of j at output o is d
+--   Plain z s c o moves k          == for each input j < k with no home in reach of o: the lowest of the moves to a member of the row of j, or none
+--   Plains z s c rows k            == the same for each output o < k
+--   Away z s c d comp next k       == for each output o < k outside the set comp the inputs that reside at d go on by next
 --   startOf .. i, Starts .. k      == the start entries
 use Prim.Native.Nat.{ℕ, _+_, _*_, _≤_, _<_}
 use mathlib.Core.Path.{_≡_}
 use mathlib.Core.Bool.{Bool, true, false, _&&_, not}
 use mathlib.Core.List.{List}
 use lib.Dec.{ltb, eqb}
-use lib.Bits.{bitAnd}
 use lib.ListN.{getD, set}
 use Rattle.finite.specs.Bounded.{least}
-use Rattle.sets.specs.Member.{has, pack, meets}
-use Rattle.stored.specs.Stored.{wonAt}
+use Rattle.bits.specs.Member.{has, pack, both, meets}
+use Rattle.sets.specs.Words.{capacity}
+use Rattle.arena.specs.Table.{none, gives}
+use Rattle.theory.specs.Entries.{entry}
+use Rattle.scratch.specs.Stored.{rowAt, outReachAt, wonAt}
+use Rattle.counters.specs.Counters.{mostCounters}
+use Rattle.entries.specs.Step.{entryStep}
 use Rattle.columns.specs.Column.{Column, Block}
 use Rattle.layout.specs.declared.Layout.{Layout}
 use Rattle.controller_rows.specs.declared.Size.{Size}
@@ -32,10 +36,10 @@ use Rattle.controller_rows.specs.Each.{Each}
 
 -- "Entries are 16 bits: next state + 64 × next counter; none is 65,535."
 unfoldable pub first : ℕ → ℕ
-first p = elim (ltb p 64) [ true ↦ p | false ↦ 65535 ]
+first p = elim (ltb p capacity) [ true ↦ entry (gives 0 p) | false ↦ entry none ]
 
 unfoldable pub more : ℕ → ℕ
-more p = elim (ltb p 64) [ true ↦ 64 | false ↦ 0 ]
+more p = elim (ltb p capacity) [ true ↦ entryStep | false ↦ 0 ]
 
 pub record Stays (p f m : ℕ) : Type 0 where
   pub first : f ≡ first p
@@ -53,45 +57,45 @@ pub record ControllerLayout (z : Size) (y : Layout) : Type 0 where
   pub width : y .width ≡ z .inputs
 
 pub record Table (z : Size) (long : ℕ) : Type 0 where
-  pub inputs : z .inputs ≤ 64
-  pub outputs : z .outputs ≤ 64
+  pub inputs : z .inputs ≤ capacity
+  pub outputs : z .outputs ≤ capacity
   pub some : 0 < z .counters
-  pub counters : z .counters ≤ 32
-  pub all : (c : ℕ) → has (z .all) c ≡ ltb c (z .counters)
+  pub counters : z .counters ≤ mostCounters
+  pub all : (h : ℕ) → has (z .all .0) h ≡ ltb h (z .counters)
   pub room : z .inputs + z .outputs * z .counters * z .inputs ≤ long
 
 pub record Row (z : Size) (o j p : ℕ) (l m : List ℕ) : Type 0 where
-  pub column : Column l m (base z o + j) (z .inputs) (z .all) (first p) (more p)
+  pub column : Column l m (base z o + j) (z .inputs) (z .all .0) (first p) (more p)
 
 pub record Rows (z : Size) (o w p : ℕ) (l m : List ℕ) : Type 0 where
-  pub block : Block l m (base z o) (z .inputs) w (z .all) (first p) (more p)
+  pub block : Block l m (base z o) (z .inputs) w (z .all .0) (first p) (more p)
 
 unfoldable pub settlesAt : ℕ → ℕ → ℕ → ℕ → Bool
-settlesAt cores j row reach = has cores j && meets 64 row reach
+settlesAt c j row reach = has c j && meets capacity row reach
 
 unfoldable pub homeAt : ℕ → ℕ → ℕ → ℕ → ℕ → Bool
-homeAt cores j row reach d = has cores j && eqb (least 64 (has (bitAnd row reach))) d
+homeAt c j row reach d = has c j && eqb (least capacity (both row reach)) d
 
 unfoldable pub residesAt : List ℕ → ℕ → ℕ → ℕ → ℕ → ℕ → Bool
-residesAt s n cores o d j = homeAt cores j (getD s (n + j) 0) (getD s (n + n + o) 0) d
+residesAt s n c o d j = homeAt c j (rowAt s n j) (outReachAt s n o) d
 
-pub record Plain (z : Size) (s : List ℕ) (cores o moves k : ℕ) (l m : List ℕ) : Type 0 where
+pub record Plain (z : Size) (s : List ℕ) (c o moves k : ℕ) (l m : List ℕ) : Type 0 where
   pub each :
-      Each (λ j. not (settlesAt cores j (getD s (z .inputs + j) 0) (getD s (z .inputs + z .inputs + o) 0)))
-      (λ j. Row z o j (least 64 (has (bitAnd moves (getD s (z .inputs + j) 0))))) k l m
+      Each (λ j. not (settlesAt c j (rowAt s (z .inputs) j) (outReachAt s (z .inputs) o)))
+      (λ j. Row z o j (least capacity (both moves (rowAt s (z .inputs) j)))) k l m
 
-pub record Plains (z : Size) (s : List ℕ) (cores : ℕ) (rows : List ℕ) (k : ℕ) (l m : List ℕ) : Type 0 where
-  pub each : Each (λ o. true) (λ o. Plain z s cores o (getD rows o 0) (z .inputs)) k l m
+pub record Plains (z : Size) (s : List ℕ) (c : ℕ) (rows : List ℕ) (k : ℕ) (l m : List ℕ) : Type 0 where
+  pub each : Each (λ o. true) (λ o. Plain z s c o (getD rows o 0) (z .inputs)) k l m
 
-pub record Away (z : Size) (s : List ℕ) (cores d comp : ℕ) (next : List ℕ) (k : ℕ) (l m : List ℕ) : Type 0 where
-  pub each : Each (λ o. not (has comp o)) (λ o. Rows z o (pack (z .inputs) (residesAt s (z .inputs) cores o d)) (getD next o 0)) k l m
+pub record Away (z : Size) (s : List ℕ) (c d comp : ℕ) (next : List ℕ) (k : ℕ) (l m : List ℕ) : Type 0 where
+  pub each : Each (λ o. not (has comp o)) (λ o. Rows z o (pack (z .inputs) (residesAt s (z .inputs) c o d)) (getD next o 0)) k l m
 
 unfoldable pub startOf : Size → List ℕ → ℕ → ℕ → ℕ → ℕ → ℕ
-startOf z s cores ins outs i =
-    elim (has ins i) [ true ↦ first (least 64 (has (bitAnd outs (pack (z .outputs) (wonAt s (z .inputs) cores i))))) | false ↦ 65535 ]
+startOf z s c ins outs i =
+    elim (has ins i) [ true ↦ first (least capacity (both outs (pack (z .outputs) (wonAt s (z .inputs) c i)))) | false ↦ entry none ]
 
-pub record Start (z : Size) (s : List ℕ) (cores ins outs i : ℕ) (l m : List ℕ) : Type 0 where
-  pub written : m ≡ set l i (startOf z s cores ins outs i)
+pub record Start (z : Size) (s : List ℕ) (c ins outs i : ℕ) (l m : List ℕ) : Type 0 where
+  pub written : m ≡ set l i (startOf z s c ins outs i)
 
-pub record Starts (z : Size) (s : List ℕ) (cores ins outs k : ℕ) (l m : List ℕ) : Type 0 where
-  pub each : Each (λ i. true) (Start z s cores ins outs) k l m
+pub record Starts (z : Size) (s : List ℕ) (c ins outs k : ℕ) (l m : List ℕ) : Type 0 where
+  pub each : Each (λ i. true) (Start z s c ins outs) k l m

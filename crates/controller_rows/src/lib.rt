@@ -1,5 +1,5 @@
-// Rows of the controller's table, written into the lent buffer. Functions that take one sort of states alone take plain numbers and
-// words.
+// Rows of the controller's table, written into the caller's buffer. Functions that take one sort of states alone take plain numbers and sets.
+use counters::CounterSet;
 use game::InSet;
 use game::OutSet;
 use game::OutState;
@@ -11,7 +11,7 @@ pub struct Size {
     pub inputs: usize,
     pub outputs: usize,
     pub counters: usize,
-    pub all: u64,
+    pub all: CounterSet,
 }
 
 // A home: its number, the states of its component, and the inputs whose home is there.

@@ -7,6 +7,8 @@ use layout::Layout;
 ghost use mathlib.Core.Path.{_≡_};
 ghost use Prim.Native.Nat.{_≤_, _<_};
 ghost use lib.ListN.{length};
+ghost use Rattle.sets.specs.Words.{capacity, bitsOf};
+ghost use Rattle.counters.specs.Counters.{mostCounters};
 ghost use Rattle.controller_rows.specs.Writes.{Stays, base as baseOf, ControllerLayout, Table, Row, Rows};
 
 // A pattern of entries: first + more × counter for each counter.
@@ -19,14 +21,14 @@ pub struct Pattern {
 pub fn staying(p: usize) -> Pattern
     ensures { λ r. ⌜ Stays p (r .first) (r .more) ⌝ }
 {
-    if p < 64 {
+    if p < sets::CAPACITY {
         return Pattern {
-            first: p as u16,
-            more: 64,
+            first: entries::pack(p, 0),
+            more: entries::STEP,
         };
     }
     Pattern {
-        first: 65535,
+        first: entries::NONE,
         more: 0,
     }
 }
@@ -51,11 +53,11 @@ pub fn layout_of(z: Size) -> Layout
 }
 
 // Where the rows of output o begin.
-fn base(z: Size, o: usize) -> usize
-    requires { ⌜ (z .inputs ≤ 64) × (z .counters ≤ 32) × (o < 64) ⌝ }
-    ensures { λ r. ⌜ r ≡ baseOf z o ⌝ }
+fn base(z: Size, o: OutState) -> usize
+    requires { ⌜ (z .inputs ≤ capacity) × (z .counters ≤ mostCounters) × (o .0 < capacity) ⌝ }
+    ensures { λ r. ⌜ r ≡ baseOf z (o .0) ⌝ }
 {
-    z.inputs + o * z.counters * z.inputs
+    z.inputs + o.0 * z.counters * z.inputs
 }
 
 // The rows of (o, j): state p, the counter stays.
@@ -64,22 +66,14 @@ pub fn write_row(room: &mut [u16], z: Size, o: OutState, j: InState, p: usize)
     ensures { λ r. ⌜ Row z (o .0) (j .0) p (now (room .entry)) (now (room .exit)) ⌝ }
 {
     let e = staying(p);
-    columns::column(room, base(z, o.0) + j.0, z.inputs, z.all, e.first, e.more);
+    columns::column(room, base(z, o) + j.0, z.inputs, z.all, e.first, e.more);
 }
 
 // The same for each input of a set.
 pub fn write_rows(room: &mut [u16], z: Size, o: OutState, inputs: InSet, p: usize)
     requires { ⌜ Table z (length (now room)) × (o .0 < z .outputs) ⌝ }
-    ensures { λ r. ⌜ Rows z (o .0) (inputs .0) p (now (room .entry)) (now (room .exit)) ⌝ }
+    ensures { λ r. ⌜ Rows z (o .0) (bitsOf (inputs .0)) p (now (room .entry)) (now (room .exit)) ⌝ }
 {
     let e = staying(p);
-    columns::block(
-        room,
-        base(z, o.0),
-        z.inputs,
-        inputs.0,
-        z.all,
-        e.first,
-        e.more,
-    );
+    columns::block(room, base(z, o), z.inputs, inputs.0, z.all, e.first, e.more);
 }

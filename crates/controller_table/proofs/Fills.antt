@@ -17,7 +17,7 @@ use lib.ListN.{length, getD}
 use borrow.Author.Tests.{lt-ltb, ltb-true}
 use Rattle.finite.proofs.Truth.{clash}
 use Rattle.finite.proofs.Bounded.{below-suc}
-use Rattle.sets.specs.Member.{has}
+use Rattle.bits.specs.Member.{has}
 use Rattle.arena.specs.Arena.{Separated}
 use Rattle.filling.specs.Grows.{Right}
 use Rattle.filling.proofs.Grows.{grows-none, grows-more}
@@ -34,7 +34,7 @@ pub record Sizes (S : Separated) (z : Size) : Type 0 where
   pub inputs : z .inputs ≡ S .input .states
   pub outputs : z .outputs ≡ S .output .states
   pub counters : z .counters ≡ controllerCounters S
-  pub all : (c : ℕ) → has (z .all) c ≡ ltb c (z .counters)
+  pub all : (c : ℕ) → has (z .all .0) c ≡ ltb c (z .counters)
 
 pub record Fills (S : Separated) (F : List ℕ → List ℕ → Type 0) (P : ℕ → ℕ → ℕ → Type 0) : Type 0 where
   pub fills : (l m : List ℕ) → F l m → length (controllerEntries S) ≤ length l → Filled S P l m
@@ -109,10 +109,10 @@ module _ (S : Separated) (z : Size) (Z : Sizes S z) where
             → Filled S (λ o′ c j. (o′ ≡ o) × (has w j ≡ true) × (has which c ≡ true)) l k
         go l k s = record { grows = s .grows; right = λ o′ c j a x d h. rw (h .0, ← place-base o c j) (s .right j c (rw (Z .inputs) d) (h .1) (h .2)) }
 
-    all-below : (c : ℕ) → has (z .all) c ≡ true → c < controllerCounters S
+    all-below : (c : ℕ) → has (z .all .0) c ≡ true → c < controllerCounters S
     all-below c h = rw (Z .counters) at (ltb-true c (z .counters) (sym (Z .all c) ∙ h))
 
-    below-all : (c : ℕ) → c < controllerCounters S → has (z .all) c ≡ true
+    below-all : (c : ℕ) → c < controllerCounters S → has (z .all .0) c ≡ true
     below-all c h = Z .all c ∙ lt-ltb c (z .counters) (rw (Z .counters) h)
 
     pub fills-row : (j p : ℕ) → j < S .input .states → ((c : ℕ) → c < controllerCounters S → first p + more p * c ≡ entry (controllerRow S o c j))
@@ -120,10 +120,10 @@ module _ (S : Separated) (z : Size) (Z : Sizes S z) where
     fills-row j p d e =
         record {
           fills = λ l k s long. go l k (s .column .fills (controllerEntries S)
-              (agrees j (z .all) (first p) (more p) d all-below (λ c h. e c (all-below c h))) long);
+              (agrees j (z .all .0) (first p) (more p) d all-below (λ c h. e c (all-below c h))) long);
         }
       where
-        go : (l k : List ℕ) → Columned (controllerEntries S) l k (base z o + j) (z .inputs) (z .all) → Filled S (λ o′ c j′. (o′ ≡ o) × (j′ ≡ j)) l k
+        go : (l k : List ℕ) → Columned (controllerEntries S) l k (base z o + j) (z .inputs) (z .all .0) → Filled S (λ o′ c j′. (o′ ≡ o) × (j′ ≡ j)) l k
         go l k s = record { grows = s .grows; right = λ o′ c j′ a x y h. rw (h .0, h .1, ← place-base o c j) (s .right c (below-all c x)) }
 
     pub fills-rows : (w p : ℕ) → ((c j : ℕ) → c < controllerCounters S → j < S .input .states → has w j ≡ true
@@ -132,5 +132,5 @@ module _ (S : Separated) (z : Size) (Z : Sizes S z) where
     fills-rows w p e = record {
       fills = λ l k s long.
           filled-part S (λ o′ c j a x y h. (h .0, h .1, below-all c x))
-          (fills-block w (z .all) (first p) (more p) all-below (λ c j h. e c j (all-below c h)) .fills l k (s .block) long);
+          (fills-block w (z .all .0) (first p) (more p) all-below (λ c j h. e c j (all-below c h)) .fills l k (s .block) long);
     }

@@ -1,31 +1,31 @@
 -- All homes, one after the other.
 --
---   part-closes, part-long       : the rows of the outputs' closure in scratch
 --   home-given, no-home          : a home with residents, and without
 --   settled-here                 : the rows of one home
 --   homes-none, homes-next       : the loop over them
 --   filled-table                 : all rows
-use Prim.Native.Nat.{ℕ, _+_, _-_, _≤_, _<_}
+use Prim.Native.Nat.{ℕ, _+_, _≤_, _<_}
 use native.Mathlib.Numerals.{add-one}
 use mathlib.Core.Path.{_≡_, sym, _∙_, ap, subst}
 use mathlib.Core.Bool.{true}
 use mathlib.Core.List.{List}
 use mathlib.Core.Logic.{inl, inr, _≢_}
 use native.Mathlib.Omega.{arith}
-use lib.ListN.{length, take, drop, length-take, length-drop}
-use lib.Seq.{getD-take, getD-drop}
 use Rattle.finite.proofs.Truth.{decide, clash}
 use Rattle.finite.proofs.Bounded.{below-suc}
-use Rattle.sets.specs.Member.{has, pack}
-use Rattle.sets.proofs.Membership.{has-zero, has-pack-below}
-use Rattle.sets.proofs.Compare.{nonzero-member}
+use Rattle.bits.specs.Member.{has, pack}
+use Rattle.bits.proofs.Membership.{has-zero, has-pack-below}
+use Rattle.bits.proofs.Compare.{nonzero-member}
+use Rattle.sets.specs.Words.{bitsOf, setsIn}
+use Rattle.scratch.specs.Stored.{outArea}
+use Rattle.scratch.proofs.Areas.{area-closes}
 use Rattle.graphs.specs.Component.{joined}
 use Rattle.arena.specs.Arena.{Separated}
 use Rattle.game.specs.declared.Game.{Game}
 use Rattle.game.specs.declared.InSet.{InSet}
+use Rattle.game.specs.declared.OutSet.{OutSet}
 use Rattle.play.specs.Play.{graphOf, separatedOf}
 use Rattle.components.specs.Component.{together}
-use Rattle.components.specs.Closes.{Closes}
 use Rattle.components.proofs.Closed.{component-closed}
 use Rattle.ways.proofs.Kept.{pack-below, pack-holds}
 use Rattle.theory.specs.Choice.{home}
@@ -35,61 +35,51 @@ use Rattle.controller_rows.specs.Writes.{residesAt}
 use Rattle.controller_table.specs.Filled.{Filled, Resides, Away, There, At, Below, Given, HomeOf}
 use Rattle.controller_table.proofs.Fills.{filled-none, filled-more, filled-part}
 use Rattle.controller_table.proofs.Told.{resides-word, resides-at, resides-there, home-core}
-use Rattle.controller_table.proofs.Setting.{sizes-of, told-of, scratch-long}
+use Rattle.controller_table.proofs.Setting.{sizes-of, told-of}
 
 -- the home that the code makes
-abbrev pub homeWith : ℕ → ℕ → InSet → Home
-homeWith d x i = record { state = record { 0 = d }; component = record { 0 = x }; inputs = i }
+abbrev pub homeWith : ℕ → OutSet → InSet → Home
+homeWith d x i = record { state = record { 0 = d }; component = x; inputs = i }
 
-module _ (g : Game) (z : Size) (s : List ℕ) (cores : ℕ) (G : Given g z s cores) where
-  pub part-long : z .outputs ≤ length (take (length s - (z .inputs + z .inputs)) (drop (z .inputs + z .inputs) s))
-  part-long = simp (length-take, length-drop) (omega (arith, scratch-long G))
-
-  part-closes : Closes (g .output) (take (length s - (z .inputs + z .inputs)) (drop (z .inputs + z .inputs) s))
-  part-closes = record {
-    row = λ o b.
-        getD-take (length s - (z .inputs + z .inputs)) (drop (z .inputs + z .inputs) s) o 0 (omega (arith, scratch-long G, G .sized .outputs))
-        ∙ getD-drop (z .inputs + z .inputs) s o 0 ∙ rw (G .sized .inputs) (G .ready .laid .outputs o b);
-  }
-
+module _ (g : Game) (z : Size) (s : List ℕ) (inner : ℕ) (G : Given g z s inner) where
   module _ (d : ℕ) (b : d < z .outputs) where
     d-below : d < separatedOf g .output .states
     d-below = rw (sizes-of g z (G .sized) .outputs) at b
 
-    module _ (i : InSet) (e : i .0 ≡ pack (z .inputs) (residesAt s (z .inputs) cores d d)) where
-      in-word : (j : ℕ) → j < separatedOf g .input .states → Resides (separatedOf g) d d j → has (i .0) j ≡ true
-      in-word j a r =
-          ap (λ (x : ℕ). has x j) e ∙ has-pack-below (z .inputs) (residesAt s (z .inputs) cores d d) j (rw (sizes-of g z (G .sized) .inputs) a)
-          ∙ resides-at (separatedOf g) s (z .inputs) cores (g .output .moves) (told-of g z s cores G) j d a d-below d r
+    module _ (i : InSet) (e : bitsOf (i .0) ≡ pack (z .inputs) (residesAt (setsIn s) (z .inputs) inner d d)) where
+      in-set : (j : ℕ) → j < separatedOf g .input .states → Resides (separatedOf g) d d j → has (bitsOf (i .0)) j ≡ true
+      in-set j a r =
+          ap (λ (x : ℕ). has x j) e ∙ has-pack-below (z .inputs) (residesAt (setsIn s) (z .inputs) inner d d) j (rw (sizes-of g z (G .sized) .inputs) a)
+          ∙ resides-at (separatedOf g) (setsIn s) (z .inputs) inner (setsIn (g .output .moves)) (told-of g z s inner G) j d a d-below d r
 
-      of-word : (j : ℕ) → has (i .0) j ≡ true → (j < separatedOf g .input .states) × Resides (separatedOf g) d d j
-      of-word j h =
+      of-set : (j : ℕ) → has (bitsOf (i .0)) j ≡ true → (j < separatedOf g .input .states) × Resides (separatedOf g) d d j
+      of-set j h =
           let k = ap (λ (x : ℕ). has x j) (sym e) ∙ h in
-          let a = rw (sizes-of g z (G .sized) .inputs) at (pack-below (z .inputs) (residesAt s (z .inputs) cores d d) j k) in (
+          let a = rw (sizes-of g z (G .sized) .inputs) at (pack-below (z .inputs) (residesAt (setsIn s) (z .inputs) inner d d) j k) in (
             a,
-            resides-word (separatedOf g) s (z .inputs) cores (g .output .moves) (told-of g z s cores G) j d a d-below d d-below
-                (pack-holds (z .inputs) (residesAt s (z .inputs) cores d d) j k),
+            resides-word (separatedOf g) (setsIn s) (z .inputs) inner (setsIn (g .output .moves)) (told-of g z s inner G) j d a d-below d d-below
+                (pack-holds (z .inputs) (residesAt (setsIn s) (z .inputs) inner d d) j k),
           )
 
       -- with no resident at d there is none anywhere
-      pub no-home : i .0 ≡ 0 → (l : List ℕ) → Filled (separatedOf g) (At (separatedOf g) d) l l
+      pub no-home : bitsOf (i .0) ≡ 0 → (l : List ℕ) → Filled (separatedOf g) (At (separatedOf g) d) l l
       no-home none l =
           filled-none (separatedOf g) l
-          (λ o c j x y a h. clash (in-word j a (resides-there (separatedOf g) o d j (h .resides))) (ap (λ (x : ℕ). has x j) none ∙ has-zero j))
+          (λ o c j x y a h. clash (in-set j a (resides-there (separatedOf g) o d j (h .resides))) (ap (λ (x : ℕ). has x j) none ∙ has-zero j))
 
-      pub home-given : (x : ℕ) → i .0 ≢ 0 → x ≡ pack (z .outputs) (together (take (length s - (z .inputs + z .inputs)) (drop (z .inputs + z .inputs) s)) d)
+      pub home-given : (x : OutSet) → bitsOf (i .0) ≢ 0 → bitsOf (x .0) ≡ pack (z .outputs) (together (outArea (setsIn s) (z .inputs)) d)
           → HomeOf (separatedOf g) (homeWith d x i)
       unfolding separatedOf graphOf
       home-given x n q =
-          let v = nonzero-member (i .0) n in
+          let v = nonzero-member (bitsOf (i .0)) n in
           record {
             below = d-below;
-            core = home-core (separatedOf g) d d (v .0) (of-word (v .0) (v .1) .1);
+            core = home-core (separatedOf g) d d (v .0) (of-set (v .0) (v .1) .1);
             component =
-                q ∙ rw (G .sized .outputs) (component-closed (g .output) (take (length s - (z .inputs + z .inputs)) (drop (z .inputs + z .inputs) s))
-                part-closes d d-below);
-            resides = λ j a h. of-word j h .1;
-            resident = in-word;
+                q ∙ rw (G .sized .outputs, G .sized .inputs)
+                (component-closed (g .output) (outArea (setsIn s) (g .input .states)) (area-closes (G .ready .laid)) d d-below);
+            resides = λ j a h. of-set j h .1;
+            resident = in-set;
           }
 
 -- the rows of one home

@@ -9,13 +9,14 @@ use mathlib.Core.Bool.{Bool, true, false, not}
 use mathlib.Core.List.{List}
 use mathlib.Core.Logic.{inl, inr}
 use native.Mathlib.Omega.{arith}
-use lib.Bits.{bitAnd}
 use lib.ListN.{length, getD}
 use Rattle.finite.specs.Bounded.{least}
 use Rattle.finite.proofs.Truth.{clash, not-true}
 use Rattle.finite.proofs.Bounded.{below-suc}
-use Rattle.sets.specs.Member.{has, pack}
-use Rattle.sets.proofs.Membership.{has-pack-below}
+use Rattle.bits.specs.Member.{has, pack, both}
+use Rattle.bits.proofs.Membership.{has-pack-below}
+use Rattle.sets.specs.Words.{capacity, bitsOf}
+use Rattle.scratch.specs.Stored.{rowAt, outReachAt}
 use Rattle.graphs.specs.Graph.{edge}
 use Rattle.graphs.specs.Closure.{reaches}
 use Rattle.graphs.specs.Component.{joined}
@@ -40,36 +41,36 @@ use Rattle.controller_table.proofs.Told.{Told, resides-word, resides-at
 use Rattle.controller_table.proofs.Entries.{plain-entry, away-entry}
 
 -- the component of a home, as a word
-pub comp-in : (S : Separated) (w : Home) → HomeOf S w → (o : ℕ) → has (w .component .0) o ≡ joined (S .output) (w .state .0) o
+pub comp-in : (S : Separated) (w : Home) → HomeOf S w → (o : ℕ) → has (bitsOf (w .component .0)) o ≡ joined (S .output) (w .state .0) o
 comp-in S w H o =
     ap (λ (x : ℕ). has x o) (H .component)
     ∙ ap (λ (p : ℕ → Bool). p o) (members-pack (S .output .states) (joined (S .output) (w .state .0)) (joined-to (S .output) (w .state .0)))
 
 module _ (S : Separated) (z : Size) (Z : Sizes S z) where
-  module _ (s : List ℕ) (cores : ℕ) (rows : List ℕ) (T : Told S s (z .inputs) cores rows) where
+  module _ (s : List ℕ) (inner : ℕ) (rows : List ℕ) (T : Told S s (z .inputs) inner rows) where
     fills-plain : (o : ℕ) → o < S .output .states
-        → Fills S (Plain z s cores o (getD rows o 0) (z .inputs))
-        (λ o′ c j. (o′ ≡ o) × (settlesAt cores j (getD s (z .inputs + j) 0) (getD s (z .inputs + z .inputs + o) 0) ≡ false))
+        → Fills S (Plain z s inner o (getD rows o 0) (z .inputs))
+        (λ o′ c j. (o′ ≡ o) × (settlesAt inner j (rowAt s (z .inputs) j) (outReachAt s (z .inputs) o) ≡ false))
     fills-plain o b = record {
       fills = λ l m e long.
           filled-part S (λ o′ c j x y d h. (j, rw (Z .inputs) d, ap not (h .1), (h .0, refl)))
-          (fills-each S (λ j. not (settlesAt cores j (getD s (z .inputs + j) 0) (getD s (z .inputs + z .inputs + o) 0)))
-          (λ j. Row z o j (least 64 (has (bitAnd (getD rows o 0) (getD s (z .inputs + j) 0)))))
+          (fills-each S (λ j. not (settlesAt inner j (rowAt s (z .inputs) j) (outReachAt s (z .inputs) o)))
+          (λ j. Row z o j (least capacity (both (getD rows o 0) (rowAt s (z .inputs) j))))
           (λ j o′ c j′. (o′ ≡ o) × (j′ ≡ j)) (z .inputs)
           (λ j d h. let a = rw (Z .inputs) at d in
-          fills-row S z Z o b j (least 64 (has (bitAnd (getD rows o 0) (getD s (z .inputs + j) 0)))) a
-          (λ c x. plain-entry S s (z .inputs) cores rows T j o a b
-          (not-true (settlesAt cores j (getD s (z .inputs + j) 0) (getD s (z .inputs + z .inputs + o) 0)) h) c))
+          fills-row S z Z o b j (least capacity (both (getD rows o 0) (rowAt s (z .inputs) j))) a
+          (λ c x. plain-entry S s (z .inputs) inner rows T j o a b
+          (not-true (settlesAt inner j (rowAt s (z .inputs) j) (outReachAt s (z .inputs) o)) h) c))
           .fills l m (e .each) long);
     }
 
-    pub fills-plains : Fills S (Plains z s cores rows (z .outputs))
-        (λ o c j. settlesAt cores j (getD s (z .inputs + j) 0) (getD s (z .inputs + z .inputs + o) 0) ≡ false)
+    pub fills-plains : Fills S (Plains z s inner rows (z .outputs))
+        (λ o c j. settlesAt inner j (rowAt s (z .inputs) j) (outReachAt s (z .inputs) o) ≡ false)
     fills-plains = record {
       fills = λ l m e long.
           filled-part S (λ o c j b y d h. (o, rw (Z .outputs) b, refl, (refl, h)))
-          (fills-each S (λ o. true) (λ o. Plain z s cores o (getD rows o 0) (z .inputs))
-          (λ i o c j. (o ≡ i) × (settlesAt cores j (getD s (z .inputs + j) 0) (getD s (z .inputs + z .inputs + i) 0) ≡ false)) (z .outputs)
+          (fills-each S (λ o. true) (λ o. Plain z s inner o (getD rows o 0) (z .inputs))
+          (λ i o c j. (o ≡ i) × (settlesAt inner j (rowAt s (z .inputs) j) (outReachAt s (z .inputs) i) ≡ false)) (z .outputs)
           (λ o b h. fills-plain o (rw (Z .outputs) at b))
           .fills l m (e .each) long);
     }
@@ -78,44 +79,44 @@ module _ (S : Separated) (z : Size) (Z : Sizes S z) where
       pub fills-away : (next : List ℕ)
           → ((o : ℕ) → o < S .output .states → reaches (S .output) o (w .state .0) ≡ true
           → getD next o 0 ≡ toward (S .output .states) (edge (S .output)) (joined (S .output) (w .state .0)) o)
-          → Fills S (AwayLoop z s cores (w .state .0) (w .component .0) next (z .outputs)) (Away S (w .state .0))
+          → Fills S (AwayLoop z s inner (w .state .0) (bitsOf (w .component .0)) next (z .outputs)) (Away S (w .state .0))
       fills-away next way = record {
         fills = λ l m e long.
             filled-part S (λ o c j b y a h. (o, rw (Z .outputs) b, ap not (comp-in S w H o ∙ h .apart), (refl, at o j b a (h .resides))))
-            (fills-each S (λ o. not (has (w .component .0) o))
-            (λ o. Rows z o (pack (z .inputs) (residesAt s (z .inputs) cores o (w .state .0))) (getD next o 0))
-            (λ i o c j. (o ≡ i) × (has (pack (z .inputs) (residesAt s (z .inputs) cores i (w .state .0))) j ≡ true)) (z .outputs)
+            (fills-each S (λ o. not (has (bitsOf (w .component .0)) o))
+            (λ o. Rows z o (pack (z .inputs) (residesAt s (z .inputs) inner o (w .state .0))) (getD next o 0))
+            (λ i o c j. (o ≡ i) × (has (pack (z .inputs) (residesAt s (z .inputs) inner i (w .state .0))) j ≡ true)) (z .outputs)
             (λ o b h. step o (rw (Z .outputs) at b) h)
             .fills l m (e .each) long);
       }
         where
           at : (o j : ℕ) → o < S .output .states → j < S .input .states → Resides S o (w .state .0) j
-              → has (pack (z .inputs) (residesAt s (z .inputs) cores o (w .state .0))) j ≡ true
+              → has (pack (z .inputs) (residesAt s (z .inputs) inner o (w .state .0))) j ≡ true
           at o j b a r =
-              has-pack-below (z .inputs) (residesAt s (z .inputs) cores o (w .state .0)) j (rw (Z .inputs) a)
-              ∙ resides-at S s (z .inputs) cores rows T j o a b (w .state .0) r
+              has-pack-below (z .inputs) (residesAt s (z .inputs) inner o (w .state .0)) j (rw (Z .inputs) a)
+              ∙ resides-at S s (z .inputs) inner rows T j o a b (w .state .0) r
 
-          of : (o j : ℕ) → o < S .output .states → j < S .input .states → has (pack (z .inputs) (residesAt s (z .inputs) cores o (w .state .0))) j ≡ true
+          of : (o j : ℕ) → o < S .output .states → j < S .input .states → has (pack (z .inputs) (residesAt s (z .inputs) inner o (w .state .0))) j ≡ true
               → Resides S o (w .state .0) j
           of o j b a h =
-              resides-word S s (z .inputs) cores rows T j o a b (w .state .0) (H .below)
-              (sym (has-pack-below (z .inputs) (residesAt s (z .inputs) cores o (w .state .0)) j (rw (Z .inputs) a)) ∙ h)
+              resides-word S s (z .inputs) inner rows T j o a b (w .state .0) (H .below)
+              (sym (has-pack-below (z .inputs) (residesAt s (z .inputs) inner o (w .state .0)) j (rw (Z .inputs) a)) ∙ h)
 
-          step : (o : ℕ) → o < S .output .states → not (has (w .component .0) o) ≡ true
-              → Fills S (Rows z o (pack (z .inputs) (residesAt s (z .inputs) cores o (w .state .0))) (getD next o 0))
-              (λ o′ c j. (o′ ≡ o) × (has (pack (z .inputs) (residesAt s (z .inputs) cores o (w .state .0))) j ≡ true))
+          step : (o : ℕ) → o < S .output .states → not (has (bitsOf (w .component .0)) o) ≡ true
+              → Fills S (Rows z o (pack (z .inputs) (residesAt s (z .inputs) inner o (w .state .0))) (getD next o 0))
+              (λ o′ c j. (o′ ≡ o) × (has (pack (z .inputs) (residesAt s (z .inputs) inner o (w .state .0))) j ≡ true))
           step o b h =
-              fills-rows S z Z o b (pack (z .inputs) (residesAt s (z .inputs) cores o (w .state .0))) (getD next o 0)
+              fills-rows S z Z o b (pack (z .inputs) (residesAt s (z .inputs) inner o (w .state .0))) (getD next o 0)
               (λ c j x a i. let r = of o j b a i in
-              away-entry S o (w .state .0) j r a (T .few-outputs) (getD next o 0) c (sym (comp-in S w H o) ∙ not-true (has (w .component .0) o) h)
+              away-entry S o (w .state .0) j r a (T .few-outputs) (getD next o 0) c (sym (comp-in S w H o) ∙ not-true (has (bitsOf (w .component .0)) o) h)
               (way o b (home-reached-at S o (w .state .0) j r)))
 
-  module _ (w : Home) (H : HomeOf S w) (few : S .output .states ≤ 64) where
+  module _ (w : Home) (H : HomeOf S w) (few : S .output .states ≤ capacity) where
     -- who resides at the home, at any state of its component
-    pub resident-at : (o j : ℕ) → j < S .input .states → joined (S .output) (w .state .0) o ≡ true → has (w .inputs .0) j ≡ true → Resides S o (w .state .0) j
+    pub resident-at : (o j : ℕ) → j < S .input .states → joined (S .output) (w .state .0) o ≡ true → has (bitsOf (w .inputs .0)) j ≡ true → Resides S o (w .state .0) j
     resident-at o j a h i = resides-same S (w .state .0) o (w .state .0) j a h (H .resides j a i)
 
-    pub input-at : (o j : ℕ) → j < S .input .states → joined (S .output) (w .state .0) o ≡ true → Resides S o (w .state .0) j → has (w .inputs .0) j ≡ true
+    pub input-at : (o j : ℕ) → j < S .input .states → joined (S .output) (w .state .0) o ≡ true → Resides S o (w .state .0) j → has (bitsOf (w .inputs .0)) j ≡ true
     input-at o j a h r = H .resident j a (resides-same S o (w .state .0) (w .state .0) j a (joined-sym (S .output) (w .state .0) o h) r)
 
 -- ---- the starts
@@ -125,9 +126,9 @@ record Begun (S : Separated) (k : ℕ) (l m : List ℕ) : Type 0 where
   grows : Grows (controllerEntries S) l m
   right : (i : ℕ) → i < k → Right (controllerEntries S) m i
 
-module _ (S : Separated) (z : Size) (n : z .inputs ≡ S .input .states) (s : List ℕ) (cores ins outs : ℕ)
-    (value : (i : ℕ) → i < S .input .states → startOf z s cores ins outs i ≡ entry (controllerStart S i)) where
-  begun : (k : ℕ) {l m : List ℕ} → Each (λ i. true) (Start z s cores ins outs) k l m → k ≤ S .input .states → length (controllerEntries S) ≤ length l
+module _ (S : Separated) (z : Size) (n : z .inputs ≡ S .input .states) (s : List ℕ) (inner ins outs : ℕ)
+    (value : (i : ℕ) → i < S .input .states → startOf z s inner ins outs i ≡ entry (controllerStart S i)) where
+  begun : (k : ℕ) {l m : List ℕ} → Each (λ i. true) (Start z s inner ins outs) k l m → k ≤ S .input .states → length (controllerEntries S) ≤ length l
       → Begun S k l m
   begun k (none {l = l}) b long = record { grows = grows-none (controllerEntries S) l; right = λ i c. absurd (omega arith) }
   begun (suc k) (hit {m = m} {r = r} e t f) b long =
@@ -135,20 +136,20 @@ module _ (S : Separated) (z : Size) (n : z .inputs ≡ S .input .states) (s : Li
       let is = value k b ∙ sym (start-at S k b) in
       let in-table : k < length (controllerEntries S) = omega (arith, controller-long S) in
       let in-room : k < length m = omega (arith, before .grows .long) in
-      let step = grows-set (controllerEntries S) m k (startOf z s cores ins outs k) in-table in-room is in
+      let step = grows-set (controllerEntries S) m k (startOf z s inner ins outs k) in-table in-room is in
       rw (f .written)
       (record {
         grows = grows-more (controllerEntries S) (before .grows) step;
         right = λ i c. elim (below-suc i k c) [
-          | inl q ↦ rw q (right-set (controllerEntries S) m k (startOf z s cores ins outs k) in-room is)
+          | inl q ↦ rw q (right-set (controllerEntries S) m k (startOf z s inner ins outs k) in-room is)
           | inr q ↦ step .kept i (omega arith) (before .right i q)
         ];
       })
   begun (suc k) (miss e t) b long = clash refl t
 
-  pub starts-grow : {l m : List ℕ} → Starts z s cores ins outs (z .inputs) l m → length (controllerEntries S) ≤ length l → Grows (controllerEntries S) l m
+  pub starts-grow : {l m : List ℕ} → Starts z s inner ins outs (z .inputs) l m → length (controllerEntries S) ≤ length l → Grows (controllerEntries S) l m
   starts-grow e long = begun (z .inputs) (e .each) (omega (arith, n)) long .grows
 
-  pub starts-right : {l m : List ℕ} → Starts z s cores ins outs (z .inputs) l m → length (controllerEntries S) ≤ length l
+  pub starts-right : {l m : List ℕ} → Starts z s inner ins outs (z .inputs) l m → length (controllerEntries S) ≤ length l
       → (i : ℕ) → i < S .input .states → Right (controllerEntries S) m i
   starts-right e long i b = begun (z .inputs) (e .each) (omega (arith, n)) long .right i (rw n b)

@@ -12,9 +12,11 @@ use mathlib.Core.Bool.{true, _&&_}
 use mathlib.Core.List.{List}
 use native.Mathlib.Omega.{arith}
 use lib.ListN.{length, getD}
-use Rattle.sets.specs.Member.{has, pack}
-use Rattle.sets.proofs.Membership.{lt-within, pack-lt, pack-ext}
-use Rattle.sets.proofs.Compare.{member-nonzero}
+use Rattle.bits.specs.Member.{has, pack}
+use Rattle.bits.proofs.Membership.{lt-within, pack-lt, pack-ext}
+use Rattle.bits.proofs.Compare.{member-nonzero}
+use Rattle.sets.specs.Words.{capacity, bitsOf, setsIn}
+use Rattle.scratch.specs.Stored.{outReachAt}
 use Rattle.graphs.specs.Graph.{edge}
 use Rattle.graphs.specs.Closure.{reaches}
 use Rattle.graphs.specs.Component.{joined}
@@ -45,19 +47,19 @@ use Rattle.controller_table.proofs.Setting.{fits-of, sizes-of, few-outp
 
 -- the rows of the game's moves are the graph's moves
 pub same-moves : (g : Game) (s t : ℕ) → s < separatedOf g .output .states → t < separatedOf g .output .states
-    → separatedOf g .output .moves s t ≡ has (getD (g .output .moves) s 0) t
+    → separatedOf g .output .moves s t ≡ has (getD (setsIn (g .output .moves)) s 0) t
 unfolding separatedOf graphOf
 same-moves g s t a b = refl
 
 module _ (g : Game) (z : Size) (Z : Sized g z) (w : Home) (H : HomeOf (separatedOf g) w) where
-  comp-joined : has (w .component .0) ≡ joined (separatedOf g .output) (w .state .0)
+  comp-joined : has (bitsOf (w .component .0)) ≡ joined (separatedOf g .output) (w .state .0)
   comp-joined =
       ap has (H .component)
       ∙ members-pack (separatedOf g .output .states) (joined (separatedOf g .output) (w .state .0)) (joined-to (separatedOf g .output) (w .state .0))
 
   -- ---- the way home
 
-  pub approach-bounds : Bounds (z .outputs) (w .component .0)
+  pub approach-bounds : Bounds (z .outputs) (bitsOf (w .component .0))
   approach-bounds = record {
     states = omega (arith, sizes-of g z Z .outputs, few-outputs g z Z);
     members =
@@ -74,20 +76,20 @@ module _ (g : Game) (z : Size) (Z : Sized g z) (w : Home) (H : HomeOf (separated
       let r = near-reaches (separatedOf g .output) (w .state .0) k t h in
       (reaches-trans (separatedOf g .output) s t (w .state .0) (reaches-edge (separatedOf g .output) s t e) r, r)
 
-  pub approached : (s : List ℕ) (cores among : ℕ) (next l m : List ℕ) → Given g z s cores
-      → among ≡ pack (z .outputs) (λ o. has (getD s (z .inputs + z .inputs + o) 0) (w .state .0))
-      → Searched (g .output .moves) (z .outputs) among (w .component .0) next → length (controllerEntries (separatedOf g)) ≤ length l
-      → AwayLoop z s cores (w .state .0) (w .component .0) next (z .outputs) l m → Filled (separatedOf g) (Away (separatedOf g) (w .state .0)) l m
-  approached s cores among next l m G f found long e =
-      fills-away (separatedOf g) z (sizes-of g z Z) s cores (g .output .moves) T w H next way .fills l m e long
+  pub approached : (s : List ℕ) (inner among : ℕ) (next l m : List ℕ) → Given g z s inner
+      → among ≡ pack (z .outputs) (λ o. has (outReachAt (setsIn s) (z .inputs) o) (w .state .0))
+      → Searched (setsIn (g .output .moves)) (z .outputs) among (bitsOf (w .component .0)) next → length (controllerEntries (separatedOf g)) ≤ length l
+      → AwayLoop z (setsIn s) inner (w .state .0) (bitsOf (w .component .0)) next (z .outputs) l m → Filled (separatedOf g) (Away (separatedOf g) (w .state .0)) l m
+  approached s inner among next l m G f found long e =
+      fills-away (separatedOf g) z (sizes-of g z Z) (setsIn s) inner (setsIn (g .output .moves)) T w H next way .fills l m e long
     where
-      T : Told (separatedOf g) s (z .inputs) cores (g .output .moves)
-      T = told-of g z s cores G
+      T : Told (separatedOf g) (setsIn s) (z .inputs) inner (setsIn (g .output .moves))
+      T = told-of g z s inner G
 
       all : among ≡ pack (separatedOf g .output .states) (λ o. reaches (separatedOf g .output) o (w .state .0))
       all =
           f ∙ rw (sizes-of g z Z .outputs)
-          (pack-ext (separatedOf g .output .states) (λ o. has (getD s (z .inputs + z .inputs + o) 0) (w .state .0))
+          (pack-ext (separatedOf g .output .states) (λ o. has (outReachAt (setsIn s) (z .inputs) o) (w .state .0))
           (λ o. reaches (separatedOf g .output) o (w .state .0))
           (λ o b. T .reach o (w .state .0) b))
 
@@ -97,8 +99,8 @@ module _ (g : Game) (z : Size) (Z : Sized g z) (w : Home) (H : HomeOf (separated
           toward-along (λ s t. edge (separatedOf g .output) s t &&
           (reaches (separatedOf g .output) s (w .state .0) && reaches (separatedOf g .output) t (w .state .0)))
           (joined (separatedOf g .output) (w .state .0))
-          (ap (kept (g .output .moves)) all
-          ∙ kept-pack (separatedOf g .output) (g .output .moves) (same-moves g) (λ o. reaches (separatedOf g .output) o (w .state .0)))
+          (ap (kept (setsIn (g .output .moves))) all
+          ∙ kept-pack (separatedOf g .output) (setsIn (g .output .moves)) (same-moves g) (λ o. reaches (separatedOf g .output) o (w .state .0)))
           comp-joined (rw (sizes-of g z Z .outputs) at found) o b
           (leads-narrow (separatedOf g .output .states) (edge (separatedOf g .output)) (joined (separatedOf g .output) (w .state .0))
           (λ u. reaches (separatedOf g .output) u (w .state .0)) way-inside o
@@ -127,9 +129,9 @@ module _ (g : Game) (z : Size) (Z : Sized g z) (w : Home) (H : HomeOf (separated
 -- ---- the guarantees that meet a component
 
 pub met-goals : (g : Game) (z : Size) → Sized g z → (w : Home) → HomeOf (separatedOf g) w → (q : ℕ)
-    → q ≡ pack (length (guarantees (separatedOf g))) (metIn (guarantees (separatedOf g)) (w .component .0)) → Goals (separatedOf g) w q
+    → q ≡ pack (length (guarantees (separatedOf g))) (metIn (guarantees (separatedOf g)) (bitsOf (w .component .0))) → Goals (separatedOf g) w q
 met-goals g z Z w H q e = record {
   is =
-      e ∙ met-pack (separatedOf g .output) (w .state .0) (w .component .0) (few-outputs g z Z) (comp-in (separatedOf g) w H) (guarantees (separatedOf g))
+      e ∙ met-pack (separatedOf g .output) (w .state .0) (bitsOf (w .component .0)) (few-outputs g z Z) (comp-in (separatedOf g) w H) (guarantees (separatedOf g))
       (length (guarantees (separatedOf g)));
 }

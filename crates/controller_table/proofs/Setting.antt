@@ -9,10 +9,10 @@ use mathlib.Core.Bool.{true, false}
 use mathlib.Core.List.{List}
 use mathlib.Core.Logic.{_⊎_, inl, inr}
 use native.Mathlib.Omega.{arith}
-use lib.ListN.{length, getD}
+use lib.ListN.{length}
 use Rattle.finite.proofs.Truth.{decide}
-use Rattle.sets.specs.Member.{has}
-use Rattle.sets.proofs.Membership.{has-pack-below}
+use Rattle.bits.specs.Member.{has}
+use Rattle.bits.proofs.Membership.{has-pack-below}
 use Rattle.graphs.specs.Closure.{reaches}
 use Rattle.graphs.specs.Component.{nontrivial}
 use Rattle.graphs.proofs.Graph.{edge-from}
@@ -23,8 +23,10 @@ use Rattle.game.specs.declared.Game.{Game}
 use Rattle.game.proofs.Laws.{Fits, accepted-fits}
 use Rattle.play.specs.Play.{graphOf, separatedOf}
 use Rattle.components.proofs.Closed.{has-pack-all, moved-edge}
-use Rattle.stored.specs.Stored.{storedAt, storedRow}
-use Rattle.stored.proofs.Read.{won-region}
+use Rattle.sets.specs.Words.{capacity, setsIn, setCount}
+use Rattle.scratch.specs.Scratch.{scratchSets}
+use Rattle.scratch.specs.Stored.{rowAt, storedAt, storedRow}
+use Rattle.scratch.proofs.Read.{ready-won}
 use Rattle.demands.proofs.Sizes.{controller-few}
 use Rattle.theory.specs.Region.{homeFor, region}
 use Rattle.theory.specs.Entries.{controllerEntries}
@@ -45,7 +47,7 @@ module _ (g : Game) (z : Size) (Z : Sized g z) where
   unfolding separatedOf graphOf
   sizes-of = record { inputs = Z .inputs; outputs = Z .outputs; counters = Z .counters; all = Z .all }
 
-  pub few-outputs : separatedOf g .output .states ≤ 64
+  pub few-outputs : separatedOf g .output .states ≤ capacity
   unfolding separatedOf graphOf
   few-outputs = fits-of .output .most
 
@@ -83,12 +85,12 @@ module _ (S : Separated) (j : ℕ) where
   unfolding storedAt
   stored-wins t d = stored-has d ∙ rw (t, storedAt) refl
 
-pub told-of : (g : Game) (z : Size) (s : List ℕ) (cores : ℕ) → Given g z s cores → Told (separatedOf g) s (z .inputs) cores (g .output .moves)
+pub told-of : (g : Game) (z : Size) (s : List ℕ) (inner : ℕ) → Given g z s inner → Told (separatedOf g) (setsIn s) (z .inputs) inner (setsIn (g .output .moves))
 unfolding separatedOf graphOf
-told-of g z s cores G = record {
+told-of g z s inner G = record {
   few-inputs = F .input .most;
   few-outputs = F .output .most;
-  core = λ j a. ap (λ (x : ℕ). has x j) (G .core) ∙ has-pack-below (g .input .states) (nontrivial (graphOf (g .input))) j a;
+  core = λ j a. ap (λ (x : ℕ). has x j) (G .ready .inner) ∙ has-pack-below (g .input .states) (nontrivial (graphOf (g .input))) j a;
   homes = λ j d a t. row j d a ∙ stored-homes (separatedOf g) j t d;
   wins = λ j o a t. row j o a ∙ stored-wins (separatedOf g) j t o;
   reach = λ o d b.
@@ -98,15 +100,15 @@ told-of g z s cores G = record {
   moves = λ o p b. moved-edge (g .output) (F .output) o p b;
   same = λ o p a b. refl;
   won = λ i o a b.
-      rw (G .sized .inputs) (won-region g s cores i o (F .output .most) a b (G .core) (G .ready .rows i a) (G .ready .laid .outputs o b));
+      rw (G .sized .inputs) (ready-won (G .ready) i o a b);
 }
   where
     F : Fits g
     F = accepted-fits g (G .sized .accepted)
 
-    row : (j d : ℕ) → j < g .input .states → has (getD s (z .inputs + j) 0) d ≡ has (storedRow (separatedOf g) j) d
+    row : (j d : ℕ) → j < g .input .states → has (rowAt (setsIn s) (z .inputs) j) d ≡ has (storedRow (separatedOf g) j) d
     row j d a = rw (G .sized .inputs) (ap (λ (x : ℕ). has x d) (G .ready .rows j a))
 
 -- scratch has all its rows
-pub scratch-long : {g : Game} {z : Size} {s : List ℕ} {cores : ℕ} → Given g z s cores → z .inputs + z .inputs + z .outputs ≤ length s
+pub scratch-long : {g : Game} {z : Size} {s : List ℕ} {inner : ℕ} → Given g z s inner → scratchSets (z .inputs) (z .outputs) ≤ setCount s
 scratch-long {g} {z} G = rw (G .sized .inputs, G .sized .outputs) (G .ready .laid .long)

@@ -1,6 +1,6 @@
 -- What scratch tells of the game: who resides where.
 --
---   Told S s n cores rows    == what the words of scratch and the rows of moves hold
+--   Told S s n inner rows    == what the sets s of scratch and the rows of moves hold
 --   settled, unsettled       : whether some home is in reach
 --   resides-word, resides-at : the words of residents
 --   row-home                 : the row of a resident
@@ -11,15 +11,13 @@ use mathlib.Core.Bool.{Bool, true, false, _&&_}
 use mathlib.Core.List.{List}
 use native.Mathlib.Omega.{arith}
 use lib.Dec.{eqb}
-use lib.Bits.{bitAnd}
 use lib.ListN.{getD}
 use borrow.Author.Tests.{eqb-true, eq-eqb}
 use Rattle.finite.specs.Bounded.{least}
 use Rattle.finite.proofs.Truth.{clash, false-of, and-intro, and-left, and-right}
 use Rattle.finite.proofs.Bounded.{least-member, least-before, least-unique}
-use Rattle.sets.specs.Member.{has, meets}
-use Rattle.sets.proofs.Membership.{has-and}
-use Rattle.sets.proofs.Compare.{meets-intro, meets-elim}
+use Rattle.bits.specs.Member.{has, meets, both}
+use Rattle.bits.proofs.Compare.{meets-intro, meets-elim}
 use Rattle.graphs.specs.Graph.{edge}
 use Rattle.graphs.specs.Closure.{reaches}
 use Rattle.graphs.specs.Component.{joined, nontrivial}
@@ -27,7 +25,8 @@ use Rattle.graphs.proofs.Graph.{edge-to}
 use Rattle.graphs.proofs.Component.{joined-self, joined-back}
 use Rattle.graphs.proofs.Closure.{reaches-to, reaches-self, reaches-trans, reaches-path}
 use Rattle.arena.specs.Arena.{Separated}
-use Rattle.stored.specs.Stored.{wonAt}
+use Rattle.sets.specs.Words.{capacity}
+use Rattle.scratch.specs.Stored.{rowAt, outReachAt, wonAt}
 use Rattle.theory.specs.Region.{homeFor, settles, answers, region}
 use Rattle.theory.specs.Choice.{home, homeward, controllerRow}
 use Rattle.theory.proofs.Region.{answers-intro, settles-intro, settles-elim, homeFor-nontrivial, region-settles}
@@ -36,45 +35,50 @@ use Rattle.theory.proofs.ControllerRow.{home-reached, home-homeFor, home-same, 
 use Rattle.controller_rows.specs.Writes.{settlesAt, homeAt, residesAt}
 use Rattle.controller_table.specs.Filled.{Resides}
 
-pub record Told (S : Separated) (s : List ℕ) (n cores : ℕ) (rows : List ℕ) : Type 0 where
-  pub few-inputs : S .input .states ≤ 64
-  pub few-outputs : S .output .states ≤ 64
-  pub core : (j : ℕ) → j < S .input .states → has cores j ≡ nontrivial (S .input) j
-  pub homes : (j d : ℕ) → j < S .input .states → nontrivial (S .input) j ≡ true → has (getD s (n + j) 0) d ≡ homeFor S (region S) j d
-  pub wins : (j o : ℕ) → j < S .input .states → nontrivial (S .input) j ≡ false → has (getD s (n + j) 0) o ≡ region S j o
-  pub reach : (o d : ℕ) → o < S .output .states → has (getD s (n + n + o) 0) d ≡ reaches (S .output) o d
+-- what belongs to both of two sets
+pub in-both : (x y d : ℕ) → both x y d ≡ (has x d && has y d)
+unfolding both
+in-both x y d = refl
+
+pub record Told (S : Separated) (s : List ℕ) (n inner : ℕ) (rows : List ℕ) : Type 0 where
+  pub few-inputs : S .input .states ≤ capacity
+  pub few-outputs : S .output .states ≤ capacity
+  pub core : (j : ℕ) → j < S .input .states → has inner j ≡ nontrivial (S .input) j
+  pub homes : (j d : ℕ) → j < S .input .states → nontrivial (S .input) j ≡ true → has (rowAt s n j) d ≡ homeFor S (region S) j d
+  pub wins : (j o : ℕ) → j < S .input .states → nontrivial (S .input) j ≡ false → has (rowAt s n j) o ≡ region S j o
+  pub reach : (o d : ℕ) → o < S .output .states → has (outReachAt s n o) d ≡ reaches (S .output) o d
   pub moves : (o p : ℕ) → o < S .output .states → has (getD rows o 0) p ≡ edge (S .output) o p
   pub same : (o p : ℕ) → o < S .output .states → p < S .output .states → S .output .moves o p ≡ has (getD rows o 0) p
-  pub won : (i o : ℕ) → i < S .input .states → o < S .output .states → wonAt s n cores i o ≡ region S i o
+  pub won : (i o : ℕ) → i < S .input .states → o < S .output .states → wonAt s n inner i o ≡ region S i o
 
-module _ (S : Separated) (s : List ℕ) (n cores : ℕ) (rows : List ℕ) (T : Told S s n cores rows) where
+module _ (S : Separated) (s : List ℕ) (n inner : ℕ) (rows : List ℕ) (T : Told S s n inner rows) where
   module _ (j o : ℕ) (a : j < S .input .states) (b : o < S .output .states) where
-    pub settled-core : settlesAt cores j (getD s (n + j) 0) (getD s (n + n + o) 0) ≡ true → nontrivial (S .input) j ≡ true
+    pub settled-core : settlesAt inner j (rowAt s n j) (outReachAt s n o) ≡ true → nontrivial (S .input) j ≡ true
     unfolding settlesAt
-    settled-core h = sym (T .core j a) ∙ and-left (has cores j) (meets 64 (getD s (n + j) 0) (getD s (n + n + o) 0)) h
+    settled-core h = sym (T .core j a) ∙ and-left (has inner j) (meets capacity (rowAt s n j) (outReachAt s n o)) h
 
-    pub settled : settlesAt cores j (getD s (n + j) 0) (getD s (n + n + o) 0) ≡ true → settles S (region S) j o ≡ true
+    pub settled : settlesAt inner j (rowAt s n j) (outReachAt s n o) ≡ true → settles S (region S) j o ≡ true
     unfolding settlesAt
     settled h =
-        let v = meets-elim 64 (getD s (n + j) 0) (getD s (n + n + o) 0) (and-right (has cores j) (meets 64 (getD s (n + j) 0) (getD s (n + n + o) 0)) h) in
+        let v = meets-elim capacity (rowAt s n j) (outReachAt s n o) (and-right (has inner j) (meets capacity (rowAt s n j) (outReachAt s n o)) h) in
         settles-intro S (region S) j o (v .0) (sym (T .reach o (v .0) b) ∙ v .3)
         (sym (T .homes j (v .0) a (settled-core h)) ∙ v .2)
 
-    pub unsettled : settlesAt cores j (getD s (n + j) 0) (getD s (n + n + o) 0) ≡ false → nontrivial (S .input) j ≡ true → settles S (region S) j o ≡ false
+    pub unsettled : settlesAt inner j (rowAt s n j) (outReachAt s n o) ≡ false → nontrivial (S .input) j ≡ true → settles S (region S) j o ≡ false
     unfolding settlesAt
     unsettled h t =
         false-of (settles S (region S) j o)
         (λ e. let v = settles-elim S (region S) j o e in
         clash
         (and-intro (T .core j a ∙ t)
-        (meets-intro 64 (getD s (n + j) 0) (getD s (n + n + o) 0) (v .0) (omega (arith, reaches-to (S .output) o (v .0) (v .1), T .few-outputs))
+        (meets-intro capacity (rowAt s n j) (outReachAt s n o) (v .0) (omega (arith, reaches-to (S .output) o (v .0) (v .1), T .few-outputs))
         (T .homes j (v .0) a t ∙ v .2) (T .reach o (v .0) b ∙ v .1)))
         h)
 
     -- the homes in reach, as a word
-    both : nontrivial (S .input) j ≡ true → (d : ℕ)
-        → has (bitAnd (getD s (n + j) 0) (getD s (n + n + o) 0)) d ≡ (homeFor S (region S) j d && reaches (S .output) o d)
-    both t d = has-and (getD s (n + j) 0) (getD s (n + n + o) 0) d ∙ ap₂ _&&_ (T .homes j d a t) (T .reach o d b)
+    both-home : nontrivial (S .input) j ≡ true → (d : ℕ)
+        → (both (rowAt s n j) (outReachAt s n o)) d ≡ (homeFor S (region S) j d && reaches (S .output) o d)
+    both-home t d = in-both (rowAt s n j) (outReachAt s n o) d ∙ ap₂ _&&_ (T .homes j d a t) (T .reach o d b)
 
     home-least : home S j o ≡ least (S .output .states) (λ d. reaches (S .output) o d && homeFor S (region S) j d)
     unfolding home
@@ -87,7 +91,7 @@ module _ (S : Separated) (s : List ℕ) (n cores : ℕ) (rows : List ℕ) (T : T
     swap false false h = refl
 
     module _ (d : ℕ) where
-      pub resides-word : d < S .output .states → residesAt s n cores o d j ≡ true → Resides S o d j
+      pub resides-word : d < S .output .states → residesAt s n inner o d j ≡ true → Resides S o d j
       unfolding residesAt homeAt
       resides-word l h = record {
         core = t;
@@ -95,22 +99,22 @@ module _ (S : Separated) (s : List ℕ) (n cores : ℕ) (rows : List ℕ) (T : T
         is =
             home-least
             ∙ least-unique (S .output .states) (λ k. reaches (S .output) o k && homeFor S (region S) j k) d l (and-intro reached inside)
-            (λ k b. swap (homeFor S (region S) j k) (reaches (S .output) o k) (sym (both t k) ∙ before k b));
+            (λ k b. swap (homeFor S (region S) j k) (reaches (S .output) o k) (sym (both-home t k) ∙ before k b));
       }
         where
           t : nontrivial (S .input) j ≡ true
-          t = sym (T .core j a) ∙ and-left (has cores j) (eqb (least 64 (has (bitAnd (getD s (n + j) 0) (getD s (n + n + o) 0)))) d) h
+          t = sym (T .core j a) ∙ and-left (has inner j) (eqb (least capacity (both (rowAt s n j) (outReachAt s n o))) d) h
 
-          low : least 64 (has (bitAnd (getD s (n + j) 0) (getD s (n + n + o) 0))) ≡ d
+          low : least capacity (both (rowAt s n j) (outReachAt s n o)) ≡ d
           low =
-              eqb-true (least 64 (has (bitAnd (getD s (n + j) 0) (getD s (n + n + o) 0)))) d
-              (and-right (has cores j) (eqb (least 64 (has (bitAnd (getD s (n + j) 0) (getD s (n + n + o) 0)))) d) h)
+              eqb-true (least capacity (both (rowAt s n j) (outReachAt s n o))) d
+              (and-right (has inner j) (eqb (least capacity (both (rowAt s n j) (outReachAt s n o))) d) h)
 
           found : (homeFor S (region S) j d && reaches (S .output) o d) ≡ true
           found =
-              sym (both t d)
-              ∙ ap (has (bitAnd (getD s (n + j) 0) (getD s (n + n + o) 0))) (sym low)
-              ∙ least-member 64 (has (bitAnd (getD s (n + j) 0) (getD s (n + n + o) 0))) (omega (arith, low, T .few-outputs))
+              sym (both-home t d)
+              ∙ ap (both (rowAt s n j) (outReachAt s n o)) (sym low)
+              ∙ least-member capacity (both (rowAt s n j) (outReachAt s n o)) (omega (arith, low, T .few-outputs))
 
           inside : homeFor S (region S) j d ≡ true
           inside = and-left (homeFor S (region S) j d) (reaches (S .output) o d) found
@@ -118,18 +122,18 @@ module _ (S : Separated) (s : List ℕ) (n cores : ℕ) (rows : List ℕ) (T : T
           reached : reaches (S .output) o d ≡ true
           reached = and-right (homeFor S (region S) j d) (reaches (S .output) o d) found
 
-          before : (k : ℕ) → k < d → has (bitAnd (getD s (n + j) 0) (getD s (n + n + o) 0)) k ≡ false
-          before k b = least-before 64 (has (bitAnd (getD s (n + j) 0) (getD s (n + n + o) 0))) k (omega (arith, low))
+          before : (k : ℕ) → k < d → (both (rowAt s n j) (outReachAt s n o)) k ≡ false
+          before k b = least-before capacity (both (rowAt s n j) (outReachAt s n o)) k (omega (arith, low))
 
-      pub resides-at : Resides S o d j → residesAt s n cores o d j ≡ true
+      pub resides-at : Resides S o d j → residesAt s n inner o d j ≡ true
       unfolding residesAt homeAt
       resides-at r =
           and-intro (T .core j a ∙ r .core)
-          (eq-eqb (least 64 (has (bitAnd (getD s (n + j) 0) (getD s (n + n + o) 0)))) d
-          (least-unique 64 (has (bitAnd (getD s (n + j) 0) (getD s (n + n + o) 0))) (home S j o)
+          (eq-eqb (least capacity (both (rowAt s n j) (outReachAt s n o))) d
+          (least-unique capacity (both (rowAt s n j) (outReachAt s n o)) (home S j o)
           (omega (arith, reaches-to (S .output) o (home S j o) reached, T .few-outputs))
-          (both (r .core) (home S j o) ∙ and-intro (home-homeFor S j o (r .settled)) reached)
-          (λ k b. both (r .core) k ∙ swap (reaches (S .output) o k) (homeFor S (region S) j k) (before k b))
+          (both-home (r .core) (home S j o) ∙ and-intro (home-homeFor S j o (r .settled)) reached)
+          (λ k b. both-home (r .core) k ∙ swap (reaches (S .output) o k) (homeFor S (region S) j k) (before k b))
           ∙ r .is))
         where
           reached : reaches (S .output) o (home S j o) ≡ true

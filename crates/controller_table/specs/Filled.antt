@@ -8,7 +8,7 @@
 --   At S d o c j         == so it is, wherever o lies
 --   Below S k o c j      == the home of j at o is below k
 --   Sized g z            == an accepted game and the size of its table
---   Given g z s cores    == with scratch, and the inputs in nontrivial components
+--   Given g z s inner    == with scratch that is ready, inner being the inputs in nontrivial components
 --   HomeOf S w           == w is a home with its component and the inputs that reside there
 --   Goals S w q          == q is the set of the numbers of the guarantees that meet its component
 use Prim.Native.Nat.{ℕ, _+_, _*_, _<_}
@@ -17,7 +17,7 @@ use mathlib.Core.Bool.{true, false}
 use mathlib.Core.List.{List}
 use lib.Dec.{ltb}
 use lib.ListN.{length}
-use Rattle.sets.specs.Member.{has, pack}
+use Rattle.bits.specs.Member.{has, pack}
 use Rattle.graphs.specs.Component.{joined, nontrivial, meetsAt}
 use Rattle.arena.specs.Arena.{Separated}
 use Rattle.filling.specs.Grows.{Right, Grows}
@@ -25,7 +25,8 @@ use Rattle.game.specs.declared.Game.{Game}
 use Rattle.game.specs.declared.Acceptance.the-variants.{Accepted}
 use Rattle.game.specs.Acceptance.{acceptance}
 use Rattle.play.specs.Play.{graphOf, separatedOf}
-use Rattle.stored.specs.Stored.{Ready}
+use Rattle.sets.specs.Words.{bitsOf}
+use Rattle.scratch.specs.Stored.{Ready}
 use Rattle.theory.specs.Region.{region, settles}
 use Rattle.theory.specs.Tour.{goalAt}
 use Rattle.theory.specs.Choice.{guarantees, home}
@@ -67,19 +68,18 @@ pub record Sized (g : Game) (z : Size) : Type 0 where
   pub inputs : z .inputs ≡ g .input .states
   pub outputs : z .outputs ≡ g .output .states
   pub counters : z .counters ≡ controllerCounters (separatedOf g)
-  pub all : (c : ℕ) → has (z .all) c ≡ ltb c (z .counters)
+  pub all : (c : ℕ) → has (z .all .0) c ≡ ltb c (z .counters)
 
-pub record Given (g : Game) (z : Size) (s : List ℕ) (cores : ℕ) : Type 0 where
+pub record Given (g : Game) (z : Size) (s : List ℕ) (inner : ℕ) : Type 0 where
   pub sized : Sized g z
-  pub ready : Ready g s
-  pub core : cores ≡ pack (g .input .states) (nontrivial (graphOf (g .input)))
+  pub ready : Ready g s inner
 
 pub record HomeOf (S : Separated) (w : Home) : Type 0 where
   pub below : w .state .0 < S .output .states
   pub core : nontrivial (S .output) (w .state .0) ≡ true
-  pub component : w .component .0 ≡ pack (S .output .states) (joined (S .output) (w .state .0))
-  pub resides : (j : ℕ) → j < S .input .states → has (w .inputs .0) j ≡ true → Resides S (w .state .0) (w .state .0) j
-  pub resident : (j : ℕ) → j < S .input .states → Resides S (w .state .0) (w .state .0) j → has (w .inputs .0) j ≡ true
+  pub component : bitsOf (w .component .0) ≡ pack (S .output .states) (joined (S .output) (w .state .0))
+  pub resides : (j : ℕ) → j < S .input .states → has (bitsOf (w .inputs .0)) j ≡ true → Resides S (w .state .0) (w .state .0) j
+  pub resident : (j : ℕ) → j < S .input .states → Resides S (w .state .0) (w .state .0) j → has (bitsOf (w .inputs .0)) j ≡ true
 
 pub record Goals (S : Separated) (w : Home) (q : ℕ) : Type 0 where
   pub is : q ≡ pack (length (guarantees S)) (λ k. meetsAt (S .output) (w .state .0) (goalAt (guarantees S) k))

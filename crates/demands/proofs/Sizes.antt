@@ -6,9 +6,10 @@ use mathlib.Core.Bool.{Bool}
 use mathlib.Core.List.{List}
 use native.Mathlib.Omega.{arith}
 use lib.ListN.{length, getD, length-append}
+use Rattle.sets.specs.Words.{bitsOf}
 use Rattle.finite.specs.Tabulate.{tabulate, tabulateFrom}
 use Rattle.finite.proofs.Tabulate.{length-tabulate}
-use Rattle.sets.specs.Member.{has}
+use Rattle.bits.specs.Member.{has}
 use Rattle.arena.specs.Arena.{Requirement}
 use Rattle.game.specs.declared.Game.{Game}
 use Rattle.game.specs.declared.Requirement.{Requirement as RequirementRecord}
@@ -41,11 +42,11 @@ sets-at-most f h k e = sets-few f h 0 k (λ r b. subst (λ (n : ℕ). length (f 
 
 few-guarantees : (q : RequirementRecord) → q .guaranteed ≤ 4 → length (requirementOf q .guarantees) ≤ 4
 unfolding requirementOf
-few-guarantees q h = omega (arith, length-tabulate (λ j. has (getD (q .guarantees) j noOutput .0)) (q .guaranteed))
+few-guarantees q h = omega (arith, length-tabulate (λ j. has (bitsOf (getD (q .guarantees) j noOutput .0))) (q .guaranteed))
 
 few-assumptions : (q : RequirementRecord) → q .assumed ≤ 4 → length (requirementOf q .assumptions) ≤ 4
 unfolding requirementOf
-few-assumptions q h = omega (arith, length-tabulate (λ j. has (getD (q .assumptions) j noInput .0)) (q .assumed))
+few-assumptions q h = omega (arith, length-tabulate (λ j. has (bitsOf (getD (q .assumptions) j noInput .0))) (q .assumed))
 
 module _ (g : Game) (F : Fits g) where
   pub guarantees-few : length (guarantees (separatedOf g)) ≤ 32

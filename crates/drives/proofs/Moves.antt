@@ -1,6 +1,6 @@
 -- The moves that the first commands make, one command after the other.
 --
---   graph-made    : the graph of all modes
+--   graph-next, graph-made    : the rows of one mode more, and the graph of all modes
 --   made-none, made-in, made-past, made-all    : command u adds the mode that it leads to, where that is one
 use Prim.Native.Nat.{ℕ, _+_, _≤_, _<_}
 use mathlib.Core.Path.{_≡_, refl, sym, _∙_, ap}
@@ -10,12 +10,15 @@ use native.Mathlib.Omega.{arith}
 use native.Mathlib.Decide.{ℕ-discrete}
 use native.Mathlib.Numerals.{add-one}
 use lib.Dec.{eqb, ltb}
-use lib.ListN.{drop}
+use lib.ListN.{drop, replicate}
 use borrow.Author.Tests.{lt-ltb, eq-eqb, ne-eqb}
 use Rattle.finite.specs.Bounded.{any}
 use Rattle.finite.proofs.Truth.{and-intro, or-left, or-right}
-use Rattle.sets.specs.Member.{has, pack}
-use Rattle.sets.proofs.Membership.{ext, has-zero, has-pack, pack-ext}
+use Rattle.bits.specs.Member.{has, pack}
+use Rattle.bits.proofs.Membership.{ext, has-zero, has-pack, pack-ext}
+use Rattle.sets.specs.Words.{capacity, wordsOf, putSet}
+use Rattle.sets.proofs.Rows.{words-put}
+use Rattle.graphs.proofs.Front.{rows-next}
 use Rattle.graphs.specs.Rows.{rowsOf}
 use Rattle.game.specs.declared.Graph.{Graph}
 use Rattle.drives.specs.declared.Drive.{Drive}
@@ -61,11 +64,20 @@ module _ (n : List ℕ) (modes m : ℕ) where
   made-all u c x a b e = e ∙ ap (λ (k : ℕ). pack modes (madeBy n k m)) (omega arith)
 
 -- the rows of all modes
-pub graph-made : (d : Drive) (l moves : List ℕ) (m : ℕ) → m ≤ 64 → 64 ≤ m → drop 64 l ≡ []
-    → moves ≡ rowsOf m (d .modes) (madeBy (d .next) (d .commands)) ++ drop m l
+pub graph-made : (d : Drive) (moves : List ℕ) (m : ℕ) → m ≤ capacity → capacity ≤ m
+    → moves ≡ wordsOf (rowsOf m (d .modes) (madeBy (d .next) (d .commands)) ++ drop m (replicate capacity 0))
     → _≡_ {A = Graph} (record { states = d .modes; initial = d .initial; moves = moves }) (graphFrom d)
 unfolding graphFrom
-graph-made d l moves m a b z e =
+graph-made d moves m a b e =
+    let rows : ℕ → List ℕ = λ k. rowsOf k (d .modes) (madeBy (d .next) (d .commands)) in
+    let all : m ≡ capacity = omega arith in
     ap (λ (x : List ℕ). record { states = d .modes; initial = d .initial; moves = x })
-    (e ∙ ap (λ (k : ℕ). rowsOf k (d .modes) (madeBy (d .next) (d .commands)) ++ drop k l) (omega arith)
-    ∙ ap (_++_ (rowsOf 64 (d .modes) (madeBy (d .next) (d .commands)))) z ∙ append-nil (rowsOf 64 (d .modes) (madeBy (d .next) (d .commands))))
+    (e ∙ ap (λ (k : ℕ). wordsOf (rows k ++ drop k (replicate capacity 0))) all ∙ ap wordsOf (append-nil (rows capacity)))
+
+-- one mode more
+pub graph-next : (n : List ℕ) (modes c : ℕ) (moves after : List ℕ) (m x : ℕ) → m < capacity
+    → moves ≡ wordsOf (rowsOf m modes (madeBy n c) ++ drop m (replicate capacity 0))
+    → x ≡ pack modes (madeBy n c m) → after ≡ putSet moves m x
+    → after ≡ wordsOf (rowsOf (m + 1) modes (madeBy n c) ++ drop (m + 1) (replicate capacity 0))
+graph-next n modes c moves after m x l e f g =
+    g ∙ ap (λ (y : List ℕ). putSet y m x) e ∙ words-put _ m x ∙ ap wordsOf (rows-next _ _ _ m l refl f)

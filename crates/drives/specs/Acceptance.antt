@@ -16,6 +16,7 @@ use mathlib.Core.Bool.{Bool, true, false, _&&_, _||_}
 use mathlib.Core.List.{List, _∷_}
 use mathlib.Core.Path.{_≡_}
 use lib.Dec.{eqb, ltb, leb}
+use Rattle.sets.specs.Words.{capacity}
 use Rattle.finite.specs.Bounded.{all}
 use Rattle.game.specs.declared.Acceptance.{Acceptance}
 use Rattle.game.specs.declared.Acceptance.the-variants.{Refused}
@@ -27,7 +28,7 @@ use Rattle.drives.specs.Drive.{nextIn, gameFrom}
 
 -- fails: "1 a count not 1 to 64"
 unfoldable pub modesFit : Drive → Bool
-modesFit d = leb 1 (d .modes) && leb (d .modes) 64
+modesFit d = leb 1 (d .modes) && leb (d .modes) capacity
 
 -- fails: "17 command count not 1 to 16"
 unfoldable pub commandsFit : Drive → Bool
@@ -38,7 +39,7 @@ unfoldable pub entryFits : List ℕ → (M C m u : ℕ) → Bool
 entryFits n M C m u = eqb (nextIn n m u) 255 || (ltb m M && (ltb u C && ltb (nextIn n m u) M))
 
 unfoldable pub entriesFit : Drive → Bool
-entriesFit d = all 64 (λ m. all 16 (entryFits (d .next) (d .modes) (d .commands) m))
+entriesFit d = all capacity (λ m. all 16 (entryFits (d .next) (d .modes) (d .commands) m))
 
 abbrev pub both : (Drive → Bool) → Kit → Bool
 both p k = p (k .old) && p (k .new)

@@ -14,6 +14,7 @@ use mathlib.Core.List.{List}
 use lib.Dec.{eqb, ltb}
 use lib.ListN.{getD}
 use Rattle.finite.specs.Bounded.{any, least}
+use Rattle.sets.specs.Words.{capacity, wordsOf}
 use Rattle.graphs.specs.Rows.{rowsOf}
 use Rattle.game.specs.declared.Graph.{Graph}
 use Rattle.game.specs.declared.Game.{Game}
@@ -35,7 +36,7 @@ unfoldable pub madeBy : List ℕ → ℕ → ℕ → ℕ → Bool
 madeBy n c m t = any c (λ u. eqb (nextIn n m u) t)
 
 unfoldable pub graphFrom : Drive → Graph
-graphFrom d = record { states = d .modes; initial = d .initial; moves = rowsOf 64 (d .modes) (madeBy (d .next) (d .commands)) }
+graphFrom d = record { states = d .modes; initial = d .initial; moves = wordsOf (rowsOf capacity (d .modes) (madeBy (d .next) (d .commands))) }
 
 -- the old drive's modes are the inputs, the new drive's the outputs
 unfoldable pub gameFrom : Kit → Game
@@ -46,5 +47,5 @@ unfoldable pub commandFor : Drive → ℕ → ℕ → ℕ
 commandFor d m t = least (d .commands) (λ u. eqb (nextMode d m u) t)
 
 pub record Small (d : Drive) : Type 0 where
-  pub modes : d .modes ≤ 64
+  pub modes : d .modes ≤ capacity
   pub commands : d .commands ≤ 16

@@ -2,16 +2,18 @@
 use game::Game;
 use game::Graph;
 use game::Requirement;
+use sets::Set;
 ghost use mathlib.Core.Path.{_≡_};
 ghost use Prim.Native.Nat.{_<_, _≤_};
-ghost use Rattle.sets.specs.Member.{pack};
+ghost use Rattle.bits.specs.Member.{pack};
+ghost use Rattle.sets.specs.Words.{capacity, bitsOf};
 ghost use Rattle.drives.specs.Drive.{nextIn, madeBy, Small, graphFrom, gameFrom};
 
 // Place 16 × mode + command of `next` is the mode that the command leads to, 255 where it is barred.
 #[repr(C)]
 pub struct Drive {
     pub modes: usize,
-    pub initial: u64,
+    pub initial: Set,
     pub commands: usize,
     pub next: [u8; 1024],
 }
@@ -34,18 +36,18 @@ fn wide(x: u8) -> usize
 
 // The mode that command u leads to from mode m, 255 where it is barred.
 pub fn next_mode(next: &[u8; 1024], m: usize, u: usize) -> usize
-    requires { ⌜ (m < 64) × (u < 16) ⌝ }
+    requires { ⌜ (m < capacity) × (u < 16) ⌝ }
     ensures { λ r. ⌜ r ≡ nextIn (now (next .entry)) m u ⌝ }
 {
     wide(next[16 * m + u])
 }
 
 // The modes that some command leads to from mode m.
-fn moves_from(next: &[u8; 1024], modes: usize, commands: usize, m: usize) -> u64
-    requires { ⌜ (modes ≤ 64) × (commands ≤ 16) × (m < 64) ⌝ }
-    ensures { λ r. ⌜ r ≡ pack modes (madeBy (now (next .entry)) commands m) ⌝ }
+fn moves_from(next: &[u8; 1024], modes: usize, commands: usize, m: usize) -> Set
+    requires { ⌜ (modes ≤ capacity) × (commands ≤ 16) × (m < capacity) ⌝ }
+    ensures { λ r. ⌜ bitsOf r ≡ pack modes (madeBy (now (next .entry)) commands m) ⌝ }
 {
-    let mut x: u64 = 0;
+    let mut x = sets::empty();
     let mut u: usize = 0;
     while u < commands {
         let t = next_mode(next, m, u);
@@ -64,13 +66,15 @@ fn graph_of(d: Drive) -> Graph
 {
     let mut moves = [0u64; 64];
     let mut m: usize = 0;
-    while m < 64 {
-        moves[m] = moves_from(&d.next, d.modes, d.commands, m);
+    while m < sets::CAPACITY {
+        let x = moves_from(&d.next, d.modes, d.commands, m);
+        sets::put_of(&mut moves, m, x);
         m += 1;
     }
+    let initial = d.initial;
     Graph {
         states: d.modes,
-        initial: d.initial,
+        initial,
         moves,
     }
 }

@@ -1,4 +1,4 @@
--- Requirements that are due or served in a component, told of words.
+-- Requirements that are due or served in a component, told of sets.
 --
 --   inMeets q c k          == the first k input sets of q meet the set c
 --   outMeets q c k         == the first k output sets of q meet the set c
@@ -6,6 +6,7 @@
 --   servedIn g b r         == all output sets of requirement r meet b
 --   servedAt g rows m r d  == requirement r is served in the component of d, told by rows of m states
 --   Few g                  == few enough requirements and sets for their places
+--   serversAt l r          == the set of l for requirement r
 --   Marked g c d k x y     == y is x where the first k sets have d too, if c serves their requirements
 --   Serves g rows m l      == l has for each requirement the states below m whose components serve it
 --   serves g r d           == requirement r is served in the component of d
@@ -18,22 +19,24 @@ use mathlib.Core.List.{List}
 use lib.Dec.{eqb}
 use lib.ListN.{length, getD}
 use Rattle.finite.specs.Bounded.{all}
-use Rattle.sets.specs.Member.{has, pack, meets}
+use Rattle.bits.specs.Member.{has, pack, meets}
+use Rattle.sets.specs.Words.{capacity, bitsOf}
 use Rattle.components.specs.Component.{together}
 use Rattle.game.specs.declared.Requirement.{Requirement}
 use Rattle.game.specs.declared.Game.{Game}
+use Rattle.game.specs.declared.OutSet.{OutSet}
 use Rattle.game.specs.Access.{noInput, noOutput, requirementAt}
 use Rattle.play.specs.Play.{requirementOf, separatedOf}
 use Rattle.theory.specs.Region.{served}
 
 unfoldable pub inMeetsAt : Requirement → ℕ → ℕ → Bool
-inMeetsAt q c j = meets 64 (getD (q .assumptions) j noInput .0) c
+inMeetsAt q c j = meets capacity (bitsOf (getD (q .assumptions) j noInput .0)) c
 
 unfoldable pub inMeets : Requirement → ℕ → ℕ → Bool
 inMeets q c k = all k (inMeetsAt q c)
 
 unfoldable pub outMeetsAt : Requirement → ℕ → ℕ → Bool
-outMeetsAt q c j = meets 64 (getD (q .guarantees) j noOutput .0) c
+outMeetsAt q c j = meets capacity (bitsOf (getD (q .guarantees) j noOutput .0)) c
 
 unfoldable pub outMeets : Requirement → ℕ → ℕ → Bool
 outMeets q c k = all k (outMeetsAt q c)
@@ -52,19 +55,22 @@ pub record Few (g : Game) : Type 0 where
   pub assumed : (r : ℕ) → r < 8 → requirementAt g r .assumed ≤ 4
   pub guaranteed : (r : ℕ) → r < 8 → requirementAt g r .guaranteed ≤ 4
 
-pub record Marked (g : Game) (c d k : ℕ) (x y : List ℕ) : Type 0 where
-  pub long : length y ≡ length x
-  pub done : (r : ℕ) → r < k → (t : ℕ) → has (getD y r 0) t ≡ (has (getD x r 0) t || (servedIn g c r && eqb t d))
-  pub rest : (r : ℕ) → k ≤ r → getD y r 0 ≡ getD x r 0
+unfoldable pub serversAt : List OutSet → ℕ → ℕ
+serversAt l r = bitsOf (getD l r noOutput .0)
 
-pub record Serves (g : Game) (rows : List ℕ) (m : ℕ) (l : List ℕ) : Type 0 where
-  pub at : (r : ℕ) → r < g .k → getD l r 0 ≡ pack m (servedAt g rows (g .output .states) r)
+pub record Marked (g : Game) (c d k : ℕ) (x y : List OutSet) : Type 0 where
+  pub long : length y ≡ length x
+  pub done : (r : ℕ) → r < k → (t : ℕ) → has (serversAt y r) t ≡ (has (serversAt x r) t || (servedIn g c r && eqb t d))
+  pub rest : (r : ℕ) → k ≤ r → serversAt y r ≡ serversAt x r
+
+pub record Serves (g : Game) (rows : List ℕ) (m : ℕ) (l : List OutSet) : Type 0 where
+  pub at : (r : ℕ) → r < g .k → serversAt l r ≡ pack m (servedAt g rows (g .output .states) r)
 
 unfoldable pub serves : Game → ℕ → ℕ → Bool
 serves g r d = served (separatedOf g) d (requirementOf (requirementAt g r))
 
-pub record Serving (g : Game) (l : List ℕ) : Type 0 where
-  pub at : (r : ℕ) → r < g .k → getD l r 0 ≡ pack (g .output .states) (serves g r)
+pub record Serving (g : Game) (l : List OutSet) : Type 0 where
+  pub at : (r : ℕ) → r < g .k → serversAt l r ≡ pack (g .output .states) (serves g r)
 
-unfoldable pub admits : Game → ℕ → List ℕ → ℕ → ℕ → Bool
-admits g a l d r = not (dueIn g a r) || has (getD l r 0) d
+unfoldable pub admits : Game → ℕ → List OutSet → ℕ → ℕ → Bool
+admits g a l d r = not (dueIn g a r) || has (serversAt l r) d

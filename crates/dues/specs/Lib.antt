@@ -1,2 +1,2 @@
--- Requirements that are due or served in components, told of words.
+-- Requirements that are due or served in components, told of sets.
 pub mod Dues

@@ -7,6 +7,7 @@ ghost use mathlib.Core.Bool.{false};
 ghost use mathlib.Core.List.{_++_};
 ghost use Prim.Native.Nat.{_<_};
 ghost use lib.ListN.{length, drop};
+ghost use Rattle.sets.specs.Words.{bitsOf};
 ghost use Rattle.graphs.specs.Component.{number};
 ghost use Rattle.play.specs.Play.{graphOf, separatedOf};
 ghost use Rattle.theory.specs.Entries.{environmentEntries};
@@ -14,42 +15,41 @@ ghost use Rattle.environment_table.specs.Table.{Solved, Known, Roomy, Filled};
 ghost use Rattle.environment_table.specs.Reading.{plain};
 
 // The rows of the component whose number is i, where it is nontrivial and i its number.
-fn component_rows(g: Game, s: &[u64], cores: InSet, counters: usize, i: InState, room: &mut [u16])
-    requires { ⌜ Known g (now s) (cores .0) × Roomy g counters (length (now room)) × (i .0 < g .input .states) ⌝ }
+fn component_rows(g: Game, s: &[u64], inner: InSet, counters: usize, i: InState, room: &mut [u16])
+    requires { ⌜ Known g (now s) (bitsOf (inner .0)) × Roomy g counters (length (now room)) × (i .0 < g .input .states) ⌝ }
     ensures { λ r. ⌜ Filled g (λ a h b. (number (graphOf (g .input)) a ≡ i .0) × (plain g a b ≡ false)) (now (room .entry)) (now (room .exit)) ⌝ }
 {
-    if !sets::member(cores.0, i.0) {
+    if !sets::member(inner.0, i.0) {
         return;
     }
-    let c = components::component(s, g.input.states, i.0);
-    if sets::lowest(c) != i.0 {
+    let c = scratch::in_component(s, g.input.states, i);
+    if sets::lowest(c.0) != i.0 {
         return;
     }
-    let over = escape::escapes(g, s, cores, counters, InSet(c), i, room);
-    tours::tours(g, counters, InSet(c), over, room);
+    let over = escape::escapes(g, s, inner, counters, c, i, room);
+    tours::tours(g, counters, c, over, room);
 }
 
 // The rows of all nontrivial components.
-fn walked_rows(g: Game, s: &[u64], cores: InSet, counters: usize, room: &mut [u16])
-    requires { ⌜ Known g (now s) (cores .0) × Roomy g counters (length (now room)) ⌝ }
+fn walked_rows(g: Game, s: &[u64], inner: InSet, counters: usize, room: &mut [u16])
+    requires { ⌜ Known g (now s) (bitsOf (inner .0)) × Roomy g counters (length (now room)) ⌝ }
     ensures { λ r. ⌜ Filled g (λ a h b. plain g a b ≡ false) (now (room .entry)) (now (room .exit)) ⌝ }
 {
     let n = g.input.states;
     let mut i: usize = 0;
     while i < n {
-        component_rows(g, s, cores, counters, InState(i), room);
+        component_rows(g, s, inner, counters, InState(i), room);
         i += 1;
     }
 }
 
-// The front of room becomes the environment's table; the rest stays.
-pub fn fill(g: Game, s: &[u64], room: &mut [u16])
-    requires { ⌜ Solved g (now s) (length (now room)) ⌝ }
+// The front of room becomes the environment's table; the rest stays. `inner` are the inputs in nontrivial components.
+pub fn fill(g: Game, s: &[u64], inner: InSet, room: &mut [u16])
+    requires { ⌜ Solved g (now s) (bitsOf (inner .0)) (length (now room)) ⌝ }
     ensures { λ r. ⌜ now (room .exit) ≡ environmentEntries (separatedOf g) ++ drop (length (environmentEntries (separatedOf g))) (now (room .entry)) ⌝ }
 {
-    let cores = InSet(components::cores(g.input, s));
     let counters = sizes::environment_counters(g);
-    room[0] = plain::start_entry(g, s, cores);
-    plain::plain_rows(g, s, cores, counters, room);
-    walked_rows(g, s, cores, counters, room);
+    room[0] = plain::start_entry(g, s, inner);
+    plain::plain_rows(g, s, inner, counters, room);
+    walked_rows(g, s, inner, counters, room);
 }

@@ -34,7 +34,7 @@ pub fn put(
         room,
         1 + i.0 * counters * outputs + o.0,
         outputs,
-        sets::below(counters),
+        counters::below(counters),
         first,
         more,
     );

@@ -1,6 +1,6 @@
 -- The whole table.
 --
---   known-of, roomy-of     : what the functions that fill it ask
+--   roomy-of               : what the functions that fill it ask
 --   start-length           : the start's place is there
 --   filled-all             : the start, the rows that need no walk and the others are the table
 use Prim.Native.Nat.{ℕ, zero, suc, _+_, _*_, _/_, _%_, _<_, _≤_}
@@ -13,42 +13,27 @@ use mathlib.Core.Logic.{_⊎_, inl, inr}
 use native.Mathlib.Omega.{arith}
 use lib.ListN.{length, getD, drop, set}
 use Rattle.finite.proofs.Truth.{decide}
-use Rattle.sets.specs.Member.{pack}
 use Rattle.game.specs.declared.Game.{Game}
 use Rattle.game.proofs.Laws.{accepted-fits}
-use Rattle.components.specs.Component.{turns}
-use Rattle.components.proofs.Closed.{cores-closed}
 use Rattle.play.specs.Play.{separatedOf}
 use Rattle.theory.specs.Choice.{environmentStart}
 use Rattle.theory.specs.Entries.{entry, environmentCounters, environmentEntries}
 use Rattle.demands.proofs.Sizes.{environment-few}
 use Rattle.filling.specs.Grows.{Right, Grows}
 use Rattle.filling.proofs.Grows.{grows-set, grows-more, right-set, grows-done}
-use Rattle.environment_table.specs.Table.{entriesOf, place, Solved, Known, Roomy, Filled}
+use Rattle.environment_table.specs.Table.{entriesOf, place, Solved, Roomy, Filled}
 use Rattle.environment_table.specs.Reading.{plain}
 use Rattle.environment_table.proofs.Places.{entries-length, some-counter}
 
-module _ (g : Game) (s : List ℕ) (n : ℕ) (D : Solved g s n) where
-  pub inputs-bounds : (g .input .states ≤ 64) × (g .input .states ≤ length s)
-  inputs-bounds = (accepted-fits g (D .accepted) .input .most, omega (arith, D .ready .laid .long))
-
-  pub known-of : {cores : ℕ} → cores ≡ pack (g .input .states) (turns (g .input .moves) s (g .input .states)) → Known g s cores
-  known-of e = record {
-    accepted = D .accepted;
-    ready = D .ready;
-    cores = e ∙ cores-closed (g .input) s (record { row = D .ready .laid .inputs }) (accepted-fits g (D .accepted) .input .most);
-    inputs = accepted-fits g (D .accepted) .input .most;
-    outputs = accepted-fits g (D .accepted) .output .most;
-  }
-
+module _ (g : Game) (s : List ℕ) (inner n : ℕ) (D : Solved g s inner n) where
   pub roomy-of : {M k : ℕ} → M ≡ environmentCounters (separatedOf g) → k ≡ n → Roomy g M k
   unfolding entriesOf
   roomy-of e f = record {
-    accepted = D .accepted;
+    accepted = D .known .accepted;
     counters = e;
-    few = omega (arith, environment-few g (accepted-fits g (D .accepted)));
-    inputs = accepted-fits g (D .accepted) .input .most;
-    outputs = accepted-fits g (D .accepted) .output .most;
+    few = omega (arith, environment-few g (accepted-fits g (D .known .accepted)));
+    inputs = accepted-fits g (D .known .accepted) .input .most;
+    outputs = accepted-fits g (D .known .accepted) .output .most;
     room = omega (arith, D .room);
   }
 
@@ -62,7 +47,7 @@ module _ (g : Game) (s : List ℕ) (n : ℕ) (D : Solved g s n) where
   -- the digits of a place past the start
   module _ (r : ℕ) (b : r < g .input .states * environmentCounters (separatedOf g) * g .output .states) where
     output-in : r % g .output .states < g .output .states
-    output-in = mod-lt r (accepted-fits g (D .accepted) .output .some)
+    output-in = mod-lt r (accepted-fits g (D .known .accepted) .output .some)
 
     counter-in : r / g .output .states % environmentCounters (separatedOf g) < environmentCounters (separatedOf g)
     counter-in = mod-lt (r / g .output .states) (some-counter (separatedOf g))
@@ -70,7 +55,7 @@ module _ (g : Game) (s : List ℕ) (n : ℕ) (D : Solved g s n) where
     input-in : r / g .output .states / environmentCounters (separatedOf g) < g .input .states
     input-in =
         div-lt-iff-lt-mul (some-counter (separatedOf g)) .1
-        (div-lt-iff-lt-mul (accepted-fits g (D .accepted) .output .some) .1 b)
+        (div-lt-iff-lt-mul (accepted-fits g (D .known .accepted) .output .some) .1 b)
 
     digits : place (environmentCounters (separatedOf g)) (g .output .states) (r / g .output .states / environmentCounters (separatedOf g))
         (r / g .output .states % environmentCounters (separatedOf g)) (r % g .output .states)

@@ -2,7 +2,7 @@
 --
 --   known-won, known-core : the region, and the nontrivial components
 --   start-found, start-none : the start
---   same-none, same-push   : rows that need no walk
+--   same-push              : rows that need no walk
 --   none-entries, none-filled : those of one input that are none
 --   lone-of                : the inputs in trivial components
 --   pushed-all, pushed-lone, pushed-of, pushed-within : the inputs whose rows with an output need no walk: those, or all where it has no move
@@ -20,103 +20,131 @@ use borrow.Author.Tests.{lt-ltb, ltb-true, eqb-true, eqb-false, eq-eqb, ne-eqb}
 use Rattle.finite.specs.Bounded.{any, least}
 use Rattle.finite.proofs.Truth.{decide, clash, and-intro, and-left, and-right, and-false-left, or-cases, or-right, or-none, not-true, true-of, false-of}
 use Rattle.finite.proofs.Bounded.{any-same, least-same, least-any, least-found}
-use Rattle.sets.specs.Member.{has, pack, within}
-use Rattle.sets.proofs.Membership.{has-zero, has-pack-below, has-within}
-use Rattle.sets.proofs.Compare.{nonzero-member}
+use Rattle.bits.specs.Member.{has, pack, within, both}
+use Rattle.bits.proofs.Membership.{has-zero, has-pack-below, has-within}
+use Rattle.bits.proofs.Compare.{nonzero-member}
 use Rattle.ways.proofs.Kept.{pack-below}
+use Rattle.sets.specs.Words.{capacity, bitsOf, setsIn, setCount}
+use Rattle.sets.proofs.Rows.{set-bits}
 use Rattle.graphs.specs.Graph.{edge, begins, stuck}
 use Rattle.graphs.specs.Component.{nontrivial}
 use Rattle.graphs.proofs.Graph.{stuck-not, stuck-moves}
 use Rattle.game.specs.declared.Game.{Game}
 use Rattle.game.specs.declared.InSet.{InSet}
 use Rattle.game.specs.declared.OutSet.{OutSet}
+use Rattle.game.specs.declared.OutState.{OutState}
+use Rattle.game.specs.Access.{outMoves, outInitial}
 use Rattle.game.proofs.Laws.{accepted-fits}
 use Rattle.components.proofs.Closed.{moved-edge}
 use Rattle.play.specs.Play.{graphOf, separatedOf}
 use Rattle.theory.specs.Region.{region, answers, opens}
 use Rattle.theory.specs.Choice.{environmentRow, environmentStart, refused}
+use Rattle.arena.specs.Table.{none, gives}
 use Rattle.theory.specs.Entries.{entry}
+use Rattle.entries.specs.Step.{entryStep}
+use Rattle.entries.proofs.Packed.{entry-steps}
 use Rattle.theory.proofs.EnvironmentRow.{unanswered, row-pushed}
-use Rattle.stored.specs.Stored.{wonAt}
-use Rattle.stored.proofs.Read.{won-region}
+use Rattle.scratch.specs.Stored.{wonAt, someWonAt}
+use Rattle.scratch.proofs.Read.{ready-won}
 use Rattle.environment_table.specs.Table.{Known, Roomy, Filled, Same, EnvironmentLayout, Pushes}
-use Rattle.environment_table.specs.Reading.{Shaped, anyWon, refusedAt, openAt, unansweredAt, lostAt, Lone, unwalked, pushedAt, Pushed, plain}
+use Rattle.environment_table.specs.Reading.{Shaped, refusedAt, openAt, unansweredAt, lostAt, Lone, unwalked, pushedAt, Pushed, plain}
 use Rattle.environment_table.specs.Pressing.{lostIn}
 use Rattle.layout.specs.declared.Layout.{Layout}
 use Rattle.layout.specs.Rows.{Entries, Wrote}
 use Rattle.environment_table.proofs.Laid.{laid-block}
-use Rattle.environment_table.proofs.Places.{filled-none, filled-join, filled-same, below-next}
+use Rattle.environment_table.proofs.Places.{pushed-state, some-counter, filled-none, filled-join, filled-same, below-next}
 use Rattle.environment_table.proofs.Reading.{refused-within, unanswered-both}
 
 -- what is read of the game's sets
-pub unanswered-of : (l : List ℕ) (n m cores : ℕ) {j : ℕ} {x x′ : InSet} {y y′ : OutSet} → x ≡ x′ → y ≡ y′ → j ≡ unansweredAt l n m cores (x .0) (y .0)
-    → j ≡ unansweredAt l n m cores (x′ .0) (y′ .0)
-unanswered-of l n m cores p q e = e ∙ ap₂ (λ (a : InSet) (b : OutSet). unansweredAt l n m cores (a .0) (b .0)) p q
+pub unanswered-of : (l : List ℕ) (n m inner : ℕ) {j : ℕ} {x x′ : InSet} {y y′ : OutSet} → x ≡ x′ → y ≡ y′
+    → j ≡ unansweredAt l n m inner (bitsOf (x .0)) (bitsOf (y .0)) → j ≡ unansweredAt l n m inner (bitsOf (x′ .0)) (bitsOf (y′ .0))
+unanswered-of l n m inner p q e = e ∙ ap₂ (λ (a : InSet) (b : OutSet). unansweredAt l n m inner (bitsOf (a .0)) (bitsOf (b .0))) p q
 
--- the edges and the initial states in words
-begins-has : (g : Game) (o : ℕ) → o < g .output .states → has (g .output .initial) o ≡ begins (separatedOf g .output) o
+-- the moves of an output, as a number
+pub moves-bits : (g : Game) (o : OutState) {y : OutSet} → y ≡ outMoves g o → bitsOf (y .0) ≡ getD (setsIn (g .output .moves)) (o .0) 0
+moves-bits g o e = ap (λ (k : OutSet). bitsOf (k .0)) e ∙ set-bits (g .output .moves) (o .0)
+
+-- the initial states as sets
+begins-has : (g : Game) (o : ℕ) → o < g .output .states → has (bitsOf (g .output .initial)) o ≡ begins (separatedOf g .output) o
 unfolding begins separatedOf graphOf
 begins-has g o b = rw (lt-ltb o (g .output .states) b) refl
 
-starts-has : (g : Game) (i : ℕ) → i < g .input .states → has (g .input .initial) i ≡ begins (separatedOf g .input) i
+starts-has : (g : Game) (i : ℕ) → i < g .input .states → has (bitsOf (g .input .initial)) i ≡ begins (separatedOf g .input) i
 unfolding begins separatedOf graphOf
 starts-has g i b = rw (lt-ltb i (g .input .states) b) refl
 
-module _ (g : Game) (s : List ℕ) (cores : ℕ) (K : Known g s cores) where
-  pub shaped : Shaped (length s) (g .input .states) (g .output .states)
-  shaped = record { inputs = K .inputs; outputs = K .outputs; long = K .ready .laid .long }
+module _ (g : Game) (s : List ℕ) (inner : ℕ) (K : Known g s inner) where
+  pub shaped : Shaped (setCount s) (g .input .states) (g .output .states)
+  shaped = record { inputs = K .ready .fits .input .most; outputs = K .ready .fits .output .most; long = K .ready .laid .long }
 
-  pub known-won : (j o : ℕ) → j < g .input .states → o < g .output .states → wonAt s (g .input .states) cores j o ≡ region (separatedOf g) j o
-  known-won j o a b = won-region g s cores j o (K .outputs) a b (K .cores) (K .ready .rows j a) (K .ready .laid .outputs o b)
+  pub known-won : (j o : ℕ) → j < g .input .states → o < g .output .states → wonAt (setsIn s) (g .input .states) inner j o ≡ region (separatedOf g) j o
+  known-won j o a b = ready-won (K .ready) j o a b
 
-  pub known-core : (i : ℕ) → i < g .input .states → has cores i ≡ nontrivial (separatedOf g .input) i
+  pub known-core : (i : ℕ) → i < g .input .states → has inner i ≡ nontrivial (separatedOf g .input) i
   unfolding separatedOf
-  known-core i a = ap (λ (x : ℕ). has x i) (K .cores) ∙ has-pack-below (g .input .states) (nontrivial (graphOf (g .input))) i a
+  known-core i a = ap (λ (x : ℕ). has x i) (K .ready .inner) ∙ has-pack-below (g .input .states) (nontrivial (graphOf (g .input))) i a
 
-  pub input-edge : (i j : ℕ) → i < g .input .states → has (getD (g .input .moves) i 0) j ≡ edge (separatedOf g .input) i j
+  pub input-edge : (i j : ℕ) → i < g .input .states → has (getD (setsIn (g .input .moves)) i 0) j ≡ edge (separatedOf g .input) i j
   unfolding separatedOf
   input-edge i j a = moved-edge (g .input) (accepted-fits g (K .accepted) .input) i j a
 
-  pub output-edge : (o p : ℕ) → o < g .output .states → has (getD (g .output .moves) o 0) p ≡ edge (separatedOf g .output) o p
+  pub output-edge : (o p : ℕ) → o < g .output .states → has (getD (setsIn (g .output .moves)) o 0) p ≡ edge (separatedOf g .output) o p
   unfolding separatedOf
   output-edge o p a = moved-edge (g .output) (accepted-fits g (K .accepted) .output) o p a
 
+  -- the moves and the initial states of the outputs are outputs
+  pub moves-within : (o y : ℕ) → o < g .output .states → y ≡ getD (setsIn (g .output .moves)) o 0 → within y (g .output .states) ≡ true
+  moves-within o y b e =
+      has-within y (g .output .states) (λ p h. K .ready .fits .output .row-below o p b (ap (λ (k : ℕ). has k p) (sym e) ∙ h))
+
+  pub initial-within : {y : OutSet} → y ≡ outInitial g → within (bitsOf (y .0)) (g .output .states) ≡ true
+  initial-within {y} e =
+      has-within (bitsOf (y .0)) (g .output .states)
+      (λ p h. K .ready .fits .output .initial-below p (ap (λ (k : OutSet). has (bitsOf (k .0)) p) (sym e) ∙ h))
+
   known-answers : (j o : ℕ) → j < g .input .states → o < g .output .states
-      → anyWon s (g .input .states) (g .output .states) cores j (getD (g .output .moves) o 0) ≡ answers (separatedOf g) (region (separatedOf g)) j o
-  unfolding anyWon answers separatedOf graphOf
+      → someWonAt (setsIn s) (g .input .states) (g .output .states) inner j (getD (setsIn (g .output .moves)) o 0)
+      ≡ answers (separatedOf g) (region (separatedOf g)) j o
+  unfolding someWonAt answers separatedOf graphOf
   known-answers j o a b =
-      any-same (g .output .states) (λ p. has (getD (g .output .moves) o 0) p && wonAt s (g .input .states) cores j p)
+      any-same (g .output .states) (λ p. has (getD (setsIn (g .output .moves)) o 0) p && wonAt (setsIn s) (g .input .states) inner j p)
       (λ p. edge (separatedOf g .output) o p && region (separatedOf g) j p)
       (λ p c. ap₂ _&&_ (output-edge o p b) (known-won j p a c))
 
-  known-opens : (i : ℕ) → i < g .input .states → anyWon s (g .input .states) (g .output .states) cores i (g .output .initial) ≡ opens (separatedOf g) i
-  unfolding anyWon opens separatedOf graphOf
+  known-opens : (i : ℕ) → i < g .input .states
+      → someWonAt (setsIn s) (g .input .states) (g .output .states) inner i (bitsOf (g .output .initial)) ≡ opens (separatedOf g) i
+  unfolding someWonAt opens separatedOf graphOf
   known-opens i a =
-      any-same (g .output .states) (λ p. has (g .output .initial) p && wonAt s (g .input .states) cores i p)
+      any-same (g .output .states) (λ p. has (bitsOf (g .output .initial)) p && wonAt (setsIn s) (g .input .states) inner i p)
       (λ p. begins (separatedOf g .output) p && region (separatedOf g) i p)
       (λ p c. ap₂ _&&_ (begins-has g p c) (known-won i p a c))
 
   -- the start
 
-  known-start : unansweredAt s (g .input .states) (g .output .states) cores (g .input .initial) (g .output .initial) ≡ least (g .input .states)
+  known-start : unansweredAt (setsIn s) (g .input .states) (g .output .states) inner (bitsOf (g .input .initial)) (bitsOf (g .output .initial))
+      ≡ least (g .input .states)
       (refused (separatedOf g))
   unfolding unansweredAt openAt refused
   known-start =
       least-same (g .input .states)
-      (λ i. has (g .input .initial) i && not (anyWon s (g .input .states) (g .output .states) cores i (g .output .initial)))
+      (λ i. has (bitsOf (g .input .initial)) i && not (someWonAt (setsIn s) (g .input .states) (g .output .states) inner i (bitsOf (g .output .initial))))
       (λ i. begins (separatedOf g .input) i && not (opens (separatedOf g) i))
       (λ i c. ap₂ _&&_ (starts-has g i c) (ap not (known-opens i c)))
 
-  pub start-found : (j : ℕ) → j ≡ unansweredAt s (g .input .states) (g .output .states) cores (g .input .initial) (g .output .initial) → j < g .input .states
-      → j ≡ entry (environmentStart (separatedOf g))
-  unfolding environmentStart entry separatedOf graphOf
+  pub start-found : (j : ℕ)
+      → j ≡ unansweredAt (setsIn s) (g .input .states) (g .output .states) inner (bitsOf (g .input .initial)) (bitsOf (g .output .initial))
+      → j < g .input .states
+      → entry (gives 0 j) ≡ entry (environmentStart (separatedOf g))
+  unfolding environmentStart separatedOf graphOf
   start-found j e b =
       let f = e ∙ known-start in
-      rw (least-any (g .input .states) (refused (separatedOf g)) (rw f at b), environmentStart) (omega (arith, f))
+      rw (least-any (g .input .states) (refused (separatedOf g)) (rw f at b), environmentStart) (ap (λ (k : ℕ). entry (gives 0 k)) f)
 
-  pub start-none : (j : ℕ) → j ≡ unansweredAt s (g .input .states) (g .output .states) cores (g .input .initial) (g .output .initial) → g .input .states ≤ j
-      → 65535 ≡ entry (environmentStart (separatedOf g))
-  unfolding environmentStart entry separatedOf graphOf
+  pub start-none : (j : ℕ)
+      → j ≡ unansweredAt (setsIn s) (g .input .states) (g .output .states) inner (bitsOf (g .input .initial)) (bitsOf (g .output .initial))
+      → g .input .states ≤ j
+      → entry none ≡ entry (environmentStart (separatedOf g))
+  unfolding environmentStart separatedOf graphOf
   start-none j e b =
       let f = e ∙ known-start in
       rw (
@@ -127,70 +155,83 @@ module _ (g : Game) (s : List ℕ) (cores : ℕ) (K : Known g s cores) where
   -- rows that need no walk
 
   module _ (i o : ℕ) (a : i < g .input .states) (b : o < g .output .states) where
-    pub same-none : (M : ℕ) → wonAt s (g .input .states) cores i o ≡ true → Same g M i o 65535 0
-    unfolding environmentRow entry
-    same-none M e = record { input = a; output = b; entry = λ h c. omega (arith, zero-mul h, is h) }
+    same-none : (M first : ℕ) → first ≡ entry none → wonAt (setsIn s) (g .input .states) inner i o ≡ true → Same g M i o first 0
+    unfolding environmentRow
+    same-none M first q e = record { input = a; output = b; entry = λ h c. omega (arith, zero-mul h, q, is h) }
       where
-        is : (h : ℕ) → 65535 ≡ entry (environmentRow (separatedOf g) i h o)
+        is : (h : ℕ) → entry none ≡ entry (environmentRow (separatedOf g) i h o)
         is h = rw (sym (known-won i o a b) ∙ e, environmentRow) refl
 
-    known-push : unansweredAt s (g .input .states) (g .output .states) cores (getD (g .input .moves) i 0) (getD (g .output .moves) o 0)
+    known-push : unansweredAt (setsIn s) (g .input .states) (g .output .states) inner (getD (setsIn (g .input .moves)) i 0)
+        (getD (setsIn (g .output .moves)) o 0)
         ≡ least (g .input .states) (λ j. edge (separatedOf g .input) i j && not (answers (separatedOf g) (region (separatedOf g)) j o))
     unfolding unansweredAt openAt
     known-push =
         least-same (g .input .states)
-        (λ j. has (getD (g .input .moves) i 0) j && not (anyWon s (g .input .states) (g .output .states) cores j (getD (g .output .moves) o 0)))
+        (λ j. has (getD (setsIn (g .input .moves)) i 0) j
+        && not (someWonAt (setsIn s) (g .input .states) (g .output .states) inner j (getD (setsIn (g .output .moves)) o 0)))
         (λ j. edge (separatedOf g .input) i j && not (answers (separatedOf g) (region (separatedOf g)) j o))
         (λ j c. ap₂ _&&_ (input-edge i j a) (ap not (known-answers j o c b)))
 
-    pub same-push : (M j : ℕ) → wonAt s (g .input .states) cores i o ≡ false → unwalked g i o ≡ true
-        → j ≡ unansweredAt s (g .input .states) (g .output .states) cores (getD (g .input .moves) i 0) (getD (g .output .moves) o 0) → Same g M i o j 64
-    unfolding unanswered unwalked entry separatedOf graphOf
-    same-push M j e t f = record { input = a; output = b; entry = λ h c. ap (λ (k : ℕ). k + 64 * h) (f ∙ known-push) ∙ sym (is h) }
-      where
-        is : (h : ℕ) → entry (environmentRow (separatedOf g) i h o)
-            ≡ least (g .input .states) (λ j. edge (separatedOf g .input) i j && not (answers (separatedOf g) (region (separatedOf g)) j o)) + 64 * h
-        is h = ap entry (row-pushed (separatedOf g) i h o (sym (known-won i o a b) ∙ e) t)
+    row-push : (h j : ℕ) → wonAt (setsIn s) (g .input .states) inner i o ≡ false → unwalked g i o ≡ true
+        → j ≡ unansweredAt (setsIn s) (g .input .states) (g .output .states) inner (getD (setsIn (g .input .moves)) i 0) (getD (setsIn (g .output .moves)) o 0)
+        → environmentRow (separatedOf g) i h o ≡ gives h j
+    unfolding unanswered unwalked separatedOf graphOf
+    row-push h j e t f = row-pushed (separatedOf g) i h o (sym (known-won i o a b) ∙ e) t ∙ ap (gives h) (sym (f ∙ known-push))
+
+    pub same-push : (M j : ℕ) → wonAt (setsIn s) (g .input .states) inner i o ≡ false → unwalked g i o ≡ true
+        → j ≡ unansweredAt (setsIn s) (g .input .states) (g .output .states) inner (getD (setsIn (g .input .moves)) i 0) (getD (setsIn (g .output .moves)) o 0)
+        → (j < capacity) × Same g M i o (entry (gives 0 j)) entryStep
+    same-push M j e t f = (
+      omega (
+        arith,
+        K .ready .fits .input .most,
+        pushed-state g i 0 o a (some-counter (separatedOf g)) b (K .accepted) (sym (known-won i o a b) ∙ e) 0 j (row-push 0 j e t f),
+      ),
+      record { input = a; output = b; entry = λ h c. entry-steps h j ∙ ap entry (sym (row-push h j e t f)) },
+    )
 
   -- the rows of an input that are none
 
-  module _ (i : ℕ) (a : i < g .input .states) (won : ℕ) (w : won ≡ pack (g .output .states) (wonAt s (g .input .states) cores i)) where
-    won-has : (o : ℕ) → o < g .output .states → has won o ≡ wonAt s (g .input .states) cores i o
-    won-has o b = ap (λ (x : ℕ). has x o) w ∙ has-pack-below (g .output .states) (wonAt s (g .input .states) cores i) o b
+  module _ (i : ℕ) (a : i < g .input .states) (won : ℕ) (w : won ≡ pack (g .output .states) (wonAt (setsIn s) (g .input .states) inner i)) where
+    won-has : (o : ℕ) → o < g .output .states → has won o ≡ wonAt (setsIn s) (g .input .states) inner i o
+    won-has o b = ap (λ (x : ℕ). has x o) w ∙ has-pack-below (g .output .states) (wonAt (setsIn s) (g .input .states) inner i) o b
 
     -- those of the won outputs
 
-    pub none-entries : (M every : ℕ) (z : Layout) → EnvironmentLayout (g .input .states) M (g .output .states) z → ((h : ℕ) → has every h ≡ ltb h M)
-        → Entries z every 65535 0
-    none-entries M every z Z e = record {
+    pub none-entries : (M every first : ℕ) (z : Layout) → EnvironmentLayout (g .input .states) M (g .output .states) z → ((h : ℕ) → has every h ≡ ltb h M)
+        → first < 65536 → Entries z every first 0
+    none-entries M every first z Z e b = record {
       counters = λ h x. omega (arith, Z .counters, ltb-true h M (sym (e h) ∙ x));
       small = λ h x. omega (arith, zero-mul h);
     }
 
     -- so the won rows of i are written
-    pub none-filled : {l m : List ℕ} (M n every : ℕ) (z : Layout) → Roomy g M n → EnvironmentLayout (g .input .states) M (g .output .states) z
-        → ((h : ℕ) → has every h ≡ ltb h M) → Wrote z i won every 65535 0 l m → Filled g (λ x h o. (x ≡ i) × (region (separatedOf g) x o ≡ true)) l m
-    none-filled M n every z R Z e W =
-        filled-same g (laid-block g M n z R Z i won every 65535 0 e (λ h o lh b y. same-none i o a b M (sym (won-has o b) ∙ y) .entry h lh) W)
+    pub none-filled : {l m : List ℕ} (M n every first : ℕ) (z : Layout) → first ≡ entry none → Roomy g M n
+        → EnvironmentLayout (g .input .states) M (g .output .states) z
+        → ((h : ℕ) → has every h ≡ ltb h M) → Wrote z i won every first 0 l m → Filled g (λ x h o. (x ≡ i) × (region (separatedOf g) x o ≡ true)) l m
+    none-filled M n every first z q R Z e W =
+        filled-same g
+        (laid-block g M n z R Z i won every first 0 e (λ h o lh b y. same-none i o a b M first q (sym (won-has o b) ∙ y) .entry h lh) W)
         (λ x h o lx lh lo p. (p .0, won-has o lo ∙ known-won i o a lo ∙ ap (λ (y : ℕ). region (separatedOf g) y o) (sym (p .0)) ∙ p .1))
 
   -- a stuck output has an empty row
 
-  pub row-stuck : (o : ℕ) → o < g .output .states → stuck (separatedOf g .output) o ≡ eqb (getD (g .output .moves) o 0) 0
+  pub row-stuck : (o : ℕ) → o < g .output .states → stuck (separatedOf g .output) o ≡ eqb (getD (setsIn (g .output .moves)) o 0) 0
   row-stuck o b =
-      elim (decide (eqb (getD (g .output .moves) o 0) 0)) [
+      elim (decide (eqb (getD (setsIn (g .output .moves)) o 0) 0)) [
         | inl e ↦ true-of (stuck (separatedOf g .output) o) (λ f. let v = stuck-moves (separatedOf g .output) o f in empty-row (v .0) (v .1) e) ∙ sym e
         | inr e ↦
-            let v = nonzero-member (getD (g .output .moves) o 0) (eqb-false (getD (g .output .moves) o 0) 0 e) in
+            let v = nonzero-member (getD (setsIn (g .output .moves)) o 0) (eqb-false (getD (setsIn (g .output .moves)) o 0) 0 e) in
             stuck-not (separatedOf g .output) o (v .0) (sym (output-edge o (v .0) b) ∙ v .1) ∙ sym e
       ]
     where
-      empty-row : (p : ℕ) → edge (separatedOf g .output) o p ≡ true → eqb (getD (g .output .moves) o 0) 0 ≡ true → ⊥
+      empty-row : (p : ℕ) → edge (separatedOf g .output) o p ≡ true → eqb (getD (setsIn (g .output .moves)) o 0) 0 ≡ true → ⊥
       empty-row p f e =
-          clash (output-edge o p b ∙ f) (ap (λ (x : ℕ). has x p) (eqb-true (getD (g .output .moves) o 0) 0 e) ∙ has-zero p)
+          clash (output-edge o p b ∙ f) (ap (λ (x : ℕ). has x p) (eqb-true (getD (setsIn (g .output .moves)) o 0) 0 e) ∙ has-zero p)
 
   -- the inputs whose rows with o need no walk, from those in trivial components and the moves of o
-  pub pushed-of : (lone o y : ℕ) {x : ℕ} → Lone (g .input .states) cores lone → o < g .output .states → y ≡ getD (g .output .moves) o 0
+  pub pushed-of : (lone o y : ℕ) {x : ℕ} → Lone (g .input .states) inner lone → o < g .output .states → y ≡ getD (setsIn (g .output .moves)) o 0
       → ((i : ℕ) → has x i ≡ pushedAt y (g .input .states) lone i) → Pushed g x o
   unfolding unwalked pushedAt
   pushed-of lone o y {x} L b q e = record { each = λ i. e i ∙ go i (decide (eqb y 0)) (decide (ltb i (g .input .states))) }
@@ -207,7 +248,7 @@ module _ (g : Game) (s : List ℕ) (cores : ℕ) (K : Known g s cores) where
           (L .each i
           ∙ ap (λ (z : Bool). ltb i (g .input .states) && z)
           (ap not (known-core i (ltb-true i (g .input .states) m)) ∙ sym (or-none (not (nontrivial (separatedOf g .input) i)) (stops ∙ f))))
-      go i (inr f) (inr m) = rw (f, pushedAt) (L .each i ∙ and-false-left (not (has cores i)) m ∙ sym (and-false-left (unwalked g i o) m))
+      go i (inr f) (inr m) = rw (f, pushedAt) (L .each i ∙ and-false-left (not (has inner i)) m ∙ sym (and-false-left (unwalked g i o) m))
 
   -- those of them that are not won
 
@@ -221,21 +262,21 @@ module _ (g : Game) (s : List ℕ) (cores : ℕ) (K : Known g s cores) where
     pub pushed-within : within x (g .input .states) ≡ true
     pushed-within = has-within x (g .input .states) pushed-below
 
-    module _ (which : ℕ) (w : which ≡ pack (g .input .states) (lostIn s (g .input .states) cores x o)) where
+    module _ (which : ℕ) (w : which ≡ pack (g .input .states) (lostIn (setsIn s) (g .input .states) inner x o)) where
       which-below : (i : ℕ) → has which i ≡ true → i < g .input .states
-      which-below i e = pack-below (g .input .states) (lostIn s (g .input .states) cores x o) i (ap (λ (y : ℕ). has y i) (sym w) ∙ e)
+      which-below i e = pack-below (g .input .states) (lostIn (setsIn s) (g .input .states) inner x o) i (ap (λ (y : ℕ). has y i) (sym w) ∙ e)
 
-      which-has : (i : ℕ) → i < g .input .states → has which i ≡ (has x i && not (wonAt s (g .input .states) cores i o))
+      which-has : (i : ℕ) → i < g .input .states → has which i ≡ (has x i && not (wonAt (setsIn s) (g .input .states) inner i o))
       unfolding lostIn lostAt
-      which-has i a = ap (λ (y : ℕ). has y i) w ∙ has-pack-below (g .input .states) (lostIn s (g .input .states) cores x o) i a
+      which-has i a = ap (λ (y : ℕ). has y i) w ∙ has-pack-below (g .input .states) (lostIn (setsIn s) (g .input .states) inner x o) i a
 
       which-in : (i : ℕ) → has which i ≡ true → has x i ≡ true
-      which-in i e = and-left (has x i) (not (wonAt s (g .input .states) cores i o)) (sym (which-has i (which-below i e)) ∙ e)
+      which-in i e = and-left (has x i) (not (wonAt (setsIn s) (g .input .states) inner i o)) (sym (which-has i (which-below i e)) ∙ e)
 
-      which-lost : (i : ℕ) → has which i ≡ true → wonAt s (g .input .states) cores i o ≡ false
+      which-lost : (i : ℕ) → has which i ≡ true → wonAt (setsIn s) (g .input .states) inner i o ≡ false
       which-lost i e =
-          not-true (wonAt s (g .input .states) cores i o)
-          (and-right (has x i) (not (wonAt s (g .input .states) cores i o)) (sym (which-has i (which-below i e)) ∙ e))
+          not-true (wonAt (setsIn s) (g .input .states) inner i o)
+          (and-right (has x i) (not (wonAt (setsIn s) (g .input .states) inner i o)) (sym (which-has i (which-below i e)) ∙ e))
 
       in-which : (i : ℕ) → i < g .input .states → unwalked g i o ≡ true → region (separatedOf g) i o ≡ false → has which i ≡ true
       in-which i a u r =
@@ -245,14 +286,14 @@ module _ (g : Game) (s : List ℕ) (cores : ℕ) (K : Known g s cores) where
       at-o i p a q u r = in-which i a (ap (unwalked g i) (sym q) ∙ u) (ap (region (separatedOf g) i) (sym q) ∙ r)
 
       -- they are pushes
-      pub pushes-of : (M : ℕ) {x : ℕ} {y : OutSet} → y ≡ record { 0 = getD (g .output .moves) o 0 }
-          → x ≡ pack (g .input .states) (refusedAt s (g .input .states) (g .output .states) cores (y .0)) → Pushes g M which o x
+      pub pushes-of : (M : ℕ) {x y : ℕ} → y ≡ getD (setsIn (g .output .moves)) o 0
+          → x ≡ pack (g .input .states) (refusedAt (setsIn s) (g .input .states) (g .output .states) inner y) → Pushes g M which o x
       pushes-of M {x} {y} q e = record {
         below = which-below;
-        inside = refused-within (g .input .states) (refusedAt s (g .input .states) (g .output .states) cores (y .0)) e;
+        inside = refused-within (g .input .states) (refusedAt (setsIn s) (g .input .states) (g .output .states) inner y) e;
         same = λ i j d f. same-push i o (which-below i d) b M j (which-lost i d) (pushed-unwalked i (which-in i d))
-            (f ∙ unanswered-both s (g .input .states) (g .output .states) cores (getD (g .input .moves) i 0) (y .0) e
-            ∙ ap (λ (z : OutSet). unansweredAt s (g .input .states) (g .output .states) cores (getD (g .input .moves) i 0) (z .0)) q);
+            (f ∙ unanswered-both (setsIn s) (g .input .states) (g .output .states) inner (getD (setsIn (g .input .moves)) i 0) y e
+            ∙ ap (unansweredAt (setsIn s) (g .input .states) (g .output .states) inner (getD (setsIn (g .input .moves)) i 0)) q);
       }
 
       pub pushes-filled : {l m : List ℕ} → Filled g (λ a h p. (has which a ≡ true) × (p ≡ o)) l m
@@ -264,6 +305,11 @@ module _ (g : Game) (s : List ℕ) (cores : ℕ) (K : Known g s cores) where
       pushes-none l z =
           filled-same g (filled-none g {P = λ a h p. ⊥} l (λ a h p q. q))
           (λ a h p la lh lp q. clash (at-o a p la (q .1) (q .0) (q .2)) (ap (λ (y : ℕ). has y a) z ∙ has-zero a))
+
+-- the push of one input, from its row
+pub push-of : (g : Game) (M which o refused : ℕ) → Pushes g M which o refused → (i row j : ℕ) → has which i ≡ true → row ≡ getD (setsIn (g .input .moves)) i 0
+    → j ≡ least (g .input .states) (both row refused) → (j < capacity) × Same g M i o (entry (gives 0 j)) entryStep
+push-of g M which o refused P i row j h q e = P .same i j h (e ∙ ap (λ (x : ℕ). least (g .input .states) (both x refused)) q)
 
 -- the rows of won positions and the pushes are the rows that need no walk
 pub plain-join : (g : Game) {l m k : List ℕ} → Filled g (λ i h o. region (separatedOf g) i o ≡ true) l m
@@ -278,8 +324,8 @@ plain-join g F G =
     ])
 
 -- the inputs in trivial components, from all and those in the others
-pub lone-of : (n cores b : ℕ) {x : ℕ} → ((i : ℕ) → has b i ≡ ltb i n) → ((i : ℕ) → has x i ≡ (has b i && not (has cores i))) → Lone n cores x
-lone-of n cores b f d = record { each = λ i. d i ∙ ap (λ (y : Bool). y && not (has cores i)) (f i) }
+pub lone-of : (n inner b : ℕ) {x : ℕ} → ((i : ℕ) → has b i ≡ ltb i n) → ((i : ℕ) → has x i ≡ (has b i && not (has inner i))) → Lone n inner x
+lone-of n inner b f d = record { each = λ i. d i ∙ ap (λ (y : Bool). y && not (has inner i)) (f i) }
 
 pub pushed-all : (y n lone x : ℕ) → y ≡ 0 → ((i : ℕ) → has x i ≡ ltb i n) → (i : ℕ) → has x i ≡ pushedAt y n lone i
 unfolding pushedAt

@@ -2,6 +2,7 @@
 --
 --   place-in, entry-at        : the place of a row, and its entry
 --   entry-small               : every entry fits 16 bits
+--   pushed-state              : the state of a row that is not won
 --   filled-none, filled-join  : nothing written, and one writing after the other
 --   filled-same               : fewer rows than were written
 --   putting-*, put-done       : what the columns of rows ask and give
@@ -18,7 +19,8 @@ use lib.Dec.{ltb}
 use lib.ListN.{length, getD}
 use borrow.Author.Tests.{ltb-true, lt-ltb}
 use Rattle.finite.proofs.Truth.{decide}
-use Rattle.sets.specs.Member.{has}
+use Rattle.bits.specs.Member.{has}
+use Rattle.sets.specs.Words.{capacity}
 use Rattle.graphs.proofs.Graph.{edge-to}
 use Rattle.game.specs.declared.Game.{Game}
 use Rattle.game.specs.declared.Acceptance.the-variants.{Accepted}
@@ -26,6 +28,7 @@ use Rattle.game.specs.Acceptance.{acceptance}
 use Rattle.game.proofs.Laws.{accepted-fits}
 use Rattle.play.specs.Play.{graphOf, separatedOf}
 use Rattle.arena.specs.Arena.{Separated}
+use Rattle.arena.specs.Table.{gives}
 use Rattle.theory.specs.Region.{region}
 use Rattle.theory.specs.Choice.{assumptions, environmentRow}
 use Rattle.theory.specs.Entries.{entry, environmentCounters}
@@ -34,6 +37,8 @@ use Rattle.theory.proofs.EnvironmentRow.{pushed}
 use Rattle.demands.proofs.Sizes.{environment-few}
 use Rattle.filling.specs.Grows.{Right}
 use Rattle.filling.proofs.Grows.{grows-none, grows-more}
+use Rattle.counters.specs.Counters.{mostCounters}
+use Rattle.entries.proofs.Packed.{gives-state}
 use Rattle.columns.specs.Column.{Fits, Agrees, Columned, Column}
 use Rattle.environment_table.specs.Table.{entriesOf, place, Roomy, Filled, Same, Putting, Put}
 
@@ -65,6 +70,14 @@ module _ (g : Game) (i h o : ℕ) (li : i < g .input .states) (lh : h < environm
           let v = pushed S i h o li lo e lh in
           rw (v .is)
           (omega (arith, v .range, edge-to (S .input) i (v .state) (v .move), environment-few g (accepted-fits g a), accepted-fits g a .input .most))
+
+  -- the state of a row that is not won
+  pub pushed-state : acceptance g ≡ Accepted → region (separatedOf g) i o ≡ false → (c j : ℕ) → environmentRow (separatedOf g) i h o ≡ gives c j
+      → j < g .input .states
+  unfolding separatedOf graphOf
+  pushed-state a e c j q =
+      let v = pushed (separatedOf g) i h o li lo e lh in
+      omega (arith, gives-state c (v .counter) j (v .state) (sym q ∙ v .is), edge-to (separatedOf g .input) i (v .state) (v .move))
 
 -- a number below k + 1 is below k, or k
 pub below-next : {P Q : Type 0} (a k : ℕ) → a < k + 1 → (a < k → P) → (a ≡ k → Q) → P ⊎ Q
@@ -114,10 +127,10 @@ unfolding place
 place-base M O i h o = omega (arith, add-mul (i * M) h O, mul-comm h O)
 
 module _ (g : Game) (M n i : ℕ) (R : Roomy g M n) (li : i < g .input .states) where
-  rows-small : i * M ≤ 2048
-  rows-small = mul-le-mul {n₂ = 64} {m₂ = 32} (omega (arith, R .inputs)) (R .few)
+  rows-small : i * M ≤ capacity * mostCounters
+  rows-small = mul-le-mul {n₂ = capacity} {m₂ = mostCounters} (omega (arith, R .inputs)) (R .few)
 
-  entries-small : i * M * g .output .states ≤ 131072
+  entries-small : i * M * g .output .states ≤ capacity * mostCounters * capacity
   entries-small = mul-le-mul rows-small (R .outputs)
 
   counter-in : (h : ℕ) → h < M → h < environmentCounters (separatedOf g)
@@ -165,10 +178,10 @@ module _ (g : Game) (M n i o first more which : ℕ) (R : Roomy g M n) (S : Same
 -- the same of any game with so many outputs
 
 module _ (O M i o first more n : ℕ) (p : Putting O M i o first more n) where
-  pub putting-rows : i * M ≤ 2048
+  pub putting-rows : i * M ≤ capacity * mostCounters
   putting-rows = rows-small (p .game) M n i (p .roomy) (p .same .input)
 
-  pub putting-entries : i * M * O + o < 131136
+  pub putting-entries : i * M * O + o < capacity * mostCounters * capacity + capacity
   putting-entries =
       rw (p .outputs) (omega (arith, entries-small (p .game) M n i (p .roomy) (p .same .input), p .same .output, p .roomy .outputs))
 

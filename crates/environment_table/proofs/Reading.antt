@@ -1,116 +1,103 @@
 -- What is read of scratch, loop by loop.
 --
---   reached-*  : what the outputs of a set reach, output by output
---   some-*     : whether a set has a won output, from what they reach or from the set
+--   Reaching   == what the outputs of a set reach, but for those of a set `rest`
+--   reaching-* : how that begins, goes on and ends
 --   refused-at, refused-within, both-none, both-lowest, unanswered-both : the inputs that no output answers, and the lowest of them
-use Prim.Native.Nat.{ℕ, _+_, _^_, _<_, _≤_}
-use native.Mathlib.Numerals.{add-one}
-use mathlib.Core.Path.{_≡_, refl, sym, _∙_, ap}
+use Prim.Native.Nat.{ℕ, _^_, _<_, _≤_}
+use mathlib.Core.Path.{_≡_, sym, _∙_, ap}
 use mathlib.Core.Bool.{Bool, true, false, _&&_, _||_, not}
 use mathlib.Core.List.{List}
-use mathlib.Core.Logic.{_≢_}
+use mathlib.Core.Logic.{inl, inr, _≢_}
 use native.Mathlib.Omega.{arith}
-use native.Mathlib.Decide.{decLt}
-use lib.Dec.{ltb}
-use lib.ListN.{getD}
-use borrow.Author.Tests.{lt-ltb, ltb-true}
-use Rattle.finite.specs.Bounded.{any, least}
-use Rattle.finite.proofs.Truth.{clash, and-intro, and-left, and-right, same-test}
-use Rattle.finite.proofs.Bounded.{any-intro, any-elim, least-le, least-same, least-unique, least-before, least-member}
-use Rattle.sets.specs.Member.{has, pack, within, both, meets}
-use Rattle.sets.proofs.Membership.{has-zero, has-pack-below, has-within, within-has}
-use Rattle.sets.proofs.Compare.{meets-intro, meets-elim}
-use Rattle.sets.proofs.Visit.{lowest-in}
+use native.Mathlib.Decide.{ℕ-discrete, decLt}
+use lib.Dec.{eqb}
+use Rattle.finite.specs.Bounded.{least, count}
+use Rattle.finite.proofs.Truth.{clash, and-right, or-left, or-right, or-cases}
+use Rattle.finite.proofs.Bounded.{least-le, least-same, least-unique, least-before, least-member}
+use Rattle.bits.specs.Member.{has, pack, within, both}
+use Rattle.bits.proofs.Membership.{has-zero, has-pack-below, has-within, within-has}
+use Rattle.bits.proofs.Remove.{less-in, less-other, less-falls}
+use Rattle.bits.proofs.Visit.{small-word, lowest-below, lowest-in, lowest-less}
+use Rattle.sets.specs.Words.{capacity}
 use Rattle.ways.proofs.Kept.{pack-below}
-use Rattle.stored.specs.Stored.{wonAt}
-use Rattle.stored.proofs.Read.{won-in, won-out}
-use Rattle.environment_table.specs.Reading.{reachedAt, anyWon, refusedAt, openAt, unansweredAt}
+use Rattle.scratch.specs.Stored.{outReachAt, someWonAt, Reached}
+use Rattle.environment_table.specs.Reading.{refusedAt, openAt, unansweredAt}
 
--- what the outputs of a set reach
+-- what the outputs of y reach, but for those of `rest`
+pub record Reaching (l : List ℕ) (n m y rest x : ℕ) : Type 0 where
+  pub bound : m ≤ capacity
+  pub below : (p : ℕ) → has y p ≡ true → p < m
+  pub inside : (p : ℕ) → has rest p ≡ true → has y p ≡ true
+  pub reached : (e : ℕ) → has x e ≡ true → (p : ℕ) × (has y p ≡ true) × (has (outReachAt l n p) e ≡ true)
+  pub reaches : (p e : ℕ) → has y p ≡ true → has rest p ≡ false → has (outReachAt l n p) e ≡ true → has x e ≡ true
 
-module _ (l : List ℕ) (n set : ℕ) where
-  pub reached-start : (t : ℕ) → has 0 t ≡ reachedAt l n 0 set t
-  unfolding reachedAt any
-  reached-start t = has-zero t
+module _ (l : List ℕ) (n m y : ℕ) where
+  pub reaching-start : (x : ℕ) → x ≡ 0 → m ≤ capacity → within y m ≡ true → Reaching l n m y y x
+  reaching-start x z few w = record {
+    bound = few;
+    below = λ p e. within-has y m p w e;
+    inside = λ p e. e;
+    reached = λ e h. clash h (ap (λ (k : ℕ). has k e) z ∙ has-zero e);
+    reaches = λ p e a b h. clash a b;
+  }
 
-  pub reached-turn : (p x y : ℕ) {ok : Bool} → ((t : ℕ) → has x t ≡ reachedAt l n p set t) → ok ≡ has set p
-      → ((t : ℕ) → has y t ≡ (has x t || (ok && has (getD l (n + n + p) 0) t))) → (t : ℕ) → has y t ≡ reachedAt l n (p + 1) set t
-  unfolding reachedAt any
-  reached-turn p x y f e u t =
-      rw add-one (u t ∙ rw (f t, e) (or-swap (any p (λ k. has set k && has (getD l (n + n + k) 0) t)) (has set p && has (getD l (n + n + p) 0) t)))
-    where
-      or-swap : (a b : Bool) → (a || b) ≡ (b || a)
-      or-swap true true = refl
-      or-swap true false = refl
-      or-swap false true = refl
-      or-swap false false = refl
+  module _ (rest x p : ℕ) (R : Reaching l n m y rest x) (ne : rest ≢ 0) (e : p ≡ least capacity (has rest)) where
+    small : rest < 2 ^ capacity
+    small = small-word capacity rest (λ s a. omega (arith, R .bound, R .below s (R .inside s a)))
 
-  pub reached-end : (m p x : ℕ) → p ≤ m → m ≤ p → ((t : ℕ) → has x t ≡ reachedAt l n p set t) → (t : ℕ) → has x t ≡ reachedAt l n m set t
-  reached-end m p x a b f t = f t ∙ ap (λ (k : ℕ). reachedAt l n k set t) (omega arith)
+    at : has rest p ≡ true
+    at = lowest-in capacity rest p small ne e
 
--- whether some output is won
+    pub reaching-small : p < capacity
+    reaching-small = lowest-below capacity rest p small ne e
 
-module _ (l : List ℕ) (n m cores j set : ℕ) where
-  pub some-in : (reach : ℕ) → has cores j ≡ true → ((t : ℕ) → has reach t ≡ reachedAt l n m set t)
-      → meets 64 (getD l (n + j) 0) reach ≡ anyWon l n m cores j set
-  unfolding anyWon reachedAt
-  some-in reach c f = same-test (meets 64 (getD l (n + j) 0) reach) (any m q) to back
-    where
-      q : ℕ → Bool
-      q p = has set p && wonAt l n cores j p
+    pub reaching-below : p < m
+    reaching-below = R .below p (R .inside p at)
 
-      r : ℕ → ℕ → Bool
-      r t p = has set p && has (getD l (n + n + p) 0) t
+    module _ (v : ℕ) (d : (s : ℕ) → has v s ≡ (has rest s && not (eqb s (least capacity (has rest))))) where
+      less : (s : ℕ) → has v s ≡ (has rest s && not (eqb s p))
+      less = lowest-less capacity rest p v e d
 
-      to : meets 64 (getD l (n + j) 0) reach ≡ true → any m q ≡ true
-      to h =
-          let w = meets-elim 64 (getD l (n + j) 0) reach h in
-          let v = any-elim m (r (w .0)) (sym (f (w .0)) ∙ w .3) in
-          let out = and-right (has set (v .0)) (has (getD l (n + n + v .0) 0) (w .0)) (v .2) in
-          any-intro m q (v .0) (v .1)
-          (and-intro (and-left (has set (v .0)) (has (getD l (n + n + v .0) 0) (w .0)) (v .2))
-          (sym (won-in l n cores j (v .0) c refl) ∙ meets-intro 64 (getD l (n + j) 0) (getD l (n + n + v .0) 0) (w .0) (w .1) (w .2) out))
+      pub reaching-falls : count capacity (has v) < count capacity (has rest)
+      reaching-falls = less-falls rest p v less capacity reaching-small at
 
-      back : any m q ≡ true → meets 64 (getD l (n + j) 0) reach ≡ true
-      back h =
-          let v = any-elim m q h in
-          let won = and-right (has set (v .0)) (wonAt l n cores j (v .0)) (v .2) in
-          let w = meets-elim 64 (getD l (n + j) 0) (getD l (n + n + v .0) 0) (won-in l n cores j (v .0) c refl ∙ won) in
-          meets-intro 64 (getD l (n + j) 0) reach (w .0) (w .1) (w .2)
-          (f (w .0) ∙ any-intro m (r (w .0)) (v .0) (v .1) (and-intro (and-left (has set (v .0)) (wonAt l n cores j (v .0)) (v .2)) (w .3)))
+      pub reaching-turn : {w z : ℕ} → w ≡ outReachAt l n p → ((s : ℕ) → has z s ≡ (has x s || has w s)) → Reaching l n m y v z
+      reaching-turn {w} {z} q u = record {
+        bound = R .bound;
+        below = R .below;
+        inside = λ s a. R .inside s (less-in rest p v less s a);
+        reached = reached;
+        reaches = λ s t a b h. reaches s t a b h (ℕ-discrete s p);
+      }
+        where
+          reached : (t : ℕ) → has z t ≡ true → (s : ℕ) × (has y s ≡ true) × (has (outReachAt l n s) t ≡ true)
+          reached t h =
+              elim (or-cases (has x t) (has w t) (sym (u t) ∙ h)) [
+                | inl a ↦ R .reached t a
+                | inr a ↦ (p, R .inside p at, ap (λ (k : ℕ). has k t) (sym q) ∙ a)
+              ]
 
-  pub some-out : (x b : ℕ) → m ≤ 64 → has cores j ≡ false → ((t : ℕ) → has b t ≡ ltb t m) → ((t : ℕ) → has x t ≡ (has set t && has b t))
-      → meets 64 (getD l (n + j) 0) x ≡ anyWon l n m cores j set
-  unfolding anyWon
-  some-out x b small c f i = same-test (meets 64 (getD l (n + j) 0) x) (any m q) to back
-    where
-      q : ℕ → Bool
-      q p = has set p && wonAt l n cores j p
+          reaches : (s t : ℕ) → has y s ≡ true → has v s ≡ false → has (outReachAt l n s) t ≡ true → Dec (s ≡ p) → has z t ≡ true
+          reaches s t a b h (yes k) = u t ∙ or-right (has x t) (ap (λ (i : ℕ). has i t) (q ∙ ap (outReachAt l n) (sym k)) ∙ h)
+          reaches s t a b h (no k) = u t ∙ or-left (has w t) (R .reaches s t a (sym (less-other rest p v less s k) ∙ b) h)
 
-      to : meets 64 (getD l (n + j) 0) x ≡ true → any m q ≡ true
-      to h =
-          let w = meets-elim 64 (getD l (n + j) 0) x h in
-          let both : (has set (w .0) && has b (w .0)) ≡ true = sym (i (w .0)) ∙ w .3 in
-          any-intro m q (w .0) (ltb-true (w .0) m (sym (f (w .0)) ∙ and-right (has set (w .0)) (has b (w .0)) both))
-          (and-intro (and-left (has set (w .0)) (has b (w .0)) both) (sym (won-out l n cores j (w .0) c refl) ∙ w .2))
-
-      back : any m q ≡ true → meets 64 (getD l (n + j) 0) x ≡ true
-      back h =
-          let v = any-elim m q h in
-          let won = and-right (has set (v .0)) (wonAt l n cores j (v .0)) (v .2) in
-          meets-intro 64 (getD l (n + j) 0) x (v .0) (omega (arith, v .1)) (won-out l n cores j (v .0) c refl ∙ won)
-          (i (v .0) ∙ and-intro (and-left (has set (v .0)) (wonAt l n cores j (v .0)) (v .2)) (f (v .0) ∙ lt-ltb (v .0) m (v .1)))
+  pub reaching-end : (rest x : ℕ) → Reaching l n m y rest x → rest ≡ 0 → Reached l n m y x
+  reaching-end rest x R z = record {
+    below = R .below;
+    reached = R .reached;
+    reaches = λ p e a h. R .reaches p e a (ap (λ (k : ℕ). has k p) z ∙ has-zero p) h;
+  }
 
 -- the inputs that no output answers, and the lowest of them
 
-pub refused-at : (l : List ℕ) (n m cores set j : ℕ) {b : Bool} → b ≡ anyWon l n m cores j set → not b ≡ refusedAt l n m cores set j
+pub refused-at : (l : List ℕ) (n m inner set j : ℕ) {b : Bool} → b ≡ someWonAt l n m inner j set → not b ≡ refusedAt l n m inner set j
 unfolding refusedAt
-refused-at l n m cores set j e = ap not e
+refused-at l n m inner set j e = ap not e
 
 pub refused-within : (n : ℕ) (p : ℕ → Bool) {x : ℕ} → x ≡ pack n p → within x n ≡ true
 refused-within n p {x} e = has-within x n (λ s h. pack-below n p s (ap (λ (y : ℕ). has y s) (sym e) ∙ h))
 
-module _ (n from refused : ℕ) (few : n ≤ 64) (w : within refused n ≡ true) (x : ℕ) (i : (s : ℕ) → has x s ≡ (has from s && has refused s)) where
+module _ (n from refused : ℕ) (few : n ≤ capacity) (w : within refused n ≡ true) (x : ℕ) (i : (s : ℕ) → has x s ≡ (has from s && has refused s)) where
   in-both : (s : ℕ) → has x s ≡ both from refused s
   unfolding both
   in-both s = i s
@@ -124,24 +111,27 @@ module _ (n from refused : ℕ) (few : n ≤ 64) (w : within refused n ≡ true)
           clash (least-member n (both from refused) b) (sym (in-both m) ∙ ap (λ (k : ℕ). has k m) z ∙ has-zero m)
       go (no b) = omega (arith, least-le n (both from refused))
 
-  pub both-lowest : {j : ℕ} → x < 2 ^ 64 → x ≢ 0 → j ≡ least 64 (has x) → j ≡ least n (both from refused)
-  both-lowest {j} small ne e = sym (least-unique n (both from refused) j below here before)
+  pub both-lowest : {j : ℕ} → x ≢ 0 → j ≡ least capacity (has x) → j ≡ least n (both from refused)
+  both-lowest {j} ne e = sym (least-unique n (both from refused) j below here before)
     where
+      refused-below : (s : ℕ) → has x s ≡ true → s < n
+      refused-below s a = within-has refused n s w (and-right (has from s) (has refused s) (sym (i s) ∙ a))
+
       at : has x j ≡ true
-      at = lowest-in x j small ne e
+      at = lowest-in capacity x j (small-word capacity x (λ s a. omega (arith, few, refused-below s a))) ne e
 
       here : both from refused j ≡ true
       here = sym (in-both j) ∙ at
 
       below : j < n
-      below = within-has refused n j w (and-right (has from j) (has refused j) (sym (i j) ∙ at))
+      below = refused-below j at
 
       before : (k : ℕ) → k < j → both from refused k ≡ false
-      before k b = sym (in-both k) ∙ least-before 64 (has x) k (rw e at b)
+      before k b = sym (in-both k) ∙ least-before capacity (has x) k (rw e at b)
 
-module _ (l : List ℕ) (n m cores from set : ℕ) where
-  pub unanswered-both : {x : ℕ} → x ≡ pack n (refusedAt l n m cores set) → least n (both from x) ≡ unansweredAt l n m cores from set
+module _ (l : List ℕ) (n m inner from set : ℕ) where
+  pub unanswered-both : {x : ℕ} → x ≡ pack n (refusedAt l n m inner set) → least n (both from x) ≡ unansweredAt l n m inner from set
   unfolding unansweredAt openAt refusedAt both
   unanswered-both {x} e =
-      least-same n (both from x) (openAt l n m cores from set)
-      (λ j b. ap (λ (k : Bool). has from j && k) (ap (λ (y : ℕ). has y j) e ∙ has-pack-below n (refusedAt l n m cores set) j b))
+      least-same n (both from x) (openAt l n m inner from set)
+      (λ j b. ap (λ (k : Bool). has from j && k) (ap (λ (y : ℕ). has y j) e ∙ has-pack-below n (refusedAt l n m inner set) j b))

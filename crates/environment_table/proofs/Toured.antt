@@ -1,4 +1,4 @@
--- Tours in words.
+-- Tours in sets.
 --
 --   tour-row                : a row that is left to a tour is the tour's
 --   goals-pack, aims-goals  : the goals of a tour, and its counters
@@ -11,8 +11,9 @@ use mathlib.Core.Logic.{_≢_}
 use native.Mathlib.Omega.{arith}
 use lib.ListN.{length}
 use Rattle.finite.proofs.Truth.{and-left, and-right, not-true}
-use Rattle.sets.specs.Member.{has, pack}
-use Rattle.sets.proofs.Compare.{nonzero-member}
+use Rattle.bits.specs.Member.{has, pack}
+use Rattle.bits.proofs.Compare.{nonzero-member}
+use Rattle.sets.specs.Words.{capacity}
 use Rattle.graphs.specs.Graph.{stuck}
 use Rattle.graphs.specs.Component.{joined, meetsAt}
 use Rattle.graphs.proofs.Component.{joined-self}
@@ -39,7 +40,7 @@ use Rattle.environment_table.proofs.Outward.{whole-has, whole-number, w
 
 module _ (g : Game) (c k : ℕ) (W : Whole g c k) where
   -- the sets that meet it
-  pub goals-pack : (q M : ℕ) → g .input .states ≤ 64 → M ≡ length (assumptions (separatedOf g)) → q ≡ pack M (metIn (assumptions (separatedOf g)) c)
+  pub goals-pack : (q M : ℕ) → g .input .states ≤ capacity → M ≡ length (assumptions (separatedOf g)) → q ≡ pack M (metIn (assumptions (separatedOf g)) c)
       → q ≡ pack (length (assumptions (separatedOf g))) (λ a. meetsAt (graphOf (g .input)) k (goalAt (assumptions (separatedOf g)) a))
   unfolding graphOf
   goals-pack q M few m e =

@@ -14,8 +14,9 @@ use native.Mathlib.Omega.{arith}
 use Rattle.finite.specs.Bounded.{least}
 use Rattle.finite.proofs.Truth.{decide, clash, and-intro, not-false, or-false-left, or-false-right}
 use Rattle.finite.proofs.Bounded.{least-before, least-unique}
-use Rattle.sets.specs.Member.{has, pack}
-use Rattle.sets.proofs.Membership.{has-pack-below}
+use Rattle.bits.specs.Member.{has, pack}
+use Rattle.bits.proofs.Membership.{has-pack-below}
+use Rattle.sets.specs.Words.{capacity, setsIn}
 use Rattle.graphs.specs.Component.{joined, number, nontrivial}
 use Rattle.graphs.specs.Graph.{stuck}
 use Rattle.graphs.proofs.Graph.{edge-from}
@@ -27,6 +28,7 @@ use Rattle.play.specs.Play.{graphOf, separatedOf}
 use Rattle.theory.specs.Region.{region}
 use Rattle.theory.specs.Choice.{escapes}
 use Rattle.theory.proofs.Delay.{region-same}
+use Rattle.scratch.proofs.Areas.{in-closes}
 use Rattle.touring.proofs.Tours.{comp-has}
 use Rattle.environment_table.specs.Table.{Known, Filled}
 use Rattle.environment_table.specs.Reading.{unwalked, plain}
@@ -57,9 +59,9 @@ core-below : (g : Game) (a : ℕ) → nontrivial (graphOf (g .input)) a ≡ true
 unfolding graphOf
 core-below g a e = let v = nontrivial-move (graphOf (g .input)) a e in edge-from (graphOf (g .input)) a (v .0) (v .1)
 
-pub component-word : (g : Game) (s : List ℕ) (cores : ℕ) → Known g s cores → (i : ℕ) {c : ℕ} → i < g .input .states → c ≡ pack (g .input .states) (together s i)
-    → c ≡ pack (g .input .states) (joined (graphOf (g .input)) i)
-component-word g s cores K i b e = e ∙ component-closed (g .input) s (record { row = K .ready .laid .inputs }) i b
+pub component-word : (g : Game) (s : List ℕ) (inner : ℕ) → Known g s inner → (i : ℕ) {c : ℕ} → i < g .input .states
+    → c ≡ pack (g .input .states) (together (setsIn s) i) → c ≡ pack (g .input .states) (joined (graphOf (g .input)) i)
+component-word g s inner K i b e = e ∙ component-closed (g .input) (setsIn s) (in-closes (K .ready .laid)) i b
 
 -- the states whose component has the number i
 module _ (g : Game) (a i : ℕ) (b : a < g .input .states) (e : number (graphOf (g .input)) a ≡ i) where
@@ -75,38 +77,39 @@ module _ (g : Game) (a i : ℕ) (b : a < g .input .states) (e : number (graphOf 
   number-core : nontrivial (graphOf (g .input)) a ≡ true → nontrivial (graphOf (g .input)) i ≡ true
   number-core n = nontrivial-same (graphOf (g .input)) i a number-in ∙ n
 
-module _ (g : Game) (s : List ℕ) (cores : ℕ) (K : Known g s cores) (i : ℕ) (li : i < g .input .states) where
-  pub skip-trivial : (l : List ℕ) → has cores i ≡ false → Filled g (λ a h b. (number (graphOf (g .input)) a ≡ i) × (plain g a b ≡ false)) l l
+module _ (g : Game) (s : List ℕ) (inner : ℕ) (K : Known g s inner) (i : ℕ) (li : i < g .input .states) where
+  pub skip-trivial : (l : List ℕ) → has inner i ≡ false → Filled g (λ a h b. (number (graphOf (g .input)) a ≡ i) × (plain g a b ≡ false)) l l
   unfolding separatedOf
   skip-trivial l e =
       filled-none g l
       (λ a h b p.
-      clash (number-core g a i (core-below g a (plain-core g a b (p .1))) (p .0) (plain-core g a b (p .1))) (sym (known-core g s cores K i li) ∙ e))
+      clash (number-core g a i (core-below g a (plain-core g a b (p .1))) (p .0) (plain-core g a b (p .1))) (sym (known-core g s inner K i li) ∙ e))
 
   module _ (c : ℕ) (w : c ≡ pack (g .input .states) (joined (graphOf (g .input)) i)) where
-    lowest-number : least 64 (has c) ≡ number (graphOf (g .input)) i
+    lowest-number : least capacity (has c) ≡ number (graphOf (g .input)) i
     unfolding number graphOf
     lowest-number =
-        least-unique 64 (has c) (number (graphOf (g .input)) i) (omega (arith, below, K .inputs))
+        least-unique capacity (has c) (number (graphOf (g .input)) i) (omega (arith, below, K .ready .fits .input .most))
         (ap (λ (p : ℕ → Bool). p (number (graphOf (g .input)) i)) members ∙ number-joined (graphOf (g .input)) i li)
         (λ j b. ap (λ (p : ℕ → Bool). p j) members ∙ least-before (g .input .states) (joined (graphOf (g .input)) i) j b)
       where
         members : has c ≡ joined (graphOf (g .input)) i
-        members = comp-has (graphOf (g .input)) i (g .input .moves) c (λ s t u v. refl) w
+        members = comp-has (graphOf (g .input)) i (setsIn (g .input .moves)) c (λ s t u v. refl) w
 
         below : number (graphOf (g .input)) i < g .input .states
         below = number-below (graphOf (g .input)) i li
 
-    pub skip-other : (l : List ℕ) {k : ℕ} → k ≡ least 64 (has c) → k ≢ i → Filled g (λ a h b. (number (graphOf (g .input)) a ≡ i) × (plain g a b ≡ false)) l l
+    pub skip-other : (l : List ℕ) {k : ℕ} → k ≡ least capacity (has c) → k ≢ i
+        → Filled g (λ a h b. (number (graphOf (g .input)) a ≡ i) × (plain g a b ≡ false)) l l
     skip-other l e n =
         filled-none g l (λ a h b p. n (e ∙ lowest-number ∙ number-own g a i (core-below g a (plain-core g a b (p .1))) (p .0)))
 
-    pub whole-of-number : {k : ℕ} → has cores i ≡ true → k ≡ least 64 (has c) → k ≡ i → Whole g c i
+    pub whole-of-number : {k : ℕ} → has inner i ≡ true → k ≡ least capacity (has c) → k ≡ i → Whole g c i
     unfolding separatedOf
     whole-of-number m e n = record {
       below = li;
       first = sym lowest-number ∙ sym e ∙ n;
-      core = sym (known-core g s cores K i li) ∙ m;
+      core = sym (known-core g s inner K i li) ∙ m;
       word = w;
     }
 

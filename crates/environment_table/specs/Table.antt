@@ -2,30 +2,33 @@
 --
 --   entriesOf g                 == the entries of the environment's table
 --   place M O i h o             == the place of the row of input i, counter h and output o, of M counters and O outputs
---   Solved g s n                == the game is accepted, scratch s holds its region, and n entries hold the table
---   Known g s cores             == the game is accepted, scratch s holds its region, and cores are the inputs in nontrivial components
+--   Known g s inner             == the game is accepted, scratch s holds its region, and inner are the inputs in nontrivial components
+--   Solved g s inner n          == so it is, and n entries hold the table
 --   Roomy g counters n          == the table has so many counters, and fits n entries
 --   EnvironmentLayout N M O z   == z is the layout of the rows of N inputs, M counters and O outputs
 --   Filled g P l m              == from l to m rows were written, those with P among them
 --   Same g counters i o first more   == the rows of i and o hold first + more × h
 --   Putting O M i o first more n     == so do the rows of i and o of a game with O outputs, whose table fits n entries
 --   Put O M i o first more l m       == from l to m they were written, of any such game
---   Pushes g M which o refused       == so do those of an input of `which` and o: first is its lowest move into the set `refused`, more is 64
+--   Pushes g M which o refused       == so do those of an input of `which` and o: its lowest move into the set `refused`; the counter stays
 use Prim.Native.Nat.{ℕ, _+_, _*_, _<_, _≤_}
 use mathlib.Core.Path.{_≡_}
 use mathlib.Core.Bool.{true}
 use mathlib.Core.List.{List}
 use lib.ListN.{length, getD}
 use Rattle.finite.specs.Bounded.{least}
-use Rattle.sets.specs.Member.{has, pack, within, both}
-use Rattle.graphs.specs.Component.{nontrivial}
+use Rattle.bits.specs.Member.{has, within, both}
+use Rattle.sets.specs.Words.{capacity, setsIn}
 use Rattle.game.specs.declared.Game.{Game}
 use Rattle.game.specs.declared.Acceptance.the-variants.{Accepted}
 use Rattle.game.specs.Acceptance.{acceptance}
-use Rattle.play.specs.Play.{graphOf, separatedOf}
+use Rattle.play.specs.Play.{separatedOf}
+use Rattle.arena.specs.Table.{gives}
 use Rattle.theory.specs.Choice.{environmentRow}
 use Rattle.theory.specs.Entries.{entry, environmentCounters, environmentEntries}
-use Rattle.stored.specs.Stored.{Ready}
+use Rattle.scratch.specs.Stored.{Ready}
+use Rattle.counters.specs.Counters.{mostCounters}
+use Rattle.entries.specs.Step.{entryStep}
 use Rattle.filling.specs.Grows.{Right, Grows}
 use Rattle.layout.specs.declared.Layout.{Layout}
 
@@ -36,24 +39,20 @@ entriesOf g = environmentEntries (separatedOf g)
 unfoldable pub place : ℕ → ℕ → ℕ → ℕ → ℕ → ℕ
 place M O i h o = 1 + ((i * M + h) * O + o)
 
-pub record Solved (g : Game) (s : List ℕ) (n : ℕ) : Type 0 where
+pub record Known (g : Game) (s : List ℕ) (inner : ℕ) : Type 0 where
   pub accepted : acceptance g ≡ Accepted
-  pub ready : Ready g s
-  pub room : length (environmentEntries (separatedOf g)) ≤ n
+  pub ready : Ready g s inner
 
-pub record Known (g : Game) (s : List ℕ) (x : ℕ) : Type 0 where
-  pub accepted : acceptance g ≡ Accepted
-  pub ready : Ready g s
-  pub cores : x ≡ pack (g .input .states) (nontrivial (graphOf (g .input)))
-  pub inputs : g .input .states ≤ 64
-  pub outputs : g .output .states ≤ 64
+pub record Solved (g : Game) (s : List ℕ) (inner n : ℕ) : Type 0 where
+  pub known : Known g s inner
+  pub room : length (environmentEntries (separatedOf g)) ≤ n
 
 pub record Roomy (g : Game) (M n : ℕ) : Type 0 where
   pub accepted : acceptance g ≡ Accepted
   pub counters : M ≡ environmentCounters (separatedOf g)
-  pub few : M ≤ 32
-  pub inputs : g .input .states ≤ 64
-  pub outputs : g .output .states ≤ 64
+  pub few : M ≤ mostCounters
+  pub inputs : g .input .states ≤ capacity
+  pub outputs : g .output .states ≤ capacity
   pub room : length (entriesOf g) ≤ n
 
 -- "Panel: one start entry, then rows by input, counter, output"
@@ -86,4 +85,5 @@ pub record Put (O M i o first more : ℕ) (l m : List ℕ) : Type 0 where
 pub record Pushes (g : Game) (M which o refused : ℕ) : Type 0 where
   pub below : (i : ℕ) → has which i ≡ true → i < g .input .states
   pub inside : within refused (g .input .states) ≡ true
-  pub same : (i j : ℕ) → has which i ≡ true → j ≡ least (g .input .states) (both (getD (g .input .moves) i 0) refused) → Same g M i o j 64
+  pub same : (i j : ℕ) → has which i ≡ true → j ≡ least (g .input .states) (both (getD (setsIn (g .input .moves)) i 0) refused)
+      → (j < capacity) × Same g M i o (entry (gives 0 j)) entryStep

@@ -6,19 +6,21 @@ use game::InSet;
 use game::InState;
 use game::OutSet;
 use game::OutState;
+use sets::Set;
 use ways::Ways;
 ghost use mathlib.Core.Path.{_≡_};
 ghost use mathlib.Core.Bool.{true};
-ghost use Prim.Native.Nat.{_<_};
+ghost use Prim.Native.Nat.{_≤_, _<_};
 ghost use lib.ListN.{length};
-ghost use Rattle.sets.specs.Member.{pack};
+ghost use Rattle.bits.specs.Member.{pack, within};
+ghost use Rattle.sets.specs.Words.{capacity, bitsOf, setsIn};
 ghost use Rattle.ways.specs.Search.{Bounds, Toward};
 ghost use Rattle.environment_table.specs.Table.{Known, Roomy};
 ghost use Rattle.environment_table.specs.Pressing.{Whole, Going, Gone, Pressed, Escape, Escaped, exitsAt, wayFrom};
 
 // The ways inside a component to its gates, as they were searched last.
 struct Found {
-    gates: u64,
+    gates: InSet,
     ways: Ways,
 }
 
@@ -28,41 +30,44 @@ struct Turn {
     found: Found,
 }
 
-// The members of c with a move into the set `out`, all of one graph.
-fn exits(moves: &[u64; 64], c: u64, out: u64) -> u64
-    ensures { λ r. ⌜ r ≡ pack 64 (exitsAt (now (moves .entry)) c out) ⌝ }
+// The members of c, all below n, with a move into the set `out`.
+fn exits(moves: &[u64; 64], n: usize, c: InSet, out: InSet) -> InSet
+    requires { ⌜ (n ≤ capacity) × (within (bitsOf (c .0)) n ≡ true) ⌝ }
+    ensures { λ r. ⌜ bitsOf (r .0) ≡ pack n (exitsAt (setsIn (now (moves .entry))) (bitsOf (c .0)) (bitsOf (out .0))) ⌝ }
 {
-    let mut x: u64 = 0;
-    let mut rest = c;
-    while rest != 0 {
+    let mut x = sets::empty();
+    let mut rest = c.0;
+    while !sets::is_empty(rest) {
         let k = sets::lowest(rest);
-        let row = moves[k];
-        x = sets::insert_if(x, k, sets::meets(row, out));
-        rest = sets::difference(rest, sets::insert(0, k));
+        let row = sets::row_of(moves, k);
+        x = sets::insert_if(x, k, sets::meets(row, out.0));
+        rest = sets::without_lowest(rest);
     }
-    x
+    InSet(x)
 }
 
 // The ways to the gates inside c: those of `old` where it has the same gates, else searched anew.
-fn renew(moves: &[u64; 64], n: usize, c: u64, gates: u64, old: Found) -> Found
-    requires { ⌜ Bounds n gates × Toward (now moves) n c (old .gates) (old .ways .next) ⌝ }
-    ensures { λ r. ⌜ (r .gates ≡ gates) × Toward (now (moves .entry)) n c gates (r .ways .next) ⌝ }
+fn renew(moves: &[u64; 64], n: usize, c: InSet, gates: InSet, old: Found) -> Found
+    requires { ⌜ Bounds n (bitsOf (gates .0)) × Toward (setsIn (now moves)) n (bitsOf (c .0)) (bitsOf (old .gates .0)) (old .ways .next) ⌝ }
+    ensures { λ r. ⌜ (bitsOf (r .gates .0) ≡ bitsOf (gates .0))
+        × Toward (setsIn (now (moves .entry))) n (bitsOf (c .0)) (bitsOf (gates .0)) (r .ways .next) ⌝ }
 {
-    if old.gates == gates {
+    let known = old.gates;
+    if sets::same(known.0, gates.0) {
         return old;
     }
     Found {
         gates,
-        ways: ways::toward(moves, n, c, gates),
+        ways: ways::toward(moves, n, c.0, gates.0),
     }
 }
 
 // The lowest member of the row in `out`; next where there is none. All are states of one graph.
-fn way_from(row: u64, out: u64, next: u8) -> usize
-    ensures { λ r. ⌜ r ≡ wayFrom row out next ⌝ }
+fn way_from(row: Set, out: Set, next: u8) -> usize
+    ensures { λ r. ⌜ r ≡ wayFrom (bitsOf row) (bitsOf out) next ⌝ }
 {
     if sets::meets(row, out) {
-        return sets::lowest(row & out);
+        return sets::lowest(sets::intersection(row, out));
     }
     next as usize
 }
@@ -92,15 +97,25 @@ fn escape_rows(
     w: Ways,
     room: &mut [u16],
 )
-    requires { ⌜ Going (z .outputs) (z .counters) (now moves) (c .0) (o .0) (out .0) (w .next) (length (now room)) ⌝ }
-    ensures { λ r. ⌜ Gone (z .outputs) (z .counters) (now (moves .entry)) (c .0) (o .0) (out .0) (w .next) (now (room .entry)) (now (room .exit)) ⌝ }
+    requires { ⌜ Going (z .outputs) (z .counters) (setsIn (now moves)) (bitsOf (c .0)) (o .0) (bitsOf (out .0)) (w .next) (length (now room)) ⌝ }
+    ensures { λ r. ⌜ Gone (z .outputs) (z .counters) (setsIn (now (moves .entry))) (bitsOf (c .0)) (o .0) (bitsOf (out .0)) (w .next)
+        (now (room .entry)) (now (room .exit)) ⌝ }
 {
     let mut rest = c.0;
-    while rest != 0 {
+    while !sets::is_empty(rest) {
         let k = sets::lowest(rest);
-        let j = way_from(moves[k], out.0, w.next[k]);
-        rows::put(z.outputs, z.counters, InState(k), o, j as u16, 64, room);
-        rest = sets::difference(rest, sets::insert(0, k));
+        let j = way_from(sets::row_of(moves, k), out.0, w.next[k]);
+        let first = entries::pack(j, 0);
+        rows::put(
+            z.outputs,
+            z.counters,
+            InState(k),
+            o,
+            first,
+            entries::STEP,
+            room,
+        );
+        rest = sets::without_lowest(rest);
     }
 }
 
@@ -110,21 +125,22 @@ fn escape(
     moves: &[u64; 64],
     s: &[u64],
     z: Size,
-    cores: InSet,
+    inner: InSet,
     part: Part,
     o: OutState,
     replies: OutSet,
     found: Found,
     room: &mut [u16],
 ) -> Turn
-    requires { ⌜ Pressed (z .inputs) (z .outputs) (z .counters) (now moves) (now s) (cores .0) (part .states .0) (part .leaving .0) (part .first .0) (o .0)
-        (replies .0) (length (now room)) × Toward (now moves) (z .inputs) (part .states .0) (found .gates) (found .ways .next) ⌝ }
-    ensures { λ r. ⌜ ((p : Pressed (z .inputs) (z .outputs) (z .counters) (now (moves .entry)) (now (s .entry)) (cores .0) (part .states .0)
-        (part .leaving .0) (part .first .0) (o .0) (replies .0) (length (now (room .entry)))) → Escape (p .game) (part .first .0) (o .0)
-        (now (room .entry)) (now (room .exit)) (r .tours)) × Toward (now (moves .entry)) (z .inputs) (part .states .0) (r .found .gates)
-        (r .found .ways .next) ⌝ }
+    requires { ⌜ Pressed (z .inputs) (z .outputs) (z .counters) (setsIn (now moves)) (now s) (bitsOf (inner .0)) (bitsOf (part .states .0))
+        (bitsOf (part .leaving .0)) (part .first .0) (o .0) (bitsOf (replies .0)) (length (now room))
+        × Toward (setsIn (now moves)) (z .inputs) (bitsOf (part .states .0)) (bitsOf (found .gates .0)) (found .ways .next) ⌝ }
+    ensures { λ r. ⌜ ((p : Pressed (z .inputs) (z .outputs) (z .counters) (setsIn (now (moves .entry))) (now (s .entry)) (bitsOf (inner .0))
+        (bitsOf (part .states .0)) (bitsOf (part .leaving .0)) (part .first .0) (o .0) (bitsOf (replies .0)) (length (now (room .entry))))
+        → Escape (p .game) (part .first .0) (o .0) (now (room .entry)) (now (room .exit)) (r .tours))
+        × Toward (setsIn (now (moves .entry))) (z .inputs) (bitsOf (part .states .0)) (bitsOf (r .found .gates .0)) (r .found .ways .next) ⌝ }
 {
-    if replies.0 == 0 {
+    if sets::is_empty(replies.0) {
         return Turn {
             tours: false,
             found,
@@ -132,19 +148,19 @@ fn escape(
     }
     let n = z.inputs;
     let first = part.first;
-    if stored::won(s, n, cores.0, first.0, o.0) {
+    if scratch::won(s, n, inner, first, o) {
         return Turn {
             tours: false,
             found,
         };
     }
-    let out = environment_rows::lost(s, n, cores, part.leaving, o);
+    let out = environment_rows::lost(s, n, inner, part.leaving, o);
     let c = part.states;
-    let gates = exits(moves, c.0, out.0);
-    if gates == 0 {
+    let gates = exits(moves, n, c, out);
+    if sets::is_empty(gates.0) {
         return Turn { tours: true, found };
     }
-    let known = renew(moves, n, c.0, gates, found);
+    let known = renew(moves, n, c, gates, found);
     escape_rows(moves, z, c, o, out, known.ways, room);
     Turn {
         tours: false,
@@ -156,14 +172,14 @@ fn escape(
 pub fn escapes(
     g: Game,
     s: &[u64],
-    cores: InSet,
+    inner: InSet,
     counters: usize,
     c: InSet,
     first: InState,
     room: &mut [u16],
 ) -> OutSet
-    requires { ⌜ Known g (now s) (cores .0) × Roomy g counters (length (now room)) × Whole g (c .0) (first .0) ⌝ }
-    ensures { λ r. ⌜ Escaped g (first .0) (now (room .entry)) (now (room .exit)) (r .0) ⌝ }
+    requires { ⌜ Known g (now s) (bitsOf (inner .0)) × Roomy g counters (length (now room)) × Whole g (bitsOf (c .0)) (first .0) ⌝ }
+    ensures { λ r. ⌜ Escaped g (first .0) (now (room .entry)) (now (room .exit)) (bitsOf (r .0)) ⌝ }
 {
     let h = g.input;
     let q = g.output;
@@ -176,10 +192,10 @@ pub fn escapes(
     };
     let next = [0u8; 64];
     let mut found = Found {
-        gates: 0,
+        gates: InSet(sets::empty()),
         ways: Ways { next },
     };
-    let mut touring: u64 = 0;
+    let mut touring = sets::empty();
     let mut o: usize = 0;
     while o < m {
         let z = Size {
@@ -191,10 +207,10 @@ pub fn escapes(
             &h.moves,
             s,
             z,
-            cores,
+            inner,
             part,
             OutState(o),
-            OutSet(q.moves[o]),
+            OutSet(sets::row_of(&q.moves, o)),
             found,
             room,
         );

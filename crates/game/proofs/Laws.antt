@@ -8,12 +8,13 @@ use native.Mathlib.Omega.{arith}
 use lib.Dec.{eqb, ltb, leb}
 use lib.ListN.{getD}
 use borrow.Author.Tests.{leb-true, eqb-true, eqb-false, le-leb, lt-ltb, le-ltb, eq-eqb, ne-eqb, not-true}
+use Rattle.sets.specs.Words.{capacity, bitsOf, setsIn}
 use Rattle.finite.specs.Bounded.{all}
 use Rattle.finite.proofs.Truth.{and-intro, and-left, and-right, or-left, or-right}
 use Rattle.finite.proofs.Bounded.{all-intro, all-elim}
-use Rattle.sets.specs.Member.{has, within}
-use Rattle.sets.proofs.Membership.{within-has, has-within, within-zero, zero-within}
-use Rattle.sets.proofs.Compare.{nonzero-member, member-nonzero}
+use Rattle.bits.specs.Member.{has, within}
+use Rattle.bits.proofs.Membership.{within-has, has-within, within-zero, zero-within}
+use Rattle.bits.proofs.Compare.{nonzero-member, member-nonzero}
 use Rattle.game.specs.declared.Graph.{Graph}
 use Rattle.game.specs.declared.Requirement.{Requirement}
 use Rattle.game.specs.declared.Game.{Game}
@@ -64,38 +65,38 @@ module _ (x used j n : ℕ) where
 -- ---- a graph
 
 module _ (g : Graph) where
-  count-bounds : countFits g ≡ true → (1 ≤ g .states) × (g .states ≤ 64)
+  count-bounds : countFits g ≡ true → (1 ≤ g .states) × (g .states ≤ capacity)
   unfolding countFits
   count-bounds e = (
-    leb-true 1 (g .states) (and-left (leb 1 (g .states)) (leb (g .states) 64) e),
-    leb-true (g .states) 64
-        (and-right (leb 1 (g .states)) (leb (g .states) 64) e),
+    leb-true 1 (g .states) (and-left (leb 1 (g .states)) (leb (g .states) capacity) e),
+    leb-true (g .states) capacity
+        (and-right (leb 1 (g .states)) (leb (g .states) capacity) e),
   )
 
-  bounds-count : 1 ≤ g .states → g .states ≤ 64 → countFits g ≡ true
+  bounds-count : 1 ≤ g .states → g .states ≤ capacity → countFits g ≡ true
   unfolding countFits
-  bounds-count a b = and-intro (le-leb 1 (g .states) a) (le-leb (g .states) 64 b)
+  bounds-count a b = and-intro (le-leb 1 (g .states) a) (le-leb (g .states) capacity b)
 
-  initial-within : statesFit g ≡ true → within (g .initial) (g .states) ≡ true
+  initial-within : statesFit g ≡ true → within (bitsOf (g .initial)) (g .states) ≡ true
   unfolding statesFit
-  initial-within e = and-left (within (g .initial) (g .states)) (all 64 (rowFits g)) e
+  initial-within e = and-left (within (bitsOf (g .initial)) (g .states)) (all capacity (rowFits g)) e
 
-  row-within : statesFit g ≡ true → (s : ℕ) → s < 64 → within (getD (g .moves) s 0) (limit (g .states) s (g .states)) ≡ true
+  row-within : statesFit g ≡ true → (s : ℕ) → s < capacity → within (getD (setsIn (g .moves)) s 0) (limit (g .states) s (g .states)) ≡ true
   unfolding statesFit rowFits
-  row-within e s l = all-elim 64 (rowFits g) (and-right (within (g .initial) (g .states)) (all 64 (rowFits g)) e) s l
+  row-within e s l = all-elim capacity (rowFits g) (and-right (within (bitsOf (g .initial)) (g .states)) (all capacity (rowFits g)) e) s l
 
-  within-states : within (g .initial) (g .states) ≡ true
-      → ((s : ℕ) → s < 64 → within (getD (g .moves) s 0) (limit (g .states) s (g .states)) ≡ true) → statesFit g ≡ true
+  within-states : within (bitsOf (g .initial)) (g .states) ≡ true
+      → ((s : ℕ) → s < capacity → within (getD (setsIn (g .moves)) s 0) (limit (g .states) s (g .states)) ≡ true) → statesFit g ≡ true
   unfolding statesFit rowFits
-  within-states i r = and-intro i (all-intro 64 (rowFits g) r)
+  within-states i r = and-intro i (all-intro capacity (rowFits g) r)
 
-  initial-nonzero : hasInitial g ≡ true → g .initial ≢ 0
+  initial-nonzero : hasInitial g ≡ true → bitsOf (g .initial) ≢ 0
   unfolding hasInitial
-  initial-nonzero e = eqb-false (g .initial) 0 (not-true (eqb (g .initial) 0) e)
+  initial-nonzero e = eqb-false (bitsOf (g .initial)) 0 (not-true (eqb (bitsOf (g .initial)) 0) e)
 
-  nonzero-initial : g .initial ≢ 0 → hasInitial g ≡ true
+  nonzero-initial : bitsOf (g .initial) ≢ 0 → hasInitial g ≡ true
   unfolding hasInitial
-  nonzero-initial n = ap not (ne-eqb (g .initial) 0 n)
+  nonzero-initial n = ap not (ne-eqb (bitsOf (g .initial)) 0 n)
 
   graph-fits : countFits g ≡ true → statesFit g ≡ true → hasInitial g ≡ true → GraphFits g
   graph-fits c w i = record {
@@ -104,18 +105,18 @@ module _ (g : Graph) where
     initial-below = below;
     start = (first .0, below (first .0) (first .1), first .1);
     row-below = row;
-    row-past = λ s l h. unused-empty (getD (g .moves) s 0) (g .states) s (g .states) (row-within w s h) l;
+    row-past = λ s l h. unused-empty (getD (setsIn (g .moves)) s 0) (g .states) s (g .states) (row-within w s h) l;
   }
     where
-      below : (s : ℕ) → has (g .initial) s ≡ true → s < g .states
-      below s h = within-has (g .initial) (g .states) s (initial-within w) h
+      below : (s : ℕ) → has (bitsOf (g .initial)) s ≡ true → s < g .states
+      below s h = within-has (bitsOf (g .initial)) (g .states) s (initial-within w) h
 
-      first : (s : ℕ) × (has (g .initial) s ≡ true)
-      first = nonzero-member (g .initial) (initial-nonzero i)
+      first : (s : ℕ) × (has (bitsOf (g .initial)) s ≡ true)
+      first = nonzero-member (bitsOf (g .initial)) (initial-nonzero i)
 
-      row : (s j : ℕ) → s < g .states → has (getD (g .moves) s 0) j ≡ true → j < g .states
+      row : (s j : ℕ) → s < g .states → has (getD (setsIn (g .moves)) s 0) j ≡ true → j < g .states
       row s j l h =
-          used-below (getD (g .moves) s 0) (g .states) s (g .states) (row-within w s (omega (arith, count-bounds c .1))) l j h
+          used-below (getD (setsIn (g .moves)) s 0) (g .states) s (g .states) (row-within w s (omega (arith, count-bounds c .1))) l j h
 
   -- the other way
 
@@ -124,11 +125,11 @@ module _ (g : Graph) where
 
   fits-states : GraphFits g → statesFit g ≡ true
   fits-states f =
-      within-states (has-within (g .initial) (g .states) (f .initial-below))
-      (λ s h. place-fits (getD (g .moves) s 0) (g .states) s (g .states) (λ l j m. f .row-below s j l m) (λ l. f .row-past s l h))
+      within-states (has-within (bitsOf (g .initial)) (g .states) (f .initial-below))
+      (λ s h. place-fits (getD (setsIn (g .moves)) s 0) (g .states) s (g .states) (λ l j m. f .row-below s j l m) (λ l. f .row-past s l h))
 
   fits-initial : GraphFits g → hasInitial g ≡ true
-  fits-initial f = nonzero-initial (member-nonzero (g .initial) (f .start .0) (f .start .2))
+  fits-initial f = nonzero-initial (member-nonzero (bitsOf (g .initial)) (f .start .0) (f .start .2))
 
 -- ---- a requirement
 
@@ -145,19 +146,19 @@ module _ (q : Requirement) where
   unfolding fewSets
   bounds-few a b = and-intro (le-leb (q .assumed) 4 a) (le-leb (q .guaranteed) 4 b)
 
-  in-places : (a : ℕ) → all 4 (inSetFits q a) ≡ true → (j : ℕ) → j < 4 → within (getD (q .assumptions) j noInput .0) (limit (q .assumed) j a) ≡ true
+  in-places : (a : ℕ) → all 4 (inSetFits q a) ≡ true → (j : ℕ) → j < 4 → within (bitsOf (getD (q .assumptions) j noInput .0)) (limit (q .assumed) j a) ≡ true
   unfolding inSetFits
   in-places a e j l = all-elim 4 (inSetFits q a) e j l
 
-  out-places : (b : ℕ) → all 4 (outSetFits q b) ≡ true → (j : ℕ) → j < 4 → within (getD (q .guarantees) j noOutput .0) (limit (q .guaranteed) j b) ≡ true
+  out-places : (b : ℕ) → all 4 (outSetFits q b) ≡ true → (j : ℕ) → j < 4 → within (bitsOf (getD (q .guarantees) j noOutput .0)) (limit (q .guaranteed) j b) ≡ true
   unfolding outSetFits
   out-places b e j l = all-elim 4 (outSetFits q b) e j l
 
-  places-in : (a : ℕ) → ((j : ℕ) → j < 4 → within (getD (q .assumptions) j noInput .0) (limit (q .assumed) j a) ≡ true) → all 4 (inSetFits q a) ≡ true
+  places-in : (a : ℕ) → ((j : ℕ) → j < 4 → within (bitsOf (getD (q .assumptions) j noInput .0)) (limit (q .assumed) j a) ≡ true) → all 4 (inSetFits q a) ≡ true
   unfolding inSetFits
   places-in a h = all-intro 4 (inSetFits q a) h
 
-  places-out : (b : ℕ) → ((j : ℕ) → j < 4 → within (getD (q .guarantees) j noOutput .0) (limit (q .guaranteed) j b) ≡ true) → all 4 (outSetFits q b) ≡ true
+  places-out : (b : ℕ) → ((j : ℕ) → j < 4 → within (bitsOf (getD (q .guarantees) j noOutput .0)) (limit (q .guaranteed) j b) ≡ true) → all 4 (outSetFits q b) ≡ true
   unfolding outSetFits
   places-out b h = all-intro 4 (outSetFits q b) h
 
@@ -165,10 +166,10 @@ module _ (q : Requirement) where
   requirement-fits a b f i o = record {
     few-assumed = few-bounds f .0;
     few-guaranteed = few-bounds f .1;
-    assumption-below = λ j s l m. used-below (getD (q .assumptions) j noInput .0) (q .assumed) j a (in-places a i j (omega (arith, few-bounds f .0))) l s m;
-    assumption-past = λ j l h. unused-empty (getD (q .assumptions) j noInput .0) (q .assumed) j a (in-places a i j h) l;
-    guarantee-below = λ j s l m. used-below (getD (q .guarantees) j noOutput .0) (q .guaranteed) j b (out-places b o j (omega (arith, few-bounds f .1))) l s m;
-    guarantee-past = λ j l h. unused-empty (getD (q .guarantees) j noOutput .0) (q .guaranteed) j b (out-places b o j h) l;
+    assumption-below = λ j s l m. used-below (bitsOf (getD (q .assumptions) j noInput .0)) (q .assumed) j a (in-places a i j (omega (arith, few-bounds f .0))) l s m;
+    assumption-past = λ j l h. unused-empty (bitsOf (getD (q .assumptions) j noInput .0)) (q .assumed) j a (in-places a i j h) l;
+    guarantee-below = λ j s l m. used-below (bitsOf (getD (q .guarantees) j noOutput .0)) (q .guaranteed) j b (out-places b o j (omega (arith, few-bounds f .1))) l s m;
+    guarantee-past = λ j l h. unused-empty (bitsOf (getD (q .guarantees) j noOutput .0)) (q .guaranteed) j b (out-places b o j h) l;
   }
 
   module _ (a b : ℕ) (f : RequirementFits q a b) where
@@ -177,12 +178,12 @@ module _ (q : Requirement) where
 
     fits-in : all 4 (inSetFits q a) ≡ true
     fits-in =
-        places-in a (λ j h. place-fits (getD (q .assumptions) j noInput .0) (q .assumed) j a (λ l s m. f .assumption-below j s l m)
+        places-in a (λ j h. place-fits (bitsOf (getD (q .assumptions) j noInput .0)) (q .assumed) j a (λ l s m. f .assumption-below j s l m)
         (λ l. f .assumption-past j l h))
 
     fits-out : all 4 (outSetFits q b) ≡ true
     fits-out =
-        places-out b (λ j h. place-fits (getD (q .guarantees) j noOutput .0) (q .guaranteed) j b (λ l s m. f .guarantee-below j s l m)
+        places-out b (λ j h. place-fits (bitsOf (getD (q .guarantees) j noOutput .0)) (q .guaranteed) j b (λ l s m. f .guarantee-below j s l m)
         (λ l. f .guarantee-past j l h))
 
 -- ---- a game

@@ -6,9 +6,10 @@ use Prim.Native.Nat.{ℕ, suc, _≤_, _<_}
 use lib.Dec.{eqb, leb}
 use lib.ListN.{getD}
 use borrow.Author.Tests.{lt-ltb, le-ltb, le-leb, lt-leb, eq-eqb, ne-eqb}
+use Rattle.sets.specs.Words.{capacity, bitsOf, setsIn}
 use Rattle.finite.specs.Bounded.{all}
 use Rattle.finite.proofs.Loops.{all-stop, all-end, and-stop, and-next}
-use Rattle.sets.specs.Member.{within}
+use Rattle.bits.specs.Member.{within}
 use Rattle.game.specs.declared.Graph.{Graph}
 use Rattle.game.specs.declared.Requirement.{Requirement}
 use Rattle.game.specs.declared.Game.{Game}
@@ -51,30 +52,30 @@ limit-out used j n l = rw (le-ltb j used l, limit)
 
 pub count-none : (g : Graph) → g .states < 1 → false ≡ countFits g
 unfolding countFits
-count-none g l = and-stop (leb (g .states) 64) (lt-leb 1 (g .states) l)
+count-none g l = and-stop (leb (g .states) capacity) (lt-leb 1 (g .states) l)
 
-pub count-some : (g : Graph) → 1 ≤ g .states → leb (g .states) 64 ≡ countFits g
+pub count-some : (g : Graph) → 1 ≤ g .states → leb (g .states) capacity ≡ countFits g
 unfolding countFits
 count-some g l = and-next (le-leb 1 (g .states) l) refl
 
 pub row-within : (row n s l : ℕ) (r : Bool) → l ≡ limit n s n → r ≡ within row l → r ≡ within row (limit n s n)
 row-within row n s l r e q = q ∙ ap (within row) e
 
-pub row-fits : (g : Graph) (s : ℕ) (r : Bool) → r ≡ within (getD (g .moves) s 0) (limit (g .states) s (g .states)) → r ≡ rowFits g s
+pub row-fits : (g : Graph) (s x : ℕ) (r : Bool) → x ≡ getD (setsIn (g .moves)) s 0 → r ≡ within x (limit (g .states) s (g .states)) → r ≡ rowFits g s
 unfolding rowFits
-row-fits g s r q = q
+row-fits g s x r e q = q ∙ ap (λ (y : ℕ). within y (limit (g .states) s (g .states))) e
 
-pub states-initial : (g : Graph) → within (g .initial) (g .states) ≡ false → false ≡ statesFit g
+pub states-initial : (g : Graph) → within (bitsOf (g .initial)) (g .states) ≡ false → false ≡ statesFit g
 unfolding statesFit
-states-initial g e = and-stop (all 64 (rowFits g)) e
+states-initial g e = and-stop (all capacity (rowFits g)) e
 
-pub states-row : (g : Graph) (s : ℕ) → within (g .initial) (g .states) ≡ true → s < 64 → rowFits g s ≡ false → false ≡ statesFit g
+pub states-row : (g : Graph) (s : ℕ) → within (bitsOf (g .initial)) (g .states) ≡ true → s < capacity → rowFits g s ≡ false → false ≡ statesFit g
 unfolding statesFit
-states-row g s i l e = and-next i (all-stop 64 s (rowFits g) l e)
+states-row g s i l e = and-next i (all-stop capacity s (rowFits g) l e)
 
-pub states-end : (g : Graph) (s : ℕ) → within (g .initial) (g .states) ≡ true → s ≤ 64 → 64 ≤ s → all s (rowFits g) ≡ true → true ≡ statesFit g
+pub states-end : (g : Graph) (s : ℕ) → within (bitsOf (g .initial)) (g .states) ≡ true → s ≤ capacity → capacity ≤ s → all s (rowFits g) ≡ true → true ≡ statesFit g
 unfolding statesFit
-states-end g s i l m e = and-next i (all-end 64 s (rowFits g) l m e)
+states-end g s i l m e = and-next i (all-end capacity s (rowFits g) l m e)
 
 -- ---- a requirement
 
@@ -86,15 +87,15 @@ pub few-next : (q : Requirement) → q .assumed ≤ 4 → leb (q .guaranteed) 4 
 unfolding fewSets
 few-next q l = and-next (le-leb (q .assumed) 4 l) refl
 
-pub in-set-fits : (q : Requirement) (n j l : ℕ) (r : Bool) → l ≡ limit (q .assumed) j n → r ≡ within (getD (q .assumptions) j noInput .0) l
+pub in-set-fits : (q : Requirement) (n j l : ℕ) (r : Bool) → l ≡ limit (q .assumed) j n → r ≡ within (bitsOf (getD (q .assumptions) j noInput .0)) l
     → r ≡ inSetFits q n j
 unfolding inSetFits
-in-set-fits q n j l r e p = p ∙ ap (within (getD (q .assumptions) j noInput .0)) e
+in-set-fits q n j l r e p = p ∙ ap (within (bitsOf (getD (q .assumptions) j noInput .0))) e
 
-pub out-set-fits : (q : Requirement) (n j l : ℕ) (r : Bool) → l ≡ limit (q .guaranteed) j n → r ≡ within (getD (q .guarantees) j noOutput .0) l
+pub out-set-fits : (q : Requirement) (n j l : ℕ) (r : Bool) → l ≡ limit (q .guaranteed) j n → r ≡ within (bitsOf (getD (q .guarantees) j noOutput .0)) l
     → r ≡ outSetFits q n j
 unfolding outSetFits
-out-set-fits q n j l r e p = p ∙ ap (within (getD (q .guarantees) j noOutput .0)) e
+out-set-fits q n j l r e p = p ∙ ap (within (bitsOf (getD (q .guarantees) j noOutput .0))) e
 
 pub use-below : (g : Game) (r : ℕ) (q : Requirement) → r < g .k → true ≡ inUse g r q
 unfolding inUse

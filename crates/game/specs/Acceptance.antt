@@ -28,8 +28,9 @@ use mathlib.Core.Bool.{Bool, true, false, not, _&&_, _||_}
 use mathlib.Core.List.{List, [], _∷_}
 use lib.Dec.{eqb, ltb, leb}
 use lib.ListN.{getD}
+use Rattle.sets.specs.Words.{capacity, bitsOf, setsIn}
 use Rattle.finite.specs.Bounded.{all}
-use Rattle.sets.specs.Member.{within}
+use Rattle.bits.specs.Member.{within}
 use Rattle.game.specs.declared.Graph.{Graph}
 use Rattle.game.specs.declared.Requirement.{Requirement}
 use Rattle.game.specs.declared.Game.{Game}
@@ -43,16 +44,16 @@ limit used j n = elim (ltb j used) [ true ↦ n | false ↦ 0 ]
 -- ---- one graph
 
 unfoldable pub countFits : Graph → Bool
-countFits g = leb 1 (g .states) && leb (g .states) 64
+countFits g = leb 1 (g .states) && leb (g .states) capacity
 
 unfoldable pub rowFits : Graph → ℕ → Bool
-rowFits g s = within (getD (g .moves) s 0) (limit (g .states) s (g .states))
+rowFits g s = within (getD (setsIn (g .moves)) s 0) (limit (g .states) s (g .states))
 
 unfoldable pub statesFit : Graph → Bool
-statesFit g = within (g .initial) (g .states) && all 64 (rowFits g)
+statesFit g = within (bitsOf (g .initial)) (g .states) && all capacity (rowFits g)
 
 unfoldable pub hasInitial : Graph → Bool
-hasInitial g = not (eqb (g .initial) 0)
+hasInitial g = not (eqb (bitsOf (g .initial)) 0)
 
 -- ---- one requirement
 
@@ -60,10 +61,10 @@ unfoldable pub fewSets : Requirement → Bool
 fewSets q = leb (q .assumed) 4 && leb (q .guaranteed) 4
 
 unfoldable pub inSetFits : Requirement → ℕ → ℕ → Bool
-inSetFits q n j = within (getD (q .assumptions) j noInput .0) (limit (q .assumed) j n)
+inSetFits q n j = within (bitsOf (getD (q .assumptions) j noInput .0)) (limit (q .assumed) j n)
 
 unfoldable pub outSetFits : Requirement → ℕ → ℕ → Bool
-outSetFits q n j = within (getD (q .guarantees) j noOutput .0) (limit (q .guaranteed) j n)
+outSetFits q n j = within (bitsOf (getD (q .guarantees) j noOutput .0)) (limit (q .guaranteed) j n)
 
 unfoldable pub inUse : Game → ℕ → Requirement → Bool
 inUse g r q = ltb r (g .k) || (eqb (q .assumed) 0 && eqb (q .guaranteed) 0)

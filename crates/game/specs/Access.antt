@@ -12,6 +12,7 @@
 use Prim.Native.Nat.{ℕ}
 use mathlib.Core.List.{[]}
 use lib.ListN.{getD}
+use Rattle.sets.specs.Words.{noStates, setAt}
 use Rattle.game.specs.declared.InState.{InState}
 use Rattle.game.specs.declared.OutState.{OutState}
 use Rattle.game.specs.declared.InSet.{InSet}
@@ -20,10 +21,10 @@ use Rattle.game.specs.declared.Requirement.{Requirement}
 use Rattle.game.specs.declared.Game.{Game}
 
 abbrev pub noInput : InSet
-noInput = record { 0 = 0 }
+noInput = record { 0 = noStates }
 
 abbrev pub noOutput : OutSet
-noOutput = record { 0 = 0 }
+noOutput = record { 0 = noStates }
 
 abbrev pub noRequirement : Requirement
 noRequirement = record { assumptions = []; assumed = 0; guarantees = []; guaranteed = 0 }
@@ -38,10 +39,10 @@ abbrev pub guaranteeAt : Game → ℕ → ℕ → OutSet
 guaranteeAt g r j = getD (requirementAt g r .guarantees) j noOutput
 
 abbrev pub inMoves : Game → InState → InSet
-inMoves g i = record { 0 = getD (g .input .moves) (i .0) 0 }
+inMoves g i = record { 0 = setAt (g .input .moves) (i .0) }
 
 abbrev pub outMoves : Game → OutState → OutSet
-outMoves g o = record { 0 = getD (g .output .moves) (o .0) 0 }
+outMoves g o = record { 0 = setAt (g .output .moves) (o .0) }
 
 abbrev pub inInitial : Game → InSet
 inInitial g = record { 0 = g .input .initial }

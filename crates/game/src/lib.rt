@@ -1,7 +1,9 @@
 // The records of a game: two graphs and the requirements on them.
 ghost use mathlib.Core.Path.{_≡_};
 ghost use Prim.Native.Nat.{_<_};
+ghost use Rattle.sets.specs.Words.{capacity};
 ghost use Rattle.game.specs.Access.{inMoves, outMoves, assumptionAt, guaranteeAt, inInitial, outInitial};
+use sets::Set;
 
 // The number of an input state.
 #[repr(C)]
@@ -13,17 +15,17 @@ pub struct OutState(pub usize);
 
 // A set of input states.
 #[repr(C)]
-pub struct InSet(pub u64);
+pub struct InSet(pub Set);
 
 // A set of output states.
 #[repr(C)]
-pub struct OutSet(pub u64);
+pub struct OutSet(pub Set);
 
 // Row s of `moves` is the set of the states that state s moves to.
 #[repr(C)]
 pub struct Graph {
     pub states: usize,
-    pub initial: u64,
+    pub initial: Set,
     pub moves: [u64; 64],
 }
 
@@ -53,22 +55,22 @@ pub enum Acceptance {
 
 // The input states that i moves to.
 pub fn in_moves(g: Game, i: InState) -> InSet
-    requires { ⌜ i .0 < 64 ⌝ }
+    requires { ⌜ i .0 < capacity ⌝ }
     ensures { λ r. ⌜ r ≡ inMoves g i ⌝ }
 {
     let h = g.input;
     let s = i.0;
-    InSet(h.moves[s])
+    InSet(sets::row_of(&h.moves, s))
 }
 
 // The output states that o moves to.
 pub fn out_moves(g: Game, o: OutState) -> OutSet
-    requires { ⌜ o .0 < 64 ⌝ }
+    requires { ⌜ o .0 < capacity ⌝ }
     ensures { λ r. ⌜ r ≡ outMoves g o ⌝ }
 {
     let h = g.output;
     let s = o.0;
-    OutSet(h.moves[s])
+    OutSet(sets::row_of(&h.moves, s))
 }
 
 // Assumption j of requirement r.
@@ -92,11 +94,15 @@ pub fn guarantee(g: Game, r: usize, j: usize) -> OutSet
 pub fn in_initial(g: Game) -> InSet
     ensures { λ r. ⌜ r ≡ inInitial g ⌝ }
 {
-    InSet(g.input.initial)
+    let h = g.input;
+    let x = h.initial;
+    InSet(x)
 }
 
 pub fn out_initial(g: Game) -> OutSet
     ensures { λ r. ⌜ r ≡ outInitial g ⌝ }
 {
-    OutSet(g.output.initial)
+    let h = g.output;
+    let x = h.initial;
+    OutSet(x)
 }

@@ -1,9 +1,11 @@
 // The tests of acceptance on one graph.
 use game::Graph;
+use sets::Set;
 ghost use mathlib.Core.Path.{_≡_};
 ghost use mathlib.Core.Bool.{not, _||_};
 ghost use lib.Dec.{eqb, leb};
-ghost use Rattle.sets.specs.Member.{within};
+ghost use Rattle.bits.specs.Member.{within};
+ghost use Rattle.sets.specs.Words.{bitsOf};
 ghost use Rattle.game.specs.Acceptance.{limit as limitOf, countFits, statesFit, hasInitial};
 
 // n where place j is below used, else 0.
@@ -22,13 +24,13 @@ pub fn count_fits(g: Graph) -> bool
     if g.states < 1 {
         return false;
     }
-    g.states <= 64
+    g.states <= sets::CAPACITY
 }
 
 // Whether a row, the moves of state s of n, has no state past the count, and none at all where s is past it. Only the row is passed, for a graph goes
 // by value and would be copied for each of its rows.
-fn row_fits(row: u64, n: usize, s: usize) -> bool
-    ensures { λ r. ⌜ r ≡ within row (limitOf n s n) ⌝ }
+fn row_fits(row: Set, n: usize, s: usize) -> bool
+    ensures { λ r. ⌜ r ≡ within (bitsOf row) (limitOf n s n) ⌝ }
 {
     sets::within(row, limit(n, s, n))
 }
@@ -40,8 +42,8 @@ pub fn states_fit(g: Graph) -> bool
         return false;
     }
     let mut s = 0;
-    while s < 64 {
-        if !row_fits(g.moves[s], g.states, s) {
+    while s < sets::CAPACITY {
+        if !row_fits(sets::row_of(&g.moves, s), g.states, s) {
             return false;
         }
         s += 1;
@@ -52,5 +54,5 @@ pub fn states_fit(g: Graph) -> bool
 pub fn has_initial(g: Graph) -> bool
     ensures { λ r. ⌜ r ≡ hasInitial g ⌝ }
 {
-    g.initial != 0
+    !sets::is_empty(g.initial)
 }

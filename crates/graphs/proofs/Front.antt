@@ -5,7 +5,7 @@ use mathlib.Core.Bool.{Bool}
 use mathlib.Core.List.{List, _++_}
 use lib.ListN.{length, getD, set, drop}
 use Rattle.finite.proofs.Front.{front-none, front-next, front-length, front-at, front-rest, front-intro}
-use Rattle.sets.specs.Member.{has, pack}
+use Rattle.bits.specs.Member.{has, pack}
 use Rattle.graphs.specs.Rows.{rel, rowsOf}
 
 module _ (w : ℕ) (f : ℕ → ℕ → Bool) (l : List ℕ) where

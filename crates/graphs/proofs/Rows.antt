@@ -6,8 +6,8 @@ use native.Mathlib.Omega.{arith}
 use native.Mathlib.Decide.{decLt}
 use Rattle.finite.proofs.Truth.{clash}
 use Rattle.finite.proofs.Tabulate.{getD-tabulate, getD-tabulate-past}
-use Rattle.sets.specs.Member.{has, pack}
-use Rattle.sets.proofs.Membership.{has-zero, has-pack-below, has-pack-past}
+use Rattle.bits.specs.Member.{has, pack}
+use Rattle.bits.proofs.Membership.{has-zero, has-pack-below, has-pack-past}
 use Rattle.graphs.specs.Rows.{rel, rowsOf}
 
 module _ (n m : ℕ) (f : ℕ → ℕ → Bool) where

@@ -34,8 +34,8 @@ use Rattle.finite.proofs.Bounded.{
   count-less,
   count-pos,
 }
-use Rattle.sets.specs.Member.{has}
-use Rattle.sets.proofs.Membership.{has-pack-below, has-pack-past}
+use Rattle.bits.specs.Member.{has}
+use Rattle.bits.proofs.Membership.{has-pack-below, has-pack-past}
 use Rattle.graphs.specs.Walk.{Walk, stay, step}
 use Rattle.graphs.specs.Way.{widens, layer, near, approach, shortest, prefer, toward}
 

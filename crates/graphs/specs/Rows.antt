@@ -7,7 +7,7 @@ use mathlib.Core.Bool.{Bool}
 use mathlib.Core.List.{List}
 use lib.ListN.{getD}
 use Rattle.finite.specs.Tabulate.{tabulate}
-use Rattle.sets.specs.Member.{has, pack}
+use Rattle.bits.specs.Member.{has, pack}
 
 unfoldable pub rel : List ℕ → ℕ → ℕ → Bool
 rel rows s t = has (getD rows s 0) t

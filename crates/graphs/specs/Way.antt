@@ -10,7 +10,7 @@ use Prim.Native.Nat.{ℕ, zero, suc}
 use mathlib.Core.Bool.{Bool, true, false, _&&_, _||_}
 use lib.Dec.{ltb}
 use Rattle.finite.specs.Bounded.{any, least}
-use Rattle.sets.specs.Member.{has, pack}
+use Rattle.bits.specs.Member.{has, pack}
 
 unfoldable pub widens : ℕ → (ℕ → ℕ → Bool) → ℕ → ℕ → Bool
 widens n r l s = has l s || any n (λ t. r s t && has l t)

@@ -1,2 +1,2 @@
--- Homes, told of words.
+-- Homes, told from scratch.
 pub mod Homes

@@ -1,37 +1,44 @@
 // The region's rows of inputs in nontrivial components: their homes.
 ghost use mathlib.Core.Path.{_≡_};
-ghost use Prim.Native.Nat.{_+_, _≤_, _<_};
-ghost use lib.ListN.{length};
-ghost use Rattle.sets.specs.Member.{pack};
+ghost use mathlib.Core.Bool.{true};
+ghost use Prim.Native.Nat.{ℕ, _≤_, _<_};
+ghost use Rattle.bits.specs.Member.{has, pack};
+ghost use Rattle.sets.specs.Words.{capacity, bitsOf, setsIn, setCount};
+ghost use Rattle.scratch.specs.Scratch.{scratchSets};
 ghost use Rattle.homes.specs.Homes.{safeAt, homeAt};
+use game::InSet;
+use game::InState;
+use game::OutSet;
+use game::OutState;
 
 // Whether every input of x is won with d.
-fn safe(s: &[u64], n: usize, cores: u64, x: u64, d: usize) -> bool
-    requires { ⌜ (n ≤ 64) × (d < 64) × (n + n + d < length (now s)) ⌝ }
-    ensures { λ r. ⌜ r ≡ safeAt (now (s .entry)) n cores x d n ⌝ }
+fn safe(s: &[u64], n: usize, c: InSet, x: InSet, d: OutState) -> bool
+    requires { ⌜ (n ≤ capacity) × (d .0 < capacity) × (scratchSets n (d .0) < setCount (now s)) × ((j : ℕ) → has (bitsOf (x .0)) j ≡ true → j < n) ⌝ }
+    ensures { λ r. ⌜ r ≡ safeAt (setsIn (now (s .entry))) n (bitsOf (c .0)) (bitsOf (x .0)) (d .0) n ⌝ }
 {
-    let mut rest = sets::intersection(x, sets::below(n));
-    while rest != 0 {
+    let mut rest = x.0;
+    while !sets::is_empty(rest) {
         let j = sets::lowest(rest);
-        if !stored::won(s, n, cores, j, d) {
+        if !scratch::won(s, n, c, InState(j), d) {
             return false;
         }
-        rest = sets::difference(rest, sets::insert(0, j));
+        rest = sets::without_lowest(rest);
     }
     true
 }
 
 // The homes for the inputs of a component: x are the states entered by a move out of it, among the outputs whose components accept it.
-pub fn home_row(s: &[u64], n: usize, m: usize, cores: u64, x: u64, among: u64) -> u64
-    requires { ⌜ (n ≤ 64) × (m ≤ 64) × (n + n + m ≤ length (now s)) ⌝ }
-    ensures { λ r. ⌜ r ≡ pack m (homeAt (now (s .entry)) n cores x among) ⌝ }
+pub fn home_row(s: &[u64], n: usize, m: usize, c: InSet, x: InSet, among: OutSet) -> OutSet
+    requires { ⌜ (n ≤ capacity) × (m ≤ capacity) × (scratchSets n m ≤ setCount (now s)) × ((j : ℕ) → has (bitsOf (x .0)) j ≡ true → j < n)
+        × ((d : ℕ) → has (bitsOf (among .0)) d ≡ true → d < m) ⌝ }
+    ensures { λ r. ⌜ bitsOf (r .0) ≡ pack m (homeAt (setsIn (now (s .entry))) n (bitsOf (c .0)) (bitsOf (x .0)) (bitsOf (among .0))) ⌝ }
 {
-    let mut c: u64 = 0;
-    let mut rest = sets::intersection(among, sets::below(m));
-    while rest != 0 {
+    let mut y = sets::empty();
+    let mut rest = among.0;
+    while !sets::is_empty(rest) {
         let d = sets::lowest(rest);
-        c = sets::insert_if(c, d, safe(s, n, cores, x, d));
-        rest = sets::difference(rest, sets::insert(0, d));
+        y = sets::insert_if(y, d, safe(s, n, c, x, OutState(d)));
+        rest = sets::without_lowest(rest);
     }
-    c
+    OutSet(y)
 }

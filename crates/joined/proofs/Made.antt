@@ -2,21 +2,21 @@
 use Prim.Native.Nat.{ℕ, _≤_, _<_}
 use mathlib.Core.Path.{_≡_, refl, sym, _∙_, ap}
 use mathlib.Core.Bool.{Bool, true, false}
-use mathlib.Core.List.{List, [], _∷_, _++_}
+use mathlib.Core.List.{List, [], _∷_}
 use native.Mathlib.Omega.{arith}
 use lib.Dec.{leb}
-use lib.ListN.{length, drop}
+use lib.ListN.{length}
 use borrow.Author.Tests.{le-leb, lt-leb}
-use Rattle.finite.specs.Tabulate.{tabulate}
 use Rattle.finite.proofs.Truth.{and-intro, and-false-left, and-false-right}
+use Rattle.sets.specs.Words.{wordsFor}
 use Rattle.game.specs.declared.Game.{Game}
 use Rattle.game.specs.declared.Acceptance.{Acceptance}
 use Rattle.game.specs.declared.Acceptance.the-variants.{Accepted, Refused as Faulty}
 use Rattle.game.specs.Acceptance.{acceptance}
 use Rattle.game.specs.Numbers.{firstOf}
 use Rattle.game.proofs.Numbers.{after, game-after}
-use Rattle.scratch.specs.Scratch.{cleared}
-use Rattle.marks.specs.Marks.{mapRow}
+use Rattle.clearing.specs.Clearing.{cleared}
+use Rattle.marks.specs.Marks.{MapFilled}
 use Rattle.marks.proofs.Marks.{marks}
 use Rattle.joined.specs.declared.Mapped.{Mapped}
 use Rattle.joined.specs.declared.Mapped.the-variants.{Done, Refused as NotMapped}
@@ -28,7 +28,7 @@ use Rattle.joined.specs.Joined.{
   joinedAnswer,
   joinedTests,
   numberOf,
-  joinedAfter,
+  JoinedAfter,
   joinedScratch,
   JoinedMade,
 }
@@ -61,7 +61,7 @@ not-done : {n : ℕ} {A : Type 0} → NotMapped n ≡ Done → A
 not-done q = let z : _≡_ {A = ℕ} 0 1 = cc in absurd (omega arith)
 
 refused : (g : Game) (s m : List ℕ) (n : ℕ) → NotMapped n ≡ joinedAnswer g (length s) (length m) → JoinedMade g s s m m (NotMapped n)
-unfolding joinedAfter joinedScratch
+unfolding JoinedAfter joinedScratch
 refused g s m n e = record { answer = e; number = told g s m e; map = refl; scratch = refl; won = λ q. not-done q }
 
 pub joined-faulty : (g : Game) (s m : List ℕ) (n : ℕ) → acceptance g ≡ Faulty n → JoinedMade g s s m m (NotMapped n)
@@ -96,19 +96,19 @@ module _ (g : Game) (s m : List ℕ) (a : acceptance g ≡ Accepted) (c : counts
   pub joined-scratch-short : length s < 4096 → JoinedMade g s s m m (NotMapped 8)
   unfolding joinedFits
   joined-scratch-short b =
-      refused g s m 8 (room g (length s) (length m) false a c (and-false-left (leb (g .input .states) (length m)) (lt-leb 4096 (length s) b)) refl)
+      refused g s m 8 (room g (length s) (length m) false a c (and-false-left (leb (wordsFor (g .input .states)) (length m)) (lt-leb 4096 (length s) b)) refl)
 
-  pub joined-map-short : length m < g .input .states → JoinedMade g s s m m (NotMapped 8)
+  pub joined-map-short : length m < wordsFor (g .input .states) → JoinedMade g s s m m (NotMapped 8)
   unfolding joinedFits
   joined-map-short b =
-      refused g s m 8 (room g (length s) (length m) false a c (and-false-right (leb 4096 (length s)) (lt-leb (g .input .states) (length m) b)) refl)
+      refused g s m 8 (room g (length s) (length m) false a c (and-false-right (leb 4096 (length s)) (lt-leb (wordsFor (g .input .states)) (length m) b)) refl)
 
   -- ---- the map
 
-  pub joined-done : (s′ m′ : List ℕ) → 4096 ≤ length s → g .input .states ≤ length m → s′ ≡ cleared 4096 s
-      → m′ ≡ tabulate (g .input .states) (mapRow g) ++ drop (g .input .states) m → JoinedMade g s s′ m m′ Done
-  unfolding joinedAfter joinedScratch joinedFits
+  pub joined-done : (s′ m′ : List ℕ) → 4096 ≤ length s → wordsFor (g .input .states) ≤ length m → s′ ≡ cleared 4096 s → MapFilled g m m′
+      → JoinedMade g s s′ m m′ Done
+  unfolding JoinedAfter joinedScratch joinedFits
   joined-done s′ m′ b d e f = record { answer = done; number = told g s m done; map = f; scratch = e; won = λ q. marks g m m′ f }
     where
       done : Done ≡ joinedAnswer g (length s) (length m)
-      done = room g (length s) (length m) true a c (and-intro (le-leb 4096 (length s) b) (le-leb (g .input .states) (length m) d)) refl
+      done = room g (length s) (length m) true a c (and-intro (le-leb 4096 (length s) b) (le-leb (wordsFor (g .input .states)) (length m) d)) refl

@@ -16,14 +16,14 @@ use lib.Arith.{digits-lt, digits-div, digits-mod}
 use lib.ListN.{length, getD, drop, length-drop}
 use lib.Seq.{ext-getD, getD-drop}
 use Rattle.finite.proofs.Truth.{clash, false-of}
-use Rattle.sets.specs.Member.{has, pack}
-use Rattle.sets.proofs.Membership.{ext, has-zero, has-pack-below, has-pack-past}
+use Rattle.bits.specs.Member.{has, pack}
+use Rattle.bits.proofs.Membership.{ext, has-zero, has-pack-below, has-pack-past}
 use Rattle.theory.specs.Region.{region}
 use Rattle.joint.specs.Joint.{rankAt}
 use Rattle.joint.proofs.Settled.{settled-start, settled-next, settled-end}
 use Rattle.game.specs.declared.Game.{Game}
 use Rattle.play.specs.Play.{graphOf, separatedOf}
-use Rattle.scratch.specs.Scratch.{cleared}
+use Rattle.clearing.specs.Clearing.{cleared}
 use Rattle.marks.specs.Marks.{mapRow}
 use Rattle.joined_reach.specs.Words.{belongs, Small, Kept}
 use Rattle.joined_reach.specs.Reach.{Counted}

@@ -3,6 +3,7 @@
 --   joinedAnswer g s m        == the answer of the call, scratch being of s words and the map of m
 --   joinedTests g s m         == its tests under their numbers
 --   numberOf r                == document 01's number of the answer r, 0 for a map that is made
+--   JoinedAfter g r m m′      == on answer r the map m is left as m′
 --   JoinedMade g s s′ m m′ r  == the call answers r and leaves scratch s as s′ and the map m as m′
 use Prim.Native.Nat.{ℕ, _<_}
 use mathlib.Core.Path.{_≡_}
@@ -10,17 +11,17 @@ use mathlib.Core.Bool.{Bool, true, false, _&&_}
 use mathlib.Core.List.{List, [], _∷_, _++_}
 use mathlib.Core.Logic.{_↔_}
 use lib.Dec.{leb}
-use lib.ListN.{length, getD, drop}
-use Rattle.finite.specs.Tabulate.{tabulate}
-use Rattle.sets.specs.Member.{has}
+use lib.ListN.{length, getD}
+use Rattle.bits.specs.Member.{has}
+use Rattle.sets.specs.Words.{setsIn, wordsFor}
 use Rattle.arena.specs.Win.{Won}
 use Rattle.game.specs.declared.Game.{Game}
 use Rattle.game.specs.declared.Acceptance.the-variants.{Accepted, Refused as Faulty}
 use Rattle.game.specs.Acceptance.{acceptance}
 use Rattle.game.specs.Numbers.{firstOf, gameTests}
 use Rattle.demands.specs.Demands.{playOf}
-use Rattle.scratch.specs.Scratch.{cleared}
-use Rattle.marks.specs.Marks.{mapRow}
+use Rattle.clearing.specs.Clearing.{cleared}
+use Rattle.marks.specs.Marks.{MapFilled}
 use Rattle.joined.specs.declared.Mapped.{Mapped}
 use Rattle.joined.specs.declared.Mapped.the-variants.{Done, Refused as NotMapped}
 
@@ -30,7 +31,7 @@ countsSmall g = leb (g .input .states) 32 && leb (g .output .states) 32
 
 -- "Its scratch is 4,096 words, under the same rules."; "or, where the call writes the map, map room under one word an input"
 unfoldable pub joinedFits : Game → ℕ → ℕ → Bool
-joinedFits g s m = leb 4096 s && leb (g .input .states) m
+joinedFits g s m = leb 4096 s && leb (wordsFor (g .input .states)) m
 
 unfoldable pub joinedRoom : Game → ℕ → ℕ → Mapped
 joinedRoom g s m = elim (joinedFits g s m) [ true ↦ Done | false ↦ NotMapped 8 ]
@@ -48,10 +49,10 @@ abbrev pub numberOf : Mapped → ℕ
 numberOf Done = 0
 numberOf (NotMapped n) = n
 
--- "Its won map equals ours on every game both accept, dead ends included.": the rows are those of the won map
-unfoldable pub joinedAfter : Game → Mapped → List ℕ → List ℕ
-joinedAfter g Done m = tabulate (g .input .states) (mapRow g) ++ drop (g .input .states) m
-joinedAfter g (NotMapped n) m = m
+-- "Its won map equals ours on every game both accept, dead ends included.": the rows are those of the won map, later words stay; "changes no lent memory"
+unfoldable pub JoinedAfter : Game → Mapped → List ℕ → List ℕ → Type 0
+JoinedAfter g Done m m′ = MapFilled g m m′
+JoinedAfter g (NotMapped n) m m′ = m′ ≡ m
 
 -- "after an answer the first that many words are zero and the rest unchanged"; "Each returns its number only .. and changes no lent memory"
 unfoldable pub joinedScratch : Mapped → List ℕ → List ℕ
@@ -61,6 +62,6 @@ joinedScratch (NotMapped n) s = s
 pub record JoinedMade (g : Game) (s s′ m m′ : List ℕ) (r : Mapped) : Type 0 where
   pub answer : r ≡ joinedAnswer g (length s) (length m)
   pub number : numberOf r ≡ firstOf (joinedTests g (length s) (length m))
-  pub map : m′ ≡ joinedAfter g r m
+  pub map : JoinedAfter g r m m′
   pub scratch : s′ ≡ joinedScratch r s
-  pub won : r ≡ Done → (i o : ℕ) → i < g .input .states → o < g .output .states → (has (getD m′ i 0) o ≡ true) ↔ Won (playOf g) i o
+  pub won : r ≡ Done → (i o : ℕ) → i < g .input .states → o < g .output .states → (has (getD (setsIn m′) i 0) o ≡ true) ↔ Won (playOf g) i o

@@ -1,16 +1,15 @@
 // The solver of the lecture room: the won map on the joined positions, from the last components of the joined graph backward.
 ghost use mathlib.Core.Path.{_≡_};
 ghost use mathlib.Core.Bool.{false};
-ghost use mathlib.Core.List.{_++_};
 ghost use Prim.Native.Nat.{_*_, _+_, _≤_, _<_};
-ghost use lib.ListN.{length, drop};
-ghost use Rattle.finite.specs.Tabulate.{tabulate};
+ghost use lib.ListN.{length};
+ghost use Rattle.sets.specs.Words.{setCount};
 ghost use Rattle.joint.specs.Joint.{rankAt};
 ghost use Rattle.game.specs.declared.Acceptance.the-variants.{Accepted};
 ghost use Rattle.game.specs.Acceptance.{acceptance};
 ghost use Rattle.play.specs.Play.{separatedOf};
-ghost use Rattle.scratch.specs.Scratch.{cleared};
-ghost use Rattle.marks.specs.Marks.{mapRow};
+ghost use Rattle.clearing.specs.Clearing.{cleared};
+ghost use Rattle.marks.specs.Marks.{MapFilled};
 ghost use Rattle.joined_reach.specs.Words.{Small, Kept};
 ghost use Rattle.joined_component.specs.Component.{known};
 ghost use Rattle.joined.specs.Order.{Backward, Advanced, Passed, Solved};
@@ -42,7 +41,7 @@ fn settle_position(g: Game, s: &mut [u64], i: InState, o: OutState, n: u64)
     ensures { λ _. ⌜ Advanced g n (i .0) (o .0) (now (s .entry)) (now (s .exit)) ⌝ }
 {
     let row = i.0;
-    if !sets::member(s[KNOWN + row], o.0) {
+    if !bits::member(s[KNOWN + row], o.0) {
         settle_component(g, s, i, o, n);
     }
 }
@@ -71,7 +70,7 @@ fn solve(g: Game, s: &mut [u64])
     ensures { λ _. ⌜ Kept 0 2048 (now (s .entry)) (now (s .exit)) × Solved g (now (s .exit)) ⌝ }
 {
     joined_reach::count_ahead(g, s);
-    scratch::clear(s, 160);
+    clearing::clear(s, 160);
     let positions = g.input.states * g.output.states;
     let mut n: usize = 1;
     while n <= positions {
@@ -82,25 +81,24 @@ fn solve(g: Game, s: &mut [u64])
 
 // Writes the marks to the map.
 fn write_map(g: Game, s: &[u64], map: &mut [u64])
-    requires { ⌜ Small g × (4096 ≤ length (now s)) × Solved g (now s) × (g .input .states ≤ length (now map)) ⌝ }
-    ensures { λ _. ⌜ now (map .exit) ≡ tabulate (g .input .states) (mapRow g) ++ drop (g .input .states) (now (map .entry)) ⌝ }
+    requires { ⌜ Small g × (4096 ≤ length (now s)) × Solved g (now s) × (g .input .states ≤ setCount (now map)) ⌝ }
+    ensures { λ _. ⌜ MapFilled g (now (map .entry)) (now (map .exit)) ⌝ }
 {
     let mut i: usize = 0;
     while i < g.input.states {
-        map[i] = s[WON + i];
+        sets::put(map, i, joined_reach::set_of(s[WON + i]));
         i += 1;
     }
 }
 
 // Writes the map of a small accepted game and clears scratch.
 fn make_map(g: Game, scratch: &mut [u64], map: &mut [u64])
-    requires { ⌜ Small g × (4096 ≤ length (now scratch)) × (g .input .states ≤ length (now map)) ⌝ }
-    ensures { λ _. ⌜ (now (scratch .exit) ≡ cleared 4096 (now (scratch .entry)))
-        × (now (map .exit) ≡ tabulate (g .input .states) (mapRow g) ++ drop (g .input .states) (now (map .entry))) ⌝ }
+    requires { ⌜ Small g × (4096 ≤ length (now scratch)) × (g .input .states ≤ setCount (now map)) ⌝ }
+    ensures { λ _. ⌜ (now (scratch .exit) ≡ cleared 4096 (now (scratch .entry))) × MapFilled g (now (map .entry)) (now (map .exit)) ⌝ }
 {
     solve(g, scratch);
     write_map(g, scratch, map);
-    scratch::clear(scratch, 4096);
+    clearing::clear(scratch, 4096);
 }
 
 // The answer of the call.
@@ -123,7 +121,7 @@ fn map_accepted(g: Game, scratch: &mut [u64], map: &mut [u64]) -> Mapped
     if scratch.len() < 4096 {
         return Mapped::Refused(8);
     }
-    if map.len() < g.input.states {
+    if map.len() < sets::words(g.input.states) {
         return Mapped::Refused(8);
     }
     make_map(g, scratch, map);

@@ -13,7 +13,7 @@ use native.Mathlib.Decide.{ℕ-discrete}
 use lib.Dec.{eqb}
 use lib.ListN.{length, getD, set}
 use lib.Seq.{getD-set-same, getD-set-other}
-use Rattle.sets.specs.Member.{has}
+use Rattle.bits.specs.Member.{has}
 use Rattle.game.specs.declared.Game.{Game}
 use Rattle.joined_reach.specs.Words.{Kept}
 use Rattle.joined_reach.proofs.Words.{kept-self, kept-set, kept-then}

@@ -21,10 +21,11 @@ use Rattle.finite.specs.Bounded.{any}
 use Rattle.finite.proofs.Truth.{clash, false-of, and-intro, and-left, and-right, same-test, not-true}
 use Rattle.finite.proofs.Bounded.{all-same, any-intro, any-elim, any-none}
 use Rattle.finite.proofs.Tabulate.{allOf-tabulate}
-use Rattle.sets.specs.Member.{has, pack, meets}
-use Rattle.sets.proofs.Membership.{ext, has-zero, has-pack-below, has-pack-past, has-lt, pack-lt}
-use Rattle.sets.proofs.Compare.{member-nonzero, nonzero-member, meets-intro, meets-elim}
-use Rattle.sets.proofs.Passing.{Passing, passing-end}
+use Rattle.bits.specs.Member.{has, pack, meets}
+use Rattle.sets.specs.Words.{capacity, bitsOf}
+use Rattle.bits.proofs.Membership.{ext, has-zero, has-pack-below, has-pack-past, has-lt, pack-lt}
+use Rattle.bits.proofs.Compare.{member-nonzero, nonzero-member, meets-intro, meets-elim}
+use Rattle.bits.proofs.Passing.{Passing, passing-end}
 use Rattle.graphs.specs.Graph.{edge}
 use Rattle.graphs.proofs.Graph.{edge-to}
 use Rattle.theory.specs.Region.{answers}
@@ -80,17 +81,17 @@ outputs-end g l i c a b h o = let e : i ≡ g .input .states = omega arith in h 
 
 -- ---- requirements
 
--- a set meets another, in words
-meets-pack : (n x : ℕ) (p : ℕ → Bool) → n ≤ 64 → meets 64 x (pack n p) ≡ any n (λ t. has x t && p t)
-meets-pack n x p b =
-    same-test (meets 64 x (pack n p)) (any n (λ t. has x t && p t))
+-- a set meets another
+meets-pack : (w n x : ℕ) (p : ℕ → Bool) → n ≤ w → meets w x (pack n p) ≡ any n (λ t. has x t && p t)
+meets-pack w n x p b =
+    same-test (meets w x (pack n p)) (any n (λ t. has x t && p t))
     (λ e.
-    let v = meets-elim 64 x (pack n p) e in
+    let v = meets-elim w x (pack n p) e in
     let l = has-lt n (pack n p) (v .0) (pack-lt n p) (v .3) in
     any-intro n (λ t. has x t && p t) (v .0) l (and-intro (v .2) (sym (has-pack-below n p (v .0) l) ∙ v .3)))
     (λ e.
     let v = any-elim n (λ t. has x t && p t) e in
-    meets-intro 64 x (pack n p) (v .0) (omega (arith, v .1)) (and-left (has x (v .0)) (p (v .0)) (v .2))
+    meets-intro w x (pack n p) (v .0) (omega (arith, v .1)) (and-left (has x (v .0)) (p (v .0)) (v .2))
     (has-pack-below n p (v .0) (v .1) ∙ and-right (has x (v .0)) (p (v .0)) (v .2)))
 
 module _ (g : Game) (S : Small g) (l : List ℕ) (R : Rows g l) where
@@ -112,20 +113,20 @@ module _ (g : Game) (S : Small g) (l : List ℕ) (R : Rows g l) where
   unfolding dueOn dueAt dueIn requirementOf separatedOf graphOf
   due-means r =
       all-same (requirementAt g r .assumed) (dueAt (requirementAt g r) (pack (g .input .states) (inputsOf (separatedOf g) (component g l))))
-      (λ j. any (g .input .states) (λ i. has (assumptionAt g r j .0) i && inputsOf (separatedOf g) (component g l) i))
-      (λ j b. meets-pack (g .input .states) (assumptionAt g r j .0) (inputsOf (separatedOf g) (component g l)) (omega (arith, S .inputs)))
+      (λ j. any (g .input .states) (λ i. has (bitsOf (assumptionAt g r j .0)) i && inputsOf (separatedOf g) (component g l) i))
+      (λ j b. meets-pack capacity (g .input .states) (bitsOf (assumptionAt g r j .0)) (inputsOf (separatedOf g) (component g l)) (omega (arith, S .inputs)))
       ∙ sym (allOf-tabulate (λ p. any (g .input .states) (λ i. p i && inputsOf (separatedOf g) (component g l) i)) (requirementAt g r .assumed)
-      (λ j. has (assumptionAt g r j .0)))
+      (λ j. has (bitsOf (assumptionAt g r j .0))))
 
   served-means : (r : ℕ) → servedOn g (pack (g .output .states) (outputsOf (separatedOf g) (component g l))) r
       ≡ servedIn (separatedOf g) (component g l) (requirementOf (requirementAt g r))
   unfolding servedOn servedAt servedIn requirementOf separatedOf graphOf
   served-means r =
       all-same (requirementAt g r .guaranteed) (servedAt (requirementAt g r) (pack (g .output .states) (outputsOf (separatedOf g) (component g l))))
-      (λ j. any (g .output .states) (λ o. has (guaranteeAt g r j .0) o && outputsOf (separatedOf g) (component g l) o))
-      (λ j b. meets-pack (g .output .states) (guaranteeAt g r j .0) (outputsOf (separatedOf g) (component g l)) (omega (arith, S .outputs)))
+      (λ j. any (g .output .states) (λ o. has (bitsOf (guaranteeAt g r j .0)) o && outputsOf (separatedOf g) (component g l) o))
+      (λ j b. meets-pack capacity (g .output .states) (bitsOf (guaranteeAt g r j .0)) (outputsOf (separatedOf g) (component g l)) (omega (arith, S .outputs)))
       ∙ sym (allOf-tabulate (λ p. any (g .output .states) (λ o. p o && outputsOf (separatedOf g) (component g l) o)) (requirementAt g r .guaranteed)
-      (λ j. has (guaranteeAt g r j .0)))
+      (λ j. has (bitsOf (guaranteeAt g r j .0))))
 
   pub accepts-means : (x y : ℕ) → x ≡ pack (g .input .states) (inputsOf (separatedOf g) (component g l))
       → ((o : ℕ) → has y o ≡ outputsOf (separatedOf g) (component g l) o) → acceptsOn g x y ≡ acceptingIn (separatedOf g) (component g l)
@@ -193,7 +194,7 @@ module _ (g : Game) (S : Small g) (a : ℕ) (l : List ℕ) (i o x y : ℕ) (e : 
       (λ k. edge (graphOf (g .input)) i k && answers (separatedOf g) (belongs (g .input .states) a l) k o) j
       (edge-to (graphOf (g .input)) i j m) (and-intro m (sym (moved j m) ∙ b)))
 
-  pub not-entered : (rest : ℕ) → Passing x 32 (misses l a y) rest → rest ≡ 0
+  pub not-entered : (rest : ℕ) → Passing 64 x 32 (misses l a y) rest → rest ≡ 0
       → false ≡ returns (separatedOf g) (belongs (g .input .states) a l) i o
   unfolding returns separatedOf graphOf misses
   not-entered rest P z =
@@ -203,4 +204,4 @@ module _ (g : Game) (S : Small g) (a : ℕ) (l : List ℕ) (i o x y : ℕ) (e : 
       (λ h. let m : edge (graphOf (g .input)) i k ≡ true = and-left (edge (graphOf (g .input)) i k) (answers (separatedOf g) (belongs
       (g .input .states) a l) k o) h in
       clash (moved k m ∙ and-right (edge (graphOf (g .input)) i k) (answers (separatedOf g) (belongs (g .input .states) a l) k o) h)
-      (not-true (enters l a y k) (passing-end x 32 (misses l a y) rest P z k (omega (arith, S .inputs)) (e k ∙ m))))))
+      (not-true (enters l a y k) (passing-end 64 x 32 (misses l a y) rest P z k (omega (arith, S .inputs)) (e k ∙ m))))))

@@ -3,7 +3,8 @@ ghost use mathlib.Core.Path.{_≡_};
 ghost use mathlib.Core.Bool.{true, _&&_};
 ghost use Prim.Native.Nat.{ℕ, _+_, _≤_, _<_};
 ghost use lib.ListN.{length, getD};
-ghost use Rattle.sets.specs.Member.{has, pack};
+ghost use Rattle.bits.specs.Member.{has, pack};
+ghost use Rattle.sets.specs.Words.{bitsOf};
 ghost use Rattle.joint.specs.Solver.{inputsOf, outputsOf, returns, recurring};
 ghost use Rattle.play.specs.Play.{separatedOf};
 ghost use Rattle.joined_reach.specs.Words.{Small};
@@ -17,11 +18,12 @@ use game::OutState;
 use joined_reach::AHEAD;
 use joined_reach::COMPONENT;
 use joined_reach::FOUND;
+use joined_reach::OutWord;
 
 // ---- the component
 
 // The outputs o that are found with input `at` and have n positions ahead of the position that they make. There are m outputs.
-fn ranked_row(s: &[u64], m: usize, at: InState, n: u64) -> OutSet
+fn ranked_row(s: &[u64], m: usize, at: InState, n: u64) -> OutWord
     requires { ⌜ (m ≤ 32) × (at .0 < 32) × (4096 ≤ length (now s)) × ((o : ℕ) → has (getD (now s) (at .0) 0) o ≡ true → o < m) ⌝ }
     ensures { λ r. ⌜ ((o : ℕ) → has (r .0) o ≡ (has (getD (now (s .entry)) (at .0) 0) o && rankedIn (now (s .entry)) m (at .0) n o)) ⌝ }
 {
@@ -29,11 +31,11 @@ fn ranked_row(s: &[u64], m: usize, at: InState, n: u64) -> OutSet
     let mut c: u64 = 0;
     let mut rest = s[FOUND + i];
     while rest != 0 {
-        let o = sets::lowest(rest);
-        c = sets::insert_if(c, o, s[AHEAD + (i * m + o)] == n);
-        rest = sets::without_lowest(rest);
+        let o = bits::lowest(rest);
+        c = bits::insert_if(c, o, s[AHEAD + (i * m + o)] == n);
+        rest = bits::without_lowest(rest);
     }
-    OutSet(c)
+    OutWord(c)
 }
 
 // The component of the position from which everything was found, n positions being ahead of it: what has fewer ahead does not lead back.
@@ -56,7 +58,7 @@ pub fn join(g: Game, s: &mut [u64], a: usize)
 {
     let mut i: usize = 0;
     while i < g.input.states {
-        s[a + i] = sets::union(s[a + i], s[COMPONENT + i]);
+        s[a + i] = bits::union(s[a + i], s[COMPONENT + i]);
         i += 1;
     }
 }
@@ -66,35 +68,35 @@ pub fn join(g: Game, s: &mut [u64], a: usize)
 // The inputs of the component's positions.
 fn inputs_of(g: Game, s: &[u64]) -> InSet
     requires { ⌜ Small g × (4096 ≤ length (now s)) × Rows g (now s) ⌝ }
-    ensures { λ r. ⌜ r .0 ≡ pack (g .input .states) (inputsOf (separatedOf g) (component g (now (s .entry)))) ⌝ }
+    ensures { λ r. ⌜ bitsOf (r .0) ≡ pack (g .input .states) (inputsOf (separatedOf g) (component g (now (s .entry)))) ⌝ }
 {
     let mut c: u64 = 0;
     let mut i: usize = 0;
     while i < g.input.states {
-        c = sets::insert_if(c, i, s[COMPONENT + i] != 0);
+        c = bits::insert_if(c, i, s[COMPONENT + i] != 0);
         i += 1;
     }
-    InSet(c)
+    InSet(joined_reach::set_of(c))
 }
 
 // The outputs of the component's positions.
 fn outputs_of(g: Game, s: &[u64]) -> OutSet
     requires { ⌜ Small g × (4096 ≤ length (now s)) ⌝ }
-    ensures { λ r. ⌜ ((o : ℕ) → has (r .0) o ≡ outputsOf (separatedOf g) (component g (now (s .entry))) o) ⌝ }
+    ensures { λ r. ⌜ ((o : ℕ) → has (bitsOf (r .0)) o ≡ outputsOf (separatedOf g) (component g (now (s .entry))) o) ⌝ }
 {
     let mut c: u64 = 0;
     let mut i: usize = 0;
     while i < g.input.states {
-        c = sets::union(c, s[COMPONENT + i]);
+        c = bits::union(c, s[COMPONENT + i]);
         i += 1;
     }
-    OutSet(c)
+    OutSet(joined_reach::set_of(c))
 }
 
 // Whether requirement r is due where the inputs x recur: all its input sets meet them.
 fn is_due(g: Game, r: usize, x: InSet) -> bool
     requires { ⌜ Small g × (r < g .k) ⌝ }
-    ensures { λ b. ⌜ b ≡ dueOn g (x .0) r ⌝ }
+    ensures { λ b. ⌜ b ≡ dueOn g (bitsOf (x .0)) r ⌝ }
 {
     let q = g.requirements[r];
     let n = q.assumed;
@@ -112,7 +114,7 @@ fn is_due(g: Game, r: usize, x: InSet) -> bool
 // Whether requirement r is served where the outputs y recur: all its output sets meet them.
 fn is_served(g: Game, r: usize, y: OutSet) -> bool
     requires { ⌜ Small g × (r < g .k) ⌝ }
-    ensures { λ b. ⌜ b ≡ servedOn g (y .0) r ⌝ }
+    ensures { λ b. ⌜ b ≡ servedOn g (bitsOf (y .0)) r ⌝ }
 {
     let q = g.requirements[r];
     let n = q.guaranteed;
@@ -130,7 +132,7 @@ fn is_served(g: Game, r: usize, y: OutSet) -> bool
 // Whether requirement r is not due where the inputs x recur, or is served where the outputs y recur.
 fn is_met(g: Game, r: usize, x: InSet, y: OutSet) -> bool
     requires { ⌜ Small g × (r < g .k) ⌝ }
-    ensures { λ b. ⌜ b ≡ acceptsAt g (x .0) (y .0) r ⌝ }
+    ensures { λ b. ⌜ b ≡ acceptsAt g (bitsOf (x .0)) (bitsOf (y .0)) r ⌝ }
 {
     if is_due(g, r, x) {
         return is_served(g, r, y);
@@ -141,7 +143,7 @@ fn is_met(g: Game, r: usize, x: InSet, y: OutSet) -> bool
 // Whether every requirement that is due where the inputs x recur is served where the outputs y recur.
 fn accepts(g: Game, x: InSet, y: OutSet) -> bool
     requires { ⌜ Small g ⌝ }
-    ensures { λ b. ⌜ b ≡ acceptsOn g (x .0) (y .0) ⌝ }
+    ensures { λ b. ⌜ b ≡ acceptsOn g (bitsOf (x .0)) (bitsOf (y .0)) ⌝ }
 {
     let mut r: usize = 0;
     while r < g.k {
@@ -162,11 +164,11 @@ fn returns_to(g: Game, s: &[u64], i: InState, o: OutState) -> bool
     let next = joined_reach::input_moves(g, i);
     let mut rest = next.0;
     while rest != 0 {
-        let j = sets::lowest(rest);
-        if sets::meets(s[COMPONENT + j], moves.0) {
+        let j = bits::lowest(rest);
+        if bits::meets(s[COMPONENT + j], moves.0) {
             return true;
         }
-        rest = sets::without_lowest(rest);
+        rest = bits::without_lowest(rest);
     }
     false
 }

@@ -16,7 +16,7 @@ use lib.Seq.{getD-set-same, getD-set-other}
 use Rattle.finite.specs.Bounded.{count, one}
 use Rattle.finite.proofs.Truth.{false-of}
 use Rattle.finite.proofs.Bounded.{count-same}
-use Rattle.sets.specs.Member.{has}
+use Rattle.bits.specs.Member.{has}
 use Rattle.joint.specs.Joint.{rankAt}
 use Rattle.joint.proofs.Reached.{count-add, rankAt-count, factor}
 use Rattle.game.specs.declared.Game.{Game}

@@ -33,17 +33,17 @@ use Rattle.finite.proofs.Truth.{
   not-false,
 }
 use Rattle.finite.proofs.Bounded.{all-elim, all-false, count-le}
-use Rattle.sets.specs.Member.{has, implies, subset}
-use Rattle.sets.proofs.Membership.{has-zero, has-lt}
-use Rattle.sets.proofs.Visit.{small-word, lowest-below, lowest-in, lowest-less}
-use Rattle.sets.proofs.Remove.{less-in, less-out, less-other, less-falls}
+use Rattle.bits.specs.Member.{has, implies, subset}
+use Rattle.bits.proofs.Membership.{has-zero, has-lt}
+use Rattle.bits.proofs.Visit.{small-word, lowest-below, lowest-in, lowest-less}
+use Rattle.bits.proofs.Remove.{less-in, less-out, less-other, less-falls}
 use Rattle.graphs.specs.Graph.{edge}
 use Rattle.graphs.proofs.Graph.{edge-to}
 use Rattle.joint.specs.Close.{Closing, Taken}
 use Rattle.joint.proofs.Close.{closing-start, closing-taken, closing-grows, closing-end}
 use Rattle.game.specs.declared.Game.{Game}
 use Rattle.play.specs.Play.{graphOf, separatedOf}
-use Rattle.scratch.specs.Scratch.{cleared}
+use Rattle.clearing.specs.Clearing.{cleared}
 use Rattle.joined_reach.specs.Words.{belongs, Small, Kept}
 use Rattle.joined_reach.specs.Reach.{Next, Grown, Entered, Waiting, Followed, Reached}
 use Rattle.joined_reach.proofs.Words.{
@@ -75,14 +75,14 @@ module _ (g : Game) (x : ℕ) where
   module _ (rest y : ℕ) (N : Nexting g x rest y) where
     module _ (ne : rest ≢ 0) (p : ℕ) (e : p ≡ least 64 (has rest)) where
       pub next-member : has x p ≡ true
-      next-member = N .inside p (lowest-in rest p (N .small) ne e)
+      next-member = N .inside p (lowest-in 64 rest p (N .small) ne e)
 
       module _ (r : ℕ) (d : (s : ℕ) → has r s ≡ (has rest s && not (eqb s (least 64 (has rest))))) where
         d′ : (s : ℕ) → has r s ≡ (has rest s && not (eqb s p))
-        d′ = lowest-less rest p r e d
+        d′ = lowest-less 64 rest p r e d
 
         pub next-falls : count 64 (has r) < count 64 (has rest)
-        next-falls = less-falls rest p r d′ 64 (lowest-below rest p (N .small) ne e) (lowest-in rest p (N .small) ne e)
+        next-falls = less-falls rest p r d′ 64 (lowest-below 64 rest p (N .small) ne e) (lowest-in 64 rest p (N .small) ne e)
 
         pub next-more : r < 2 ^ 64 → (m z : ℕ) → ((q : ℕ) → has m q ≡ edge (graphOf (g .output)) p q) → ((q : ℕ) → has z q ≡ (has y q || has m q))
             → Nexting g x r z
@@ -182,17 +182,17 @@ module _ (x y w : ℕ) (l : List ℕ) where
   module _ (rest v : ℕ) (m : List ℕ) (E : Entering x y w rest v l m) where
     module _ (ne : rest ≢ 0) (j : ℕ) (e : j ≡ least 64 (has rest)) where
       here : has rest j ≡ true
-      here = lowest-in rest j (E .small) ne e
+      here = lowest-in 64 rest j (E .small) ne e
 
       pub entering-member : has x j ≡ true
       entering-member = E .inside j here
 
       module _ (t : ℕ) (d : (s : ℕ) → has t s ≡ (has rest s && not (eqb s (least 64 (has rest))))) where
         without : (s : ℕ) → has t s ≡ (has rest s && not (eqb s j))
-        without = lowest-less rest j t e d
+        without = lowest-less 64 rest j t e d
 
         pub entering-falls : count 64 (has t) < count 64 (has rest)
-        entering-falls = less-falls rest j t without 64 (lowest-below rest j (E .small) ne e) here
+        entering-falls = less-falls rest j t without 64 (lowest-below 64 rest j (E .small) ne e) here
 
         pub entering-more : j < 32 → t < 2 ^ 64 → (v′ : ℕ) (m′ : List ℕ) → Grown j y v v′ m m′ → Entering x y w t v′ l m′
         entering-more a b v′ m′ G = record {
@@ -275,7 +275,7 @@ module _ (x y w : ℕ) (l : List ℕ) where
 
 module _ (g : Game) (S : Small g) (w : ℕ) (l : List ℕ) (W : Waiting g w l) (small : w < 2 ^ 64) (ne : w ≢ 0) (r : ℕ) (e : r ≡ least 64 (has w)) where
   pub follow-below : r < g .input .states
-  follow-below = W .inputs r (lowest-in w r small ne e)
+  follow-below = W .inputs r (lowest-in 64 w r small ne e)
 
   -- x is what was found in row r since it was followed last
   module _ (long : 4096 ≤ length l) (x : ℕ) (d : (p : ℕ) → has x p ≡ (has (getD l r 0) p && not (has (getD l (32 + r) 0) p))) where
@@ -296,7 +296,7 @@ module _ (g : Game) (S : Small g) (w : ℕ) (l : List ℕ) (W : Waiting g w l) (
 
       without-r : (k : ℕ) → has v k ≡ true → (k ≢ r) × (has w k ≡ true)
       without-r k h =
-          let f : (s : ℕ) → has v s ≡ (has w s && not (eqb s r)) = lowest-less w r v e u in
+          let f : (s : ℕ) → has v s ≡ (has w s && not (eqb s r)) = lowest-less 64 w r v e u in
           (λ z. clash h (ap (has v) z ∙ less-out w r v f), less-in w r v f k h)
 
       taken : Taken (separatedOf g) r (has y) (has w) (belongs (g .input .states) 32 l) (belongs (g .input .states) 0 l) (has w′)
@@ -336,7 +336,7 @@ module _ (g : Game) (S : Small g) (w : ℕ) (l : List ℕ) (W : Waiting g w l) (
 
           gone : (k : ℕ) → has v k ≡ false → Dec (k ≡ r) → (k ≡ r) ⊎ (has w k ≡ false)
           gone k h (yes z) = inl z
-          gone k h (no z) = inr (sym (less-other w r v (lowest-less w r v e u) k z) ∙ h)
+          gone k h (no z) = inr (sym (less-other w r v (lowest-less 64 w r v e u) k z) ∙ h)
 
           still : (k : ℕ) → k < g .input .states
               → (has v k ≡ false) × ((q : ℕ) → has (getD m k 0) q ≡ true → has (getD (set l (32 + r) (getD l r 0)) k 0) q ≡ true)
@@ -444,7 +444,7 @@ module _ (g : Game) (i o : ℕ) (l : List ℕ) where
       closed-falls S ne =
           closing-grows (separatedOf g) i o (has w) (belongs (g .input .states) 32 m) (belongs (g .input .states) 0 m) (C .closing)
           (least 64 (has w)) (has (F .next)) (has w′) (belongs (g .input .states) 32 m′) (belongs (g .input .states) 0 m′) (F .taken)
-          (lowest-in w (least 64 (has w)) (small-word w (λ j h. omega (arith, C .inputs j h, S .inputs))) ne refl)
+          (lowest-in 64 w (least 64 (has w)) (small-word 64 w (λ j h. omega (arith, C .inputs j h, S .inputs))) ne refl)
 
     pub closed-end : {d : List ℕ} → Kept 0 64 d l → w ≡ 0 → Reached g i o d m
     unfolding separatedOf graphOf

@@ -1,6 +1,7 @@
 -- Sets of joined positions in scratch.
 --
---   small-in, small-out                       : the moves of a graph of at most 32 states, as words
+--   small-in, small-out                       : the moves of a graph of at most 32 states
+--   small-in-word, small-out-word             : they are in one word
 --   move-below                                : what an input moves to is an input
 --   belongs-has, belongs-below, belongs-in    : what belongs to a set
 --   found-has                                 : what belongs to the set of found positions, whose rows stand first
@@ -19,30 +20,54 @@ use lib.Seq.{getD-set-other, getD-drop}
 use borrow.Author.Tests.{lt-ltb, ltb-true}
 use Rattle.finite.proofs.Truth.{same-test, and-left, and-right, and-intro}
 use Rattle.finite.proofs.Front.{front-length, front-rest, front-at}
-use Rattle.sets.specs.Member.{has}
+use Rattle.bits.specs.Member.{has}
+use Rattle.sets.specs.declared.Set.{Set}
+use Rattle.sets.specs.Words.{bitsOf, setsIn, setAt}
+use Rattle.sets.proofs.Rows.{set-bits}
 use Rattle.graphs.specs.Graph.{edge}
 use Rattle.graphs.proofs.Graph.{edge-to, edge-intro, edge-moves}
 use Rattle.game.specs.declared.Game.{Game}
 use Rattle.game.specs.declared.Graph.{Graph as Record}
+use Rattle.game.specs.declared.InState.{InState}
+use Rattle.game.specs.declared.OutState.{OutState}
+use Rattle.game.specs.declared.InSet.{InSet}
+use Rattle.game.specs.declared.OutSet.{OutSet}
+use Rattle.game.specs.Access.{inMoves, outMoves}
 use Rattle.game.specs.Fits.{GraphFits}
 use Rattle.play.specs.Play.{graphOf}
-use Rattle.scratch.specs.Scratch.{cleared}
+use Rattle.clearing.specs.Clearing.{cleared}
 use Rattle.joined_reach.specs.Words.{belongs, Small, Kept}
 
 -- ---- moves
 
 module _ (h : Record) (F : GraphFits h) where
-  moved-edge : (k t : ℕ) → k < h .states → has (getD (h .moves) k 0) t ≡ edge (graphOf h) k t
+  moved-edge : (k t : ℕ) → k < h .states → has (getD (setsIn (h .moves)) k 0) t ≡ edge (graphOf h) k t
   unfolding graphOf
   moved-edge k t a =
-      same-test (has (getD (h .moves) k 0) t) (edge (graphOf h) k t) (λ e. edge-intro (graphOf h) k t a (F .row-below k t a e) e)
+      same-test (has (getD (setsIn (h .moves)) k 0) t) (edge (graphOf h) k t) (λ e. edge-intro (graphOf h) k t a (F .row-below k t a e) e)
       (λ e. edge-moves (graphOf h) k t e)
 
-pub small-in : {g : Game} → Small g → (i j : ℕ) → i < g .input .states → has (getD (g .input .moves) i 0) j ≡ edge (graphOf (g .input)) i j
-small-in {g} S i j b = moved-edge (g .input) (S .fits .input) i j b
+  -- of a row that was read
+  row-edge : (k : ℕ) (x : Set) → k < h .states → x ≡ setAt (h .moves) k → (t : ℕ) → has (bitsOf x) t ≡ edge (graphOf h) k t
+  row-edge k x a e t = ap (λ (y : Set). has (bitsOf y) t) e ∙ ap (λ (y : ℕ). has y t) (set-bits (h .moves) k) ∙ moved-edge k t a
 
-pub small-out : {g : Game} → Small g → (o p : ℕ) → o < g .output .states → has (getD (g .output .moves) o 0) p ≡ edge (graphOf (g .output)) o p
-small-out {g} S o p b = moved-edge (g .output) (S .fits .output) o p b
+  row-word : (k : ℕ) (x : Set) → k < h .states → h .states ≤ 32 → x ≡ setAt (h .moves) k → (t : ℕ) → has (bitsOf x) t ≡ true → t < 64
+  unfolding graphOf
+  row-word k x a b e t q = omega (arith, edge-to (graphOf h) k t (sym (row-edge k x a e t) ∙ q))
+
+module _ {g : Game} (S : Small g) (i : InState) (b : i .0 < g .input .states) (x : InSet) (e : x ≡ inMoves g i) where
+  pub small-in : (j : ℕ) → has (bitsOf (x .0)) j ≡ edge (graphOf (g .input)) (i .0) j
+  small-in j = row-edge (g .input) (S .fits .input) (i .0) (x .0) b (ap (λ (y : InSet). y .0) e) j
+
+  pub small-in-word : (j : ℕ) → has (bitsOf (x .0)) j ≡ true → j < 64
+  small-in-word j h = row-word (g .input) (S .fits .input) (i .0) (x .0) b (S .inputs) (ap (λ (y : InSet). y .0) e) j h
+
+module _ {g : Game} (S : Small g) (o : OutState) (b : o .0 < g .output .states) (x : OutSet) (e : x ≡ outMoves g o) where
+  pub small-out : (p : ℕ) → has (bitsOf (x .0)) p ≡ edge (graphOf (g .output)) (o .0) p
+  small-out p = row-edge (g .output) (S .fits .output) (o .0) (x .0) b (ap (λ (y : OutSet). y .0) e) p
+
+  pub small-out-word : (p : ℕ) → has (bitsOf (x .0)) p ≡ true → p < 64
+  small-out-word p h = row-word (g .output) (S .fits .output) (o .0) (x .0) b (S .outputs) (ap (λ (y : OutSet). y .0) e) p h
 
 pub move-below : (g : Game) (x r : ℕ) → ((k : ℕ) → has x k ≡ edge (graphOf (g .input)) r k) → (j : ℕ) → has x j ≡ true → j < g .input .states
 unfolding graphOf

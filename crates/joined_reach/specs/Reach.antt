@@ -16,7 +16,7 @@ use mathlib.Core.Logic.{_⊎_, _≢_}
 use mathlib.Core.List.{List}
 use lib.ListN.{length, getD}
 use Rattle.finite.specs.Bounded.{least, count}
-use Rattle.sets.specs.Member.{has}
+use Rattle.bits.specs.Member.{has}
 use Rattle.graphs.specs.Graph.{edge}
 use Rattle.joint.specs.Joint.{reachesAt}
 use Rattle.joint.specs.Close.{Taken}

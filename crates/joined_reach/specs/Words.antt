@@ -12,7 +12,7 @@ use mathlib.Core.Bool.{Bool, _&&_}
 use mathlib.Core.List.{List}
 use lib.Dec.{ltb}
 use lib.ListN.{length, getD}
-use Rattle.sets.specs.Member.{has}
+use Rattle.bits.specs.Member.{has}
 use Rattle.joint.specs.Joint.{rankAt}
 use Rattle.game.specs.declared.Game.{Game}
 use Rattle.game.specs.Fits.{Fits}

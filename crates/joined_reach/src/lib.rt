@@ -4,16 +4,21 @@ ghost use mathlib.Core.Logic.{_≢_};
 ghost use mathlib.Core.Bool.{true};
 ghost use Prim.Native.Nat.{ℕ, _*_, _≤_, _<_};
 ghost use lib.ListN.{length};
-ghost use Rattle.sets.specs.Member.{has};
+ghost use Rattle.bits.specs.Member.{has};
+ghost use Rattle.sets.specs.Words.{bitsOf};
 ghost use Rattle.graphs.specs.Graph.{edge};
 ghost use Rattle.play.specs.Play.{graphOf};
 ghost use Rattle.joined_reach.specs.Words.{Small};
 ghost use Rattle.joined_reach.specs.Reach.{Next, Grown, Entered, Within, Waiting, Followed, Reached, foundBelow, Counted};
 use game::Game;
-use game::InSet;
 use game::InState;
-use game::OutSet;
 use game::OutState;
+use sets::Set;
+
+// A set of inputs, and one of outputs, below 64: a word of scratch.
+pub struct InWord(pub u64);
+
+pub struct OutWord(pub u64);
 
 // Where the sets begin in scratch: what is found, what of it has been followed, what is won, what is known, and a component. Each has 32 words.
 pub const FOUND: usize = 0;
@@ -28,53 +33,70 @@ pub const COMPONENT: usize = 128;
 // Where it stands, for each position, how many positions it reaches: 1,024 words.
 pub const AHEAD: usize = 1024;
 
+// The word of a set whose members are below 64.
+fn word_of(x: Set) -> u64
+    requires { ⌜ ((s : ℕ) → has (bitsOf x) s ≡ true → s < 64) ⌝ }
+    ensures { λ r. ⌜ r ≡ bitsOf x ⌝ }
+{
+    x.low
+}
+
+// The set whose members are those of a word.
+pub fn set_of(w: u64) -> Set
+    ensures { λ r. ⌜ bitsOf r ≡ w ⌝ }
+{
+    Set { low: w }
+}
+
 // The inputs that i moves to.
-pub fn input_moves(g: Game, i: InState) -> InSet
+pub fn input_moves(g: Game, i: InState) -> InWord
     requires { ⌜ Small g × (i .0 < g .input .states) ⌝ }
     ensures { λ r. ⌜ ((j : ℕ) → has (r .0) j ≡ edge (graphOf (g .input)) (i .0) j) ⌝ }
 {
-    game::in_moves(g, i)
+    let row = game::in_moves(g, i);
+    InWord(word_of(row.0))
 }
 
 // The outputs that o moves to.
-pub fn output_moves(g: Game, o: OutState) -> OutSet
+pub fn output_moves(g: Game, o: OutState) -> OutWord
     requires { ⌜ Small g × (o .0 < g .output .states) ⌝ }
     ensures { λ r. ⌜ ((p : ℕ) → has (r .0) p ≡ edge (graphOf (g .output)) (o .0) p) ⌝ }
 {
-    game::out_moves(g, o)
+    let row = game::out_moves(g, o);
+    OutWord(word_of(row.0))
 }
 
 // The outputs that some member of x moves to.
-fn next_outputs(g: Game, x: OutSet) -> OutSet
+fn next_outputs(g: Game, x: OutWord) -> OutWord
     requires { ⌜ Small g × ((p : ℕ) → has (x .0) p ≡ true → p < g .output .states) ⌝ }
     ensures { λ r. ⌜ Next g (x .0) (r .0) ⌝ }
 {
     let mut y: u64 = 0;
     let mut rest = x.0;
     while rest != 0 {
-        let moves = output_moves(g, OutState(sets::lowest(rest)));
-        y = sets::union(y, moves.0);
-        rest = sets::without_lowest(rest);
+        let moves = output_moves(g, OutState(bits::lowest(rest)));
+        y = bits::union(y, moves.0);
+        rest = bits::without_lowest(rest);
     }
-    OutSet(y)
+    OutWord(y)
 }
 
 // Adds the outputs y to row j of what is found. Where the row grows, j waits to be followed.
-fn grow(s: &mut [u64], j: InState, y: OutSet, waiting: InSet) -> InSet
+fn grow(s: &mut [u64], j: InState, y: OutWord, waiting: InWord) -> InWord
     requires { ⌜ (j .0 < 32) × (4096 ≤ length (now s)) ⌝ }
     ensures { λ r. ⌜ Grown (j .0) (y .0) (waiting .0) (r .0) (now (s .entry)) (now (s .exit)) ⌝ }
 {
     let place = j.0;
     let row = s[FOUND + place];
-    if sets::is_subset(y.0, row) {
+    if bits::is_subset(y.0, row) {
         return waiting;
     }
-    s[FOUND + place] = sets::union(row, y.0);
-    InSet(sets::insert(waiting.0, place))
+    s[FOUND + place] = bits::union(row, y.0);
+    InWord(bits::insert(waiting.0, place))
 }
 
 // Adds the outputs y to the rows of all inputs that r moves to: both graphs move at once.
-fn enter(g: Game, s: &mut [u64], r: InState, y: OutSet, waiting: InSet) -> InSet
+fn enter(g: Game, s: &mut [u64], r: InState, y: OutWord, waiting: InWord) -> InWord
     requires { ⌜ Small g × (r .0 < g .input .states) × (4096 ≤ length (now s)) ⌝ }
     ensures { λ w. ⌜ Entered g (r .0) (y .0) (waiting .0) (w .0) (now (s .entry)) (now (s .exit)) ⌝ }
 {
@@ -82,24 +104,24 @@ fn enter(g: Game, s: &mut [u64], r: InState, y: OutSet, waiting: InSet) -> InSet
     let mut left = waiting;
     let mut rest = moves.0;
     while rest != 0 {
-        left = grow(s, InState(sets::lowest(rest)), y, left);
-        rest = sets::without_lowest(rest);
+        left = grow(s, InState(bits::lowest(rest)), y, left);
+        rest = bits::without_lowest(rest);
     }
     left
 }
 
 // Follows the lowest row that waits: the moves of what was found there since it was followed last.
-fn follow(g: Game, s: &mut [u64], waiting: InSet) -> InSet
+fn follow(g: Game, s: &mut [u64], waiting: InWord) -> InWord
     requires { ⌜ Small g × (4096 ≤ length (now s)) × (waiting .0 ≢ 0) × Waiting g (waiting .0) (now s) ⌝ }
     ensures { λ w. ⌜ Followed g (waiting .0) (w .0) (now (s .entry)) (now (s .exit)) ⌝ }
 {
-    let r = sets::lowest(waiting.0);
+    let r = bits::lowest(waiting.0);
     let found = s[FOUND + r];
-    let new = sets::difference(found, s[FOLLOWED + r]);
-    let y = next_outputs(g, OutSet(new));
+    let new = bits::difference(found, s[FOLLOWED + r]);
+    let y = next_outputs(g, OutWord(new));
     s[FOLLOWED + r] = found;
-    let rest = sets::without_lowest(waiting.0);
-    enter(g, s, InState(r), y, InSet(rest))
+    let rest = bits::without_lowest(waiting.0);
+    enter(g, s, InState(r), y, InWord(rest))
 }
 
 // Finds the positions that (i, o) reaches.
@@ -109,9 +131,9 @@ pub fn close(g: Game, s: &mut [u64], i: InState, o: OutState)
 {
     let row = i.0;
     let output = o.0;
-    scratch::clear(s, 64);
-    s[FOUND + row] = sets::insert(0, output);
-    let mut waiting = InSet(sets::insert(0, row));
+    clearing::clear(s, 64);
+    s[FOUND + row] = bits::insert(0, output);
+    let mut waiting = InWord(bits::insert(0, row));
     while waiting.0 != 0 {
         waiting = follow(g, s, waiting);
     }
@@ -125,7 +147,7 @@ fn count_found(g: Game, s: &[u64]) -> usize
     let mut n: usize = 0;
     let mut i: usize = 0;
     while i < g.input.states {
-        n += sets::count(s[FOUND + i]);
+        n += bits::count(s[FOUND + i]);
         i += 1;
     }
     n

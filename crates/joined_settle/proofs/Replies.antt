@@ -14,8 +14,8 @@ use lib.Dec.{ltb}
 use lib.ListN.{length, getD, set}
 use lib.Seq.{getD-set-same, getD-set-other}
 use Rattle.finite.proofs.Truth.{clash, false-of}
-use Rattle.sets.specs.Member.{has}
-use Rattle.sets.proofs.Passing.{Passing, passing-end}
+use Rattle.bits.specs.Member.{has}
+use Rattle.bits.proofs.Passing.{Passing, passing-end}
 use Rattle.graphs.specs.Graph.{edge}
 use Rattle.graphs.proofs.Graph.{edge-to}
 use Rattle.theory.specs.Region.{replies}
@@ -31,12 +31,12 @@ use Rattle.joined_component.proofs.Tests.{enters, moved}
 -- x are the moves of input i, y those of output o
 module _ (g : Game) (S : Small g) (a : ℕ) (l : List ℕ) (i o x y : ℕ) (e : (j : ℕ) → has x j ≡ edge (graphOf (g .input)) i j)
     (f : (p : ℕ) → has y p ≡ edge (graphOf (g .output)) o p) where
-  pub replied : (rest : ℕ) → Passing x 32 (enters l a y) rest → rest ≡ 0 → true ≡ replies (separatedOf g) (belongs (g .input .states) a l) i o
+  pub replied : (rest : ℕ) → Passing 64 x 32 (enters l a y) rest → rest ≡ 0 → true ≡ replies (separatedOf g) (belongs (g .input .states) a l) i o
   unfolding separatedOf graphOf
   replied rest P z =
       sym (replies-intro (separatedOf g) (belongs (g .input .states) a l) i o
       (λ j h. sym (moved g S a l i o x y e f j h)
-      ∙ passing-end x 32 (enters l a y) rest P z j (omega (arith, edge-to (graphOf (g .input)) i j h, S .inputs)) (e j ∙ h)))
+      ∙ passing-end 64 x 32 (enters l a y) rest P z j (omega (arith, edge-to (graphOf (g .input)) i j h, S .inputs)) (e j ∙ h)))
 
   pub not-replied : (j : ℕ) → has x j ≡ true → enters l a y j ≡ false → false ≡ replies (separatedOf g) (belongs (g .input .states) a l) i o
   unfolding separatedOf graphOf

@@ -3,7 +3,7 @@ ghost use mathlib.Core.Path.{_≡_};
 ghost use mathlib.Core.Bool.{true, _&&_};
 ghost use Prim.Native.Nat.{ℕ, _≤_, _<_};
 ghost use lib.ListN.{length};
-ghost use Rattle.sets.specs.Member.{has};
+ghost use Rattle.bits.specs.Member.{has};
 ghost use Rattle.theory.specs.Region.{replies};
 ghost use Rattle.joint.specs.Solver.{Forced, Safe};
 ghost use Rattle.play.specs.Play.{separatedOf};
@@ -12,9 +12,9 @@ ghost use Rattle.joined_component.specs.Component.{won, component};
 ghost use Rattle.joined_settle.specs.Settle.{Growing, Shrinking, Swept, Grew, Shrank, Unsettled, Settled};
 use game::Game;
 use game::InState;
-use game::OutSet;
 use game::OutState;
 use joined_reach::COMPONENT;
+use joined_reach::OutWord;
 use joined_reach::WON;
 
 // Whether (i, o) forces what is marked won: every next input has a reply that makes such a position.
@@ -26,28 +26,28 @@ fn forces(g: Game, s: &[u64], i: InState, o: OutState) -> bool
     let next = joined_reach::input_moves(g, i);
     let mut rest = next.0;
     while rest != 0 {
-        let j = sets::lowest(rest);
-        if !sets::meets(s[WON + j], moves.0) {
+        let j = bits::lowest(rest);
+        if !bits::meets(s[WON + j], moves.0) {
             return false;
         }
-        rest = sets::without_lowest(rest);
+        rest = bits::without_lowest(rest);
     }
     true
 }
 
 // The outputs o of x for which (i, o) forces what is marked won.
-fn forcing(g: Game, s: &[u64], i: InState, x: OutSet) -> OutSet
+fn forcing(g: Game, s: &[u64], i: InState, x: OutWord) -> OutWord
     requires { ⌜ Small g × (i .0 < g .input .states) × (4096 ≤ length (now s)) × ((o : ℕ) → has (x .0) o ≡ true → o < g .output .states) ⌝ }
     ensures { λ r. ⌜ ((o : ℕ) → has (r .0) o ≡ (has (x .0) o && replies (separatedOf g) (won g (now (s .entry))) (i .0) o)) ⌝ }
 {
     let mut c: u64 = 0;
     let mut rest = x.0;
     while rest != 0 {
-        let o = sets::lowest(rest);
-        c = sets::insert_if(c, o, forces(g, s, i, OutState(o)));
-        rest = sets::without_lowest(rest);
+        let o = bits::lowest(rest);
+        c = bits::insert_if(c, o, forces(g, s, i, OutState(o)));
+        rest = bits::without_lowest(rest);
     }
-    OutSet(c)
+    OutWord(c)
 }
 
 // One sweep over the component that marks each position that forces what is marked. Whether it marked any.
@@ -59,10 +59,10 @@ fn add_forced(g: Game, s: &mut [u64]) -> bool
     let mut i: usize = 0;
     while i < g.input.states {
         let old = s[WON + i];
-        let here = sets::difference(s[COMPONENT + i], old);
-        let new = forcing(g, s, InState(i), OutSet(here));
+        let here = bits::difference(s[COMPONENT + i], old);
+        let new = forcing(g, s, InState(i), OutWord(here));
         if new.0 != 0 {
-            s[WON + i] = sets::union(old, new.0);
+            s[WON + i] = bits::union(old, new.0);
             added = true;
         }
         i += 1;
@@ -79,11 +79,11 @@ fn drop_unsafe(g: Game, s: &mut [u64]) -> bool
     let mut i: usize = 0;
     while i < g.input.states {
         let old = s[WON + i];
-        let here = sets::intersection(s[COMPONENT + i], old);
-        let safe = forcing(g, s, InState(i), OutSet(here));
-        let unsafe_here = sets::difference(here, safe.0);
+        let here = bits::intersection(s[COMPONENT + i], old);
+        let safe = forcing(g, s, InState(i), OutWord(here));
+        let unsafe_here = bits::difference(here, safe.0);
         if unsafe_here != 0 {
-            s[WON + i] = sets::difference(old, unsafe_here);
+            s[WON + i] = bits::difference(old, unsafe_here);
             dropped = true;
         }
         i += 1;

@@ -6,6 +6,7 @@ ghost use mathlib.Core.Path.{_≡_};
 ghost use mathlib.Core.Bool.{_&&_};
 ghost use Prim.Native.Nat.{_<_};
 ghost use lib.Dec.{leb};
+ghost use Rattle.sets.specs.Words.{capacity};
 ghost use Rattle.finite.specs.Bounded.{all};
 ghost use Rattle.drives.specs.Acceptance.{modesFit, commandsFit, entryFits, entriesFit, both, KitAccepts};
 
@@ -22,10 +23,10 @@ fn count_fits(n: usize, most: usize) -> bool
 fn modes_fit(k: Kit) -> bool
     ensures { λ r. ⌜ r ≡ both modesFit k ⌝ }
 {
-    if !count_fits(k.old.modes, 64) {
+    if !count_fits(k.old.modes, sets::CAPACITY) {
         return false;
     }
-    count_fits(k.new.modes, 64)
+    count_fits(k.new.modes, sets::CAPACITY)
 }
 
 fn commands_fit(k: Kit) -> bool
@@ -39,7 +40,7 @@ fn commands_fit(k: Kit) -> bool
 
 // Whether the place of mode m and command u is barred, or within the counts and names a mode.
 fn entry_fits(next: &[u8; 1024], modes: usize, commands: usize, m: usize, u: usize) -> bool
-    requires { ⌜ (m < 64) × (u < 16) ⌝ }
+    requires { ⌜ (m < capacity) × (u < 16) ⌝ }
     ensures { λ r. ⌜ r ≡ entryFits (now (next .entry)) modes commands m u ⌝ }
 {
     let t = drives::next_mode(next, m, u);
@@ -57,7 +58,7 @@ fn entry_fits(next: &[u8; 1024], modes: usize, commands: usize, m: usize, u: usi
 
 // Whether all places of mode m fit.
 fn mode_fits(next: &[u8; 1024], modes: usize, commands: usize, m: usize) -> bool
-    requires { ⌜ m < 64 ⌝ }
+    requires { ⌜ m < capacity ⌝ }
     ensures { λ r. ⌜ r ≡ all 16 (entryFits (now (next .entry)) modes commands m) ⌝ }
 {
     let mut u = 0;
@@ -74,7 +75,7 @@ fn drive_fits(d: Drive) -> bool
     ensures { λ r. ⌜ r ≡ entriesFit d ⌝ }
 {
     let mut m = 0;
-    while m < 64 {
+    while m < sets::CAPACITY {
         if !mode_fits(&d.next, d.modes, d.commands, m) {
             return false;
         }

@@ -4,16 +4,21 @@
 --   made-edge, edge-made           : a move, by a command
 --   command-below, command-leads   : the lowest command of a move
 use Prim.Native.Nat.{ℕ, _<_}
-use mathlib.Core.Path.{_≡_, _∙_, ap}
+use mathlib.Core.Path.{_≡_, sym, _∙_, ap}
 use mathlib.Core.Bool.{true, not}
+use mathlib.Core.List.{List}
 use mathlib.Core.Logic.{_≢_}
 use native.Mathlib.Omega.{arith}
 use lib.Dec.{eqb, ltb}
+use lib.ListN.{getD}
 use borrow.Author.Tests.{lt-ltb, ltb-true, eq-eqb, ne-eqb, eqb-true, eqb-false}
 use Rattle.finite.proofs.Truth.{and-intro, and-left, and-right, not-true}
 use Rattle.finite.proofs.Bounded.{any-intro, any-elim, least-below, least-member}
+use Rattle.bits.specs.Member.{has}
+use Rattle.sets.specs.Words.{capacity}
+use Rattle.sets.proofs.Rows.{sets-words}
 use Rattle.graphs.specs.Graph.{edge}
-use Rattle.graphs.specs.Rows.{rel}
+use Rattle.graphs.specs.Rows.{rel, rowsOf}
 use Rattle.graphs.proofs.Graph.{edge-to, edge-moves, edge-intro}
 use Rattle.graphs.proofs.Rows.{rel-rows, rel-holds}
 use Rattle.play.specs.Play.{graphOf}
@@ -33,16 +38,21 @@ module _ (d : Drive) (S : Small d) where
   unfolding allows
   allowed-intro m u b n = and-intro (lt-ltb u (d .commands) b) (ap not (ne-eqb (nextMode d m u) 255 n))
 
+  -- the graph's rows are those of the moves that commands make
+  row-made : (m t : ℕ) → graphOf (graphFrom d) .moves m t ≡ rel (rowsOf capacity (d .modes) (madeBy (d .next) (d .commands))) m t
+  unfolding graphOf graphFrom rel
+  row-made m t = ap (λ (l : List ℕ). has (getD l m 0) t) (sets-words (rowsOf capacity (d .modes) (madeBy (d .next) (d .commands))))
+
   pub made-edge : (m u t : ℕ) → m < d .modes → u < d .commands → nextMode d m u ≡ t → t < d .modes → edge (graphOf (graphFrom d)) m t ≡ true
-  unfolding graphOf graphFrom rel madeBy
+  unfolding graphOf graphFrom madeBy
   made-edge m u t a b e c =
       edge-intro (graphOf (graphFrom d)) m t a c
-      (rel-rows 64 (d .modes) (madeBy (d .next) (d .commands)) m t (omega (arith, S .modes)) c
+      (row-made m t ∙ rel-rows capacity (d .modes) (madeBy (d .next) (d .commands)) m t (omega (arith, S .modes)) c
       ∙ any-intro (d .commands) (λ v. eqb (nextIn (d .next) m v) t) u b (eq-eqb (nextMode d m u) t e))
 
   edge-made : (m t : ℕ) → edge (graphOf (graphFrom d)) m t ≡ true → madeBy (d .next) (d .commands) m t ≡ true
-  unfolding graphOf graphFrom rel
-  edge-made m t e = rel-holds 64 (d .modes) (madeBy (d .next) (d .commands)) m t (edge-moves (graphOf (graphFrom d)) m t e)
+  edge-made m t e =
+      rel-holds capacity (d .modes) (madeBy (d .next) (d .commands)) m t (sym (row-made m t) ∙ edge-moves (graphOf (graphFrom d)) m t e)
 
   pub edge-mode : (m t : ℕ) → edge (graphOf (graphFrom d)) m t ≡ true → t < d .modes
   unfolding graphOf graphFrom

@@ -15,7 +15,8 @@ use native.Mathlib.Omega.{arith}
 use lib.ListN.{length, getD}
 use lib.Dec.{ltb}
 use borrow.Author.Tests.{ne-eqb, ltb-true}
-use Rattle.sets.specs.Member.{has}
+use Rattle.sets.specs.Words.{bitsOf}
+use Rattle.bits.specs.Member.{has}
 use Rattle.graphs.specs.Graph.{begins}
 use Rattle.graphs.proofs.Walk.{extend}
 use Rattle.arena.specs.Arena.{arenaOf}
@@ -148,7 +149,7 @@ module _ (k : Kit) (F : Fitting k) (l t : List ℕ) (R : Reads k l t) (W : Contr
 
   start-below : (d : Drive) (i : ℕ) → startsIn d i ≡ true → i < d .modes
   unfolding startsIn
-  start-below d i e = ltb-true i (d .modes) (and-left (ltb i (d .modes)) (has (d .initial) i) e)
+  start-below d i e = ltb-true i (d .modes) (and-left (ltb i (d .modes)) (has (bitsOf (d .initial)) i) e)
 
   pub first-controller : (x : Configuration) → KitFirst k t x → ControllerFirst (playOf (gameFrom k)) (controllerOf (gameFrom k) l) x
   unfolding playOf arenaOf separatedOf graphOf gameFrom graphFrom controllerOf controllerTable counters startsIn begins

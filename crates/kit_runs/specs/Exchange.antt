@@ -16,7 +16,8 @@ use mathlib.Core.Bool.{Bool, true, false, _&&_}
 use mathlib.Core.List.{List, [], _∷_, List·Memᴰ}
 use lib.Dec.{eqb, ltb}
 use lib.ListN.{getD}
-use Rattle.sets.specs.Member.{has}
+use Rattle.sets.specs.Words.{bitsOf}
+use Rattle.bits.specs.Member.{has}
 use Rattle.arena.specs.Arena.{Requirement}
 use Rattle.arena.specs.Table.{Answer, none, gives, Names}
 use Rattle.arena.specs.Play.{Configuration, Reachable}
@@ -29,7 +30,7 @@ use Rattle.drives.specs.Drive.{nextMode, allows, gameFrom}
 use Rattle.kit_rows.specs.Rows.{counters, kitPlace}
 
 unfoldable pub startsIn : Drive → ℕ → Bool
-startsIn d i = ltb i (d .modes) && has (d .initial) i
+startsIn d i = ltb i (d .modes) && has (bitsOf (d .initial)) i
 
 -- "the lowest command .. + 16 × next counter, or 65,535"
 unfoldable pub reply : ℕ → Answer

@@ -12,10 +12,12 @@ use mathlib.Core.List.{List}
 use mathlib.Core.Logic.{_⊎_, inl, inr}
 use native.Mathlib.Omega.{arith}
 use lib.ListN.{length, getD}
-use Rattle.sets.specs.Member.{has}
+use Rattle.bits.specs.Member.{has}
+use Rattle.sets.specs.Words.{capacity}
 use Rattle.arena.specs.Table.{Answer}
 use Rattle.theory.specs.Entries.{entry}
 use Rattle.theory.proofs.Entries.{place-below}
+use Rattle.counters.specs.Counters.{mostCounters}
 use Rattle.filling.specs.Grows.{Right}
 use Rattle.filling.proofs.Grows.{grows-none, grows-more}
 use Rattle.columns.specs.Column.{BlockFits, BlockAgrees, Blocked, Block}
@@ -64,10 +66,10 @@ unfolding place
 place-base z a h b = omega (arith, add-mul (a * z .counters) h (z .width), mul-comm h (z .width))
 
 module _ (z : Layout) (n a : ℕ) (F : Fits z n) (la : a < z .states) where
-  pub own-small : a * z .counters ≤ 2048
-  own-small = mul-le-mul {n₂ = 64} {m₂ = 32} (omega (arith, F .states)) (F .counters)
+  pub own-small : a * z .counters ≤ capacity * mostCounters
+  own-small = mul-le-mul {n₂ = capacity} {m₂ = mostCounters} (omega (arith, F .states)) (F .counters)
 
-  pub row-small : a * z .counters * z .width ≤ 131072
+  pub row-small : a * z .counters * z .width ≤ capacity * mostCounters * capacity
   row-small = mul-le-mul own-small (F .width)
 
   at-below : (h b : ℕ) → h < z .counters → b < z .width → z .base + a * z .counters * z .width + b + z .width * h < n

@@ -1,6 +1,7 @@
 -- Rows by own state, counter and column in a buffer that is filled in any order.
 --
 --   place z a h b                    == the place of the row of own state a, counter h and column b
+--   mostStarts                       == how many entries may stand before the rows
 --   Fits z n                         == a buffer of n entries has the rows
 --   Rows z f E                       == the list E ends in the rows f, written out
 --   Filled z E P l m                 == from l to m entries of E were written, those of the rows with P among them
@@ -11,9 +12,11 @@ use mathlib.Core.Path.{_≡_}
 use mathlib.Core.Bool.{true}
 use mathlib.Core.List.{List}
 use lib.ListN.{length, getD}
-use Rattle.sets.specs.Member.{has}
+use Rattle.bits.specs.Member.{has}
+use Rattle.sets.specs.Words.{capacity}
 use Rattle.arena.specs.Table.{Answer}
 use Rattle.theory.specs.Entries.{entry}
+use Rattle.counters.specs.Counters.{mostCounters}
 use Rattle.filling.specs.Grows.{Right, Grows}
 use Rattle.layout.specs.declared.Layout.{Layout}
 
@@ -21,12 +24,16 @@ use Rattle.layout.specs.declared.Layout.{Layout}
 unfoldable pub place : Layout → ℕ → ℕ → ℕ → ℕ
 place z a h b = z .base + ((a * z .counters + h) * z .width + b)
 
+-- "one start entry an input", "one start entry": at most one for each state of the two graphs
+abbrev pub mostStarts : ℕ
+mostStarts = capacity + capacity
+
 pub record Fits (z : Layout) (n : ℕ) : Type 0 where
-  pub front : z .base ≤ 128
-  pub states : z .states ≤ 64
+  pub front : z .base ≤ mostStarts
+  pub states : z .states ≤ capacity
   pub some : 0 < z .counters
-  pub counters : z .counters ≤ 32
-  pub width : z .width ≤ 64
+  pub counters : z .counters ≤ mostCounters
+  pub width : z .width ≤ capacity
   pub room : z .base + z .states * z .counters * z .width ≤ n
 
 pub record Rows (z : Layout) (f : ℕ → ℕ → ℕ → Answer) (E : List ℕ) : Type 0 where

@@ -1,7 +1,10 @@
 // Rows of a table in a buffer, for both sides: by own state, the state of the side that moves, by counter and by column, the last running fastest.
-// Nothing here knows of sides: states, columns and sets are plain numbers and words.
+// Nothing here knows of sides.
+use counters::CounterSet;
+use sets::Set;
 ghost use Prim.Native.Nat.{_<_};
 ghost use lib.ListN.{length};
+ghost use Rattle.sets.specs.Words.{bitsOf};
 ghost use Rattle.layout.specs.Rows.{Fits, Entries, Wrote};
 
 // Where rows lie: they begin at `base`, one for each of `states` own states, `counters` counters and `width` columns.
@@ -13,9 +16,17 @@ pub struct Layout {
 }
 
 // first + more × h in the row of state a, counter h and column b, for each h of `which` and each b of `over`.
-pub fn write(room: &mut [u16], z: Layout, a: usize, over: u64, which: u64, first: u16, more: u16)
-    requires { ⌜ Fits z (length (now room)) × (a < z .states) × Entries z which first more ⌝ }
-    ensures { λ r. ⌜ Wrote z a over which first more (now (room .entry)) (now (room .exit)) ⌝ }
+pub fn write(
+    room: &mut [u16],
+    z: Layout,
+    a: usize,
+    over: Set,
+    which: CounterSet,
+    first: u16,
+    more: u16,
+)
+    requires { ⌜ Fits z (length (now room)) × (a < z .states) × Entries z (which .0) first more ⌝ }
+    ensures { λ r. ⌜ Wrote z a (bitsOf over) (which .0) first more (now (room .entry)) (now (room .exit)) ⌝ }
 {
     columns::block(
         room,

@@ -5,6 +5,8 @@ use mathlib.Core.List.{List, [], _∷_}
 use mathlib.Core.Path.{_≡_, sym, _∙_, ap}
 use lib.ListN.{length, getD, drop, drop-of-length-le}
 use lib.Seq.{drop-cons}
+use Rattle.sets.specs.declared.Set.{Set}
+use Rattle.sets.specs.Words.{capacity, bitsOf, setOf}
 use Rattle.grammar.specs.Format.{Format, Run, run, chars}
 use Rattle.grammar.specs.Format.Format.{done}
 use Rattle.grammar.specs.Format.Run.{got, fault}
@@ -59,9 +61,10 @@ pub header-fault : {x : Run Header} {p : ℕ} → x ≡ fault p → NoHeader p �
 unfolding headerOf
 header-fault e = sym (ap headerOf e)
 
-pub state-moves : {x : Run StateRow} {f m j : ℕ} → x ≡ got (record { initial = f; moves = m }) j → Moves f m j ≡ stateOf x
+pub state-moves : {x : Run StateRow} {f : ℕ} {m : Set} {j : ℕ} → setOf (bitsOf m) ≡ m
+    → x ≡ got (record { initial = f; moves = bitsOf m }) j → Moves f m j ≡ stateOf x
 unfolding stateOf
-state-moves e = sym (ap stateOf e)
+state-moves {f = f} {j = j} h e = ap (λ (y : Set). Moves f y j) (sym h) ∙ sym (ap stateOf e)
 
 pub state-fault : {x : Run StateRow} {p : ℕ} → x ≡ fault p → NoRow p ≡ stateOf x
 unfolding stateOf
@@ -69,23 +72,23 @@ state-fault e = sym (ap stateOf e)
 
 -- the header
 module _ (a : ℕ) (w : ℕ → ℕ) (i : ℕ) where
-  pub outputs-none : (p : ℕ) → run (numThen 1 64 32) w i ≡ fault p → run (outputsFormat a) w i ≡ fault p
+  pub outputs-none : (p : ℕ) → run (numThen 1 capacity 32) w i ≡ fault p → run (outputsFormat a) w i ≡ fault p
   unfolding outputsFormat
-  outputs-none p e = bind-fault (numThen 1 64 32) _ w i p e
+  outputs-none p e = bind-fault (numThen 1 capacity 32) _ w i p e
 
-  module _ (o j : ℕ) (e : run (numThen 1 64 32) w i ≡ got o j) where
+  module _ (o j : ℕ) (e : run (numThen 1 capacity 32) w i ≡ got o j) where
     pub outputs-no-k : (p : ℕ) → run (numThen 0 8 41) w j ≡ fault p → run (outputsFormat a) w i ≡ fault p
     unfolding outputsFormat
-    outputs-no-k p f = bind-got (numThen 1 64 32) _ w i o j e ∙ bind-fault (numThen 0 8 41) _ w j p f
+    outputs-no-k p f = bind-got (numThen 1 capacity 32) _ w i o j e ∙ bind-fault (numThen 0 8 41) _ w j p f
 
     module _ (k m : ℕ) (f : run (numThen 0 8 41) w j ≡ got k m) where
       pub outputs-no-end : (w m ≡ 10 → ⊥) → run (outputsFormat a) w i ≡ fault m
       unfolding outputsFormat
-      outputs-no-end g = bind-got (numThen 1 64 32) _ w i o j e ∙ bind-got (numThen 0 8 41) _ w j k m f ∙ run-lit-fault 10 _ w m g
+      outputs-no-end g = bind-got (numThen 1 capacity 32) _ w i o j e ∙ bind-got (numThen 0 8 41) _ w j k m f ∙ run-lit-fault 10 _ w m g
 
       pub outputs-got : w m ≡ 10 → run (outputsFormat a) w i ≡ got (record { inputs = a; outputs = o; k = k }) (m + 1)
       unfolding outputsFormat
-      outputs-got g = bind-got (numThen 1 64 32) _ w i o j e ∙ bind-got (numThen 0 8 41) _ w j k m f ∙ lit-got 10 _ w m g
+      outputs-got g = bind-got (numThen 1 capacity 32) _ w i o j e ∙ bind-got (numThen 0 8 41) _ w j k m f ∙ lit-got 10 _ w m g
 
 module _ (w : ℕ → ℕ) (i : ℕ) where
   pub header-no-word : (p : ℕ) → run (chars (opening 0)) w i ≡ fault p → run headerFormat w i ≡ fault p
@@ -93,13 +96,13 @@ module _ (w : ℕ → ℕ) (i : ℕ) where
   header-no-word p e = bind-fault (chars (opening 0)) _ w i p e
 
   module _ (j : ℕ) (e : run (chars (opening 0)) w i ≡ got tt j) where
-    pub header-no-inputs : (p : ℕ) → run (numThen 1 64 32) w j ≡ fault p → run headerFormat w i ≡ fault p
+    pub header-no-inputs : (p : ℕ) → run (numThen 1 capacity 32) w j ≡ fault p → run headerFormat w i ≡ fault p
     unfolding headerFormat
-    header-no-inputs p f = bind-got (chars (opening 0)) _ w i tt j e ∙ bind-fault (numThen 1 64 32) _ w j p f
+    header-no-inputs p f = bind-got (chars (opening 0)) _ w i tt j e ∙ bind-fault (numThen 1 capacity 32) _ w j p f
 
-    pub header-on : (a m : ℕ) → run (numThen 1 64 32) w j ≡ got a m → run headerFormat w i ≡ run (outputsFormat a) w m
+    pub header-on : (a m : ℕ) → run (numThen 1 capacity 32) w j ≡ got a m → run headerFormat w i ≡ run (outputsFormat a) w m
     unfolding headerFormat
-    header-on a m f = bind-got (chars (opening 0)) _ w i tt j e ∙ bind-got (numThen 1 64 32) _ w j a m f
+    header-on a m f = bind-got (chars (opening 0)) _ w i tt j e ∙ bind-got (numThen 1 capacity 32) _ w j a m f
 
 -- a state
 module _ (w : ℕ → ℕ) (i : ℕ) where

@@ -2,6 +2,7 @@
 --
 --   headerOf x         == the answer to the header
 --   stateOf x          == the answer to a state's line
+use Rattle.sets.specs.Words.{setOf}
 use Rattle.grammar.specs.Format.{Run}
 use Rattle.grammar.specs.Format.Run.{got, fault}
 use Rattle.shape.specs.Shape.{Header, StateRow}
@@ -15,5 +16,5 @@ headerOf (got h j) = Counts (h .inputs) (h .outputs) (h .k) j
 headerOf (fault p) = NoHeader p
 
 unfoldable pub stateOf : Run StateRow → Row
-stateOf (got q j) = Moves (q .initial) (q .moves) j
+stateOf (got q j) = Moves (q .initial) (setOf (q .moves)) j
 stateOf (fault p) = NoRow p

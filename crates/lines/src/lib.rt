@@ -1,7 +1,8 @@
 // Lines of a text, read from a place on.
 use pieces::Number;
-use pieces::Set;
+use pieces::SetScan;
 use pieces::Step;
+use sets::Set;
 use shape::words;
 ghost use mathlib.Core.Path.{_≡_};
 ghost use mathlib.Core.List.{[], _∷_};
@@ -20,7 +21,7 @@ pub enum Header {
 
 // A state's flag and moves, and the place behind its line.
 pub enum Row {
-    Moves(usize, u64, usize),
+    Moves(usize, Set, usize),
     Fault(usize),
 }
 
@@ -47,11 +48,11 @@ pub fn opening_at(s: &[u8], i: usize, w: usize) -> Step
 pub fn end_at(s: &[u8], i: usize) -> Step
     ensures { λ r. ⌜ r ≡ stepOf (run (chars (41 ∷ 10 ∷ [])) (bytes (now (s .entry))) i) ⌝ }
 {
-    if pieces::byte_at(s, i) != 41 {
+    if pieces::byte_at(s, i) != pieces::CLOSE {
         return Step::Fault(i);
     }
     let j = i + 1;
-    if pieces::byte_at(s, j) != 10 {
+    if pieces::byte_at(s, j) != pieces::LINE_END {
         return Step::Fault(j);
     }
     Step::At(j + 1)
@@ -61,15 +62,15 @@ pub fn end_at(s: &[u8], i: usize) -> Step
 fn outputs_at(s: &[u8], i: usize, a: usize) -> Header
     ensures { λ r. ⌜ r ≡ headerOf (run (outputsFormat a) (bytes (now (s .entry))) i) ⌝ }
 {
-    let o = pieces::number_then(s, i, 1, 64, 32);
+    let o = pieces::number_then(s, i, 1, sets::CAPACITY, b' ');
     match o {
         Number::Fault(p) => Header::Fault(p),
         Number::Value(b, j) => {
-            let n = pieces::number_then(s, j, 0, 8, 41);
+            let n = pieces::number_then(s, j, 0, 8, b')');
             match n {
                 Number::Fault(p) => Header::Fault(p),
                 Number::Value(k, m) => {
-                    if pieces::byte_at(s, m) != 10 {
+                    if pieces::byte_at(s, m) != pieces::LINE_END {
                         return Header::Fault(m);
                     }
                     Header::Counts(a, b, k, m + 1)
@@ -87,7 +88,7 @@ pub fn header_at(s: &[u8], i: usize) -> Header
     match o {
         Step::Fault(p) => Header::Fault(p),
         Step::At(j) => {
-            let n = pieces::number_then(s, j, 1, 64, 32);
+            let n = pieces::number_then(s, j, 1, sets::CAPACITY, b' ');
             match n {
                 Number::Fault(p) => Header::Fault(p),
                 Number::Value(a, m) => outputs_at(s, m, a),
@@ -100,14 +101,14 @@ pub fn header_at(s: &[u8], i: usize) -> Header
 fn row_at(s: &[u8], i: usize) -> Row
     ensures { λ r. ⌜ r ≡ stateOf (run rowFormat (bytes (now (s .entry))) i) ⌝ }
 {
-    let n = pieces::number_then(s, i, 0, 1, 32);
+    let n = pieces::number_then(s, i, 0, 1, b' ');
     match n {
         Number::Fault(p) => Row::Fault(p),
         Number::Value(f, j) => {
             let t = pieces::set_at(s, j);
             match t {
-                Set::Fault(p) => Row::Fault(p),
-                Set::Members(x, m) => {
+                SetScan::Fault(p) => Row::Fault(p),
+                SetScan::Members(x, m) => {
                     let e = end_at(s, m);
                     match e {
                         Step::Fault(p) => Row::Fault(p),
@@ -128,7 +129,7 @@ pub fn state_at(s: &[u8], i: usize, w: usize, state: usize) -> Row
     match o {
         Step::Fault(p) => Row::Fault(p),
         Step::At(j) => {
-            let n = pieces::number_then(s, j, state, state, 32);
+            let n = pieces::number_then(s, j, state, state, b' ');
             match n {
                 Number::Fault(p) => Row::Fault(p),
                 Number::Value(_, m) => row_at(s, m),

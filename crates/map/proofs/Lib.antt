@@ -1,3 +1,3 @@
--- Scratch: the map's rows. Made: the promise for every input.
-pub mod Scratch
+-- Rows: the map's rows. Made: the promise for every input.
+pub mod Rows
 pub mod Made

@@ -1,3 +1,2 @@
 -- What the map promises.
-pub mod Read
 pub mod Map

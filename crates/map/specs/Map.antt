@@ -3,6 +3,7 @@
 --   mapAnswer g s m           == the answer of the map's call, scratch being of s words and the map of m
 --   mapTests g s m            == its tests under their numbers
 --   numberOf r                == document 01's number of the answer r, 0 for a map that is made
+--   MapAfter g r m m′         == on answer r the map m is left as m′
 --   MapMade g s s′ m m′ r     == the map's call answers r and leaves scratch s as s′ and the map m as m′
 use Prim.Native.Nat.{ℕ, _<_}
 use mathlib.Core.Path.{_≡_}
@@ -10,9 +11,9 @@ use mathlib.Core.Bool.{Bool, true, false, _&&_}
 use mathlib.Core.List.{List, [], _∷_, _++_}
 use mathlib.Core.Logic.{_↔_}
 use lib.Dec.{leb}
-use lib.ListN.{length, getD, drop}
-use Rattle.finite.specs.Tabulate.{tabulate}
-use Rattle.sets.specs.Member.{has}
+use lib.ListN.{length, getD}
+use Rattle.bits.specs.Member.{has}
+use Rattle.sets.specs.Words.{setsIn, wordsFor}
 use Rattle.arena.specs.Win.{Won}
 use Rattle.game.specs.declared.Game.{Game}
 use Rattle.game.specs.declared.Acceptance.{Acceptance}
@@ -20,14 +21,15 @@ use Rattle.game.specs.declared.Acceptance.the-variants.{Accepted, Refused as Fa
 use Rattle.game.specs.Acceptance.{acceptance}
 use Rattle.game.specs.Numbers.{firstOf, gameTests}
 use Rattle.demands.specs.Demands.{playOf}
-use Rattle.scratch.specs.Scratch.{scratchLength, cleared}
-use Rattle.marks.specs.Marks.{mapRow}
+use Rattle.clearing.specs.Clearing.{cleared}
+use Rattle.scratch.specs.Scratch.{scratchLength}
+use Rattle.marks.specs.Marks.{MapFilled}
 use Rattle.map.specs.declared.Mapped.{Mapped}
 use Rattle.map.specs.declared.Mapped.the-variants.{Done, Refused as NotMapped}
 
 -- "Number 8 is given below that length" (document 02, M-103); "or, where the call writes the map, map room under one word an input"
 unfoldable pub mapFits : Game → ℕ → ℕ → Bool
-mapFits g s m = leb (scratchLength g) s && leb (g .input .states) m
+mapFits g s m = leb (scratchLength g) s && leb (wordsFor (g .input .states)) m
 
 unfoldable pub mapRoom : Game → ℕ → ℕ → Mapped
 mapRoom g s m = elim (mapFits g s m) [ true ↦ Done | false ↦ NotMapped 8 ]
@@ -42,10 +44,10 @@ abbrev pub numberOf : Mapped → ℕ
 numberOf Done = 0
 numberOf (NotMapped n) = n
 
--- "The won map writes one 64-bit set of outputs for each input; later words of its room stay unchanged."
-unfoldable pub mapAfter : Game → Mapped → List ℕ → List ℕ
-mapAfter g Done m = tabulate (g .input .states) (mapRow g) ++ drop (g .input .states) m
-mapAfter g (NotMapped n) m = m
+-- "The won map writes one 64-bit set of outputs for each input; later words of its room stay unchanged"; "changes no lent memory"
+unfoldable pub MapAfter : Game → Mapped → List ℕ → List ℕ → Type 0
+MapAfter g Done m m′ = MapFilled g m m′
+MapAfter g (NotMapped n) m m′ = m′ ≡ m
 
 -- "after an answer the first that many words are zero and the rest unchanged"; "Each returns its number only .. and changes no lent memory"
 unfoldable pub mapScratch : Game → Mapped → List ℕ → List ℕ
@@ -55,6 +57,6 @@ mapScratch g (NotMapped n) s = s
 pub record MapMade (g : Game) (s s′ m m′ : List ℕ) (r : Mapped) : Type 0 where
   pub answer : r ≡ mapAnswer g (length s) (length m)
   pub number : numberOf r ≡ firstOf (mapTests g (length s) (length m))
-  pub map : m′ ≡ mapAfter g r m
+  pub map : MapAfter g r m m′
   pub scratch : s′ ≡ mapScratch g r s
-  pub won : r ≡ Done → (i o : ℕ) → i < g .input .states → o < g .output .states → (has (getD m′ i 0) o ≡ true) ↔ Won (playOf g) i o
+  pub won : r ≡ Done → (i o : ℕ) → i < g .input .states → o < g .output .states → (has (getD (setsIn m′) i 0) o ≡ true) ↔ Won (playOf g) i o

@@ -1,54 +1,53 @@
 // The winning region as a map: one set of outputs for each input.
 ghost use mathlib.Core.Path.{_≡_};
-ghost use mathlib.Core.List.{_++_};
 ghost use Prim.Native.Nat.{_≤_, _<_};
-ghost use lib.ListN.{length, drop};
-ghost use Rattle.finite.specs.Tabulate.{tabulate};
+ghost use lib.ListN.{length};
+ghost use Rattle.sets.specs.Words.{bitsOf, setsIn, setCount, wordsFor};
 ghost use Rattle.game.specs.declared.Acceptance.the-variants.{Accepted};
 ghost use Rattle.game.specs.Acceptance.{acceptance};
 ghost use Rattle.game.specs.Fits.{Fits};
-ghost use Rattle.marks.specs.Marks.{mapRow};
-ghost use Rattle.map.specs.Read.{Reading};
-ghost use Rattle.scratch.specs.Scratch.{scratchLength, cleared};
+ghost use Rattle.clearing.specs.Clearing.{cleared};
+ghost use Rattle.scratch.specs.Scratch.{scratchLength};
+ghost use Rattle.scratch.specs.Stored.{Ready};
+ghost use Rattle.marks.specs.Marks.{mapRow, MapFilled};
 ghost use Rattle.map.specs.Map.{MapMade};
 use game::Acceptance;
 use game::Game;
 use game::InSet;
 use game::InState;
+use game::OutSet;
 
-// The outputs that are won with input i.
-fn map_row(g: Game, s: &[u64], cores: u64, i: usize) -> u64
-    requires { ⌜ Reading g (now s) cores × (i < g .input .states) ⌝ }
-    ensures { λ r. ⌜ r ≡ mapRow g i ⌝ }
+// The outputs that are won with input i; c are the inputs in nontrivial components.
+fn map_row(g: Game, s: &[u64], c: InSet, i: InState) -> OutSet
+    requires { ⌜ Ready g (now s) (bitsOf (c .0)) × (i .0 < g .input .states) ⌝ }
+    ensures { λ r. ⌜ bitsOf (r .0) ≡ mapRow g (i .0) ⌝ }
 {
     let n = g.input.states;
     let m = g.output.states;
-    let won = stored::won_outputs(s, n, m, InSet(cores), InState(i));
-    won.0
+    scratch::won_outputs(s, n, m, c, i)
 }
 
 // Writes the map.
-fn fill_map(g: Game, s: &[u64], cores: u64, map: &mut [u64])
-    requires { ⌜ Reading g (now s) cores × (g .input .states ≤ length (now map)) ⌝ }
-    ensures { λ _. ⌜ now (map .exit) ≡ tabulate (g .input .states) (mapRow g) ++ drop (g .input .states) (now (map .entry)) ⌝ }
+fn fill_map(g: Game, s: &[u64], c: InSet, map: &mut [u64])
+    requires { ⌜ Ready g (now s) (bitsOf (c .0)) × (g .input .states ≤ setCount (now map)) ⌝ }
+    ensures { λ _. ⌜ MapFilled g (now (map .entry)) (now (map .exit)) ⌝ }
 {
     let mut i: usize = 0;
     while i < g.input.states {
-        map[i] = map_row(g, s, cores, i);
+        let won = map_row(g, s, c, InState(i));
+        sets::put(map, i, won.0);
         i += 1;
     }
 }
 
 // Writes the map of an accepted game and clears scratch.
 fn make_map(g: Game, scratch: &mut [u64], map: &mut [u64])
-    requires { ⌜ Fits g × (scratchLength g ≤ length (now scratch)) × (g .input .states ≤ length (now map)) ⌝ }
-    ensures { λ _. ⌜ (now (scratch .exit) ≡ cleared (scratchLength g) (now (scratch .entry)))
-        × (now (map .exit) ≡ tabulate (g .input .states) (mapRow g) ++ drop (g .input .states) (now (map .entry))) ⌝ }
+    requires { ⌜ Fits g × (scratchLength g ≤ length (now scratch)) × (g .input .states ≤ setCount (now map)) ⌝ }
+    ensures { λ _. ⌜ (now (scratch .exit) ≡ cleared (scratchLength g) (now (scratch .entry))) × MapFilled g (now (map .entry)) (now (map .exit)) ⌝ }
 {
-    region::prepare(g, scratch);
-    let cores = components::cores(g.input, scratch);
-    fill_map(g, scratch, cores, map);
-    scratch::clear(scratch, scratch::length(g));
+    let x = region::prepare(g, scratch);
+    fill_map(g, scratch, x.inputs, map);
+    clearing::clear(scratch, scratch::length(g));
 }
 
 // The answer of the map's call.
@@ -65,7 +64,7 @@ fn map_accepted(g: Game, scratch: &mut [u64], map: &mut [u64]) -> Mapped
     if scratch.len() < scratch::length(g) {
         return Mapped::Refused(8);
     }
-    if map.len() < g.input.states {
+    if map.len() < sets::words(g.input.states) {
         return Mapped::Refused(8);
     }
     make_map(g, scratch, map);

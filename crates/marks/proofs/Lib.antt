@@ -1,3 +1,3 @@
--- Marks: what a map says. Filled: a buffer that is filled from the front.
+-- Marks: what a map says. Rows: a map is written row after row.
 pub mod Marks
-pub mod Filled
+pub mod Rows

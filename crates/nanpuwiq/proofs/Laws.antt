@@ -3,26 +3,36 @@ use Prim.Native.Nat.{ℕ}
 use mathlib.Core.Path.{_≡_, ap, subst, _∙_}
 use mathlib.Core.List.{List}
 use Rattle.game.specs.declared.Game.{Game}
+use Rattle.game.specs.declared.InState.{InState}
+use Rattle.game.specs.declared.OutState.{OutState}
 use Rattle.map.specs.declared.Mapped.{Mapped}
 use Rattle.joined.specs.declared.Mapped.{Mapped as JoinedMapped}
 use Rattle.joined.specs.Joined.{numberOf as joinedNumber, JoinedMade}
 use Rattle.solver.specs.declared.Verdict.{Verdict}
 use Rattle.map.specs.Map.{numberOf, MapMade}
+use Rattle.ground_search.specs.declared.Explanation.{Explanation}
+use Rattle.explain.specs.Explain.{Explained}
 use Rattle.solver.specs.Promise.{Solved}
 use Rattle.drives.specs.declared.Kit.{Kit}
 use Rattle.kit.specs.Promise.{KitSolved}
 use Rattle.text.specs.declared.WriteAnswer.{WriteAnswer}
 use Rattle.text.specs.Write.{Writes}
 use Rattle.results.specs.declared.SolveResult.{SolveResult}
+use Rattle.results.specs.declared.ExplainResult.{ExplainResult}
 use Rattle.results.specs.declared.WriteResult.{WriteResult}
-use Rattle.results.specs.Results.{solveResult, writeResult}
-use Rattle.nanpuwiq.specs.Calls.{MapCalled, JoinedCalled, SolveCalled, KitCalled, WriteCalled}
+use Rattle.results.specs.Results.{solveResult, writeResult, explainResult}
+use Rattle.nanpuwiq.specs.Calls.{MapCalled, JoinedCalled, SolveCalled, KitCalled, WriteCalled, ExplainCalled}
 
 pub map-called : {g : Game} {s s′ m m′ : List ℕ} {a : Mapped} {r : ℕ} → MapMade g s s′ m m′ a → r ≡ numberOf a → MapCalled g s s′ m m′ r
 map-called {g} {s} {s′} {m} {m′} f e = record { answer = e ∙ f .number; made = subst (MapMade g s s′ m m′) (f .answer) f }
 
 pub joined-called : {g : Game} {s s′ m m′ : List ℕ} {a : JoinedMapped} {r : ℕ} → JoinedMade g s s′ m m′ a → r ≡ joinedNumber a → JoinedCalled g s s′ m m′ r
 joined-called {g} {s} {s′} {m} {m′} f e = record { answer = e ∙ f .number; made = subst (JoinedMade g s s′ m m′) (f .answer) f }
+
+pub explain-called : {g : Game} {s s′ : List ℕ} {i : InState} {o : OutState} {a : Explanation} {r : ExplainResult} → Explained g s s′ i o a
+    → r ≡ explainResult a → ExplainCalled g s s′ i o r
+explain-called {g} {s} {s′} {i} {o} f e =
+    record { answer = e ∙ ap explainResult (f .answer); explained = subst (Explained g s s′ i o) (f .answer) f }
 
 pub solve-called : {g : Game} {s s′ c c′ e e′ : List ℕ} {v : Verdict} {r : SolveResult} → Solved g s s′ c c′ e e′ v → r ≡ solveResult v
     → SolveCalled g s s′ c c′ e e′ r

@@ -2,6 +2,7 @@
 --
 --   MapCalled g s s′ m m′ r            == the map's call answers r and leaves scratch s as s′ and the map m as m′
 --   JoinedCalled g s s′ m m′ r         == the same of the map on the joined positions
+--   ExplainCalled g s s′ i o r          == the call that explains (i, o) answers r and leaves scratch s as s′
 --   SolveCalled g s s′ c c′ e e′ r     == the solver answers r and leaves scratch s as s′, the controller's buffer c as c′ and the environment's e as e′
 --   KitCalled k s s′ c c′ e e′ t t′ r  == the same of a kit, whose room t is left as t′
 --   ReadCalled s r                     == the reader answers r to the bytes s
@@ -11,9 +12,12 @@ use mathlib.Core.Path.{_≡_}
 use mathlib.Core.List.{List}
 use lib.ListN.{length}
 use Rattle.game.specs.declared.Game.{Game}
+use Rattle.game.specs.declared.InState.{InState}
+use Rattle.game.specs.declared.OutState.{OutState}
 use Rattle.game.specs.Numbers.{firstOf}
 use Rattle.map.specs.Map.{mapAnswer, mapTests, MapMade}
 use Rattle.joined.specs.Joined.{joinedAnswer, joinedTests, JoinedMade}
+use Rattle.explain.specs.Explain.{explainAnswer, Explained}
 use Rattle.solver.specs.Promise.{verdictAnswer, Solved}
 use Rattle.drives.specs.declared.Kit.{Kit}
 use Rattle.kit.specs.Promise.{kitAnswer, KitSolved}
@@ -21,9 +25,10 @@ use Rattle.text.specs.declared.Reading.{Reading}
 use Rattle.text.specs.Read.{Reads}
 use Rattle.text.specs.Write.{writeAnswer, writeBuffer}
 use Rattle.results.specs.declared.SolveResult.{SolveResult}
+use Rattle.results.specs.declared.ExplainResult.{ExplainResult}
 use Rattle.results.specs.declared.ReadResult.{ReadResult}
 use Rattle.results.specs.declared.WriteResult.{WriteResult}
-use Rattle.results.specs.Results.{solveResult, readResult, writeResult}
+use Rattle.results.specs.Results.{solveResult, explainResult, readResult, writeResult}
 
 -- `made` says what both buffers hold, and carries demand 2
 pub record MapCalled (g : Game) (s s′ m m′ : List ℕ) (r : ℕ) : Type 0 where
@@ -34,6 +39,11 @@ pub record MapCalled (g : Game) (s s′ m m′ : List ℕ) (r : ℕ) : Type 0 wh
 pub record JoinedCalled (g : Game) (s s′ m m′ : List ℕ) (r : ℕ) : Type 0 where
   pub answer : r ≡ firstOf (joinedTests g (length s) (length m))
   pub made : JoinedMade g s s′ m m′ (joinedAnswer g (length s) (length m))
+
+-- `explained` says what scratch holds, and that what the ground names holds
+pub record ExplainCalled (g : Game) (s s′ : List ℕ) (i : InState) (o : OutState) (r : ExplainResult) : Type 0 where
+  pub answer : r ≡ explainResult (explainAnswer g (length s) i o)
+  pub explained : Explained g s s′ i o (explainAnswer g (length s) i o)
 
 -- `solved` says what all three buffers hold, and carries demand 3
 pub record SolveCalled (g : Game) (s s′ c c′ e e′ : List ℕ) (r : SolveResult) : Type 0 where

@@ -7,7 +7,7 @@ ghost use Rattle.recorder.specs.Recorded.{compared};
 ghost use Rattle.panel_player.specs.Panel.{panelFirst, panelBegin, panelNext, panelStep};
 ghost use Rattle.results.specs.Results.{compareResult, panelMoved, nowhere};
 ghost use Rattle.drives.specs.Acceptance.{kitTests};
-ghost use Rattle.nanpuwiq.specs.Calls.{MapCalled, JoinedCalled, SolveCalled, KitCalled, ReadCalled, WriteCalled};
+ghost use Rattle.nanpuwiq.specs.Calls.{MapCalled, JoinedCalled, SolveCalled, KitCalled, ReadCalled, WriteCalled, ExplainCalled};
 use drives::Kit;
 use game::Game;
 use game::InState;
@@ -17,6 +17,7 @@ use player::Moved;
 use recorder::InRecording;
 use recorder::OutRecording;
 use results::CompareResult;
+use results::ExplainResult;
 use results::PanelMoved;
 use results::ReadResult;
 use results::SolveResult;
@@ -44,6 +45,19 @@ pub extern "C" fn nanpuwiq_joined_map(g: Game, scratch: &mut [u64], map: &mut [u
     ensures { λ r. ⌜ JoinedCalled g (now (scratch .entry)) (now (scratch .exit)) (now (map .entry)) (now (map .exit)) r ⌝ }
 {
     results::joined_code(joined::joined_map(g, scratch, map))
+}
+
+// What made the position of an input and an output won or lost.
+#[no_mangle]
+pub extern "C" fn nanpuwiq_explain(
+    g: Game,
+    scratch: &mut [u64],
+    i: InState,
+    o: OutState,
+) -> ExplainResult
+    ensures { λ r. ⌜ ExplainCalled g (now (scratch .entry)) (now (scratch .exit)) i o r ⌝ }
+{
+    results::explain_result(explain::explain(g, scratch, i, o))
 }
 
 // Names the side that wins and writes its table into the front of its buffer.

@@ -6,48 +6,51 @@ use game::InState;
 use game::OutSet;
 use game::OutState;
 ghost use mathlib.Core.Path.{_≡_};
-ghost use Prim.Native.Nat.{_+_, _≤_, _<_};
+ghost use Prim.Native.Nat.{_≤_, _<_};
 ghost use lib.ListN.{length};
+ghost use Rattle.sets.specs.Words.{capacity, bitsOf, setsIn, setCount};
+ghost use Rattle.scratch.specs.Scratch.{scratchSets};
 ghost use Rattle.controller_rows.specs.Writes.{Table, settlesAt, Plain, Plains};
 
-// Whether a home of input j is in reach. The row is what scratch keeps of j: its homes where it is one of cores.
-fn settles(cores: InSet, j: InState, row: OutSet, reach: OutSet) -> bool
-    requires { ⌜ j .0 < 64 ⌝ }
-    ensures { λ r. ⌜ r ≡ settlesAt (cores .0) (j .0) (row .0) (reach .0) ⌝ }
+// Whether a home of input j is in reach. The row is what scratch keeps of j: its homes where it is one of c, the inputs in nontrivial components.
+fn settles(c: InSet, j: InState, row: OutSet, reach: OutSet) -> bool
+    requires { ⌜ j .0 < capacity ⌝ }
+    ensures { λ r. ⌜ r ≡ settlesAt (bitsOf (c .0)) (j .0) (bitsOf (row .0)) (bitsOf (reach .0)) ⌝ }
 {
-    if sets::member(cores.0, j.0) {
+    if sets::member(c.0, j.0) {
         return sets::meets(row.0, reach.0);
     }
     false
 }
 
-// The rows of output o for the inputs with no home in reach: the lowest move to a won position, or none. Where the input is one of cores its row
+// The rows of output o for the inputs with no home in reach: the lowest move to a won position, or none. Where the input is one of c its row
 // holds homes, no move leads to one of them, and no position is won.
-fn plain(room: &mut [u16], s: &[u64], z: Size, cores: InSet, o: OutState, moves: OutSet)
-    requires { ⌜ Table z (length (now room)) × (o .0 < z .outputs) × (z .inputs + z .inputs + z .outputs ≤ length (now s)) ⌝ }
-    ensures { λ r. ⌜ Plain z (now (s .entry)) (cores .0) (o .0) (moves .0) (z .inputs) (now (room .entry)) (now (room .exit)) ⌝ }
+fn plain(room: &mut [u16], s: &[u64], z: Size, c: InSet, o: OutState, moves: OutSet)
+    requires { ⌜ Table z (length (now room)) × (o .0 < z .outputs) × (scratchSets (z .inputs) (z .outputs) ≤ setCount (now s)) ⌝ }
+    ensures { λ r. ⌜ Plain z (setsIn (now (s .entry))) (bitsOf (c .0)) (o .0) (bitsOf (moves .0)) (z .inputs) (now (room .entry)) (now (room .exit)) ⌝ }
 {
     let n = z.inputs;
-    let reach = s[n + n + o.0];
+    let reach = scratch::out_reach(s, n, o);
     let mut j = 0;
     while j < n {
-        let row = s[n + j];
-        if !settles(cores, InState(j), OutSet(row), OutSet(reach)) {
-            rows::write_row(room, z, o, InState(j), sets::lowest(moves.0 & row));
+        let row = scratch::region_row(s, n, InState(j));
+        if !settles(c, InState(j), row, reach) {
+            let p = sets::lowest(sets::intersection(moves.0, row.0));
+            rows::write_row(room, z, o, InState(j), p);
         }
         j += 1;
     }
 }
 
 // The same for every output, with its moves.
-pub fn plains(room: &mut [u16], s: &[u64], z: Size, cores: InSet, moves: &[u64; 64])
-    requires { ⌜ Table z (length (now room)) × (z .inputs + z .inputs + z .outputs ≤ length (now s)) ⌝ }
-    ensures { λ r. ⌜ Plains z (now (s .entry)) (cores .0) (now (moves .entry)) (z .outputs) (now (room .entry)) (now (room .exit)) ⌝ }
+pub fn plains(room: &mut [u16], s: &[u64], z: Size, c: InSet, moves: &[u64; 64])
+    requires { ⌜ Table z (length (now room)) × (scratchSets (z .inputs) (z .outputs) ≤ setCount (now s)) ⌝ }
+    ensures { λ r. ⌜ Plains z (setsIn (now (s .entry))) (bitsOf (c .0)) (setsIn (now (moves .entry))) (z .outputs) (now (room .entry)) (now (room .exit)) ⌝ }
 {
     let m = z.outputs;
     let mut o = 0;
     while o < m {
-        plain(room, s, z, cores, OutState(o), OutSet(moves[o]));
+        plain(room, s, z, c, OutState(o), OutSet(sets::row_of(moves, o)));
         o += 1;
     }
 }

@@ -6,6 +6,7 @@ use place::Played;
 use place::Position;
 ghost use mathlib.Core.Path.{_≡_};
 ghost use Prim.Native.Nat.{_≤_, _<_};
+ghost use Rattle.sets.specs.Words.{capacity};
 ghost use Rattle.graphs.specs.Graph.{edge, begins};
 ghost use Rattle.game.specs.Acceptance.{acceptance};
 ghost use Rattle.game.specs.declared.Acceptance.the-variants.{Accepted};
@@ -36,12 +37,12 @@ pub fn opens_with(g: Game, o: OutState) -> bool
 
 // Whether output o, a state of the game, moves to p.
 pub fn replies_with(g: Game, o: OutState, p: OutState) -> bool
-    requires { ⌜ (o .0 < g .output .states) × (g .output .states ≤ 64) ⌝ }
+    requires { ⌜ (o .0 < g .output .states) × (g .output .states ≤ capacity) ⌝ }
     ensures { λ r. ⌜ r ≡ edge (graphOf (g .output)) (o .0) (p .0) ⌝ }
 {
     let h = g.output;
     let s = o.0;
-    place::holds(h.moves[s], h.states, p.0)
+    place::holds(sets::row_of(&h.moves, s), h.states, p.0)
 }
 
 // The input that an entry names, if it is not none.

@@ -9,6 +9,7 @@ use lib.Dec.{ltb}
 use lib.ListN.{length, getD}
 use borrow.Author.Tests.{eq-eqb, ne-eqb}
 use Rattle.finite.proofs.Truth.{and-intro, and-false-left, and-false-right}
+use Rattle.sets.specs.Words.{capacity}
 use Rattle.graphs.specs.Graph.{edge, begins}
 use Rattle.game.specs.declared.InState.{InState}
 use Rattle.game.specs.declared.OutState.{OutState}
@@ -77,20 +78,20 @@ module _ (g : Game) (M : ℕ) (p : Position) (a : acceptance g ≡ acceptance·.
     (h : hasPosition g M p ≡ true) where
   -- what a row's place is made of
   pub record Bounds : Type 0 where
-    pub block : p .input .0 * M ≤ 2048
+    pub block : p .input .0 * M ≤ capacity * 32
     pub counter : p .counter < 32
-    pub place : (p .input .0 * M + p .counter) * g .output .states ≤ 133120
-    pub output : p .output .0 < 64
+    pub place : (p .input .0 * M + p .counter) * g .output .states ≤ (capacity * 32 + 32) * capacity
+    pub output : p .output .0 < capacity
 
   pub bounds : Bounds
   bounds =
       let q = position-in g M p h in
       let few : M ≤ 32 = omega (arith, environment-few g (accepted-fits g a)) in
-      let i : p .input .0 ≤ 64 = omega (arith, inputs-most g a) in
+      let i : p .input .0 ≤ capacity = omega (arith, inputs-most g a) in
       let o = outputs-most g a in
-      let block : p .input .0 * M ≤ 64 * 32 = mul-le-mul i few in
-      let row : p .input .0 * M + p .counter ≤ 2080 = omega arith in
-      let place : (p .input .0 * M + p .counter) * g .output .states ≤ 2080 * 64 = mul-le-mul row o in
+      let block : p .input .0 * M ≤ capacity * 32 = mul-le-mul i few in
+      let row : p .input .0 * M + p .counter ≤ capacity * 32 + 32 = omega arith in
+      let place : (p .input .0 * M + p .counter) * g .output .states ≤ (capacity * 32 + 32) * capacity = mul-le-mul row o in
       record { block = omega arith; counter = omega arith; place = omega arith; output = omega arith }
 
 module _ (g : Game) (l : List ℕ) where

@@ -1,16 +1,19 @@
 -- The reader's answers and what following the format finds: one says what the other does.
 use Prim.Native.Nat.{ℕ}
 use native.Mathlib.Omega.{arith}
-use mathlib.Core.Path.{_≡_, sym, ap}
+use mathlib.Core.Path.{_≡_, sym, _∙_, ap}
+use Rattle.sets.specs.declared.Set.{Set}
+use Rattle.sets.specs.Words.{bitsOf, setOf}
+use Rattle.sets.proofs.Rows.{bits-of}
 use Rattle.grammar.specs.Format.{Run}
 use Rattle.grammar.specs.Format.Run.{got, fault}
 use Rattle.pieces.specs.declared.Step.{Step}
 use Rattle.pieces.specs.declared.Step.the-variants.{At, Fault}
 use Rattle.pieces.specs.declared.Number.{Number}
 use Rattle.pieces.specs.declared.Number.the-variants.{Value, Fault as NoNumber}
-use Rattle.pieces.specs.declared.Set.{Set}
-use Rattle.pieces.specs.declared.Set.the-variants.{Members, Fault as NoSet}
-use Rattle.pieces.specs.Pieces.{stepOf, numberOf, setOf}
+use Rattle.pieces.specs.declared.SetScan.{SetScan}
+use Rattle.pieces.specs.declared.SetScan.the-variants.{Members, Fault as NoSet}
+use Rattle.pieces.specs.Pieces.{stepOf, numberOf, setScanOf}
 
 pub step-at : {x : Run (Unit {0})} {j : ℕ} → x ≡ got tt j → At j ≡ stepOf x
 unfolding stepOf
@@ -48,20 +51,29 @@ unfolding numberOf
 fault-number (got u i) e = let z : _≡_ {A = ℕ} 0 1 = cc in absurd (omega arith)
 fault-number (fault q) e = cc
 
-pub set-members : {x : Run ℕ} {v j : ℕ} → x ≡ got v j → Members v j ≡ setOf x
-unfolding setOf
-set-members e = sym (ap setOf e)
+pub set-members : {x : Run ℕ} {v j : ℕ} → x ≡ got v j → Members (setOf v) j ≡ setScanOf x
+unfolding setScanOf
+set-members e = sym (ap setScanOf e)
 
-pub set-fault : {x : Run ℕ} {p : ℕ} → x ≡ fault p → NoSet p ≡ setOf x
-unfolding setOf
-set-fault e = sym (ap setOf e)
+-- a set that is made of its own number
+pub whole-members : {x : Run ℕ} {v : Set} {j : ℕ} → setOf (bitsOf v) ≡ v → x ≡ got (bitsOf v) j → Members v j ≡ setScanOf x
+whole-members {j = j} h e = ap (λ (y : Set). Members y j) (sym h) ∙ set-members e
 
-pub members-set : (x : Run ℕ) {v j : ℕ} → Members v j ≡ setOf x → x ≡ got v j
-unfolding setOf
-members-set (got u i) e = cc
+pub set-fault : {x : Run ℕ} {p : ℕ} → x ≡ fault p → NoSet p ≡ setScanOf x
+unfolding setScanOf
+set-fault e = sym (ap setScanOf e)
+
+-- what is read: the set, and that it is made of its own number
+pub members-set : (x : Run ℕ) {v : Set} {j : ℕ} → Members v j ≡ setScanOf x → (x ≡ got (bitsOf v) j) × (setOf (bitsOf v) ≡ v)
+unfolding setScanOf
+members-set (got u i) {v} {j} e =
+    let same : setOf u ≡ v = cc in
+    let place : i ≡ j = cc in
+    let bits : u ≡ bitsOf v = sym (bits-of u) ∙ ap bitsOf same in
+    ((λ n. got (bits n) (place n)), ap setOf (sym bits) ∙ same)
 members-set (fault p) e = let z : _≡_ {A = ℕ} 0 1 = cc in absurd (omega arith)
 
-pub fault-set : (x : Run ℕ) {p : ℕ} → NoSet p ≡ setOf x → x ≡ fault p
-unfolding setOf
+pub fault-set : (x : Run ℕ) {p : ℕ} → NoSet p ≡ setScanOf x → x ≡ fault p
+unfolding setScanOf
 fault-set (got u i) e = let z : _≡_ {A = ℕ} 0 1 = cc in absurd (omega arith)
 fault-set (fault q) e = cc

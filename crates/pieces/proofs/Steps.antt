@@ -7,8 +7,9 @@ use mathlib.Core.Path.{_≡_, sym, _∙_, ap}
 use lib.Dec.{eqb}
 use mathlib.Core.Logic.{_⊎_, inl, inr}
 use borrow.Author.Tests.{eq-eqb, ne-eqb, eqb-true, eqb-false}
-use Rattle.sets.specs.Member.{has}
-use Rattle.sets.proofs.Membership.{ext}
+use Rattle.bits.specs.Member.{has}
+use Rattle.bits.proofs.Membership.{ext}
+use Rattle.sets.specs.Words.{capacity, highest}
 use Rattle.grammar.specs.Format.{Format, Run, run, lit, alt, bind, IsNode}
 use Rattle.grammar.specs.Format.Format.{done}
 use Rattle.grammar.specs.Format.Run.{got, fault}
@@ -60,17 +61,17 @@ pub next-closed : (lo : ℕ) (w : ℕ → ℕ) (i : ℕ) → w i ≡ 41 → Clos
 unfolding nextMember
 next-closed lo w i h = sym (rw (eq-eqb (w i) 41 h, nextMember) (ap Closed (sym (add-one i))))
 
-next-blank : (lo : ℕ) (w : ℕ → ℕ) (i : ℕ) → w i ≡ 32 → memberOf (numberAt lo 63 w (i + 1)) ≡ nextMember lo w i
+next-blank : (lo : ℕ) (w : ℕ → ℕ) (i : ℕ) → w i ≡ 32 → memberOf (numberAt lo highest w (i + 1)) ≡ nextMember lo w i
 unfolding nextMember
 next-blank lo w i h =
     sym (rw (ne-eqb (w i) 41 (λ (e : w i ≡ 41). omega arith), nextMember)
-    (rw (eq-eqb (w i) 32 h) (ap (λ (j : ℕ). memberOf (numberAt lo 63 w j)) (sym (add-one i)))))
+    (rw (eq-eqb (w i) 32 h) (ap (λ (j : ℕ). memberOf (numberAt lo highest w j)) (sym (add-one i)))))
 
-pub next-member : (lo : ℕ) (w : ℕ → ℕ) (i v j : ℕ) → w i ≡ 32 → numberAt lo 63 w (i + 1) ≡ got v j → Member v j ≡ nextMember lo w i
+pub next-member : (lo : ℕ) (w : ℕ → ℕ) (i v j : ℕ) → w i ≡ 32 → numberAt lo highest w (i + 1) ≡ got v j → Member v j ≡ nextMember lo w i
 unfolding memberOf
 next-member lo w i v j h e = sym (ap memberOf e) ∙ next-blank lo w i h
 
-pub next-fault : (lo : ℕ) (w : ℕ → ℕ) (i p : ℕ) → w i ≡ 32 → numberAt lo 63 w (i + 1) ≡ fault p → NoNext p ≡ nextMember lo w i
+pub next-fault : (lo : ℕ) (w : ℕ → ℕ) (i p : ℕ) → w i ≡ 32 → numberAt lo highest w (i + 1) ≡ fault p → NoNext p ≡ nextMember lo w i
 unfolding memberOf
 next-fault lo w i p h e = sym (ap memberOf e) ∙ next-blank lo w i h
 
@@ -107,7 +108,7 @@ got-member (fault p) v j e = let z : _≡_ {A = ℕ} 0 1 = cc in absurd (omega a
 
 -- one turn of reading members
 module _ (x : Run ℕ) (left lo acc : ℕ) (w : ℕ → ℕ) (i : ℕ) (e : x ≡ run (moreMembers left lo acc) w i) where
-  pub members-past : 63 < lo → x ≡ run (lit 41 (done acc)) w i
+  pub members-past : highest < lo → x ≡ run (lit 41 (done acc)) w i
   members-past h = e ∙ ap (λ (f : Format ℕ). run f w i) (more-off left lo acc h)
 
   pub members-end : left ≤ 0 → x ≡ run (lit 41 (done acc)) w i
@@ -118,19 +119,19 @@ module _ (x : Run ℕ) (left lo acc : ℕ) (w : ℕ → ℕ) (i : ℕ) (e : x �
       go zero f l = f
       go (suc n) f l = absurd (omega arith)
 
-  module _ (p : 0 < left) (h : lo ≤ 63) where
-    members-open : x ≡ run (alt 41 (done acc) (lit 32 (num lo 63 (λ v. moreMembers (left - 1) (suc v) (insert acc v))))) w i
+  module _ (p : 0 < left) (h : lo ≤ highest) where
+    members-open : x ≡ run (alt 41 (done acc) (lit 32 (num lo highest (λ v. moreMembers (left - 1) (suc v) (insert acc v))))) w i
     members-open = go left p e
       where
         less : (n : ℕ) → n ≡ suc n - 1
         less n = omega arith
 
         go : (n : ℕ) → 0 < n → x ≡ run (moreMembers n lo acc) w i
-            → x ≡ run (alt 41 (done acc) (lit 32 (num lo 63 (λ v. moreMembers (n - 1) (suc v) (insert acc v))))) w i
+            → x ≡ run (alt 41 (done acc) (lit 32 (num lo highest (λ v. moreMembers (n - 1) (suc v) (insert acc v))))) w i
         go zero q f = absurd (omega arith)
         go (suc n) q f =
             f ∙ ap (λ (g : Format ℕ). run g w i) (more-on n lo acc h)
-            ∙ ap (λ (m : ℕ). run (alt 41 (done acc) (lit 32 (num lo 63 (λ v. moreMembers m (suc v) (insert acc v))))) w i) (less n)
+            ∙ ap (λ (m : ℕ). run (alt 41 (done acc) (lit 32 (num lo highest (λ v. moreMembers m (suc v) (insert acc v))))) w i) (less n)
 
     pub members-closed : (j : ℕ) → Closed j ≡ nextMember lo w i → x ≡ got acc j
     members-closed j n = elim (next-cases lo w i) [
@@ -139,15 +140,15 @@ module _ (x : Run ℕ) (left lo acc : ℕ) (w : ℕ → ℕ) (i : ℕ) (e : x �
           let k : i + 1 ≡ j = cc in
           members-open ∙ run-alt-left 41 (done acc) _ w i c ∙ run-done acc w (suc i) ∙ ap (got acc) (sym (add-one i) ∙ k))
       | inr d ↦ elim d [
-        | inl c ↦ member-not-closed (numberAt lo 63 w (i + 1)) j (n ∙ sym (next-blank lo w i c))
+        | inl c ↦ member-not-closed (numberAt lo highest w (i + 1)) j (n ∙ sym (next-blank lo w i c))
         | inr c ↦ (let same : Closed j ≡ NoNext i = n ∙ sym (next-none lo w i (c .0) (c .1)) in let z : _≡_ {A = ℕ} 0 1 = cc in absurd (omega arith))
       ]
     ]
 
-    blank-on : w i ≡ 32 → x ≡ run (num lo 63 (λ v. moreMembers (left - 1) (suc v) (insert acc v))) w (i + 1)
+    blank-on : w i ≡ 32 → x ≡ run (num lo highest (λ v. moreMembers (left - 1) (suc v) (insert acc v))) w (i + 1)
     blank-on c =
         members-open ∙ run-alt-right 41 (done acc) _ w i (λ (z : w i ≡ 41). omega arith) (lit-node 32 _)
-        ∙ lit-on 32 (num lo 63 (λ v. moreMembers (left - 1) (suc v) (insert acc v))) w i c
+        ∙ lit-on 32 (num lo highest (λ v. moreMembers (left - 1) (suc v) (insert acc v))) w i c
 
     wants : (v : ℕ) → IsNode (moreMembers (left - 1) (suc v) (insert acc v))
     wants v = more-ends (left - 1) (suc v) (insert acc v) .wants
@@ -157,8 +158,8 @@ module _ (x : Run ℕ) (left lo acc : ℕ) (w : ℕ → ℕ) (i : ℕ) (e : x �
       | inl c ↦ (let same : NoNext q ≡ Closed (i + 1) = n ∙ sym (next-closed lo w i c) in let z : _≡_ {A = ℕ} 0 1 = cc in absurd (omega arith))
       | inr d ↦ elim d [
         | inl c ↦ (
-            let f = fault-member (numberAt lo 63 w (i + 1)) q (n ∙ sym (next-blank lo w i c)) in
-            blank-on c ∙ num-fault lo 63 (λ v. moreMembers (left - 1) (suc v) (insert acc v)) wants w (i + 1) q f)
+            let f = fault-member (numberAt lo highest w (i + 1)) q (n ∙ sym (next-blank lo w i c)) in
+            blank-on c ∙ num-fault lo highest (λ v. moreMembers (left - 1) (suc v) (insert acc v)) wants w (i + 1) q f)
         | inr c ↦ (
             let same : NoNext q ≡ NoNext i = n ∙ sym (next-none lo w i (c .0) (c .1)) in
             let k : i ≡ q = cc in
@@ -166,16 +167,16 @@ module _ (x : Run ℕ) (left lo acc : ℕ) (w : ℕ → ℕ) (i : ℕ) (e : x �
       ]
     ]
 
-    pub members-more : (v j : ℕ) → Member v j ≡ nextMember lo w i → (lo ≤ v) × (v ≤ 63) × (x ≡ run (moreMembers (left - 1) (v + 1) (insert acc v)) w j)
+    pub members-more : (v j : ℕ) → Member v j ≡ nextMember lo w i → (lo ≤ v) × (v ≤ highest) × (x ≡ run (moreMembers (left - 1) (v + 1) (insert acc v)) w j)
     members-more v j n = elim (next-cases lo w i) [
       | inl c ↦ (let same : Member v j ≡ Closed (i + 1) = n ∙ sym (next-closed lo w i c) in let z : _≡_ {A = ℕ} 0 1 = cc in absurd (omega arith))
       | inr d ↦ elim d [
         | inl c ↦ (
-            let f = got-member (numberAt lo 63 w (i + 1)) v j (n ∙ sym (next-blank lo w i c)) in
-            let r = number-range lo 63 w (i + 1) v j f in (
+            let f = got-member (numberAt lo highest w (i + 1)) v j (n ∙ sym (next-blank lo w i c)) in
+            let r = number-range lo highest w (i + 1) v j f in (
               r .0,
               r .1,
-              blank-on c ∙ num-got lo 63 (λ u. moreMembers (left - 1) (suc u) (insert acc u)) wants w (i + 1) v j f
+              blank-on c ∙ num-got lo highest (λ u. moreMembers (left - 1) (suc u) (insert acc u)) wants w (i + 1) v j f
                   ∙ ap (λ (m : ℕ). run (moreMembers (left - 1) m (insert acc v)) w j) (sym (add-one v)),
             ))
         | inr c ↦ (let same : Member v j ≡ NoNext i = n ∙ sym (next-none lo w i (c .0) (c .1)) in let z : _≡_ {A = ℕ} 0 1 = cc in absurd (omega arith))
@@ -183,34 +184,37 @@ module _ (x : Run ℕ) (left lo acc : ℕ) (w : ℕ → ℕ) (i : ℕ) (e : x �
     ]
 
     pub members-next : (v j y : ℕ) → Member v j ≡ nextMember lo w i → ((t : ℕ) → has y t ≡ (has acc t || eqb t v))
-        → (x ≡ run (moreMembers (left - 1) (v + 1) y) w j) × (v + 1 ≤ 64)
+        → (x ≡ run (moreMembers (left - 1) (v + 1) y) w j) × (v + 1 ≤ capacity)
     members-next v j y n g =
         let m = members-more v j n in
         let high = m .1 in
         (m .2 ∙ ap (λ (z : ℕ). run (moreMembers (left - 1) (v + 1) z) w j) (sym (insert-is y acc v g)), omega arith)
 
 -- behind the opening bracket
-pub members-none : (w : ℕ → ℕ) (i : ℕ) → w i ≡ 41 → run membersFormat w i ≡ got 0 (i + 1)
+pub members-none : (w : ℕ → ℕ) (i y : ℕ) → w i ≡ 41 → y ≡ 0 → run membersFormat w i ≡ got y (i + 1)
 unfolding membersFormat
-members-none w i h = run-alt-left 41 (done 0) _ w i h ∙ run-done 0 w (suc i) ∙ ap (got 0) (sym (add-one i))
+members-none w i y h e = run-alt-left 41 (done 0) _ w i h ∙ run-done 0 w (suc i) ∙ (λ n. got (sym e n) (sym (add-one i) n))
 
-first-wants : (v : ℕ) → IsNode (moreMembers 63 (suc v) (insert 0 v))
-first-wants v = more-ends 63 (suc v) (insert 0 v) .wants
+first-wants : (v : ℕ) → IsNode (moreMembers highest (suc v) (insert 0 v))
+first-wants v = more-ends highest (suc v) (insert 0 v) .wants
 
-pub members-first : (w : ℕ → ℕ) (i v j : ℕ) → (w i ≡ 41 → ⊥) → numberAt 0 63 w i ≡ got v j
-    → run membersFormat w i ≡ run (moreMembers 63 (v + 1) (insert 0 v)) w j
+pub members-first : (w : ℕ → ℕ) (i v j : ℕ) → (w i ≡ 41 → ⊥) → numberAt 0 highest w i ≡ got v j
+    → run membersFormat w i ≡ run (moreMembers highest (v + 1) (insert 0 v)) w j
 unfolding membersFormat
 members-first w i v j h e =
-    run-alt-right 41 (done 0) _ w i h (num-node 0 63 _) ∙ num-got 0 63 (λ u. moreMembers 63 (suc u) (insert 0 u)) first-wants w i v j e
-    ∙ ap (λ (m : ℕ). run (moreMembers 63 m (insert 0 v)) w j) (sym (add-one v))
+    run-alt-right 41 (done 0) _ w i h (num-node 0 highest _) ∙ num-got 0 highest (λ u. moreMembers highest (suc u) (insert 0 u)) first-wants w i v j e
+    ∙ ap (λ (m : ℕ). run (moreMembers highest m (insert 0 v)) w j) (sym (add-one v))
 
-pub members-begun : (w : ℕ → ℕ) (i v j y : ℕ) → (w i ≡ 41 → ⊥) → numberAt 0 63 w i ≡ got v j → ((t : ℕ) → has y t ≡ (has 0 t || eqb t v))
-    → run membersFormat w i ≡ run (moreMembers 63 (v + 1) y) w j
-members-begun w i v j y h e g = members-first w i v j h e ∙ ap (λ (z : ℕ). run (moreMembers 63 (v + 1) z) w j) (sym (insert-is y 0 v g))
+pub members-begun : (w : ℕ → ℕ) (i v j x y : ℕ) → (w i ≡ 41 → ⊥) → numberAt 0 highest w i ≡ got v j → x ≡ 0 → ((t : ℕ) → has y t ≡ (has x t || eqb t v))
+    → run membersFormat w i ≡ run (moreMembers highest (v + 1) y) w j
+members-begun w i v j x y h e o g =
+    members-first w i v j h e ∙ ap (λ (z : ℕ). run (moreMembers highest (v + 1) z) w j) (sym (insert-is y x v g ∙ ap (λ (z : ℕ). insert z v) o))
 
-pub members-wrong : (w : ℕ → ℕ) (i p : ℕ) → (w i ≡ 41 → ⊥) → numberAt 0 63 w i ≡ fault p → run membersFormat w i ≡ fault p
+pub members-wrong : (w : ℕ → ℕ) (i p : ℕ) → (w i ≡ 41 → ⊥) → numberAt 0 highest w i ≡ fault p → run membersFormat w i ≡ fault p
 unfolding membersFormat
-members-wrong w i p h e = run-alt-right 41 (done 0) _ w i h (num-node 0 63 _) ∙ num-fault 0 63 (λ u. moreMembers 63 (suc u) (insert 0 u)) first-wants w i p e
+members-wrong w i p h e =
+    run-alt-right 41 (done 0) _ w i h (num-node 0 highest _)
+    ∙ num-fault 0 highest (λ u. moreMembers highest (suc u) (insert 0 u)) first-wants w i p e
 
 pub set-on : (w : ℕ → ℕ) (i : ℕ) → w i ≡ 40 → run setFormat w i ≡ run membersFormat w (i + 1)
 unfolding setFormat

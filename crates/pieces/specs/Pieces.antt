@@ -2,12 +2,13 @@
 --
 --   stepOf x           == the answer to fixed bytes
 --   numberOf x         == the answer to a number
---   setOf x            == the answer to a set
+--   setScanOf x        == the answer to a set
 --   memberOf x         == the answer to a further member
---   nextMember lo w i  == what stands behind a member, at place i: the closing bracket, or a blank and a member in lo..63
+--   nextMember lo w i  == what stands behind a member, at place i: the closing bracket, or a blank and a member from lo on
 use Prim.Native.Nat.{ℕ, suc}
 use mathlib.Core.Bool.{true, false}
 use lib.Dec.{eqb}
+use Rattle.sets.specs.Words.{highest, setOf}
 use Rattle.grammar.specs.Format.{Run}
 use Rattle.grammar.specs.Format.Run.{got, fault}
 use Rattle.grammar.specs.Number.{numberAt}
@@ -15,8 +16,8 @@ use Rattle.pieces.specs.declared.Step.{Step}
 use Rattle.pieces.specs.declared.Step.the-variants.{At, Fault}
 use Rattle.pieces.specs.declared.Number.{Number}
 use Rattle.pieces.specs.declared.Number.the-variants.{Value, Fault as NoNumber}
-use Rattle.pieces.specs.declared.Set.{Set}
-use Rattle.pieces.specs.declared.Set.the-variants.{Members, Fault as NoSet}
+use Rattle.pieces.specs.declared.SetScan.{SetScan}
+use Rattle.pieces.specs.declared.SetScan.the-variants.{Members, Fault as NoSet}
 use Rattle.pieces.specs.declared.Next.{Next}
 use Rattle.pieces.specs.declared.Next.the-variants.{Closed, Member, Fault as NoNext}
 
@@ -28,9 +29,9 @@ unfoldable pub numberOf : Run ℕ → Number
 numberOf (got v j) = Value v j
 numberOf (fault p) = NoNumber p
 
-unfoldable pub setOf : Run ℕ → Set
-setOf (got x j) = Members x j
-setOf (fault p) = NoSet p
+unfoldable pub setScanOf : Run ℕ → SetScan
+setScanOf (got x j) = Members (setOf x) j
+setScanOf (fault p) = NoSet p
 
 unfoldable pub memberOf : Run ℕ → Next
 memberOf (got v j) = Member v j
@@ -40,5 +41,5 @@ unfoldable pub nextMember : ℕ → (ℕ → ℕ) → ℕ → Next
 nextMember lo w i =
     elim (eqb (w i) 41) [
       | true ↦ Closed (suc i)
-      | false ↦ elim (eqb (w i) 32) [ true ↦ memberOf (numberAt lo 63 w (suc i)) | false ↦ NoNext i ]
+      | false ↦ elim (eqb (w i) 32) [ true ↦ memberOf (numberAt lo highest w (suc i)) | false ↦ NoNext i ]
     ]

@@ -1,13 +1,28 @@
 // Pieces of a text, read from a place on: what stands there and the place behind it, or the place of the fault.
+use sets::Set;
 ghost use mathlib.Core.Path.{_≡_};
 ghost use Prim.Native.Nat.{_+_, _<_, _≤_};
+ghost use Rattle.sets.specs.Words.{capacity, highest, bitsOf};
 ghost use Rattle.grammar.specs.Format.{run, lit};
 ghost use Rattle.grammar.specs.Format.Format.{done};
 ghost use Rattle.grammar.specs.Number.{digit, inside as within, meets as overlap, begins as fore, extends as further};
 ghost use Rattle.grammar.specs.Number.{starts as first, numberEnd, digitsAt, numberAt};
 ghost use Rattle.grammar.specs.Place.{bytes};
 ghost use Rattle.shape.specs.Shape.{moreMembers, membersFormat, setFormat, numThen};
-ghost use Rattle.pieces.specs.Pieces.{numberOf, setOf, nextMember};
+ghost use Rattle.pieces.specs.Pieces.{numberOf, setScanOf, nextMember};
+
+// The bytes of a text, as `byte_at` answers them.
+pub const OPEN: usize = b'(' as usize;
+
+pub const CLOSE: usize = b')' as usize;
+
+pub const BLANK: usize = b' ' as usize;
+
+pub const LINE_END: usize = b'\n' as usize;
+
+const ZERO: usize = b'0' as usize;
+
+const NINE: usize = b'9' as usize;
 
 // Fixed bytes.
 pub enum Step {
@@ -21,9 +36,9 @@ pub enum Number {
     Fault(usize),
 }
 
-// A set: its word and the place behind it.
-pub enum Set {
-    Members(u64, usize),
+// A set and the place behind it.
+pub enum SetScan {
+    Members(Set, usize),
     Fault(usize),
 }
 
@@ -47,7 +62,7 @@ pub fn byte_at(s: &[u8], i: usize) -> usize
 fn is_digit(b: usize) -> bool
     ensures { λ r. ⌜ r ≡ digit b ⌝ }
 {
-    48 <= b && b <= 57
+    ZERO <= b && b <= NINE
 }
 
 fn inside(lo: usize, hi: usize, v: usize) -> bool
@@ -91,7 +106,7 @@ fn extends(lo: usize, hi: usize, front: usize, b: usize) -> bool
         return false;
     }
     if is_digit(b) {
-        return begins(lo, hi, 10 * front + (b - 48));
+        return begins(lo, hi, 10 * front + (b - ZERO));
     }
     false
 }
@@ -100,7 +115,7 @@ fn starts(lo: usize, hi: usize, b: usize) -> bool
     ensures { λ r. ⌜ r ≡ first lo hi b ⌝ }
 {
     if is_digit(b) {
-        return begins(lo, hi, b - 48);
+        return begins(lo, hi, b - ZERO);
     }
     false
 }
@@ -126,7 +141,7 @@ fn more_digits(s: &[u8], i: usize, lo: usize, hi: usize, v: usize) -> Number
     while 0 < left {
         let b = byte_at(s, at);
         if extends(lo, hi, value, b) {
-            value = 10 * value + (b - 48);
+            value = 10 * value + (b - ZERO);
             at += 1;
             left -= 1;
         } else {
@@ -143,7 +158,7 @@ pub fn number_at(s: &[u8], i: usize, lo: usize, hi: usize) -> Number
 {
     let b = byte_at(s, i);
     if starts(lo, hi, b) {
-        return more_digits(s, i + 1, lo, hi, b - 48);
+        return more_digits(s, i + 1, lo, hi, b - ZERO);
     }
     Number::Fault(i)
 }
@@ -165,16 +180,16 @@ pub fn number_then(s: &[u8], i: usize, lo: usize, hi: usize, b: u8) -> Number
     }
 }
 
-// What stands at place i behind a member, the next one being in lo..63.
+// What stands at place i behind a member, the next one being at least lo.
 fn next_member(s: &[u8], i: usize, lo: usize) -> Next
     ensures { λ r. ⌜ r ≡ nextMember lo (bytes (now (s .entry))) i ⌝ }
 {
     let b = byte_at(s, i);
-    if b == 41 {
+    if b == CLOSE {
         return Next::Closed(i + 1);
     }
-    if b == 32 {
-        let n = number_at(s, i + 1, lo, 63);
+    if b == BLANK {
+        let n = number_at(s, i + 1, lo, sets::HIGHEST);
         return match n {
             Number::Fault(p) => Next::Fault(p),
             Number::Value(v, j) => Next::Member(v, j),
@@ -184,35 +199,35 @@ fn next_member(s: &[u8], i: usize, lo: usize) -> Next
 }
 
 // The set x, closed at place i.
-fn closed_set(s: &[u8], i: usize, x: u64) -> Set
-    ensures { λ r. ⌜ r ≡ setOf (run (lit 41 (done x)) (bytes (now (s .entry))) i) ⌝ }
+fn closed_set(s: &[u8], i: usize, x: Set) -> SetScan
+    ensures { λ r. ⌜ r ≡ setScanOf (run (lit 41 (done (bitsOf x))) (bytes (now (s .entry))) i) ⌝ }
 {
-    if byte_at(s, i) == 41 {
-        return Set::Members(x, i + 1);
+    if byte_at(s, i) == CLOSE {
+        return SetScan::Members(x, i + 1);
     }
-    Set::Fault(i)
+    SetScan::Fault(i)
 }
 
-// The members at place i behind those of x, all in lo..63.
-fn more_members(s: &[u8], i: usize, lo: usize, x: u64) -> Set
-    requires { ⌜ lo ≤ 64 ⌝ }
-    ensures { λ r. ⌜ r ≡ setOf (run (moreMembers 63 lo x) (bytes (now (s .entry))) i) ⌝ }
+// The members at place i behind those of x, all at least lo.
+fn more_members(s: &[u8], i: usize, lo: usize, x: Set) -> SetScan
+    requires { ⌜ lo ≤ capacity ⌝ }
+    ensures { λ r. ⌜ r ≡ setScanOf (run (moreMembers highest lo (bitsOf x)) (bytes (now (s .entry))) i) ⌝ }
 {
     let mut at = i;
     let mut low = lo;
     let mut set = x;
-    let mut left: usize = 63;
+    let mut left: usize = sets::HIGHEST;
     while 0 < left {
-        if 63 < low {
+        if sets::HIGHEST < low {
             return closed_set(s, at, set);
         }
         let n = next_member(s, at, low);
         match n {
             Next::Closed(j) => {
-                return Set::Members(set, j);
+                return SetScan::Members(set, j);
             }
             Next::Fault(p) => {
-                return Set::Fault(p);
+                return SetScan::Fault(p);
             }
             Next::Member(v, j) => {
                 set = sets::insert(set, v);
@@ -226,25 +241,25 @@ fn more_members(s: &[u8], i: usize, lo: usize, x: u64) -> Set
 }
 
 // The members at place i behind the opening bracket.
-fn members_at(s: &[u8], i: usize) -> Set
-    ensures { λ r. ⌜ r ≡ setOf (run membersFormat (bytes (now (s .entry))) i) ⌝ }
+fn members_at(s: &[u8], i: usize) -> SetScan
+    ensures { λ r. ⌜ r ≡ setScanOf (run membersFormat (bytes (now (s .entry))) i) ⌝ }
 {
-    if byte_at(s, i) == 41 {
-        return Set::Members(0, i + 1);
+    if byte_at(s, i) == CLOSE {
+        return SetScan::Members(sets::empty(), i + 1);
     }
-    let n = number_at(s, i, 0, 63);
+    let n = number_at(s, i, 0, sets::HIGHEST);
     match n {
-        Number::Fault(p) => Set::Fault(p),
-        Number::Value(v, j) => more_members(s, j, v + 1, sets::insert(0, v)),
+        Number::Fault(p) => SetScan::Fault(p),
+        Number::Value(v, j) => more_members(s, j, v + 1, sets::insert(sets::empty(), v)),
     }
 }
 
 // The set at place i.
-pub fn set_at(s: &[u8], i: usize) -> Set
-    ensures { λ r. ⌜ r ≡ setOf (run setFormat (bytes (now (s .entry))) i) ⌝ }
+pub fn set_at(s: &[u8], i: usize) -> SetScan
+    ensures { λ r. ⌜ r ≡ setScanOf (run setFormat (bytes (now (s .entry))) i) ⌝ }
 {
-    if byte_at(s, i) == 40 {
+    if byte_at(s, i) == OPEN {
         return members_at(s, i + 1);
     }
-    Set::Fault(i)
+    SetScan::Fault(i)
 }

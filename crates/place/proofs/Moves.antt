@@ -1,12 +1,14 @@
 -- The initial states and the moves of an accepted game, as the tests read them.
 use Prim.Native.Nat.{ℕ, _≤_, _<_}
-use mathlib.Core.Path.{_≡_, fun-ext}
+use mathlib.Core.Path.{_≡_, _∙_, ap, fun-ext}
 use mathlib.Core.Bool.{Bool, _&&_}
 use lib.Dec.{ltb}
 use lib.ListN.{getD}
 use borrow.Author.Tests.{lt-ltb}
 use Rattle.finite.proofs.Truth.{same-test}
-use Rattle.sets.specs.Member.{has}
+use Rattle.bits.specs.Member.{has}
+use Rattle.sets.specs.Words.{capacity, bitsOf, setsIn, setAt}
+use Rattle.sets.proofs.Rows.{set-bits}
 use Rattle.graphs.specs.Graph.{edge, begins}
 use Rattle.graphs.proofs.Graph.{edge-moves, edge-intro, begins-initial, begins-intro}
 use Rattle.game.specs.declared.Game.{Game}
@@ -17,33 +19,35 @@ use Rattle.game.proofs.Laws.{accepted-fits}
 use Rattle.finite.proofs.Loops.{and-next}
 use Rattle.play.specs.Play.{graphOf}
 
-pub begins-of : (h : Graph) (s : ℕ) (r : Bool) → r ≡ (ltb s (h .states) && has (h .initial) s) → r ≡ begins (graphOf h) s
+pub begins-of : (h : Graph) (s : ℕ) (r : Bool) → r ≡ (ltb s (h .states) && has (bitsOf (h .initial)) s) → r ≡ begins (graphOf h) s
 unfolding begins graphOf
 begins-of h s r e = e
 
-pub edge-of : (h : Graph) (s t : ℕ) (r : Bool) → s < h .states → r ≡ (ltb t (h .states) && has (getD (h .moves) s 0) t) → r ≡ edge (graphOf h) s t
+pub edge-of : (h : Graph) (s t x : ℕ) (r : Bool) → s < h .states → x ≡ getD (setsIn (h .moves)) s 0 → r ≡ (ltb t (h .states) && has x t)
+    → r ≡ edge (graphOf h) s t
 unfolding edge graphOf
-edge-of h s t r l e = and-next (lt-ltb s (h .states) l) e
+edge-of h s t x r l q e = and-next (lt-ltb s (h .states) l) (e ∙ ap (λ (y : ℕ). ltb t (h .states) && has y t) q)
 
 module _ (g : Game) (a : acceptance g ≡ Accepted) where
-  pub inputs-most : g .input .states ≤ 64
+  pub inputs-most : g .input .states ≤ capacity
   inputs-most = accepted-fits g a .input .most
 
-  pub outputs-most : g .output .states ≤ 64
+  pub outputs-most : g .output .states ≤ capacity
   outputs-most = accepted-fits g a .output .most
 
-  pub initial-outputs : has (g .output .initial) ≡ begins (graphOf (g .output))
+  pub initial-outputs : has (bitsOf (g .output .initial)) ≡ begins (graphOf (g .output))
   unfolding graphOf
   initial-outputs =
       fun-ext
-      (λ s. same-test (has (g .output .initial) s) (begins (graphOf (g .output)) s)
+      (λ s. same-test (has (bitsOf (g .output .initial)) s) (begins (graphOf (g .output)) s)
       (λ h. begins-intro (graphOf (g .output)) s (accepted-fits g a .output .initial-below s h) h)
       (begins-initial (graphOf (g .output)) s))
 
-  pub output-moves : (o : ℕ) → o < g .output .states → has (getD (g .output .moves) o 0) ≡ edge (graphOf (g .output)) o
+  pub output-moves : (o : ℕ) → o < g .output .states → has (bitsOf (setAt (g .output .moves) o)) ≡ edge (graphOf (g .output)) o
   unfolding graphOf
   output-moves o l =
-      fun-ext
-      (λ s. same-test (has (getD (g .output .moves) o 0) s) (edge (graphOf (g .output)) o s)
+      ap has (set-bits (g .output .moves) o)
+      ∙ fun-ext
+      (λ s. same-test (has (getD (setsIn (g .output .moves)) o 0) s) (edge (graphOf (g .output)) o s)
       (λ h. edge-intro (graphOf (g .output)) o s l (accepted-fits g a .output .row-below o s l h) h)
       (edge-moves (graphOf (g .output)) o s))

@@ -3,12 +3,14 @@ use game::Game;
 use game::InState;
 use game::OutSet;
 use game::OutState;
+use sets::Set;
 use view::RowIndex;
 ghost use mathlib.Core.Path.{_≡_};
 ghost use mathlib.Core.Bool.{_&&_};
 ghost use Prim.Native.Nat.{_≤_, _<_};
 ghost use lib.Dec.{ltb};
-ghost use Rattle.sets.specs.Member.{has};
+ghost use Rattle.bits.specs.Member.{has};
+ghost use Rattle.sets.specs.Words.{capacity, bitsOf};
 ghost use Rattle.graphs.specs.Graph.{edge, begins};
 ghost use Rattle.game.specs.Acceptance.{acceptance};
 ghost use Rattle.game.specs.declared.Acceptance.the-variants.{Accepted};
@@ -31,9 +33,9 @@ pub enum Played {
 }
 
 // Whether s is below n and belongs to x.
-pub fn holds(x: u64, n: usize, s: usize) -> bool
-    requires { ⌜ n ≤ 64 ⌝ }
-    ensures { λ r. ⌜ r ≡ (ltb s n && has x s) ⌝ }
+pub fn holds(x: Set, n: usize, s: usize) -> bool
+    requires { ⌜ n ≤ capacity ⌝ }
+    ensures { λ r. ⌜ r ≡ (ltb s n && has (bitsOf x) s) ⌝ }
 {
     if s >= n {
         return false;
@@ -52,12 +54,12 @@ pub fn begins_with(g: Game, i: InState) -> bool
 
 // Whether input i, a state of the game, moves to j.
 pub fn moves_to(g: Game, i: InState, j: InState) -> bool
-    requires { ⌜ (i .0 < g .input .states) × (g .input .states ≤ 64) ⌝ }
+    requires { ⌜ (i .0 < g .input .states) × (g .input .states ≤ capacity) ⌝ }
     ensures { λ r. ⌜ r ≡ edge (graphOf (g .input)) (i .0) (j .0) ⌝ }
 {
     let h = g.input;
     let s = i.0;
-    holds(h.moves[s], h.states, j.0)
+    holds(sets::row_of(&h.moves, s), h.states, j.0)
 }
 
 // Whether the game has the position.
@@ -87,7 +89,7 @@ pub fn row_of(at: Position, next: InState) -> RowIndex
 
 // The position that an entry gives after an input, the outputs allowed being those of a set.
 pub fn arrive(counters: usize, allowed: OutSet, input: InState, entry: u16) -> Played
-    ensures { λ r. ⌜ r ≡ arrives counters (has (allowed .0)) input (answer entry) ⌝ }
+    ensures { λ r. ⌜ r ≡ arrives counters (has (bitsOf (allowed .0))) input (answer entry) ⌝ }
 {
     if entry == 65535 {
         return Played::Refused(15);

@@ -10,58 +10,46 @@ ghost use mathlib.Core.Bool.{true, false};
 ghost use Prim.Native.Nat.{ℕ, _<_, _≤_};
 ghost use lib.ListN.{length};
 ghost use Rattle.finite.specs.Bounded.{least};
-ghost use Rattle.sets.specs.Member.{has, pack, within, both};
+ghost use Rattle.bits.specs.Member.{has, pack, within, both};
+ghost use Rattle.sets.specs.Words.{capacity, bitsOf, setsIn, setCount};
+ghost use Rattle.scratch.specs.Stored.{Reached};
 ghost use Rattle.play.specs.Play.{separatedOf};
 ghost use Rattle.theory.specs.Region.{region};
 ghost use Rattle.theory.specs.Choice.{environmentStart};
 ghost use Rattle.theory.specs.Entries.{entry};
 ghost use Rattle.environment_table.specs.Table.{Known, Roomy, Filled, Pushes};
-ghost use Rattle.environment_table.specs.Reading.{Shaped, reachedAt, anyWon, refusedAt, Lone, unwalked, pushedAt, Pushed, plain};
+ghost use Rattle.environment_table.specs.Reading.{Shaped, refusedAt, Lone, unwalked, pushedAt, Pushed, plain};
 
 // What the outputs of the set reach, from scratch for n inputs and m outputs.
 fn reached(s: &[u64], n: usize, m: usize, set: OutSet) -> OutSet
-    requires { ⌜ Shaped (length (now s)) n m ⌝ }
-    ensures { λ r. ⌜ ((t : ℕ) → has (r .0) t ≡ reachedAt (now (s .entry)) n m (set .0) t) ⌝ }
+    requires { ⌜ Shaped (setCount (now s)) n m × (within (bitsOf (set .0)) m ≡ true) ⌝ }
+    ensures { λ r. ⌜ Reached (setsIn (now (s .entry))) n m (bitsOf (set .0)) (bitsOf (r .0)) ⌝ }
 {
-    let mut x: u64 = 0;
-    let mut p: usize = 0;
-    while p < m {
-        x = sets::union_if(x, s[n + n + p], sets::member(set.0, p));
-        p += 1;
+    let mut x = sets::empty();
+    let mut rest = set.0;
+    while !sets::is_empty(rest) {
+        let p = sets::lowest(rest);
+        let more = scratch::out_reach(s, n, OutState(p));
+        x = sets::union(x, more.0);
+        rest = sets::without_lowest(rest);
     }
     OutSet(x)
 }
 
-// Whether some output of the set makes a won position with j. They reach `reach`: in a nontrivial component one of them wins where that has a home of j.
-fn some_won(
-    s: &[u64],
-    n: usize,
-    m: usize,
-    cores: InSet,
-    j: InState,
-    set: OutSet,
-    reach: OutSet,
-) -> bool
-    requires { ⌜ Shaped (length (now s)) n m × (j .0 < n) × ((t : ℕ) → has (reach .0) t ≡ reachedAt (now s) n m (set .0) t) ⌝ }
-    ensures { λ r. ⌜ r ≡ anyWon (now (s .entry)) n m (cores .0) (j .0) (set .0) ⌝ }
-{
-    let row = s[n + j.0];
-    if sets::member(cores.0, j.0) {
-        return sets::meets(row, reach.0);
-    }
-    sets::meets(row, sets::intersection(set.0, sets::below(m)))
-}
-
 // The inputs with which no output of the set makes a won position.
-fn refused(s: &[u64], n: usize, m: usize, cores: InSet, set: OutSet) -> InSet
-    requires { ⌜ Shaped (length (now s)) n m ⌝ }
-    ensures { λ r. ⌜ r .0 ≡ pack n (refusedAt (now (s .entry)) n m (cores .0) (set .0)) ⌝ }
+fn refused(s: &[u64], n: usize, m: usize, inner: InSet, set: OutSet) -> InSet
+    requires { ⌜ Shaped (setCount (now s)) n m × (within (bitsOf (set .0)) m ≡ true) ⌝ }
+    ensures { λ r. ⌜ bitsOf (r .0) ≡ pack n (refusedAt (setsIn (now (s .entry))) n m (bitsOf (inner .0)) (bitsOf (set .0))) ⌝ }
 {
     let reach = reached(s, n, m, set);
-    let mut x: u64 = 0;
+    let mut x = sets::empty();
     let mut j: usize = 0;
     while j < n {
-        x = sets::insert_if(x, j, !some_won(s, n, m, cores, InState(j), set, reach));
+        x = sets::insert_if(
+            x,
+            j,
+            !scratch::some_won(s, n, m, inner, InState(j), set, reach),
+        );
         j += 1;
     }
     InSet(x)
@@ -69,75 +57,92 @@ fn refused(s: &[u64], n: usize, m: usize, cores: InSet, set: OutSet) -> InSet
 
 // The lowest input of both sets; n where there is none. Those of the second are below n.
 fn unanswered(n: usize, from: InSet, refused: InSet) -> usize
-    requires { ⌜ (n ≤ 64) × (within (refused .0) n ≡ true) ⌝ }
-    ensures { λ r. ⌜ r ≡ least n (both (from .0) (refused .0)) ⌝ }
+    requires { ⌜ (n ≤ capacity) × (within (bitsOf (refused .0)) n ≡ true) ⌝ }
+    ensures { λ r. ⌜ r ≡ least n (both (bitsOf (from .0)) (bitsOf (refused .0))) ⌝ }
 {
     let x = sets::intersection(from.0, refused.0);
-    if x == 0 {
+    if sets::is_empty(x) {
         return n;
     }
     sets::lowest(x)
 }
 
 // The start: the lowest initial input with no won reply.
-pub fn start_entry(g: Game, s: &[u64], cores: InSet) -> u16
-    requires { ⌜ Known g (now s) (cores .0) ⌝ }
+pub fn start_entry(g: Game, s: &[u64], inner: InSet) -> u16
+    requires { ⌜ Known g (now s) (bitsOf (inner .0)) ⌝ }
     ensures { λ r. ⌜ r ≡ entry (environmentStart (separatedOf g)) ⌝ }
 {
     let n = g.input.states;
-    let x = refused(s, n, g.output.states, cores, game::out_initial(g));
+    let x = refused(s, n, g.output.states, inner, game::out_initial(g));
     let j = unanswered(n, game::in_initial(g), x);
     if j < n {
-        return j as u16;
+        return entries::pack(j, 0);
     }
-    65535
+    entries::NONE
 }
 
 // The rows of i where the position is won: none.
-fn none_row(g: Game, s: &[u64], cores: InSet, counters: usize, i: InState, room: &mut [u16])
-    requires { ⌜ Known g (now s) (cores .0) × Roomy g counters (length (now room)) × (i .0 < g .input .states) ⌝ }
+fn none_row(g: Game, s: &[u64], inner: InSet, counters: usize, i: InState, room: &mut [u16])
+    requires { ⌜ Known g (now s) (bitsOf (inner .0)) × Roomy g counters (length (now room)) × (i .0 < g .input .states) ⌝ }
     ensures { λ r. ⌜ Filled g (λ a h b. (a ≡ i .0) × (region (separatedOf g) a b ≡ true)) (now (room .entry)) (now (room .exit)) ⌝ }
 {
-    let won = stored::won_outputs(s, g.input.states, g.output.states, cores, i);
+    let won = scratch::won_outputs(s, g.input.states, g.output.states, inner, i);
     let z = rows::layout_of(g.input.states, counters, g.output.states);
-    layout::write(room, z, i.0, won.0, sets::below(counters), 65535, 0);
+    layout::write(
+        room,
+        z,
+        i.0,
+        won.0,
+        counters::below(counters),
+        entries::NONE,
+        0,
+    );
 }
 
 // The rows of all won positions.
-fn none_rows(g: Game, s: &[u64], cores: InSet, counters: usize, room: &mut [u16])
-    requires { ⌜ Known g (now s) (cores .0) × Roomy g counters (length (now room)) ⌝ }
+fn none_rows(g: Game, s: &[u64], inner: InSet, counters: usize, room: &mut [u16])
+    requires { ⌜ Known g (now s) (bitsOf (inner .0)) × Roomy g counters (length (now room)) ⌝ }
     ensures { λ r. ⌜ Filled g (λ a h b. region (separatedOf g) a b ≡ true) (now (room .entry)) (now (room .exit)) ⌝ }
 {
     let n = g.input.states;
     let mut i: usize = 0;
     while i < n {
-        none_row(g, s, cores, counters, InState(i), room);
+        none_row(g, s, inner, counters, InState(i), room);
         i += 1;
     }
 }
 
 // The rows of the inputs of `which` and output o: the lowest move to an input that no move of o answers. Those inputs are `refused`.
 fn push_rows(g: Game, counters: usize, o: OutState, which: InSet, refused: InSet, room: &mut [u16])
-    requires { ⌜ Roomy g counters (length (now room)) × Pushes g counters (which .0) (o .0) (refused .0) ⌝ }
-    ensures { λ r. ⌜ Filled g (λ a h b. (has (which .0) a ≡ true) × (b ≡ o .0)) (now (room .entry)) (now (room .exit)) ⌝ }
+    requires { ⌜ Roomy g counters (length (now room)) × Pushes g counters (bitsOf (which .0)) (o .0) (bitsOf (refused .0)) ⌝ }
+    ensures { λ r. ⌜ Filled g (λ a h b. (has (bitsOf (which .0)) a ≡ true) × (b ≡ o .0)) (now (room .entry)) (now (room .exit)) ⌝ }
 {
     let n = g.input.states;
     let h = g.input;
     let mut rest = which.0;
-    while rest != 0 {
+    while !sets::is_empty(rest) {
         let k = sets::lowest(rest);
-        let j = unanswered(n, InSet(h.moves[k]), refused);
-        rows::put(g.output.states, counters, InState(k), o, j as u16, 64, room);
-        rest = sets::difference(rest, sets::insert(0, k));
+        let j = unanswered(n, InSet(sets::row_of(&h.moves, k)), refused);
+        let first = entries::pack(j, 0);
+        rows::put(
+            g.output.states,
+            counters,
+            InState(k),
+            o,
+            first,
+            entries::STEP,
+            room,
+        );
+        rest = sets::without_lowest(rest);
     }
 }
 
 // The inputs whose rows with an output need no walk, `moves` being its moves: those of `lone`, and all n where there is none.
 fn pushed(n: usize, lone: InSet, moves: OutSet) -> InSet
-    requires { ⌜ n ≤ 64 ⌝ }
-    ensures { λ r. ⌜ ((i : ℕ) → has (r .0) i ≡ pushedAt (moves .0) n (lone .0) i) ⌝ }
+    requires { ⌜ n ≤ capacity ⌝ }
+    ensures { λ r. ⌜ ((i : ℕ) → has (bitsOf (r .0)) i ≡ pushedAt (bitsOf (moves .0)) n (bitsOf (lone .0)) i) ⌝ }
 {
-    if moves.0 == 0 {
+    if sets::is_empty(moves.0) {
         return InSet(sets::below(n));
     }
     lone
@@ -148,45 +153,45 @@ fn pushed(n: usize, lone: InSet, moves: OutSet) -> InSet
 fn push_column(
     g: Game,
     s: &[u64],
-    cores: InSet,
+    inner: InSet,
     counters: usize,
     x: InSet,
     o: OutState,
     room: &mut [u16],
 )
-    requires { ⌜ Known g (now s) (cores .0) × Roomy g counters (length (now room)) × Pushed g (x .0) (o .0) × (o .0 < g .output .states) ⌝ }
+    requires { ⌜ Known g (now s) (bitsOf (inner .0)) × Roomy g counters (length (now room)) × Pushed g (bitsOf (x .0)) (o .0) × (o .0 < g .output .states) ⌝ }
     ensures { λ r. ⌜ Filled g (λ a h b. (unwalked g a b ≡ true) × (b ≡ o .0) × (region (separatedOf g) a b ≡ false)) (now (room .entry)) (now (room .exit)) ⌝ }
 {
     let n = g.input.states;
-    let which = environment_rows::lost(s, n, cores, x, o);
-    if which.0 == 0 {
+    let which = environment_rows::lost(s, n, inner, x, o);
+    if sets::is_empty(which.0) {
         return;
     }
-    let y = refused(s, n, g.output.states, cores, game::out_moves(g, o));
+    let y = refused(s, n, g.output.states, inner, game::out_moves(g, o));
     push_rows(g, counters, o, which, y, room);
 }
 
 // The same for every output; `lone` are the inputs in trivial components.
-fn push_columns(g: Game, s: &[u64], cores: InSet, counters: usize, lone: InSet, room: &mut [u16])
-    requires { ⌜ Known g (now s) (cores .0) × Roomy g counters (length (now room)) × Lone (g .input .states) (cores .0) (lone .0) ⌝ }
+fn push_columns(g: Game, s: &[u64], inner: InSet, counters: usize, lone: InSet, room: &mut [u16])
+    requires { ⌜ Known g (now s) (bitsOf (inner .0)) × Roomy g counters (length (now room)) × Lone (g .input .states) (bitsOf (inner .0)) (bitsOf (lone .0)) ⌝ }
     ensures { λ r. ⌜ Filled g (λ a h b. (unwalked g a b ≡ true) × (region (separatedOf g) a b ≡ false)) (now (room .entry)) (now (room .exit)) ⌝ }
 {
     let h = g.output;
     let m = h.states;
     let mut o: usize = 0;
     while o < m {
-        let x = pushed(g.input.states, lone, OutSet(h.moves[o]));
-        push_column(g, s, cores, counters, x, OutState(o), room);
+        let x = pushed(g.input.states, lone, OutSet(sets::row_of(&h.moves, o)));
+        push_column(g, s, inner, counters, x, OutState(o), room);
         o += 1;
     }
 }
 
 // All rows that need no walk: none where the position is won, and the pushes.
-pub fn plain_rows(g: Game, s: &[u64], cores: InSet, counters: usize, room: &mut [u16])
-    requires { ⌜ Known g (now s) (cores .0) × Roomy g counters (length (now room)) ⌝ }
+pub fn plain_rows(g: Game, s: &[u64], inner: InSet, counters: usize, room: &mut [u16])
+    requires { ⌜ Known g (now s) (bitsOf (inner .0)) × Roomy g counters (length (now room)) ⌝ }
     ensures { λ r. ⌜ Filled g (λ a h b. plain g a b ≡ true) (now (room .entry)) (now (room .exit)) ⌝ }
 {
-    none_rows(g, s, cores, counters, room);
-    let lone = InSet(sets::difference(sets::below(g.input.states), cores.0));
-    push_columns(g, s, cores, counters, lone, room);
+    none_rows(g, s, inner, counters, room);
+    let lone = InSet(sets::difference(sets::below(g.input.states), inner.0));
+    push_columns(g, s, inner, counters, lone, room);
 }

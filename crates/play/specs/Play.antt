@@ -6,8 +6,9 @@
 --   separatedOf g      == the two graphs and the requirements
 use mathlib.Core.List.{List}
 use lib.ListN.{getD}
+use Rattle.sets.specs.Words.{bitsOf, setsIn}
 use Rattle.finite.specs.Tabulate.{tabulate}
-use Rattle.sets.specs.Member.{has}
+use Rattle.bits.specs.Member.{has}
 use Rattle.graphs.specs.Graph.{Graph}
 use Rattle.arena.specs.Arena.{Requirement, Separated}
 use Rattle.game.specs.declared.Graph.{Graph as GraphRecord}
@@ -16,12 +17,12 @@ use Rattle.game.specs.declared.Game.{Game}
 use Rattle.game.specs.Access.{noInput, noOutput, requirementAt}
 
 unfoldable pub graphOf : GraphRecord → Graph
-graphOf g = record { states = g .states; initial = has (g .initial); moves = λ s. has (getD (g .moves) s 0) }
+graphOf g = record { states = g .states; initial = has (bitsOf (g .initial)); moves = λ s. has (getD (setsIn (g .moves)) s 0) }
 
 unfoldable pub requirementOf : RequirementRecord → Requirement
 requirementOf q = record {
-  assumptions = tabulate (q .assumed) (λ j. has (getD (q .assumptions) j noInput .0));
-  guarantees = tabulate (q .guaranteed) (λ j. has (getD (q .guarantees) j noOutput .0));
+  assumptions = tabulate (q .assumed) (λ j. has (bitsOf (getD (q .assumptions) j noInput .0)));
+  guarantees = tabulate (q .guaranteed) (λ j. has (bitsOf (getD (q .guarantees) j noOutput .0)));
 }
 
 unfoldable pub requirementsOf : Game → List Requirement

@@ -8,7 +8,8 @@ use lib.Dec.{ltb}
 use lib.ListN.{length, getD}
 use borrow.Author.Tests.{eq-eqb, ne-eqb}
 use Rattle.finite.proofs.Truth.{and-intro, and-false-left, and-false-right}
-use Rattle.sets.specs.Member.{has}
+use Rattle.sets.specs.Words.{bitsOf, setAt}
+use Rattle.bits.specs.Member.{has}
 use Rattle.graphs.specs.Graph.{edge, begins}
 use Rattle.graphs.proofs.Graph.{edge-to}
 use Rattle.game.specs.declared.InState.{InState}
@@ -62,12 +63,12 @@ module _ (g : Game) (l : List ℕ) (i : InState) where
 
   pub begun-at : acceptance g ≡ acceptance·.Accepted → fitting g l ≡ true → begins (graphOf (g .input)) (i .0) ≡ true
       → (M e : ℕ) (x : OutSet) (r : Played) → M ≡ controllerCounters (separatedOf g) → e ≡ getD l (i .0) 65535 → x ≡ outInitial g
-      → r ≡ arrives M (has (x .0)) i (answer e) → r ≡ begun g l i
+      → r ≡ arrives M (has (bitsOf (x .0))) i (answer e) → r ≡ begun g l i
   unfolding begun started controllerOf controllerTable
   begun-at a h b M e x r m q t s =
       s
-      ∙ ap (λ (y : OutSet). arrives M (has (y .0)) i (answer e)) t
-      ∙ ap (λ (k : ℕ). arrives k (has (g .output .initial)) i (answer e)) m
+      ∙ ap (λ (y : OutSet). arrives M (has (bitsOf (y .0))) i (answer e)) t
+      ∙ ap (λ (k : ℕ). arrives k (has (bitsOf (g .output .initial))) i (answer e)) m
       ∙ ap (λ (ok : ℕ → Bool). arrives (controllerCounters (separatedOf g)) ok i (answer e)) (initial-outputs g a)
       ∙ ap (λ (k : ℕ). arrives (controllerCounters (separatedOf g)) (begins (graphOf (g .output))) i (answer k)) q
       ∙ held 14 started b
@@ -120,12 +121,12 @@ module _ (g : Game) (l : List ℕ) (p : Position) (j : InState) where
         → edge (graphOf (g .input)) (p .input .0) (j .0) ≡ true
         → (w : RowIndex) (e : ℕ) (x : OutSet) (r : Played) → w ≡ record { output = p .output; counter = p .counter; input = j }
         → e ≡ rowEntry l (g .input .states) M (w .output .0) (w .counter) (w .input .0) → x ≡ outMoves g (p .output)
-        → r ≡ arrives M (has (x .0)) j (answer e) → r ≡ stepped g l p j
+        → r ≡ arrives M (has (bitsOf (x .0))) j (answer e) → r ≡ stepped g l p j
     unfolding stepped placed answered
     stepped-at a f h b w e x r z q t s =
         s
-        ∙ ap (λ (y : OutSet). arrives M (has (y .0)) j (answer e)) t
-        ∙ ap (λ (k : ℕ). arrives k (has (getD (g .output .moves) (p .output .0) 0)) j (answer e)) m
+        ∙ ap (λ (y : OutSet). arrives M (has (bitsOf (y .0))) j (answer e)) t
+        ∙ ap (λ (k : ℕ). arrives k (has (bitsOf (setAt (g .output .moves) (p .output .0)))) j (answer e)) m
         ∙ ap (λ (ok : ℕ → Bool). arrives (controllerCounters (separatedOf g)) ok j (answer e)) (output-moves g a (p .output .0) (position-in g M p h .1))
         ∙ ap (arrives (controllerCounters (separatedOf g)) (edge (graphOf (g .output)) (p .output .0)) j)
         (ap answer (q ∙ ap (λ (y : RowIndex). rowEntry l (g .input .states) M (y .output .0) (y .counter) (y .input .0)) z) ∙ row-of a h b)

@@ -4,6 +4,12 @@ use game::Graph;
 use game::InSet;
 use game::OutSet;
 use game::Requirement;
+use sets::Set;
+
+// The set that a word holds.
+fn set_of(x: u64) -> Set {
+    Set { low: x }
+}
 
 // A graph of three states with initial state 0.
 fn graph(a: u64, b: u64, c: u64) -> Graph {
@@ -13,28 +19,30 @@ fn graph(a: u64, b: u64, c: u64) -> Graph {
     moves[2] = c;
     Graph {
         states: 3,
-        initial: 1,
+        initial: set_of(1),
         moves,
     }
 }
 
 fn unused() -> Requirement {
+    let x = InSet(set_of(0));
+    let y = OutSet(set_of(0));
     Requirement {
-        assumptions: [InSet(0); 4],
+        assumptions: [x; 4],
         assumed: 0,
-        guarantees: [OutSet(0); 4],
+        guarantees: [y; 4],
         guaranteed: 0,
     }
 }
 
 // If the set recurs in the input, it recurs in the output.
 fn echo(set: u64) -> Requirement {
-    Requirement {
-        assumptions: [InSet(set), InSet(0), InSet(0), InSet(0)],
-        assumed: 1,
-        guarantees: [OutSet(set), OutSet(0), OutSet(0), OutSet(0)],
-        guaranteed: 1,
-    }
+    let mut q = unused();
+    q.assumptions[0] = InSet(set_of(set));
+    q.assumed = 1;
+    q.guarantees[0] = OutSet(set_of(set));
+    q.guaranteed = 1;
+    q
 }
 
 // Inputs 0 to 1 and 2; 1, 2 to themselves. Outputs 0 to 1 and 2; 1 to 0; 2 to itself. If {s} then {s}, s = 0, 1, 2.
@@ -56,7 +64,7 @@ fn graph_fault(mut h: Graph, n: usize) -> Graph {
     match n {
         1 => h.states = 65,
         2 => h.moves[2] = 8,
-        3 => h.initial = 0,
+        3 => h.initial = set_of(0),
         _ => (),
     }
     h

@@ -1,5 +1,5 @@
 -- No text of a game is longer than a file may be.
-use Prim.Native.Nat.{ℕ, zero, suc, _+_, _*_, _-_, _/_, _%_, _≤_, _<_}
+use Prim.Native.Nat.{ℕ, zero, suc, _+_, _*_, _-_, _/_, _%_, _≤_, _<_, _^_}
 use native.Mathlib.Omega.{arith}
 use mathlib.Core.Bool.{Bool, true, false}
 use mathlib.Core.List.{List, [], _∷_, _++_, map}
@@ -8,15 +8,17 @@ use lib.Dec.{ltb}
 use lib.ListN.{length, getD, length-append}
 use borrow.Author.Tests.{ltb-true, ltb-false}
 use Rattle.finite.specs.Bounded.{one}
-use Rattle.sets.specs.Member.{has}
+use Rattle.bits.specs.Member.{has}
+use Rattle.sets.specs.Words.{capacity}
 use Rattle.grammar.specs.Number.{decimal}
 use Rattle.grammar.proofs.Format.{by-cases}
 use Rattle.grammar.proofs.Number.{decimal-one, decimal-step}
 use Rattle.game.specs.Access.{noRequirement}
-use Rattle.game.specs.declared.Graph.{Graph}
 use Rattle.game.specs.declared.Requirement.{Requirement}
 use Rattle.game.specs.declared.Game.{Game}
 use Rattle.shape.specs.Text.{
+  PlainGraph,
+  plain,
   gapText,
   items,
   members,
@@ -74,7 +76,12 @@ members-short (suc n) lo x gap h =
 set-short : (x : ℕ) → length (setText x) ≤ 194
 unfolding setRest
 set-short x =
-    omega (arith, ap length (set-open x), length-append (items false (map decimal (members 64 0 x))) (41 ∷ []), members-short 64 0 x false (omega arith))
+    omega (
+      arith,
+      ap length (set-open x),
+      length-append (items false (map decimal (members capacity 0 x))) (41 ∷ []),
+      members-short capacity 0 x false (omega arith),
+    )
 
 cells-short : (n j : ℕ) (ws : List ℕ) (gap : Bool) → length (items gap (map setText (cells n j ws))) ≤ 195 * n
 unfolding cells items
@@ -82,7 +89,7 @@ cells-short zero j ws gap = omega arith
 cells-short (suc n) j ws gap =
     omega (arith, item-short gap (setText (getD ws j 0)) (map setText (cells n (suc j) ws)), set-short (getD ws j 0), cells-short n (suc j) ws true)
 
-pub sets-short : (n : ℕ) (ws : List ℕ) → n ≤ 4 → length (setsText n ws) ≤ 782
+sets-short : (n : ℕ) (ws : List ℕ) → n ≤ 4 → length (setsText n ws) ≤ 782
 unfolding setsRest
 sets-short n ws h =
     let all : n - 0 ≡ n = omega arith in
@@ -99,7 +106,7 @@ unfolding one
 one-short true = omega arith
 one-short false = omega arith
 
-states-short : (w n s : ℕ) (h : Graph) → s + n ≤ 64 → length (stateLines w n s h) ≤ 215 * n
+states-short : (w n s : ℕ) (h : PlainGraph) → s + n ≤ capacity → length (stateLines w n s h) ≤ 215 * n
 unfolding stateLines
 states-short w zero s h l = omega arith
 states-short w (suc n) s h l =
@@ -141,8 +148,8 @@ requirements-short (suc n) r qs F =
 
 pub game-short : (g : Game) → Writable g → length (gameText g) ≤ 40960
 game-short g W =
-    let i : g .input .states ≤ 64 = W .inputs in
-    let o : g .output .states ≤ 64 = W .outputs in
+    let i : g .input .states ≤ capacity = W .inputs in
+    let o : g .output .states ≤ capacity = W .outputs in
     let k : g .k ≤ 8 = W .k in
     omega (
       arith,
@@ -152,7 +159,7 @@ game-short g W =
       number-short (g .input .states) 32 (omega arith),
       number-short (g .output .states) 32 (omega arith),
       number-short (g .k) 41 (omega arith),
-      states-short 1 (g .input .states) 0 (g .input) (omega arith),
-      states-short 2 (g .output .states) 0 (g .output) (omega arith),
+      states-short 1 (g .input .states) 0 (plain (g .input)) (omega arith),
+      states-short 2 (g .output .states) 0 (plain (g .output)) (omega arith),
       requirements-short (g .k) 0 (g .requirements) (λ r p q. W .sets r (omega arith)),
     )

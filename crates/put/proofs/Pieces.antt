@@ -7,9 +7,11 @@ use mathlib.Core.List.{List, [], _∷_, _++_, map, append-assoc, append-nil}
 use mathlib.Core.Path.{_≡_, refl, sym, _∙_, ap, subst}
 use lib.ListN.{length, getD, drop, length-append, drop-of-length-le}
 use lib.Seq.{drop-cons}
+use Rattle.sets.specs.Words.{capacity, bitsOf, setsIn, noStates}
+use Rattle.sets.proofs.Rows.{no-bits}
 use Rattle.finite.specs.Bounded.{one}
 use Rattle.finite.proofs.Truth.{clash}
-use Rattle.sets.specs.Member.{has}
+use Rattle.bits.specs.Member.{has}
 use Rattle.grammar.specs.Number.{decimal}
 use Rattle.game.specs.Access.{noRequirement}
 use Rattle.game.specs.declared.InSet.{InSet}
@@ -18,6 +20,8 @@ use Rattle.game.specs.declared.Graph.{Graph}
 use Rattle.game.specs.declared.Requirement.{Requirement}
 use Rattle.game.specs.declared.Game.{Game}
 use Rattle.shape.specs.Text.{
+  PlainGraph,
+  plain,
   gapText,
   items,
   bracket,
@@ -57,33 +61,33 @@ bytes-end {d} {i} {e} {at} l k R h = remains-none (subst (λ (t : List ℕ). Rem
 
 -- a set: the members from s on, and the closing bracket
 unfoldable pub setRest : Bool → ℕ → ℕ → List ℕ
-setRest gap s x = items gap (map decimal (members (64 - s) s x)) ++ 41 ∷ []
+setRest gap s x = items gap (map decimal (members (capacity - s) s x)) ++ 41 ∷ []
 
 pub set-open : (x : ℕ) → 40 ∷ [] ++ setRest false 0 x ≡ setText x
 unfolding setRest setText bracket
 set-open x = refl
 
 module _ (gap : Bool) (s x : ℕ) where
-  pub set-take : s < 64 → has x s ≡ true → setRest gap s x ≡ (gapText gap ++ decimal s) ++ setRest true (s + 1) x
+  pub set-take : s < capacity → has x s ≡ true → setRest gap s x ≡ (gapText gap ++ decimal s) ++ setRest true (s + 1) x
   unfolding setRest
   set-take l h =
-      let split : 64 - s ≡ suc (64 - (s + 1)) = omega arith in
+      let split : capacity - s ≡ suc (capacity - (s + 1)) = omega arith in
       ap (λ (n : ℕ). items gap (map decimal (members n s x)) ++ 41 ∷ []) split
-      ∙ ap (λ (ms : List ℕ). items gap (map decimal ms) ++ 41 ∷ []) (members-take (64 - (s + 1)) s x h)
-      ∙ ap (λ (n : ℕ). items gap (map decimal (s ∷ members (64 - (s + 1)) n x)) ++ 41 ∷ []) (sym (add-one s))
-      ∙ item-text gap (decimal s) (map decimal (members (64 - (s + 1)) (s + 1) x)) ∙ sym (append-assoc (gapText gap) (decimal s) _)
+      ∙ ap (λ (ms : List ℕ). items gap (map decimal ms) ++ 41 ∷ []) (members-take (capacity - (s + 1)) s x h)
+      ∙ ap (λ (n : ℕ). items gap (map decimal (s ∷ members (capacity - (s + 1)) n x)) ++ 41 ∷ []) (sym (add-one s))
+      ∙ item-text gap (decimal s) (map decimal (members (capacity - (s + 1)) (s + 1) x)) ∙ sym (append-assoc (gapText gap) (decimal s) _)
 
-  pub set-skip : s < 64 → has x s ≡ false → setRest gap s x ≡ setRest gap (s + 1) x
+  pub set-skip : s < capacity → has x s ≡ false → setRest gap s x ≡ setRest gap (s + 1) x
   unfolding setRest
   set-skip l h =
-      let split : 64 - s ≡ suc (64 - (s + 1)) = omega arith in
+      let split : capacity - s ≡ suc (capacity - (s + 1)) = omega arith in
       ap (λ (n : ℕ). items gap (map decimal (members n s x)) ++ 41 ∷ []) split
-      ∙ ap (λ (ms : List ℕ). items gap (map decimal ms) ++ 41 ∷ []) (members-skip (64 - (s + 1)) s x h)
-      ∙ ap (λ (n : ℕ). items gap (map decimal (members (64 - (s + 1)) n x)) ++ 41 ∷ []) (sym (add-one s))
+      ∙ ap (λ (ms : List ℕ). items gap (map decimal ms) ++ 41 ∷ []) (members-skip (capacity - (s + 1)) s x h)
+      ∙ ap (λ (n : ℕ). items gap (map decimal (members (capacity - (s + 1)) n x)) ++ 41 ∷ []) (sym (add-one s))
 
-  pub set-last : 64 ≤ s → setRest gap s x ≡ 41 ∷ []
+  pub set-last : capacity ≤ s → setRest gap s x ≡ 41 ∷ []
   unfolding setRest members items
-  set-last l = let none : 64 - s ≡ 0 = omega arith in ap (λ (n : ℕ). items gap (map decimal (members n s x)) ++ 41 ∷ []) none
+  set-last l = let none : capacity - s ≡ 0 = omega arith in ap (λ (n : ℕ). items gap (map decimal (members n s x)) ++ 41 ∷ []) none
 
 -- a list of sets: those from j on, and the closing bracket
 unfoldable pub setsRest : Bool → ℕ → ℕ → List ℕ → List ℕ
@@ -108,14 +112,14 @@ module _ (gap : Bool) (j n : ℕ) (ws : List ℕ) where
   unfolding setsRest items cells
   sets-last l = let none : n - j ≡ 0 = omega arith in ap (λ (k : ℕ). items gap (map setText (cells k j ws)) ++ 41 ∷ []) none
 
--- a set among others, as a word
-pub in-word : (xs : List InSet) (j : ℕ) → getD xs j (record { 0 = 0 }) .0 ≡ getD (inWords xs) j 0
-in-word [] j = refl
+-- the number of a set among others
+pub in-word : (xs : List InSet) (j : ℕ) → bitsOf (getD xs j (record { 0 = noStates }) .0) ≡ getD (inWords xs) j 0
+in-word [] j = no-bits
 in-word (x ∷ xs) zero = refl
 in-word (x ∷ xs) (suc j) = in-word xs j
 
-pub out-word : (xs : List OutSet) (j : ℕ) → getD xs j (record { 0 = 0 }) .0 ≡ getD (outWords xs) j 0
-out-word [] j = refl
+pub out-word : (xs : List OutSet) (j : ℕ) → bitsOf (getD xs j (record { 0 = noStates }) .0) ≡ getD (outWords xs) j 0
+out-word [] j = no-bits
 out-word (x ∷ xs) zero = refl
 out-word (x ∷ xs) (suc j) = out-word xs j
 
@@ -137,17 +141,17 @@ requirement-pieces q = simp (append-assoc, append-nil)
 
 -- states
 module _ (w n s : ℕ) (h : Graph) where
-  pub states-take : (f x : ℕ) → s < n → f ≡ one (has (h .initial) s) → x ≡ getD (h .moves) s 0
-      → stateLines w (n - s) s h ≡ stateLine w s f x ++ stateLines w (n - (s + 1)) (s + 1) h
-  unfolding stateLines
+  pub states-take : (f x : ℕ) → s < n → f ≡ one (has (bitsOf (h .initial)) s) → x ≡ getD (setsIn (h .moves)) s 0
+      → stateLines w (n - s) s (plain h) ≡ stateLine w s f x ++ stateLines w (n - (s + 1)) (s + 1) (plain h)
+  unfolding stateLines plain
   states-take f x l p q =
       let split : n - s ≡ suc (n - (s + 1)) = omega arith in
-      ap (λ (k : ℕ). stateLines w k s h) split
-      ∙ (λ i. stateLine w s (sym p i) (sym q i) ++ stateLines w (n - (s + 1)) (sym (add-one s) i) h)
+      ap (λ (k : ℕ). stateLines w k s (plain h)) split
+      ∙ (λ i. stateLine w s (sym p i) (sym q i) ++ stateLines w (n - (s + 1)) (sym (add-one s) i) (plain h))
 
-  pub states-last : n ≤ s → stateLines w (n - s) s h ≡ []
+  pub states-last : n ≤ s → stateLines w (n - s) s (plain h) ≡ []
   unfolding stateLines
-  states-last l = let none : n - s ≡ 0 = omega arith in ap (λ (k : ℕ). stateLines w k s h) none
+  states-last l = let none : n - s ≡ 0 = omega arith in ap (λ (k : ℕ). stateLines w k s (plain h)) none
 
 -- requirements
 module _ (n r : ℕ) (qs : List Requirement) where
@@ -194,7 +198,7 @@ sets-room at k n ws l = omega (arith, ap length (sets-open k ws))
 
 -- the room of the next piece
 module _ {d : List ℕ} {i : ℕ} {all e : List ℕ} {at : ℕ} where
-  pub member-room : (gap : Bool) (s x n : ℕ) → Remains d i all e at (setRest gap s x) → s < 64 → has x s ≡ true → i + length all ≤ n
+  pub member-room : (gap : Bool) (s x n : ℕ) → Remains d i all e at (setRest gap s x) → s < capacity → has x s ≡ true → i + length all ≤ n
       → at + length (gapText gap ++ decimal s) ≤ n
   member-room gap s x n R l h g = remains-room (gapText gap ++ decimal s) (setRest true (s + 1) x) n R (set-take gap s x l h) g
 
@@ -202,10 +206,10 @@ module _ {d : List ℕ} {i : ℕ} {all e : List ℕ} {at : ℕ} where
       → at + length (gapText gap ++ setText x) ≤ n
   item-room gap j k ws x n R l h g = remains-room (gapText gap ++ setText x) (setsRest true (j + 1) k ws) n R (sets-take gap j k ws x l h) g
 
-  pub state-room : (w k s : ℕ) (h : Graph) (f x n : ℕ) → Remains d i all e at (stateLines w (k - s) s h) → s < k → f ≡ one (has (h .initial) s)
-      → x ≡ getD (h .moves) s 0
+  pub state-room : (w k s : ℕ) (h : Graph) (f x n : ℕ) → Remains d i all e at (stateLines w (k - s) s (plain h)) → s < k
+      → f ≡ one (has (bitsOf (h .initial)) s) → x ≡ getD (setsIn (h .moves)) s 0
       → i + length all ≤ n → at + length (stateLine w s f x) ≤ n
-  state-room w k s h f x n R l p q g = remains-room (stateLine w s f x) (stateLines w (k - (s + 1)) (s + 1) h) n R (states-take w k s h f x l p q) g
+  state-room w k s h f x n R l p q g = remains-room (stateLine w s f x) (stateLines w (k - (s + 1)) (s + 1) (plain h)) n R (states-take w k s h f x l p q) g
 
   pub requirement-room : (k r : ℕ) (qs : List Requirement) (q : Requirement) (n : ℕ) → Remains d i all e at (requirementLines (k - r) r qs) → r < k
       → requirementLine q ≡ requirementLine (getD qs r emptyRequirement) → i + length all ≤ n → at + length (requirementLine q) ≤ n
@@ -243,13 +247,15 @@ requirement-length q =
 pub game-length : (g : Game)
     → length (gameText g)
     ≡ length (headerLine (g .input .states) (g .output .states) (g .k))
-    + (length (stateLines 1 (g .input .states) 0 (g .input)) +
-    (length (stateLines 2 (g .output .states) 0 (g .output)) + length (requirementLines (g .k) 0 (g .requirements))))
+    + (length (stateLines 1 (g .input .states) 0 (plain (g .input))) +
+    (length (stateLines 2 (g .output .states) 0 (plain (g .output))) + length (requirementLines (g .k) 0 (g .requirements))))
 unfolding gameText
 game-length g =
     length-append (headerLine (g .input .states) (g .output .states) (g .k)) _
-    ∙ ap (λ (n : ℕ). length (headerLine (g .input .states) (g .output .states) (g .k)) + n) (length-append (stateLines 1 (g .input .states) 0 (g .input)) _
-    ∙ ap (λ (n : ℕ). length (stateLines 1 (g .input .states) 0 (g .input)) + n) (length-append (stateLines 2 (g .output .states) 0 (g .output)) _))
+    ∙ ap (λ (n : ℕ). length (headerLine (g .input .states) (g .output .states) (g .k)) + n)
+    (length-append (stateLines 1 (g .input .states) 0 (plain (g .input))) _
+    ∙ ap (λ (n : ℕ). length (stateLines 1 (g .input .states) 0 (plain (g .input))) + n)
+    (length-append (stateLines 2 (g .output .states) 0 (plain (g .output))) _))
 
 -- a requirement past the end of a list has no sets
 pub requirement-past : (qs : List Requirement) (r : ℕ) → requirementLine (getD qs r noRequirement) ≡ requirementLine (getD qs r emptyRequirement)
@@ -259,7 +265,7 @@ requirement-past (q ∷ qs) zero = refl
 requirement-past (q ∷ qs) (suc r) = requirement-past qs r
 
 -- nothing is written yet
-pub states-none : (w n : ℕ) (h : Graph) → stateLines w n 0 h ≡ stateLines w (n - 0) 0 h
+pub states-none : (w n : ℕ) (h : PlainGraph) → stateLines w n 0 h ≡ stateLines w (n - 0) 0 h
 states-none w n h = let all : n ≡ n - 0 = omega arith in ap (λ (k : ℕ). stateLines w k 0 h) all
 
 pub requirements-none : (n : ℕ) (qs : List Requirement) → requirementLines n 0 qs ≡ requirementLines (n - 0) 0 qs

@@ -8,6 +8,7 @@ use Prim.Native.Nat.{ℕ, _+_, _≤_, _<_}
 use mathlib.Core.List.{List, [], _∷_}
 use mathlib.Core.Path.{_≡_}
 use lib.ListN.{length, set}
+use Rattle.sets.specs.Words.{capacity}
 use Rattle.game.specs.declared.Requirement.{Requirement}
 use Rattle.game.specs.declared.Game.{Game}
 use Rattle.game.specs.Access.{requirementAt}
@@ -25,7 +26,7 @@ pub record Few (q : Requirement) : Type 0 where
   pub guaranteed : q .guaranteed ≤ 4
 
 pub record Writable (g : Game) : Type 0 where
-  pub inputs : g .input .states ≤ 64
-  pub outputs : g .output .states ≤ 64
+  pub inputs : g .input .states ≤ capacity
+  pub outputs : g .output .states ≤ capacity
   pub k : g .k ≤ 8
   pub sets : (r : ℕ) → r < g .k → Few (requirementAt g r)

@@ -3,18 +3,22 @@
 use game::Game;
 use game::Graph;
 use game::Requirement;
+use sets::Set;
 use shape::words;
 ghost use mathlib.Core.Path.{_≡_};
 ghost use mathlib.Core.List.{[], _∷_, _++_};
 ghost use Prim.Native.Nat.{_+_, _<_, _≤_, _^_};
 ghost use lib.ListN.{length};
+ghost use Rattle.sets.specs.Words.{capacity, bitsOf};
 ghost use Rattle.grammar.specs.Number.{decimal};
-ghost use Rattle.shape.specs.Text.{gapText, setText, setsText, headerLine, stateLine, stateLines};
+ghost use Rattle.shape.specs.Text.{plain, gapText, setText, setsText, headerLine, stateLine, stateLines};
 ghost use Rattle.shape.specs.Text.{inWords, outWords, requirementLine, requirementLines, gameText};
 ghost use Rattle.finite.specs.Bounded.{one};
-ghost use Rattle.sets.specs.Member.{has};
+ghost use Rattle.bits.specs.Member.{has};
 ghost use Rattle.shape.specs.Shape.{opening};
 ghost use Rattle.put.specs.Put.{Puts, Few, Writable};
+
+const ZERO: usize = b'0' as usize;
 
 // One byte.
 pub fn put_byte(buffer: &mut [u8], at: usize, b: u8) -> usize
@@ -34,10 +38,10 @@ pub fn put_number(buffer: &mut [u8], at: usize, v: usize) -> usize
     ensures { λ r. ⌜ Puts (now (buffer .entry)) at (decimal v) r (now (buffer .exit)) ⌝ }
 {
     if v < 10 {
-        return put_byte(buffer, at, (48 + v) as u8);
+        return put_byte(buffer, at, (ZERO + v) as u8);
     }
     let m = put_number(buffer, at, v / 10);
-    put_byte(buffer, m, (48 + v % 10) as u8)
+    put_byte(buffer, m, (ZERO + v % 10) as u8)
 }
 
 // A decimal number and the byte b.
@@ -70,8 +74,8 @@ pub fn put_end(buffer: &mut [u8], at: usize) -> usize
     requires { ⌜ at + 2 ≤ 2 ^ 32 ⌝ }
     ensures { λ r. ⌜ Puts (now (buffer .entry)) at (41 ∷ 10 ∷ []) r (now (buffer .exit)) ⌝ }
 {
-    let m = put_byte(buffer, at, 41);
-    put_byte(buffer, m, 10)
+    let m = put_byte(buffer, at, b')');
+    put_byte(buffer, m, b'\n')
 }
 
 // A blank where gap holds, and a decimal number.
@@ -80,21 +84,21 @@ fn put_member(buffer: &mut [u8], at: usize, gap: bool, v: usize) -> usize
     ensures { λ r. ⌜ Puts (now (buffer .entry)) at (gapText gap ++ decimal v) r (now (buffer .exit)) ⌝ }
 {
     if gap {
-        let m = put_byte(buffer, at, 32);
+        let m = put_byte(buffer, at, b' ');
         return put_number(buffer, m, v);
     }
     put_number(buffer, at, v)
 }
 
 // A set.
-pub fn put_set(buffer: &mut [u8], at: usize, x: u64) -> usize
-    requires { ⌜ at + length (setText x) ≤ 2 ^ 32 ⌝ }
-    ensures { λ r. ⌜ Puts (now (buffer .entry)) at (setText x) r (now (buffer .exit)) ⌝ }
+pub fn put_set(buffer: &mut [u8], at: usize, x: Set) -> usize
+    requires { ⌜ at + length (setText (bitsOf x)) ≤ 2 ^ 32 ⌝ }
+    ensures { λ r. ⌜ Puts (now (buffer .entry)) at (setText (bitsOf x)) r (now (buffer .exit)) ⌝ }
 {
-    let mut to = put_byte(buffer, at, 40);
+    let mut to = put_byte(buffer, at, b'(');
     let mut gap = false;
     let mut s: usize = 0;
-    while s < 64 {
+    while s < sets::CAPACITY {
         if sets::member(x, s) {
             to = put_member(buffer, to, gap, s);
             gap = true;
@@ -103,16 +107,16 @@ pub fn put_set(buffer: &mut [u8], at: usize, x: u64) -> usize
         }
         s += 1;
     }
-    put_byte(buffer, to, 41)
+    put_byte(buffer, to, b')')
 }
 
 // A blank where gap holds, and a set.
-fn put_item(buffer: &mut [u8], at: usize, gap: bool, x: u64) -> usize
-    requires { ⌜ at + length (gapText gap ++ setText x) ≤ 2 ^ 32 ⌝ }
-    ensures { λ r. ⌜ Puts (now (buffer .entry)) at (gapText gap ++ setText x) r (now (buffer .exit)) ⌝ }
+fn put_item(buffer: &mut [u8], at: usize, gap: bool, x: Set) -> usize
+    requires { ⌜ at + length (gapText gap ++ setText (bitsOf x)) ≤ 2 ^ 32 ⌝ }
+    ensures { λ r. ⌜ Puts (now (buffer .entry)) at (gapText gap ++ setText (bitsOf x)) r (now (buffer .exit)) ⌝ }
 {
     if gap {
-        let m = put_byte(buffer, at, 32);
+        let m = put_byte(buffer, at, b' ');
         return put_set(buffer, m, x);
     }
     put_set(buffer, at, x)
@@ -124,7 +128,7 @@ fn put_assumptions(buffer: &mut [u8], at: usize, q: Requirement) -> usize
     ensures { λ r. ⌜ Puts (now (buffer .entry)) at (setsText (q .assumed) (inWords (q .assumptions))) r (now (buffer .exit)) ⌝ }
 {
     let n = q.assumed;
-    let mut to = put_byte(buffer, at, 40);
+    let mut to = put_byte(buffer, at, b'(');
     let mut gap = false;
     let mut j: usize = 0;
     while j < n {
@@ -133,7 +137,7 @@ fn put_assumptions(buffer: &mut [u8], at: usize, q: Requirement) -> usize
         gap = true;
         j += 1;
     }
-    put_byte(buffer, to, 41)
+    put_byte(buffer, to, b')')
 }
 
 // The list of a requirement's guarantees.
@@ -142,7 +146,7 @@ fn put_guarantees(buffer: &mut [u8], at: usize, q: Requirement) -> usize
     ensures { λ r. ⌜ Puts (now (buffer .entry)) at (setsText (q .guaranteed) (outWords (q .guarantees))) r (now (buffer .exit)) ⌝ }
 {
     let n = q.guaranteed;
-    let mut to = put_byte(buffer, at, 40);
+    let mut to = put_byte(buffer, at, b'(');
     let mut gap = false;
     let mut j: usize = 0;
     while j < n {
@@ -151,7 +155,7 @@ fn put_guarantees(buffer: &mut [u8], at: usize, q: Requirement) -> usize
         gap = true;
         j += 1;
     }
-    put_byte(buffer, to, 41)
+    put_byte(buffer, to, b')')
 }
 
 // The line (game I O K).
@@ -160,28 +164,28 @@ fn put_header(buffer: &mut [u8], at: usize, i: usize, o: usize, k: usize) -> usi
     ensures { λ r. ⌜ Puts (now (buffer .entry)) at (headerLine i o k) r (now (buffer .exit)) ⌝ }
 {
     let a = put_opening(buffer, at, 0);
-    let b = put_number_then(buffer, a, i, 32);
-    let c = put_number_then(buffer, b, o, 32);
-    let d = put_number_then(buffer, c, k, 41);
-    put_byte(buffer, d, 10)
+    let b = put_number_then(buffer, a, i, b' ');
+    let c = put_number_then(buffer, b, o, b' ');
+    let d = put_number_then(buffer, c, k, b')');
+    put_byte(buffer, d, b'\n')
 }
 
 // The line of state s, whose flag is f and whose moves are x, by the word w.
-fn put_state(buffer: &mut [u8], at: usize, w: usize, s: usize, f: usize, x: u64) -> usize
-    requires { ⌜ (w < 10) × (at + length (stateLine w s f x) ≤ 2 ^ 32) ⌝ }
-    ensures { λ r. ⌜ Puts (now (buffer .entry)) at (stateLine w s f x) r (now (buffer .exit)) ⌝ }
+fn put_state(buffer: &mut [u8], at: usize, w: usize, s: usize, f: usize, x: Set) -> usize
+    requires { ⌜ (w < 10) × (at + length (stateLine w s f (bitsOf x)) ≤ 2 ^ 32) ⌝ }
+    ensures { λ r. ⌜ Puts (now (buffer .entry)) at (stateLine w s f (bitsOf x)) r (now (buffer .exit)) ⌝ }
 {
     let a = put_opening(buffer, at, w);
-    let b = put_number_then(buffer, a, s, 32);
-    let c = put_number_then(buffer, b, f, 32);
+    let b = put_number_then(buffer, a, s, b' ');
+    let c = put_number_then(buffer, b, f, b' ');
     let d = put_set(buffer, c, x);
     put_end(buffer, d)
 }
 
 // 1 if state s is in x, else 0.
-fn flag(x: u64, s: usize) -> usize
-    requires { ⌜ s < 64 ⌝ }
-    ensures { λ r. ⌜ r ≡ one (has x s) ⌝ }
+fn flag(x: Set, s: usize) -> usize
+    requires { ⌜ s < capacity ⌝ }
+    ensures { λ r. ⌜ r ≡ one (has (bitsOf x) s) ⌝ }
 {
     if sets::member(x, s) {
         return 1;
@@ -191,15 +195,15 @@ fn flag(x: u64, s: usize) -> usize
 
 // The lines of a graph's states, by the word w.
 fn put_states(buffer: &mut [u8], at: usize, w: usize, h: Graph) -> usize
-    requires { ⌜ (w < 10) × (h .states ≤ 64) × (at + length (stateLines w (h .states) 0 h) ≤ 2 ^ 32) ⌝ }
-    ensures { λ r. ⌜ Puts (now (buffer .entry)) at (stateLines w (h .states) 0 h) r (now (buffer .exit)) ⌝ }
+    requires { ⌜ (w < 10) × (h .states ≤ capacity) × (at + length (stateLines w (h .states) 0 (plain h)) ≤ 2 ^ 32) ⌝ }
+    ensures { λ r. ⌜ Puts (now (buffer .entry)) at (stateLines w (h .states) 0 (plain h)) r (now (buffer .exit)) ⌝ }
 {
     let n = h.states;
     let initial = h.initial;
     let mut to = at;
     let mut s: usize = 0;
     while s < n {
-        let x = h.moves[s];
+        let x = sets::row_of(&h.moves, s);
         let f = flag(initial, s);
         to = put_state(buffer, to, w, s, f, x);
         s += 1;
@@ -214,7 +218,7 @@ fn put_requirement(buffer: &mut [u8], at: usize, q: Requirement) -> usize
 {
     let a = put_opening(buffer, at, 3);
     let b = put_assumptions(buffer, a, q);
-    let c = put_byte(buffer, b, 32);
+    let c = put_byte(buffer, b, b' ');
     let d = put_guarantees(buffer, c, q);
     put_end(buffer, d)
 }

@@ -1,62 +1,69 @@
 // The region's rows, one input after the other: those of the inputs that reach k states.
 ghost use mathlib.Core.Path.{_≡_};
 ghost use Prim.Native.Nat.{_+_, _≤_, _<_};
-ghost use lib.ListN.{length};
-ghost use Rattle.sets.specs.Member.{pack};
+ghost use Rattle.bits.specs.Member.{pack};
+ghost use Rattle.sets.specs.Words.{bitsOf, setsIn, setCount};
 ghost use Rattle.graphs.specs.Component.{joined};
 ghost use Rattle.play.specs.Play.{graphOf, separatedOf};
-ghost use Rattle.stored.specs.Stored.{storedRow};
+ghost use Rattle.scratch.specs.Stored.{storedRow};
 ghost use Rattle.dues.specs.Dues.{Serving};
-ghost use Rattle.ranks.specs.Fill.{RowReady, EarlierReady, reach, NextAt, Filling, Kept};
+ghost use Rattle.ranks.specs.Fill.{RowReady, EarlierReady, reach, NextAt, Filling, PastKept};
 use dues::Servers;
 use game::Game;
+use game::InSet;
+use game::InState;
+use game::OutSet;
+use scratch::Nontrivial;
 
 // The region's row of input i, a being its component, where the rows of the inputs that reach fewer states stand.
-fn stored_row(g: Game, t: Servers, s: &[u64], cores: u64, turning: u64, a: u64, i: usize) -> u64
-    requires { ⌜ RowReady g (now s) cores turning i × Serving g (t .outputs) × (a ≡ pack (g .input .states) (joined (graphOf (g .input)) i)) ⌝ }
-    ensures { λ r. ⌜ r ≡ storedRow (separatedOf g) i ⌝ }
+fn stored_row(g: Game, t: Servers, s: &[u64], x: Nontrivial, a: InSet, i: InState) -> OutSet
+    requires { ⌜ RowReady g (now s) x (i .0) × Serving g (t .outputs)
+        × (bitsOf (a .0) ≡ pack (g .input .states) (joined (graphOf (g .input)) (i .0))) ⌝ }
+    ensures { λ r. ⌜ bitsOf (r .0) ≡ storedRow (separatedOf g) (i .0) ⌝ }
 {
-    if sets::member(cores, i) {
+    let c = x.inputs;
+    if sets::member(c.0, i.0) {
         let h = g.input;
         let m = g.output.states;
-        let among = dues::accepted(g, t, a, turning);
-        return homes::home_row(s, h.states, m, cores, components::leaving(h, a), among);
+        let among = dues::accepted(g, t, a, x.outputs);
+        let entered = InSet(components::leaving(h, a.0));
+        return homes::home_row(s, h.states, m, c, entered, among);
     }
-    replies::reply_row(g, s, cores, i)
+    replies::reply_row(g, s, c, i)
 }
 
 // The same, taken from the first input of the component where that has been worked out.
-fn row_for(g: Game, t: Servers, s: &[u64], cores: u64, turning: u64, i: usize) -> u64
-    requires { ⌜ RowReady g (now s) cores turning i × EarlierReady g (now s) i × Serving g (t .outputs) ⌝ }
-    ensures { λ r. ⌜ r ≡ storedRow (separatedOf g) i ⌝ }
+fn row_for(g: Game, t: Servers, s: &[u64], x: Nontrivial, i: InState) -> OutSet
+    requires { ⌜ RowReady g (now s) x (i .0) × EarlierReady g (now s) (i .0) × Serving g (t .outputs) ⌝ }
+    ensures { λ r. ⌜ bitsOf (r .0) ≡ storedRow (separatedOf g) (i .0) ⌝ }
 {
     let n = g.input.states;
-    let a = components::component(s, n, i);
-    let f = sets::lowest(a);
-    if f < i {
-        return s[n + f];
+    let a = scratch::in_component(s, n, i);
+    let f = sets::lowest(a.0);
+    if f < i.0 {
+        return scratch::region_row(s, n, InState(f));
     }
-    stored_row(g, t, s, cores, turning, a, i)
+    stored_row(g, t, s, x, a, i)
 }
 
 // Writes the row of input i, where the rows of the inputs that come before it stand.
-fn place(g: Game, t: Servers, s: &mut [u64], cores: u64, turning: u64, i: usize)
-    requires { ⌜ Filling g cores turning (now s) (reach (now s) i) i × Serving g (t .outputs) × (i < g .input .states) ⌝ }
-    ensures { λ _. ⌜ Filling g cores turning (now (s .exit)) (reach (now (s .entry)) i) (i + 1) × Kept g (now (s .entry)) (now (s .exit)) ⌝ }
+fn place(g: Game, t: Servers, s: &mut [u64], x: Nontrivial, i: InState)
+    requires { ⌜ Filling g x (now s) (reach (setsIn (now s)) (i .0)) (i .0) × Serving g (t .outputs) × (i .0 < g .input .states) ⌝ }
+    ensures { λ _. ⌜ Filling g x (now (s .exit)) (reach (setsIn (now (s .entry))) (i .0)) (i .0 + 1) × PastKept g (now (s .entry)) (now (s .exit)) ⌝ }
 {
     let n = g.input.states;
-    let r = row_for(g, t, s, cores, turning, i);
-    s[n + i] = r;
+    let r = row_for(g, t, s, x, i);
+    scratch::put_region_row(s, n, i, r);
 }
 
 // The first of n inputs, from input i on, that reaches k states; n where none does. It needs no game, so that passing over an input costs little.
 fn next_at(s: &[u64], n: usize, k: usize, i: usize) -> usize
-    requires { ⌜ (i ≤ n) × (n ≤ length (now s)) ⌝ }
-    ensures { λ r. ⌜ NextAt (now (s .entry)) n k i r ⌝ }
+    requires { ⌜ (i ≤ n) × (n ≤ setCount (now s)) ⌝ }
+    ensures { λ r. ⌜ NextAt (setsIn (now (s .entry))) n k i r ⌝ }
 {
     let mut j = i;
     while j < n {
-        if sets::count(s[j]) == k {
+        if scratch::reach_count(s, InState(j)) == k {
             return j;
         }
         j += 1;
@@ -65,14 +72,14 @@ fn next_at(s: &[u64], n: usize, k: usize, i: usize) -> usize
 }
 
 // Writes the rows of the inputs that reach k states.
-pub fn fill_rank(g: Game, t: Servers, s: &mut [u64], cores: u64, turning: u64, k: usize)
-    requires { ⌜ Filling g cores turning (now s) k 0 × Serving g (t .outputs) ⌝ }
-    ensures { λ _. ⌜ Filling g cores turning (now (s .exit)) (k + 1) 0 × Kept g (now (s .entry)) (now (s .exit)) ⌝ }
+pub fn fill_rank(g: Game, t: Servers, s: &mut [u64], x: Nontrivial, k: usize)
+    requires { ⌜ Filling g x (now s) k 0 × Serving g (t .outputs) ⌝ }
+    ensures { λ _. ⌜ Filling g x (now (s .exit)) (k + 1) 0 × PastKept g (now (s .entry)) (now (s .exit)) ⌝ }
 {
     let n = g.input.states;
     let mut i = next_at(s, n, k, 0);
     while i < n {
-        place(g, t, s, cores, turning, i);
+        place(g, t, s, x, InState(i));
         i = next_at(s, n, k, i + 1);
     }
 }

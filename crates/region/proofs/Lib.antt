@@ -1,3 +1,2 @@
--- Laws of the winning region in scratch.
-pub mod Order
+-- Laws of the region in scratch.
 pub mod Parts

@@ -1,66 +1,41 @@
--- Both closures laid in scratch: the first state of the filling.
-use Prim.Native.Nat.{ℕ, _+_, _≤_}
+-- Both closures laid in scratch: the first state of the filling; and what lies past the sets that are kept, in words.
+use Prim.Native.Nat.{ℕ, _^_, _<_}
 use mathlib.Core.Path.{_≡_, _∙_}
 use mathlib.Core.List.{List}
 use native.Mathlib.Omega.{arith}
-use lib.ListN.{length, drop}
-use Rattle.sets.specs.Member.{pack}
+use lib.ListN.{getD}
+use Rattle.sets.specs.Words.{setsIn}
+use Rattle.sets.proofs.Rows.{rest-words}
 use Rattle.graphs.proofs.Component.{rank-pos}
 use Rattle.game.specs.declared.Game.{Game}
+use Rattle.game.specs.declared.OutSet.{OutSet}
 use Rattle.game.proofs.Laws.{Fits}
 use Rattle.play.specs.Play.{graphOf}
-use Rattle.closure.specs.Sweep.{Closed}
-use Rattle.components.specs.Component.{turns}
-use Rattle.components.specs.Closes.{Closes}
-use Rattle.components.proofs.Closed.{cores-closed}
-use Rattle.scratch.specs.Scratch.{scratchLength}
-use Rattle.stored.specs.Stored.{Laid}
+use Rattle.scratch.specs.declared.Nontrivial.{Nontrivial}
+use Rattle.scratch.specs.Scratch.{scratchSets, Kept}
+use Rattle.scratch.specs.Stored.{outArea, NontrivialOf, Laid}
+use Rattle.scratch.proofs.Areas.{area-closes}
 use Rattle.dues.specs.Dues.{Serves, Serving}
 use Rattle.dues.proofs.Meaning.{serving-closed}
-use Rattle.areas.specs.Areas.{ClosedAt}
-use Rattle.areas.proofs.Parts.{laid-both, areas-long, areas-rest, out-closes}
-use Rattle.ranks.specs.Fill.{Filling}
-use Rattle.region.specs.Fill.{Prepared}
-use Rattle.ranks.proofs.Order.{kept-more}
+use Rattle.ranks.specs.Fill.{Filling, PastKept}
 
--- the two closures, one after the other
-module _ (g : Game) (F : Fits g) (l₀ l₁ l₂ : List ℕ) {k : ℕ} (C : Closed (g .input) l₀ l₁ k)
-    (D : ClosedAt (g .output) (g .input .states + g .input .states) l₁ l₂)
-    (long : scratchLength g ≤ length l₀) where
-  abbrev n : ℕ
-  n = g .input .states
-
-  abbrev m : ℕ
-  m = g .output .states
-
-  -- the three areas fill scratch
-  areas : n + n + m ≤ length l₀
-  areas = omega (arith, long)
-
-  pub laid-first : Laid g l₂
-  laid-first = laid-both g F l₀ l₁ l₂ C D areas
-
-  outer-closes : Closes (g .output) (drop (n + n) l₂)
-  outer-closes = out-closes g F l₀ l₁ l₂ C D areas
-
+module _ {g : Game} {s : List ℕ} (F : Fits g) (L : Laid g s) where
   -- nothing reaches no state, so all that the first rows need stands
-  pub filling-first : (cores turning : ℕ) → cores ≡ pack n (turns (g .input .moves) l₂ n) → turning ≡ pack m (turns (g .output .moves) (drop (n + n) l₂) m)
-      → Filling g cores turning l₂ 1 0
+  pub filling-first : (x : Nontrivial) → NontrivialOf g x → Filling g x s 1 0
   unfolding graphOf
-  filling-first cores turning c t = record {
+  filling-first x N = record {
     fits = F;
-    laid = laid-first;
-    inner = c ∙ cores-closed (g .input) l₂ (record { row = laid-first .inputs }) (F .input .most);
-    outer = t ∙ cores-closed (g .output) (drop (n + n) l₂) outer-closes (F .output .most);
+    laid = L;
+    nontrivial = N;
     below = λ j b r. absurd (omega (arith, rank-pos (graphOf (g .input)) j b));
     same = λ j a h r. absurd (omega arith);
   }
 
-  pub serving-first : (x : List ℕ) → Serves g (drop (n + n) l₂) m x → Serving g x
-  serving-first x S = serving-closed g F (drop (n + n) l₂) x outer-closes S
+  pub serving-first : (t : List OutSet) → Serves g (outArea (setsIn s) (g .input .states)) (g .output .states) t → Serving g t
+  serving-first t S = serving-closed g F (outArea (setsIn s) (g .input .states)) t (area-closes L) S
 
-  pub prepared-both : (l₃ : List ℕ) → Prepared g l₂ l₃ → Prepared g l₀ l₃
-  prepared-both l₃ P = record {
-    ready = P .ready;
-    kept = kept-more (record { long = areas-long g F l₀ l₁ l₂ C D areas; rest = areas-rest g F l₀ l₁ l₂ C D areas }) (P .kept);
-  }
+pub kept-words : {g : Game} {s t u : List ℕ} → ((i : ℕ) → getD t i 0 < 2 ^ 64) → ((i : ℕ) → getD u i 0 < 2 ^ 64) → Kept g s t → PastKept g t u → Kept g s u
+kept-words {g} {s} {t} {u} a b k p = record {
+  long = p .long ∙ k .long;
+  rest = rest-words (scratchSets (g .input .states) (g .output .states)) u t b a (p .long) (p .rest) ∙ k .rest;
+}

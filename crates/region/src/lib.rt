@@ -1,36 +1,37 @@
 // The winning region, worked out in scratch.
 ghost use Prim.Native.Nat.{_≤_};
 ghost use lib.ListN.{length};
+ghost use Rattle.sets.specs.Words.{bitsOf};
 ghost use Rattle.game.specs.Fits.{Fits};
 ghost use Rattle.scratch.specs.Scratch.{scratchLength};
+ghost use Rattle.scratch.specs.Stored.{Ready};
 ghost use Rattle.dues.specs.Dues.{Serving};
-ghost use Rattle.ranks.specs.Fill.{Filling};
+ghost use Rattle.ranks.specs.Fill.{Filling, PastKept};
 ghost use Rattle.region.specs.Fill.{Prepared};
 use dues::Servers;
 use game::Game;
+use scratch::Nontrivial;
 
 // Writes all rows, those of the inputs that reach fewer states first.
-fn fill(g: Game, t: Servers, s: &mut [u64], cores: u64, turning: u64)
-    requires { ⌜ Filling g cores turning (now s) 1 0 × Serving g (t .outputs) ⌝ }
-    ensures { λ _. ⌜ Prepared g (now (s .entry)) (now (s .exit)) ⌝ }
+fn fill(g: Game, t: Servers, s: &mut [u64], x: Nontrivial)
+    requires { ⌜ Filling g x (now s) 1 0 × Serving g (t .outputs) ⌝ }
+    ensures { λ _. ⌜ Ready g (now (s .exit)) (bitsOf (x .inputs .0)) × PastKept g (now (s .entry)) (now (s .exit)) ⌝ }
 {
     let mut k: usize = 1;
     while k <= g.input.states {
-        ranks::fill_rank(g, t, s, cores, turning, k);
+        ranks::fill_rank(g, t, s, x, k);
         k += 1;
     }
 }
 
-// Works out both closures and the region in scratch.
-pub fn prepare(g: Game, s: &mut [u64])
+// Works out both closures and the region in scratch. The answer is the states in nontrivial components, which those who read the region need.
+pub fn prepare(g: Game, s: &mut [u64]) -> Nontrivial
     requires { ⌜ Fits g × (scratchLength g ≤ length (now s)) ⌝ }
-    ensures { λ _. ⌜ Prepared g (now (s .entry)) (now (s .exit)) ⌝ }
+    ensures { λ r. ⌜ Prepared g (now (s .entry)) (now (s .exit)) r ⌝ }
 {
-    let at = g.input.states + g.input.states;
-    closure::close(g.input, s);
-    areas::close_at(g.output, s, at);
-    let cores = components::cores(g.input, s);
-    let turning = areas::cores_at(g.output, s, at);
-    let t = areas::served_at(g, s, at);
-    fill(g, t, s, cores, turning);
+    scratch::close(g, s);
+    let x = scratch::nontrivial_states(g, s);
+    let t = dues::served(g, s);
+    fill(g, t, s, x);
+    x
 }

@@ -1,6 +1,7 @@
 -- The answers of the entries below, as records whose first part is a code: document 01's number of a refusal, 0 for none.
 --
 --   solveResult v      == the solver's answer: code, whether the system wins, how many entries are filled
+--   explainResult a    == what made a position won or lost: code, the ground's number, what it names
 --   readResult x       == the reader's answer: code, the place of 11, the game
 --   writeResult a      == the writer's answer: code, how many bytes are filled
 --   compareResult c    == the recorder's answer: code, whether the recordings agree, whether one has ended, the step
@@ -9,6 +10,8 @@
 use mathlib.Core.Bool.{true, false}
 use Rattle.solver.specs.declared.Verdict.{Verdict}
 use Rattle.solver.specs.declared.Verdict.the-variants as verdict·
+use Rattle.ground_search.specs.declared.Explanation.{Explanation}
+use Rattle.ground_search.specs.declared.Explanation.the-variants as explanation·
 use Rattle.text.specs.declared.Reading.{Reading}
 use Rattle.text.specs.declared.Answer.{Answer}
 use Rattle.text.specs.declared.Answer.the-variants as answer·
@@ -22,6 +25,7 @@ use Rattle.panel_place.specs.declared.Picked.{Picked}
 use Rattle.panel_place.specs.declared.Picked.the-variants as picked·
 use Rattle.results.specs.declared.PanelMoved.{PanelMoved}
 use Rattle.results.specs.declared.SolveResult.{SolveResult}
+use Rattle.results.specs.declared.ExplainResult.{ExplainResult}
 use Rattle.results.specs.declared.CompareResult.{CompareResult}
 use Rattle.results.specs.declared.ReadResult.{ReadResult}
 use Rattle.results.specs.declared.WriteResult.{WriteResult}
@@ -30,6 +34,18 @@ unfoldable pub solveResult : Verdict → SolveResult
 solveResult (verdict·.System n) = record { code = 0; system = true; entries = n }
 solveResult (verdict·.Environment n) = record { code = 0; system = false; entries = n }
 solveResult (verdict·.Refused n) = record { code = n; system = false; entries = 0 }
+
+-- the grounds are numbered as M-109 lists them
+unfoldable pub explainResult : Explanation → ExplainResult
+explainResult explanation·.InputStuck = record { code = 0; ground = 1; first = 0; second = 0 }
+explainResult explanation·.ByReplies = record { code = 0; ground = 2; first = 0; second = 0 }
+explainResult (explanation·.AtHome d) = record { code = 0; ground = 3; first = d .0; second = 0 }
+explainResult explanation·.OutputStuck = record { code = 0; ground = 4; first = 0; second = 0 }
+explainResult (explanation·.Unanswered j) = record { code = 0; ground = 5; first = j .0; second = 0 }
+explainResult (explanation·.ByWayOut j) = record { code = 0; ground = 6; first = j .0; second = 0 }
+explainResult (explanation·.Unserved k n) = record { code = 0; ground = 7; first = k; second = n }
+explainResult explanation·.PushedOn = record { code = 0; ground = 8; first = 0; second = 0 }
+explainResult (explanation·.Refused n) = record { code = n; ground = 0; first = 0; second = 0 }
 
 unfoldable pub readBy : Answer → Game → ReadResult
 readBy answer·.Read g = record { code = 0; place = 0; game = g }

@@ -3,12 +3,13 @@ ghost use mathlib.Core.Path.{_≡_};
 ghost use Rattle.player.specs.Player.{movedOf};
 ghost use Rattle.game.specs.Acceptance.{numberOf as acceptNumber};
 ghost use Rattle.map.specs.Map.{numberOf as mapNumber};
-ghost use Rattle.results.specs.Results.{solveResult, readResult, writeResult, compareResult, panelMoved, nowhere};
+ghost use Rattle.results.specs.Results.{solveResult, readResult, writeResult, compareResult, panelMoved, nowhere, explainResult};
 ghost use Rattle.joined.specs.Joined.{numberOf as joinedNumber};
 use game::Acceptance;
 use game::Game;
 use game::InState;
 use game::OutState;
+use ground_search::Explanation;
 use map::Mapped;
 use panel_place::Picked;
 use place::Played;
@@ -26,6 +27,16 @@ pub struct SolveResult {
     pub code: u8,
     pub system: bool,
     pub entries: usize,
+}
+
+// What made a position won or lost: the code; the ground's number, 1 to 8 in the order of document 02's request, 0 on a refusal; the first number that the
+// ground names, and the second, 0 where it names none.
+#[repr(C)]
+pub struct ExplainResult {
+    pub code: u8,
+    pub ground: u8,
+    pub first: usize,
+    pub second: usize,
 }
 
 // The reader's answer: the code; for code 11 the place; the game, which is the empty one on a refusal.
@@ -105,6 +116,67 @@ pub fn solve_result(v: Verdict) -> SolveResult
             code: n,
             system: false,
             entries: 0,
+        },
+    }
+}
+
+pub fn explain_result(a: Explanation) -> ExplainResult
+    ensures { λ r. ⌜ r ≡ explainResult a ⌝ }
+{
+    match a {
+        Explanation::InputStuck => ExplainResult {
+            code: 0,
+            ground: 1,
+            first: 0,
+            second: 0,
+        },
+        Explanation::ByReplies => ExplainResult {
+            code: 0,
+            ground: 2,
+            first: 0,
+            second: 0,
+        },
+        Explanation::AtHome(d) => ExplainResult {
+            code: 0,
+            ground: 3,
+            first: d.0,
+            second: 0,
+        },
+        Explanation::OutputStuck => ExplainResult {
+            code: 0,
+            ground: 4,
+            first: 0,
+            second: 0,
+        },
+        Explanation::Unanswered(j) => ExplainResult {
+            code: 0,
+            ground: 5,
+            first: j.0,
+            second: 0,
+        },
+        Explanation::ByWayOut(j) => ExplainResult {
+            code: 0,
+            ground: 6,
+            first: j.0,
+            second: 0,
+        },
+        Explanation::Unserved(k, n) => ExplainResult {
+            code: 0,
+            ground: 7,
+            first: k,
+            second: n,
+        },
+        Explanation::PushedOn => ExplainResult {
+            code: 0,
+            ground: 8,
+            first: 0,
+            second: 0,
+        },
+        Explanation::Refused(n) => ExplainResult {
+            code: n,
+            ground: 0,
+            first: 0,
+            second: 0,
         },
     }
 }

@@ -3,23 +3,29 @@
 --   first-hit, first-miss, first-small, stamp-entries : the entry of a move
 --   Walked rows z c target own w left x y == from x to y the rows of the states of own that are not left were written
 --   walked-start, walked-turn, walked-still, walked-empty : round after round
-use Prim.Native.Nat.{ℕ, _+_, _*_, _≤_, _<_, _^_}
+use Prim.Native.Nat.{ℕ, _+_, _*_, _≤_, _<_}
 use native.Mathlib.Nat.{mul-le-mul}
-use mathlib.Core.Path.{_≡_, refl, _∙_, ap}
+use mathlib.Core.Path.{_≡_, refl, sym, _∙_, ap}
 use mathlib.Core.Bool.{Bool, true, false, not, _&&_, _||_}
 use mathlib.Core.List.{List}
-use mathlib.Core.Logic.{_⊎_, inl, inr}
+use mathlib.Core.Logic.{_⊎_, inl, inr, _≢_}
 use native.Mathlib.Omega.{arith}
 use lib.ListN.{length}
 use Rattle.finite.proofs.Truth.{decide, clash}
-use Rattle.sets.specs.Member.{has}
-use Rattle.sets.proofs.Membership.{has-zero}
-use Rattle.sets.proofs.Compare.{nonzero-below}
+use Rattle.bits.specs.Member.{has, within}
+use Rattle.bits.proofs.Membership.{has-zero, within-has}
+use Rattle.bits.proofs.Compare.{nonzero-member}
+use Rattle.sets.specs.Words.{capacity, bitsOf}
 use Rattle.graphs.specs.Way.{prefer}
 use Rattle.graphs.proofs.Way.{Leads, prefer-below}
-use Rattle.arena.specs.Table.{Answer}
+use Rattle.arena.specs.Table.{Answer, gives}
+use Rattle.theory.specs.Entries.{entry}
+use Rattle.counters.specs.Counters.{mostCounters}
+use Rattle.entries.specs.Step.{entryStep}
+use Rattle.entries.proofs.Packed.{entry-small}
 use Rattle.ways.specs.Kept.{kept}
-use Rattle.ways.proofs.Round.{settles-left}
+use Rattle.ways.specs.Search.{choices}
+use Rattle.ways.proofs.Round.{choices-reached, settles-left}
 use Rattle.layout.specs.declared.Layout.{Layout}
 use Rattle.layout.specs.Rows.{Fits, Rows, Filled, Entries}
 use Rattle.layout.proofs.Places.{filled-none, filled-join, filled-part}
@@ -29,35 +35,42 @@ use Rattle.ways.proofs.Levels.{Levels, levels-chosen, levels-leads, levels-stil
 
 -- the entry of a move
 
-pub first-hit : (w : Stamp) (p : ℕ) → has (w .goal) p ≡ true → p + w .hit ≡ firstOf w p
+pub first-hit : (w : Stamp) (p : ℕ) → has (bitsOf (w .goal)) p ≡ true → entry (gives (w .hit) p) ≡ firstOf w p
 unfolding firstOf
 first-hit w p e = rw (e, firstOf)
 
-pub first-miss : (w : Stamp) (p : ℕ) → has (w .goal) p ≡ false → p + w .miss ≡ firstOf w p
+pub first-miss : (w : Stamp) (p : ℕ) → has (bitsOf (w .goal)) p ≡ false → entry (gives (w .miss) p) ≡ firstOf w p
 unfolding firstOf
 first-miss w p e = rw (e, firstOf)
 
-first-small : (z : Layout) (w : Stamp) (p : ℕ) → Stamps z w → p < 64 → firstOf w p < 2112
+first-small : (z : Layout) (w : Stamp) (p : ℕ) → Stamps z w → p < capacity → firstOf w p < entryStep * mostCounters
 first-small z w p S b =
-    elim (decide (has (w .goal) p)) [
-      | inl e ↦ omega (arith, first-hit w p e, S .hit)
-      | inr e ↦ omega (arith, first-miss w p e, S .miss)
+    elim (decide (has (bitsOf (w .goal)) p)) [
+      | inl e ↦ omega (arith, first-hit w p e, entry-small (w .hit) p b (S .hit))
+      | inr e ↦ omega (arith, first-miss w p e, entry-small (w .miss) p b (S .miss))
     ]
 
-pub stamp-entries : (z : Layout) (n : ℕ) (w : Stamp) (p first : ℕ) → Fits z n → Stamps z w → p < 64 → first ≡ firstOf w p → Entries z (w .which) first (w .more)
+pub stamp-entries : (z : Layout) (n : ℕ) (w : Stamp) (p first : ℕ) → Fits z n → Stamps z w → p < capacity → first ≡ firstOf w p
+    → Entries z (w .which .0) first (w .more)
 stamp-entries z n w p first F S b e = record {
   counters = S .counters;
-  small = λ h i. omega (arith, first-small z w p S b, mul-le-mul {n₂ = 64} {m₂ = 32} (S .more) (below h i));
+  small = λ h i. omega (arith, first-small z w p S b, mul-le-mul {n₂ = entryStep} {m₂ = mostCounters} (S .more) (below h i));
 }
   where
-    below : (h : ℕ) → has (w .which) h ≡ true → h ≤ 32
+    below : (h : ℕ) → has (w .which .0) h ≡ true → h ≤ mostCounters
     below h i = omega (arith, S .counters h i, F .counters)
 
 -- the choice is a state
-pub choice-small : (s x : ℕ) {v : ℕ} → x < 2 ^ 64 → (x ≡ 0 → ⊥) → v ≡ prefer 64 s (has x) → v < 64
-choice-small s x h ne e =
-    let m = nonzero-below 64 x h ne in
-    omega (arith, prefer-below 64 s (has x) (m .0) (m .1) (m .2))
+pub choice-small : (s x n : ℕ) {v : ℕ} → n ≤ capacity → ((t : ℕ) → has x t ≡ true → t < n) → x ≢ 0 → v ≡ prefer capacity s (has x) → v < capacity
+choice-small s x n few below ne e =
+    let m = nonzero-member x ne in
+    omega (arith, prefer-below capacity s (has x) (m .0) (omega (arith, few, below (m .0) (m .1))) (m .1))
+
+-- that of a round, where what is reached are states
+pub settling-small : (rows : List ℕ) (n c left l s : ℕ) {m v : ℕ} → n ≤ capacity → within l n ≡ true → m ≡ choices rows c left l s → m ≢ 0
+    → v ≡ prefer capacity s (has m) → v < capacity
+settling-small rows n c left l s {m} few w q =
+    choice-small s m n few (λ t e. within-has l n t w (choices-reached rows c left l s t (ap (λ (k : ℕ). has k t) (sym q) ∙ e)))
 
 -- round after round
 
@@ -66,7 +79,7 @@ pub record Walked (rows : List ℕ) (z : Layout) (c target own : ℕ) (w : Stamp
   pub part : (s : ℕ) → has left s ≡ true → has own s ≡ true
   pub long : length y ≡ length x
   pub fills : (f : ℕ → ℕ → ℕ → Answer) (E : List ℕ) → Rows z f E → Leading rows z c target own w f
-      → Filled z E (λ s h b. (has own s ≡ true) × (has left s ≡ false) × (has (w .which) h ≡ true) × (has (w .over) b ≡ true)) x y
+      → Filled z E (λ s h b. (has own s ≡ true) × (has left s ≡ false) × (has (w .which .0) h ≡ true) × (has (bitsOf (w .over)) b ≡ true)) x y
 
 module _ (rows : List ℕ) (z : Layout) (c target own : ℕ) (w : Stamp) where
   pub walked-start : (x : List ℕ) → Levels rows (z .states) c target target own → Walked rows z c target own w target own x x
@@ -77,7 +90,8 @@ module _ (rows : List ℕ) (z : Layout) (c target own : ℕ) (w : Stamp) where
     fills = λ f E R F. filled-none z f E R x (λ s h b ls lh lb p. clash (p .0) (p .1));
   }
 
-  module _ (l left r : ℕ) {x y y′ : List ℕ} (few : z .states ≤ 64) (W : Walked rows z c target own w l left x y) (D : Settled rows z c left l w y y′ r) where
+  module _ (l left r : ℕ) {x y y′ : List ℕ} (few : z .states ≤ capacity) (W : Walked rows z c target own w l left x y)
+      (D : Settled rows z c left l w y y′ r) where
     fair : (f : ℕ → ℕ → ℕ → Answer) → Leading rows z c target own w f → Fair rows z c left l w f
     fair f F = record {
       entry = λ s h b ls e i lb o.

@@ -1,22 +1,24 @@
--- One round: the states that are still to be tried are a word `rest`.
+-- One round: the states that are still to be tried are a set `rest`.
 --
 --   Trying rows z c left l w x y r rest  == from x to y the rows of the others that settle were written; r has these
 --   trying-start, trying-hit, trying-miss, trying-falls, trying-end : how that begins, goes on and ends
-use Prim.Native.Nat.{ℕ, _+_, _*_, _^_, _<_}
+use Prim.Native.Nat.{ℕ, _+_, _*_, _^_, _≤_, _<_}
 use mathlib.Core.Path.{_≡_, refl, sym, _∙_, ap}
 use mathlib.Core.Bool.{true, false, not, _&&_, _||_}
 use mathlib.Core.List.{List}
 use mathlib.Core.Logic.{_⊎_, inl, inr, _≢_}
+use native.Mathlib.Omega.{arith}
 use native.Mathlib.Decide.{ℕ-discrete}
 use lib.Dec.{eqb, ltb}
 use lib.ListN.{length}
 use borrow.Author.Tests.{eqb-true, eq-eqb, ne-eqb}
 use Rattle.finite.specs.Bounded.{least, count}
 use Rattle.finite.proofs.Truth.{clash, same-test, or-left, or-right, or-cases}
-use Rattle.sets.specs.Member.{has, pack}
-use Rattle.sets.proofs.Membership.{ext, has-zero, has-pack-below}
-use Rattle.sets.proofs.Remove.{less-in, less-other, less-falls}
-use Rattle.sets.proofs.Visit.{lowest-below, lowest-in, lowest-less, cut-in, cut-all}
+use Rattle.bits.specs.Member.{has, pack}
+use Rattle.bits.proofs.Membership.{ext, has-zero, has-pack-below}
+use Rattle.bits.proofs.Remove.{less-in, less-other, less-falls}
+use Rattle.bits.proofs.Visit.{small-word, lowest-below, lowest-in, lowest-less, cut-in, cut-all}
+use Rattle.sets.specs.Words.{capacity, bitsOf}
 use Rattle.graphs.specs.Way.{prefer}
 use Rattle.arena.specs.Table.{Answer}
 use Rattle.ways.specs.Search.{choices, settles}
@@ -29,14 +31,14 @@ use Rattle.rounds.specs.declared.Stamp.{Stamp}
 use Rattle.rounds.specs.Walk.{firstOf, Fair, Settled}
 
 pub record Trying (rows : List ℕ) (z : Layout) (c left l : ℕ) (w : Stamp) (x y : List ℕ) (r rest : ℕ) : Type 0 where
-  pub small : rest < 2 ^ 64
+  pub bound : z .states ≤ capacity
   pub member : (t : ℕ) → has rest t ≡ true → has left t ≡ true
   pub below : (t : ℕ) → has rest t ≡ true → t < z .states
   pub taken : (t : ℕ) → t < z .states → has rest t ≡ false → settles rows c left l t ≡ true → has r t ≡ true
   pub only : (t : ℕ) → has r t ≡ true → (t < z .states) × (settles rows c left l t ≡ true)
   pub long : length y ≡ length x
   pub fills : (f : ℕ → ℕ → ℕ → Answer) (E : List ℕ) → Rows z f E → Fair rows z c left l w f
-      → Filled z E (λ s h b. (has rest s ≡ false) × (settles rows c left l s ≡ true) × (has (w .which) h ≡ true) × (has (w .over) b ≡ true)) x y
+      → Filled z E (λ s h b. (has rest s ≡ false) × (settles rows c left l s ≡ true) × (has (w .which .0) h ≡ true) × (has (bitsOf (w .over)) b ≡ true)) x y
 
 module _ (rows : List ℕ) (z : Layout) (c left l : ℕ) (w : Stamp) where
   settles-of : (s : ℕ) → choices rows c left l s ≢ 0 → settles rows c left l s ≡ true
@@ -47,14 +49,14 @@ module _ (rows : List ℕ) (z : Layout) (c left l : ℕ) (w : Stamp) where
   unfolding settles
   settles-not s e = ap not (eq-eqb (choices rows c left l s) 0 e)
 
-  pub trying-start : (x : List ℕ) (b rest : ℕ) → rest < 2 ^ 64 → ((s : ℕ) → has b s ≡ ltb s (z .states)) → ((s : ℕ) → has rest s ≡ (has left s && has b s))
-      → Trying rows z c left l w x x 0 rest
-  trying-start x b rest small f i = record {
-    small = small;
+  pub trying-start : (x : List ℕ) (r b rest : ℕ) → z .states ≤ capacity → r ≡ 0 → ((s : ℕ) → has b s ≡ ltb s (z .states))
+      → ((s : ℕ) → has rest s ≡ (has left s && has b s)) → Trying rows z c left l w x x r rest
+  trying-start x r b rest bound none f i = record {
+    bound = bound;
     member = λ t e. cut-in left b rest (z .states) f i t e .1;
     below = λ t e. cut-in left b rest (z .states) f i t e .0;
     taken = λ t lt e q. clash (in-rest t lt q) e;
-    only = λ t e. clash e (has-zero t);
+    only = λ t e. clash e (ap (λ (k : ℕ). has k t) none ∙ has-zero t);
     long = refl;
     fills = λ g E R F. filled-none z g E R x (λ s h k ls lh lk p. clash (in-rest s ls (p .1)) (p .0));
   }
@@ -62,22 +64,25 @@ module _ (rows : List ℕ) (z : Layout) (c left l : ℕ) (w : Stamp) where
       in-rest : (t : ℕ) → t < z .states → settles rows c left l t ≡ true → has rest t ≡ true
       in-rest t lt q = cut-all left b rest (z .states) f i t lt (settles-left rows c left l t q)
 
-  module _ {x y : List ℕ} {r rest s : ℕ} (T : Trying rows z c left l w x y r rest) (ne : rest ≢ 0) (e : s ≡ least 64 (has rest)) where
-    pub try-small : s < 64
-    try-small = lowest-below rest s (T .small) ne e
+  module _ {x y : List ℕ} {r rest s : ℕ} (T : Trying rows z c left l w x y r rest) (ne : rest ≢ 0) (e : s ≡ least capacity (has rest)) where
+    small : rest < 2 ^ capacity
+    small = small-word capacity rest (λ t a. omega (arith, T .bound, T .below t a))
+
+    pub try-small : s < capacity
+    try-small = lowest-below capacity rest s small ne e
 
     pub try-in : has rest s ≡ true
-    try-in = lowest-in rest s (T .small) ne e
+    try-in = lowest-in capacity rest s small ne e
 
     pub try-below : s < z .states
     try-below = T .below s try-in
 
-    module _ (v : ℕ) (d : (t : ℕ) → has v t ≡ (has rest t && not (eqb t (least 64 (has rest))))) where
+    module _ (v : ℕ) (d : (t : ℕ) → has v t ≡ (has rest t && not (eqb t (least capacity (has rest))))) where
       less : (t : ℕ) → has v t ≡ (has rest t && not (eqb t s))
-      less = lowest-less rest s v e d
+      less = lowest-less capacity rest s v e d
 
-      pub trying-falls : count 64 (has v) < count 64 (has rest)
-      trying-falls = less-falls rest s v less 64 try-small try-in
+      pub trying-falls : count capacity (has v) < count capacity (has rest)
+      trying-falls = less-falls rest s v less capacity try-small try-in
 
       -- a state that is tried is s, or was tried before
       tried : (t : ℕ) → has v t ≡ false → (t ≡ s) ⊎ (has rest t ≡ false)
@@ -87,9 +92,9 @@ module _ (rows : List ℕ) (z : Layout) (c left l : ℕ) (w : Stamp) where
           go (yes q) = inl q
           go (no q) = inr (sym (less-other rest s v less t q) ∙ h)
 
-      pub trying-miss : {m r′ : ℕ} {y′ : List ℕ} → v < 2 ^ 64 → m ≡ choices rows c left l s → m ≡ 0 → y′ ≡ y → r′ ≡ r → Trying rows z c left l w x y′ r′ v
-      trying-miss {m} {r′} {y′} small q zero f g = rw (f, g) (record {
-        small = small;
+      pub trying-miss : {m r′ : ℕ} {y′ : List ℕ} → m ≡ choices rows c left l s → m ≡ 0 → y′ ≡ y → r′ ≡ r → Trying rows z c left l w x y′ r′ v
+      trying-miss {m} {r′} {y′} q zero f g = rw (f, g) (record {
+        bound = T .bound;
         member = λ t a. T .member t (less-in rest s v less t a);
         below = λ t a. T .below t (less-in rest s v less t a);
         taken = λ t lt a b. T .taken t lt (before t a b) b;
@@ -105,11 +110,11 @@ module _ (rows : List ℕ) (z : Layout) (c left l : ℕ) (w : Stamp) where
                 | inr k ↦ k
               ]
 
-      pub trying-hit : {m p r′ r″ : ℕ} {y′ y″ : List ℕ} → v < 2 ^ 64 → m ≡ choices rows c left l s → (m ≡ 0 → ⊥) → p ≡ prefer 64 s (has m)
-          → ((t : ℕ) → has r′ t ≡ (has r t || eqb t s)) → Wrote z s (w .over) (w .which) (firstOf w p) (w .more) y y′ → y″ ≡ y′ → r″ ≡ r′
+      pub trying-hit : {m p r′ r″ : ℕ} {y′ y″ : List ℕ} → m ≡ choices rows c left l s → (m ≡ 0 → ⊥) → p ≡ prefer capacity s (has m)
+          → ((t : ℕ) → has r′ t ≡ (has r t || eqb t s)) → Wrote z s (bitsOf (w .over)) (w .which .0) (firstOf w p) (w .more) y y′ → y″ ≡ y′ → r″ ≡ r′
           → Trying rows z c left l w x y″ r″ v
-      trying-hit {m} {p} {r′} {r″} {y′} {y″} small q some choice more W f g = rw (f, g) (record {
-        small = small;
+      trying-hit {m} {p} {r′} {r″} {y′} {y″} q some choice more W f g = rw (f, g) (record {
+        bound = T .bound;
         member = λ t a. T .member t (less-in rest s v less t a);
         below = λ t a. T .below t (less-in rest s v less t a);
         taken = taken;
@@ -137,12 +142,13 @@ module _ (rows : List ℕ) (z : Layout) (c left l : ℕ) (w : Stamp) where
               ]
 
           fills : (k : ℕ → ℕ → ℕ → Answer) (E : List ℕ) → Rows z k E → Fair rows z c left l w k
-              → Filled z E (λ t h b. (has v t ≡ false) × (settles rows c left l t ≡ true) × (has (w .which) h ≡ true) × (has (w .over) b ≡ true)) x y′
+              → Filled z E
+              (λ t h b. (has v t ≡ false) × (settles rows c left l t ≡ true) × (has (w .which .0) h ≡ true) × (has (bitsOf (w .over)) b ≡ true)) x y′
           fills k E R F =
               filled-join z k E R (T .fills k E R F)
               (W .fills k E R
               (λ h b i lb o.
-              ap (λ (j : ℕ). firstOf w j + w .more * h) (choice ∙ ap (λ (j : ℕ). prefer 64 s (has j)) q) ∙ F .entry s h b try-below hit i lb o))
+              ap (λ (j : ℕ). firstOf w j + w .more * h) (choice ∙ ap (λ (j : ℕ). prefer capacity s (has j)) q) ∙ F .entry s h b try-below hit i lb o))
               (λ a h b la lh lb d.
               elim (tried a (d .0)) [
                 | inl j ↦ inr (j, d .2, d .3)

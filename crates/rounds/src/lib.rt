@@ -1,52 +1,50 @@
-// Walks by the shortest way to a set of states, for both sides: a breadth-first search over words that goes backward from the set and writes the rows
+// Walks by the shortest way to a set of states, for both sides: a breadth-first search over sets that goes backward from the set and writes the rows
 // of a state in the round in which it finds the state's move. There is no list of moves. Nothing here knows of sides.
+use counters::CounterSet;
 use layout::Layout;
+use sets::Set;
 ghost use mathlib.Core.Path.{_≡_};
 ghost use mathlib.Core.Bool.{true};
-ghost use Prim.Native.Nat.{_≤_, _<_};
+ghost use Prim.Native.Nat.{_<_};
 ghost use lib.ListN.{length};
-ghost use Rattle.sets.specs.Member.{has};
-ghost use Rattle.ways.specs.Search.{choices as choicesOf};
+ghost use Rattle.bits.specs.Member.{within};
+ghost use Rattle.sets.specs.Words.{capacity, bitsOf, setsIn};
+ghost use Rattle.counters.specs.Counters.{mostCounters};
 ghost use Rattle.layout.specs.Rows.{Fits, Wrote};
 ghost use Rattle.rounds.specs.Walk.{firstOf, Stamps, Settled, Ground, Walks};
 
-// What a state's move to p writes, for the columns of `over` and the counters of `which`: p, and `hit` where p is in the set `goal`, else `miss`, and
-// `more` × counter. So a counter stays where more is 64 and the others are 0.
+// What a state's move to p writes, for the columns of `over` and the counters of `which`: p with the counter `hit` where p is in the set `goal`, else with
+// the counter `miss`, and `more` × counter. So a counter stays where more is the step between counters and the others are 0.
 pub struct Stamp {
-    pub over: u64,
-    pub which: u64,
-    pub goal: u64,
-    pub hit: u16,
-    pub miss: u16,
+    pub over: Set,
+    pub which: CounterSet,
+    pub goal: Set,
+    pub hit: usize,
+    pub miss: usize,
     pub more: u16,
 }
 
 // The entry of a move to p, without its share of the counter.
 fn first_of(w: Stamp, p: usize) -> u16
-    requires { ⌜ (p < 64) × (w .hit ≤ 2048) × (w .miss ≤ 2048) ⌝ }
+    requires { ⌜ (p < capacity) × (w .hit < mostCounters) × (w .miss < mostCounters) ⌝ }
     ensures { λ r. ⌜ r ≡ firstOf w p ⌝ }
 {
-    if sets::member(w.goal, p) {
-        return p as u16 + w.hit;
+    let goal = w.goal;
+    if sets::member(goal, p) {
+        return entries::pack(p, w.hit);
     }
-    p as u16 + w.miss
+    entries::pack(p, w.miss)
 }
 
 // The rows of state s, whose move is p.
 pub fn write_move(room: &mut [u16], z: Layout, s: usize, p: usize, w: Stamp)
-    requires { ⌜ Fits z (length (now room)) × (s < z .states) × (p < 64) × Stamps z w ⌝ }
-    ensures { λ r. ⌜ Wrote z s (w .over) (w .which) (firstOf w p) (w .more) (now (room .entry)) (now (room .exit)) ⌝ }
+    requires { ⌜ Fits z (length (now room)) × (s < z .states) × (p < capacity) × Stamps z w ⌝ }
+    ensures { λ r. ⌜ Wrote z s (bitsOf (w .over)) (w .which .0) (firstOf w p) (w .more) (now (room .entry)) (now (room .exit)) ⌝ }
 {
     let first = first_of(w, p);
-    layout::write(room, z, s, w.over, w.which, first, w.more);
-}
-
-// The moves of s, which is one of `left`, inside a set that land in `reached`.
-fn choices(rows: &[u64; 64], inside: u64, left: u64, reached: u64, s: usize) -> u64
-    requires { ⌜ (s < 64) × (has left s ≡ true) ⌝ }
-    ensures { λ r. ⌜ r ≡ choicesOf (now (rows .entry)) inside left reached s ⌝ }
-{
-    rows[s] & inside & reached
+    let over = w.over;
+    let which = w.which;
+    layout::write(room, z, s, over, which, first, w.more);
 }
 
 // One round: every state of `left` with a move into `reached` gets its rows. The answer is the set of these states.
@@ -54,20 +52,21 @@ fn settle(
     rows: &[u64; 64],
     room: &mut [u16],
     z: Layout,
-    inside: u64,
-    left: u64,
-    reached: u64,
+    inside: Set,
+    left: Set,
+    reached: Set,
     w: Stamp,
-) -> u64
-    requires { ⌜ Fits z (length (now room)) × Stamps z w ⌝ }
-    ensures { λ r. ⌜ Settled (now (rows .entry)) z inside left reached w (now (room .entry)) (now (room .exit)) r ⌝ }
+) -> Set
+    requires { ⌜ Fits z (length (now room)) × Stamps z w × (within (bitsOf reached) (z .states) ≡ true) ⌝ }
+    ensures { λ r. ⌜ Settled (setsIn (now (rows .entry))) z (bitsOf inside) (bitsOf left) (bitsOf reached) w (now (room .entry)) (now (room .exit))
+        (bitsOf r) ⌝ }
 {
-    let mut settled = 0;
+    let mut settled = sets::empty();
     let mut rest = sets::intersection(left, sets::below(z.states));
-    while rest != 0 {
+    while !sets::is_empty(rest) {
         let s = sets::lowest(rest);
-        let open = choices(rows, inside, left, reached, s);
-        if open != 0 {
+        let open = ways::choices(rows, inside, left, reached, s);
+        if !sets::is_empty(open) {
             write_move(room, z, s, ways::prefer(s, open), w);
             settled = sets::insert(settled, s);
         }
@@ -82,19 +81,19 @@ pub fn walk(
     rows: &[u64; 64],
     room: &mut [u16],
     z: Layout,
-    inside: u64,
-    target: u64,
-    own: u64,
+    inside: Set,
+    target: Set,
+    own: Set,
     w: Stamp,
 )
-    requires { ⌜ Fits z (length (now room)) × Stamps z w × Ground (z .states) inside target own ⌝ }
-    ensures { λ r. ⌜ Walks (now (rows .entry)) z inside target own w (now (room .entry)) (now (room .exit)) ⌝ }
+    requires { ⌜ Fits z (length (now room)) × Stamps z w × Ground (z .states) (bitsOf inside) (bitsOf target) (bitsOf own) ⌝ }
+    ensures { λ r. ⌜ Walks (setsIn (now (rows .entry))) z (bitsOf inside) (bitsOf target) (bitsOf own) w (now (room .entry)) (now (room .exit)) ⌝ }
 {
     let mut reached = target;
     let mut left = own;
-    while left != 0 {
+    while !sets::is_empty(left) {
         let settled = settle(rows, room, z, inside, left, reached, w);
-        if settled == 0 {
+        if sets::is_empty(settled) {
             return;
         }
         reached = sets::union(reached, settled);

@@ -2,9 +2,12 @@
 use Prim.Native.Nat.{ℕ, zero, suc, _+_, _-_, _<_}
 use native.Mathlib.Omega.{arith}
 use native.Mathlib.Numerals.{add-one}
-use mathlib.Core.List.{List, [], _∷_}
+use mathlib.Core.List.{List, [], _∷_, map}
 use mathlib.Core.Path.{_≡_, refl, sym, _∙_, ap}
-use lib.ListN.{length, getD, set}
+use lib.ListN.{length, getD, set, replicate, length-map}
+use Rattle.sets.specs.declared.Set.{Set}
+use Rattle.sets.specs.Words.{bitsOf, setOf, noStates}
+use Rattle.sets.proofs.Rows.{bits-of}
 use Rattle.grammar.specs.Format.{Format, Run, run, alt, bind, chars}
 use Rattle.grammar.specs.Format.Format.{done}
 use Rattle.grammar.specs.Format.Run.{got, fault}
@@ -13,8 +16,9 @@ use Rattle.grammar.proofs.Format.{run-got, run-done, run-lit-fault, run-alt-lef
 use Rattle.game.specs.declared.InSet.{InSet}
 use Rattle.game.specs.declared.OutSet.{OutSet}
 use Rattle.game.specs.declared.Requirement.{Requirement}
-use Rattle.shape.specs.Shape.{setFormat, Sets, noSets, push, moreSets, setsFormat, inSets, outSets, opening, requirement, guaranteesFormat, requirementFormat}
-use Rattle.scan.specs.Scan.{setsOf, requirementOf}
+use Rattle.shape.specs.Shape.{setFormat, Sets, noSets, push, moreSets, setsFormat, opening, requirement, guaranteesFormat, requirementFormat}
+use Rattle.shape.specs.Text.{inSets, outSets}
+use Rattle.scan.specs.Scan.{numbersOf, setsWith, setsOf, requirementOf}
 use Rattle.pieces.specs.declared.Step.{Step}
 use Rattle.pieces.specs.declared.Step.the-variants.{At, Fault}
 use Rattle.scan.specs.declared.set_lists.SetList.{SetList}
@@ -22,40 +26,77 @@ use Rattle.scan.specs.declared.set_lists.RequirementScan.{RequirementSca
 use Rattle.shape.proofs.Members.{set-node}
 use Rattle.pieces.proofs.Steps.{lit-got, lit-on, bind-got, bind-fault}
 
--- four words as sets
-pub four-in : (w : List ℕ) → length w ≡ 4
-    → _≡_ {A = List InSet} (record { 0 = getD w 0 0 } ∷ record { 0 = getD w 1 0 } ∷ record { 0 = getD w 2 0 } ∷ record { 0 = getD w 3 0 } ∷ []) (inSets w)
-four-in [] h = absurd (omega arith)
-four-in (a ∷ []) h = absurd (omega arith)
-four-in (a ∷ b ∷ []) h = absurd (omega arith)
-four-in (a ∷ b ∷ c ∷ []) h = absurd (omega arith)
-four-in (a ∷ b ∷ c ∷ d ∷ []) h = refl
-four-in (a ∷ b ∷ c ∷ d ∷ e ∷ w) h = absurd (omega arith)
+-- sets and their numbers
+bits-all : (ns : List ℕ) → numbersOf (setsWith ns) ≡ ns
+bits-all [] = refl
+bits-all (x ∷ ns) = λ i. bits-of x i ∷ bits-all ns i
 
-pub four-out : (w : List ℕ) → length w ≡ 4
-    → _≡_ {A = List OutSet} (record { 0 = getD w 0 0 } ∷ record { 0 = getD w 1 0 } ∷ record { 0 = getD w 2 0 } ∷ record { 0 = getD w 3 0 } ∷ []) (outSets w)
-four-out [] h = absurd (omega arith)
-four-out (a ∷ []) h = absurd (omega arith)
-four-out (a ∷ b ∷ []) h = absurd (omega arith)
-four-out (a ∷ b ∷ c ∷ []) h = absurd (omega arith)
-four-out (a ∷ b ∷ c ∷ d ∷ []) h = refl
-four-out (a ∷ b ∷ c ∷ d ∷ e ∷ w) h = absurd (omega arith)
+in-whole : (l : List Set) → setsWith (numbersOf l) ≡ l → map (λ (x : Set). record { 0 = x }) l ≡ inSets (numbersOf l)
+in-whole l h = ap (map (λ (x : Set). record { 0 = x })) (sym h) ∙ both (numbersOf l)
+  where
+    both : (ns : List ℕ) → _≡_ {A = List InSet} (map (λ (x : Set). record { 0 = x }) (setsWith ns)) (inSets ns)
+    both [] = refl
+    both (x ∷ ns) = ap (λ (k : List InSet). record { 0 = setOf x } ∷ k) (both ns)
+
+out-whole : (l : List Set) → setsWith (numbersOf l) ≡ l → map (λ (x : Set). record { 0 = x }) l ≡ outSets (numbersOf l)
+out-whole l h = ap (map (λ (x : Set). record { 0 = x })) (sym h) ∙ both (numbersOf l)
+  where
+    both : (ns : List ℕ) → _≡_ {A = List OutSet} (map (λ (x : Set). record { 0 = x }) (setsWith ns)) (outSets ns)
+    both [] = refl
+    both (x ∷ ns) = ap (λ (k : List OutSet). record { 0 = setOf x } ∷ k) (both ns)
+
+four : (w : List Set) → length w ≡ 4 → getD w 0 noStates ∷ getD w 1 noStates ∷ getD w 2 noStates ∷ getD w 3 noStates ∷ [] ≡ w
+four [] h = absurd (omega arith)
+four (a ∷ []) h = absurd (omega arith)
+four (a ∷ b ∷ []) h = absurd (omega arith)
+four (a ∷ b ∷ c ∷ []) h = absurd (omega arith)
+four (a ∷ b ∷ c ∷ d ∷ []) h = refl
+four (a ∷ b ∷ c ∷ d ∷ e ∷ w) h = absurd (omega arith)
+
+module _ (w : List Set) (h : length w ≡ 4) (p : setsWith (numbersOf w) ≡ w) where
+  pub four-in :
+      map (λ (x : Set). record { 0 = x }) (getD w 0 noStates ∷ getD w 1 noStates ∷ getD w 2 noStates ∷ getD w 3 noStates ∷ []) ≡ inSets (numbersOf w)
+  four-in = ap (map (λ (x : Set). record { 0 = x })) (four w h) ∙ in-whole w p
+
+  pub four-out :
+      map (λ (x : Set). record { 0 = x }) (getD w 0 noStates ∷ getD w 1 noStates ∷ getD w 2 noStates ∷ getD w 3 noStates ∷ []) ≡ outSets (numbersOf w)
+  four-out = ap (map (λ (x : Set). record { 0 = x })) (four w h) ∙ out-whole w p
+
+-- one set among others
+map-set : {A B : Type 0} (f : A → B) (l : List A) (i : ℕ) (x : A) → map f (set l i x) ≡ set (map f l) i (f x)
+map-set f [] i x = refl
+map-set f (y ∷ l) zero x = refl
+map-set f (y ∷ l) (suc i) x = ap (λ k. f y ∷ k) (map-set f l i x)
+
+pub set-whole : (l : List Set) (i : ℕ) (x : Set) → setsWith (numbersOf l) ≡ l → setOf (bitsOf x) ≡ x → setsWith (numbersOf (set l i x)) ≡ set l i x
+set-whole l i x h e = ap setsWith (map-set bitsOf l i x) ∙ map-set setOf (numbersOf l) i (bitsOf x) ∙ (λ n. set (h n) i (e n))
+
+pub first-whole : (x y : Set) → setOf (bitsOf x) ≡ x → setOf (bitsOf y) ≡ y → setsWith (numbersOf (x ∷ y ∷ y ∷ y ∷ [])) ≡ x ∷ y ∷ y ∷ y ∷ []
+first-whole x y p q = λ i. p i ∷ q i ∷ q i ∷ q i ∷ []
+
+pub empty-whole : (x : Set) → setOf (bitsOf x) ≡ x → setsWith (numbersOf (replicate 4 x)) ≡ replicate 4 x
+empty-whole x p = first-whole x x p p
 
 -- the answers
-pub list-got : {x : Run Sets} {ws : List ℕ} {n j : ℕ} → x ≡ got (record { words = ws; count = n }) j
-    → _≡_ {A = SetList} (record { words = ws; count = n; end = At j }) (setsOf x)
+pub list-got : {x : Run Sets} {l : List Set} {n j : ℕ} → setsWith (numbersOf l) ≡ l → x ≡ got (record { words = numbersOf l; count = n }) j
+    → _≡_ {A = SetList} (record { sets = l; count = n; end = At j }) (setsOf x)
 unfolding setsOf
-list-got e = sym (ap setsOf e)
+list-got {n = n} {j = j} h e = ap (λ (k : List Set). record { sets = k; count = n; end = At j }) (sym h) ∙ sym (ap setsOf e)
 
 pub list-fault : {x : Run Sets} {p : ℕ} {r : SetList} → r ≡ setsOf (fault p) → x ≡ fault p → r ≡ setsOf x
 list-fault q e = q ∙ sym (ap setsOf e)
 
-pub got-list : (x : Run Sets) (r : SetList) (j : ℕ) → r ≡ setsOf x → r .end ≡ At j → x ≡ got (record { words = r .words; count = r .count }) j
+-- a list that is read: its sets, and that they are those with their numbers
+pub got-list : (x : Run Sets) (r : SetList) (j : ℕ) → r ≡ setsOf x → r .end ≡ At j
+    → (x ≡ got (record { words = numbersOf (r .sets); count = r .count }) j) × (setsWith (numbersOf (r .sets)) ≡ r .sets)
 unfolding setsOf
 got-list (got a i) r j e f =
     let same : At i ≡ At j = sym (ap (λ (y : SetList). y .end) e) ∙ f in
     let k : i ≡ j = cc in
-    ap (λ (y : SetList). got (record { words = y .words; count = y .count }) i) (sym e) ∙ ap (got (record { words = r .words; count = r .count })) k
+    let made : r .sets ≡ setsWith (a .words) = ap (λ (y : SetList). y .sets) e in
+    let count : r .count ≡ a .count = ap (λ (y : SetList). y .count) e in
+    let numbers : a .words ≡ numbersOf (r .sets) = sym (ap numbersOf made ∙ bits-all (a .words)) in
+    ((λ n. got (record { words = numbers n; count = sym count n }) (k n)), ap setsWith (sym numbers) ∙ sym made)
 got-list (fault p) r j e f = let same : Fault p ≡ At j = sym (ap (λ (y : SetList). y .end) e) ∙ f in let z : _≡_ {A = ℕ} 0 1 = cc in absurd (omega arith)
 
 pub fault-list : (x : Run Sets) (r : SetList) (p : ℕ) → r ≡ setsOf x → r .end ≡ Fault p → x ≡ fault p
@@ -113,20 +154,22 @@ module _ (x : Run Sets) (n : ℕ) (a : Sets) (w : ℕ → ℕ) (at : ℕ) (e : x
           ∙ lit-on 32 (bind setFormat (λ z. moreSets m (push a z))) w at h ∙ bind-got setFormat (λ z. moreSets m (push a z)) w (at + 1) y j g
           ∙ ap (λ (k : ℕ). run (moreSets k (push a y)) w j) (less m)
 
-pub sets-turn : (x : Run Sets) (ws : List ℕ) (count : ℕ) (w : ℕ → ℕ) (at : ℕ) → x ≡ run (moreSets (4 - count) (record { words = ws; count = count })) w at
-    → count < 4 → w at ≡ 32 → (y j : ℕ) → run setFormat w (at + 1) ≡ got y j
-    → x ≡ run (moreSets (4 - (count + 1)) (record { words = set ws count y; count = count + 1 })) w j
+pub sets-turn : (x : Run Sets) (l : List Set) (count : ℕ) (w : ℕ → ℕ) (at : ℕ)
+    → x ≡ run (moreSets (4 - count) (record { words = numbersOf l; count = count })) w at
+    → count < 4 → w at ≡ 32 → (y : Set) (j : ℕ) → run setFormat w (at + 1) ≡ got (bitsOf y) j
+    → x ≡ run (moreSets (4 - (count + 1)) (record { words = numbersOf (set l count y); count = count + 1 })) w j
 unfolding push
-sets-turn x ws count w at e l h y j g =
+sets-turn x l count w at e less h y j g =
     let fewer : 4 - count - 1 ≡ 4 - (count + 1) = omega arith in
-    sets-next x (4 - count) (record { words = ws; count = count }) w at e (omega arith) h y j g
-    ∙ ap (λ (m : ℕ). run (moreSets m (record { words = set ws count y; count = suc count })) w j) fewer
-    ∙ ap (λ (c : ℕ). run (moreSets (4 - (count + 1)) (record { words = set ws count y; count = c })) w j) (sym (add-one count))
+    sets-next x (4 - count) (record { words = numbersOf l; count = count }) w at e (omega arith) h (bitsOf y) j g
+    ∙ ap (λ (m : ℕ). run (moreSets m (record { words = set (numbersOf l) count (bitsOf y); count = suc count })) w j) fewer
+    ∙ (λ i. run (moreSets (4 - (count + 1)) (record { words = sym (map-set bitsOf l count y) i; count = sym (add-one count) i })) w j)
 
-pub sets-first : (x : ℕ) (w : ℕ → ℕ) (i : ℕ)
-    → run (moreSets 3 (push noSets x)) w i ≡ run (moreSets (4 - 1) (record { words = x ∷ 0 ∷ 0 ∷ 0 ∷ []; count = 1 })) w i
+pub sets-first : (x y : Set) (w : ℕ → ℕ) (i : ℕ) → bitsOf y ≡ 0
+    → run (moreSets 3 (push noSets (bitsOf x))) w i ≡ run (moreSets (4 - 1) (record { words = numbersOf (x ∷ y ∷ y ∷ y ∷ []); count = 1 })) w i
 unfolding push noSets
-sets-first x w i = refl
+sets-first x y w i e =
+    λ n. run (moreSets 3 (record { words = bitsOf x ∷ sym e n ∷ sym e n ∷ sym e n ∷ []; count = 1 })) w i
 
 -- the whole list
 module _ (w : ℕ → ℕ) (i : ℕ) where
@@ -139,9 +182,12 @@ module _ (w : ℕ → ℕ) (i : ℕ) where
     unfolding setsFormat
     list-open = lit-on 40 (alt 41 (done noSets) (bind setFormat (λ x. moreSets 3 (push noSets x)))) w i h
 
-    pub list-empty : w (i + 1) ≡ 41 → run setsFormat w i ≡ got (record { words = 0 ∷ 0 ∷ 0 ∷ 0 ∷ []; count = 0 }) (i + 1 + 1)
+    pub list-empty : w (i + 1) ≡ 41 → (y : Set) → bitsOf y ≡ 0
+        → run setsFormat w i ≡ got (record { words = numbersOf (replicate 4 y); count = 0 }) (i + 1 + 1)
     unfolding noSets
-    list-empty g = list-open ∙ run-alt-left 41 (done noSets) _ w (i + 1) g ∙ run-done noSets w (suc (i + 1)) ∙ ap (got noSets) (sym (add-one (i + 1)))
+    list-empty g y e =
+        list-open ∙ run-alt-left 41 (done noSets) _ w (i + 1) g ∙ run-done noSets w (suc (i + 1)) ∙ ap (got noSets) (sym (add-one (i + 1)))
+        ∙ (λ n. got (record { words = replicate 4 (sym e n); count = 0 }) (i + 1 + 1))
 
     pub list-bad : (w (i + 1) ≡ 41 → ⊥) → (p : ℕ) → run setFormat w (i + 1) ≡ fault p → run setsFormat w i ≡ fault p
     list-bad g p f =
@@ -177,9 +223,14 @@ fault-requirement (got a i) r p e f = let same : At i ≡ Fault p = sym (ap (λ 
     absurd (omega arith)
 fault-requirement (fault q) r p e f = let same : Fault q ≡ Fault p = sym (ap (λ (y : RequirementScan). y .end) e) ∙ f in cc
 
--- a list that is read has four words
-pub list-words : (w : ℕ → ℕ) (i : ℕ) (a : Sets) (j : ℕ) → run setsFormat w i ≡ got a j → length (a .words) ≡ 4
-list-words w i a j h = let F = run-got setsFormat w i h in list-sound (F .text) a (F .is-text) .0 .all
+-- a list that is read has four places
+pub list-four : (w : ℕ → ℕ) (i : ℕ) (r : SetList) (j : ℕ) → r ≡ setsOf (run setsFormat w i) → r .end ≡ At j
+    → (length (r .sets) ≡ 4) × (setsWith (numbersOf (r .sets)) ≡ r .sets)
+list-four w i r j e f =
+    let read = got-list (run setsFormat w i) r j e f in
+    let F = run-got setsFormat w i (read .0) in
+    let S = list-sound (F .text) (record { words = numbersOf (r .sets); count = r .count }) (F .is-text) .0 in
+    (sym (length-map (r .sets) bitsOf) ∙ S .all, read .1)
 
 module _ (a : Sets) (w : ℕ → ℕ) (i : ℕ) where
   pub if-no-blank : (w i ≡ 32 → ⊥) → run (guaranteesFormat a) w i ≡ fault i

@@ -5,13 +5,16 @@ use native.Mathlib.Numerals.{add-one}
 use mathlib.Core.List.{List}
 use mathlib.Core.Path.{_≡_, sym, _∙_, ap}
 use lib.ListN.{set, replicate}
+use Rattle.sets.specs.declared.Set.{Set}
+use Rattle.sets.specs.Words.{capacity, rowWords, bitsOf, setOf, setsIn, wordsOf, noStates}
+use Rattle.sets.proofs.Rows.{bits-of, no-states, words-none}
 use Rattle.grammar.specs.Format.{Format, Run, run, bind}
 use Rattle.grammar.specs.Format.Run.{got, fault}
 use Rattle.grammar.proofs.Format.{run-got, run-done}
 use Rattle.game.specs.declared.Graph.{Graph}
 use Rattle.game.specs.declared.Requirement.{Requirement}
 use Rattle.game.specs.declared.Game.{Game}
-use Rattle.shape.specs.Text.{emptyRequirement}
+use Rattle.shape.specs.Text.{PlainGraph, plain, recordOf, emptyRequirement}
 use Rattle.shape.specs.Shape.{
   mark,
   store,
@@ -37,13 +40,20 @@ use Rattle.scan.specs.declared.whole.RequirementsScan.{RequirementsScan}
 use Rattle.scan.specs.declared.whole.GameScan.{GameScan}
 use Rattle.pieces.proofs.Steps.{bind-got, bind-fault}
 use Rattle.shape.proofs.LineTexts.{header-sound}
+use Rattle.shape.proofs.Shape.{plain-record}
+
+-- the record of a graph without states
+pub empty-record : recordOf (emptyGraph 0) ≡ record { states = 0; initial = noStates; moves = replicate rowWords 0 }
+unfolding recordOf emptyGraph
+empty-record = λ i. record { states = 0; initial = no-states i; moves = sym words-none i }
 
 -- the answers
-pub moves-state : (x : Run StateRow) {f m j : ℕ} → Moves f m j ≡ stateOf x → x ≡ got (record { initial = f; moves = m }) j
+pub moves-state : (x : Run StateRow) {f : ℕ} {m : Set} {j : ℕ} → Moves f m j ≡ stateOf x → x ≡ got (record { initial = f; moves = bitsOf m }) j
 unfolding stateOf
 moves-state (got q i) {f} {m} {j} e =
     let p : q .initial ≡ f = cc in
-    let r : q .moves ≡ m = cc in
+    let o : setOf (q .moves) ≡ m = cc in
+    let r : q .moves ≡ bitsOf m = sym (bits-of (q .moves)) ∙ ap bitsOf o in
     let s : i ≡ j = cc in
     λ n. got (record { initial = p n; moves = r n }) (s n)
 moves-state (fault p) e = let z : _≡_ {A = ℕ} 0 1 = cc in absurd (omega arith)
@@ -53,22 +63,29 @@ unfolding stateOf
 fault-state (got q i) e = let z : _≡_ {A = ℕ} 0 1 = cc in absurd (omega arith)
 fault-state (fault q) e = cc
 
-pub graph-got : {x : Run Graph} {h : Graph} {j : ℕ} → x ≡ got h j → _≡_ {A = GraphScan} (record { graph = h; end = At j }) (graphOf x)
-unfolding graphOf
-graph-got e = sym (ap graphOf e)
+pub graph-got : {x : Run PlainGraph} {n : ℕ} {m : Set} {ms : List ℕ} {j : ℕ} → setOf (bitsOf m) ≡ m → wordsOf (setsIn ms) ≡ ms
+    → x ≡ got (record { states = n; initial = bitsOf m; moves = setsIn ms }) j
+    → _≡_ {A = GraphScan} (record { graph = record { states = n; initial = m; moves = ms }; end = At j }) (graphOf x)
+unfolding graphOf recordOf
+graph-got {n = n} {j = j} p q e =
+    (λ i. record { graph = record { states = n; initial = sym p i; moves = sym q i }; end = At j }) ∙ sym (ap graphOf e)
 
-pub graph-fault : {x : Run Graph} {p : ℕ} {r : GraphScan} → r ≡ graphOf (fault p) → x ≡ fault p → r ≡ graphOf x
+pub graph-fault : {x : Run PlainGraph} {p : ℕ} {r : GraphScan} → r ≡ graphOf (fault p) → x ≡ fault p → r ≡ graphOf x
 graph-fault q e = q ∙ sym (ap graphOf e)
 
-pub got-graph : (x : Run Graph) (r : GraphScan) (j : ℕ) → r ≡ graphOf x → r .end ≡ At j → x ≡ got (r .graph) j
+-- a graph that is read: its lines, and that it is the record of the numbers of its sets
+pub got-graph : (x : Run PlainGraph) (r : GraphScan) (j : ℕ) → r ≡ graphOf x → r .end ≡ At j
+    → (x ≡ got (plain (r .graph)) j) × (recordOf (plain (r .graph)) ≡ r .graph)
 unfolding graphOf
-got-graph (got q i) r j e f =
+got-graph (got h i) r j e f =
     let same : At i ≡ At j = sym (ap (λ (y : GraphScan). y .end) e) ∙ f in
     let k : i ≡ j = cc in
-    ap (λ (y : GraphScan). got (y .graph) i) (sym e) ∙ ap (got (r .graph)) k
+    let made : r .graph ≡ recordOf h = ap (λ (y : GraphScan). y .graph) e in
+    let numbers : h ≡ plain (r .graph) = sym (ap plain made ∙ plain-record h) in
+    ((λ n. got (numbers n) (k n)), ap recordOf (sym numbers) ∙ sym made)
 got-graph (fault p) r j e f = let same : Fault p ≡ At j = sym (ap (λ (y : GraphScan). y .end) e) ∙ f in let z : _≡_ {A = ℕ} 0 1 = cc in absurd (omega arith)
 
-pub fault-graph : (x : Run Graph) (r : GraphScan) (p : ℕ) → r ≡ graphOf x → r .end ≡ Fault p → x ≡ fault p
+pub fault-graph : (x : Run PlainGraph) (r : GraphScan) (p : ℕ) → r ≡ graphOf x → r .end ≡ Fault p → x ≡ fault p
 unfolding graphOf
 fault-graph (got a i) r p e f = let same : At i ≡ Fault p = sym (ap (λ (y : GraphScan). y .end) e) ∙ f in let z : _≡_ {A = ℕ} 0 1 = cc in absurd (omega arith)
 fault-graph (fault q) r p e f = let same : Fault q ≡ Fault p = sym (ap (λ (y : GraphScan). y .end) e) ∙ f in cc
@@ -99,7 +116,7 @@ fault-requirements (got a i) r p e f = let same : At i ≡ Fault p = sym (ap (λ
 fault-requirements (fault q) r p e f = let same : Fault q ≡ Fault p = sym (ap (λ (y : RequirementsScan). y .end) e) ∙ f in cc
 
 -- one state
-module _ (x : Run Graph) (v n t m : ℕ) (ms : List ℕ) (w : ℕ → ℕ) (at : ℕ)
+module _ (x : Run PlainGraph) (v n t m : ℕ) (ms : List ℕ) (w : ℕ → ℕ) (at : ℕ)
     (e : x ≡ run (statesFormat v (n - t) t (record { states = n; initial = m; moves = ms })) w at) where
   states-open : t < n → x ≡ run (bind (stateFormat v t) (λ q. statesFormat v (n - t - 1) (suc t)
       (store (record { states = n; initial = m; moves = ms }) t q))) w at
@@ -118,15 +135,16 @@ module _ (x : Run Graph) (v n t m : ℕ) (ms : List ℕ) (w : ℕ → ℕ) (at :
   pub states-fault : t < n → (p : ℕ) → run (stateFormat v t) w at ≡ fault p → x ≡ fault p
   states-fault l p f = states-open l ∙ bind-fault (stateFormat v t) _ w at p f
 
-  pub states-turn : t < n → (f y j m′ : ℕ) → run (stateFormat v t) w at ≡ got (record { initial = f; moves = y }) j → m′ ≡ mark m t f
-      → x ≡ run (statesFormat v (n - (t + 1)) (t + 1) (record { states = n; initial = m′; moves = set ms t y })) w j
+  pub states-turn : t < n → (f y j m′ : ℕ) (ms′ : List ℕ) → run (stateFormat v t) w at ≡ got (record { initial = f; moves = y }) j → m′ ≡ mark m t f
+      → ms′ ≡ set ms t y
+      → x ≡ run (statesFormat v (n - (t + 1)) (t + 1) (record { states = n; initial = m′; moves = ms′ })) w j
   unfolding store
-  states-turn l f y j m′ g h =
+  states-turn l f y j m′ ms′ g h k =
       let fewer : n - t - 1 ≡ n - (t + 1) = omega arith in
       states-open l ∙ bind-got (stateFormat v t) _ w at (record { initial = f; moves = y }) j g
       ∙ ap (λ (i : ℕ). run (statesFormat v i (suc t) (record { states = n; initial = mark m t f; moves = set ms t y })) w j) fewer
       ∙ ap (λ (i : ℕ). run (statesFormat v (n - (t + 1)) i (record { states = n; initial = mark m t f; moves = set ms t y })) w j) (sym (add-one t))
-      ∙ ap (λ (i : ℕ). run (statesFormat v (n - (t + 1)) (t + 1) (record { states = n; initial = i; moves = set ms t y })) w j) (sym h)
+      ∙ (λ i. run (statesFormat v (n - (t + 1)) (t + 1) (record { states = n; initial = sym h i; moves = sym k i })) w j)
 
   pub states-end : n ≤ t → x ≡ got (record { states = n; initial = m; moves = ms }) at
   unfolding statesFormat
@@ -137,13 +155,13 @@ module _ (x : Run Graph) (v n t m : ℕ) (ms : List ℕ) (w : ℕ → ℕ) (at :
       go zero z f = f ∙ run-done _ w at
       go (suc k) z f = absurd (omega arith)
 
-pub states-begin : (v n : ℕ) (ms : List ℕ) (w : ℕ → ℕ) (i : ℕ) → ms ≡ replicate 64 0
-    → run (statesFormat v n 0 (emptyGraph n)) w i ≡ run (statesFormat v (n - 0) 0 (record { states = n; initial = 0; moves = ms })) w i
+pub states-begin : (v n m : ℕ) (ms : List ℕ) (w : ℕ → ℕ) (i : ℕ) → m ≡ 0 → ms ≡ replicate capacity 0
+    → run (statesFormat v n 0 (emptyGraph n)) w i ≡ run (statesFormat v (n - 0) 0 (record { states = n; initial = m; moves = ms })) w i
 unfolding emptyGraph
-states-begin v n ms w i h =
+states-begin v n m ms w i o h =
     let all : n ≡ n - 0 = omega arith in
-    ap (λ (k : ℕ). run (statesFormat v k 0 (record { states = n; initial = 0; moves = replicate 64 0 })) w i) all
-    ∙ ap (λ (l : List ℕ). run (statesFormat v (n - 0) 0 (record { states = n; initial = 0; moves = l })) w i) (sym h)
+    ap (λ (k : ℕ). run (statesFormat v k 0 (record { states = n; initial = 0; moves = replicate capacity 0 })) w i) all
+    ∙ (λ k. run (statesFormat v (n - 0) 0 (record { states = n; initial = sym o k; moves = sym h k })) w i)
 
 -- one requirement
 module _ (x : Run (List Requirement)) (n t : ℕ) (qs : List Requirement) (w : ℕ → ℕ) (at : ℕ) (e : x ≡ run (requirementsFormat (n - t) t qs) w at) where
@@ -201,7 +219,8 @@ unfolding headerOf
 fault-header (got h i) e = let z : _≡_ {A = ℕ} 0 1 = cc in absurd (omega arith)
 fault-header (fault q) e = cc
 
-pub header-range : (w : ℕ → ℕ) (i a o k j : ℕ) → run headerFormat w i ≡ got (record { inputs = a; outputs = o; k = k }) j → (a ≤ 64) × (o ≤ 64) × (k ≤ 8)
+pub header-range : (w : ℕ → ℕ) (i a o k j : ℕ) → run headerFormat w i ≡ got (record { inputs = a; outputs = o; k = k }) j
+    → (a ≤ capacity) × (o ≤ capacity) × (k ≤ 8)
 header-range w i a o k j h =
     let F = run-got headerFormat w i h in
     let H = header-sound (F .text) (record { inputs = a; outputs = o; k = k }) (F .is-text) in
@@ -232,17 +251,18 @@ module _ (a : Graph) (o k : ℕ) (w : ℕ → ℕ) (i : ℕ) where
   unfolding outputFormat
   output-none p e = bind-fault (statesFormat 2 o 0 (emptyGraph o)) _ w i p e
 
-  module _ (b : Graph) (j : ℕ) (e : run (statesFormat 2 o 0 (emptyGraph o)) w i ≡ got b j) where
+  module _ (b : PlainGraph) (j : ℕ) (e : run (statesFormat 2 o 0 (emptyGraph o)) w i ≡ got b j) where
     pub output-bad : (p : ℕ) → run (requirementsFormat k 0 (replicate 8 emptyRequirement)) w j ≡ fault p → run (outputFormat a o k) w i ≡ fault p
     unfolding outputFormat
     output-bad p f = bind-got (statesFormat 2 o 0 (emptyGraph o)) _ w i b j e ∙ bind-fault (requirementsFormat k 0 (replicate 8 emptyRequirement)) _ w j p f
 
-    pub output-got : (qs : List Requirement) (m : ℕ) → run (requirementsFormat k 0 (replicate 8 emptyRequirement)) w j ≡ got qs m
-        → run (outputFormat a o k) w i ≡ got (record { input = a; output = b; k = k; requirements = qs }) m
+    pub output-got : (h : Graph) → recordOf b ≡ h → (qs : List Requirement) (m : ℕ) → run (requirementsFormat k 0 (replicate 8 emptyRequirement)) w j ≡ got qs m
+        → run (outputFormat a o k) w i ≡ got (record { input = a; output = h; k = k; requirements = qs }) m
     unfolding outputFormat
-    output-got qs m f =
+    output-got h r qs m f =
         bind-got (statesFormat 2 o 0 (emptyGraph o)) _ w i b j e ∙ bind-got (requirementsFormat k 0 (replicate 8 emptyRequirement)) _ w j qs m f
-        ∙ run-done (record { input = a; output = b; k = k; requirements = qs }) w m
+        ∙ run-done (record { input = a; output = recordOf b; k = k; requirements = qs }) w m
+        ∙ ap (λ (y : Graph). got (record { input = a; output = y; k = k; requirements = qs }) m) r
 
 module _ (w : ℕ → ℕ) (i : ℕ) where
   pub game-no-header : (p : ℕ) → run headerFormat w i ≡ fault p → run gameFormat w i ≡ fault p
@@ -254,6 +274,9 @@ module _ (w : ℕ → ℕ) (i : ℕ) where
     unfolding gameFormat
     game-no-input p f = bind-got headerFormat _ w i (record { inputs = a; outputs = o; k = k }) j e ∙ bind-fault (statesFormat 1 a 0 (emptyGraph a)) _ w j p f
 
-    pub game-on : (h : Graph) (m : ℕ) → run (statesFormat 1 a 0 (emptyGraph a)) w j ≡ got h m → run gameFormat w i ≡ run (outputFormat h o k) w m
+    pub game-on : (b : PlainGraph) (m : ℕ) (h : Graph) → run (statesFormat 1 a 0 (emptyGraph a)) w j ≡ got b m → recordOf b ≡ h
+        → run gameFormat w i ≡ run (outputFormat h o k) w m
     unfolding gameFormat
-    game-on h m f = bind-got headerFormat _ w i (record { inputs = a; outputs = o; k = k }) j e ∙ bind-got (statesFormat 1 a 0 (emptyGraph a)) _ w j h m f
+    game-on b m h f r =
+        bind-got headerFormat _ w i (record { inputs = a; outputs = o; k = k }) j e ∙ bind-got (statesFormat 1 a 0 (emptyGraph a)) _ w j b m f
+        ∙ ap (λ (y : Graph). run (outputFormat y o k) w m) r

@@ -1,18 +1,22 @@
 -- What the reader's functions answer, by what following the format finds.
 --
+--   numbersOf xs       == the numbers of the sets xs
+--   setsWith ns        == the sets with the numbers ns
 --   setsOf x           == the answer to a list of sets
 --   requirementOf x    == the answer to a requirement's line
 --   graphOf x          == the answer to a graph's lines
 --   requirementsOf x   == the answer to the requirements' lines
 --   gameOf x           == the answer to the whole text
-use mathlib.Core.List.{List}
+use Prim.Native.Nat.{ℕ}
+use mathlib.Core.List.{List, map}
 use lib.ListN.{replicate}
+use Rattle.sets.specs.declared.Set.{Set}
+use Rattle.sets.specs.Words.{bitsOf, setOf, noStates}
 use Rattle.grammar.specs.Format.{Run}
 use Rattle.grammar.specs.Format.Run.{got, fault}
 use Rattle.game.specs.declared.Requirement.{Requirement}
-use Rattle.game.specs.declared.Graph.{Graph}
 use Rattle.game.specs.declared.Game.{Game}
-use Rattle.shape.specs.Text.{emptyRequirement, emptyGame}
+use Rattle.shape.specs.Text.{PlainGraph, recordOf, emptyRequirement, emptyGame}
 use Rattle.shape.specs.Shape.{Sets, emptyGraph}
 use Rattle.scan.specs.declared.whole.GraphScan.{GraphScan}
 use Rattle.scan.specs.declared.whole.RequirementsScan.{RequirementsScan}
@@ -22,17 +26,23 @@ use Rattle.scan.specs.declared.set_lists.RequirementScan.{RequirementSca
 use Rattle.pieces.specs.declared.Step.{Step}
 use Rattle.pieces.specs.declared.Step.the-variants.{At, Fault}
 
+abbrev pub numbersOf : List Set → List ℕ
+numbersOf xs = map bitsOf xs
+
+abbrev pub setsWith : List ℕ → List Set
+setsWith ns = map setOf ns
+
 unfoldable pub setsOf : Run Sets → SetList
-setsOf (got a j) = record { words = a .words; count = a .count; end = At j }
-setsOf (fault p) = record { words = replicate 4 0; count = 0; end = Fault p }
+setsOf (got a j) = record { sets = setsWith (a .words); count = a .count; end = At j }
+setsOf (fault p) = record { sets = replicate 4 noStates; count = 0; end = Fault p }
 
 unfoldable pub requirementOf : Run Requirement → RequirementScan
 requirementOf (got q j) = record { requirement = q; end = At j }
 requirementOf (fault p) = record { requirement = emptyRequirement; end = Fault p }
 
-unfoldable pub graphOf : Run Graph → GraphScan
-graphOf (got h j) = record { graph = h; end = At j }
-graphOf (fault p) = record { graph = emptyGraph 0; end = Fault p }
+unfoldable pub graphOf : Run PlainGraph → GraphScan
+graphOf (got h j) = record { graph = recordOf h; end = At j }
+graphOf (fault p) = record { graph = recordOf (emptyGraph 0); end = Fault p }
 
 unfoldable pub requirementsOf : Run (List Requirement) → RequirementsScan
 requirementsOf (got qs j) = record { requirements = qs; end = At j }

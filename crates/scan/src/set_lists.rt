@@ -2,21 +2,23 @@
 use game::InSet;
 use game::OutSet;
 use game::Requirement;
-use pieces::Set;
+use pieces::SetScan;
 use pieces::Step;
+use sets::Set;
 ghost use mathlib.Core.Path.{_≡_};
 ghost use Prim.Native.Nat.{_+_, _<_};
 ghost use lib.ListN.{length};
+ghost use Rattle.sets.specs.Words.{bitsOf};
 ghost use Rattle.grammar.specs.Format.{run};
 ghost use Rattle.grammar.specs.Format.Run.{fault};
 ghost use Rattle.grammar.specs.Place.{bytes};
-ghost use Rattle.shape.specs.Shape.{noSets, push, moreSets, setsFormat, inSets, outSets, guaranteesFormat, requirementFormat};
-ghost use Rattle.shape.specs.Text.{emptyRequirement};
-ghost use Rattle.scan.specs.Scan.{setsOf, requirementOf};
+ghost use Rattle.shape.specs.Shape.{noSets, push, moreSets, setsFormat, guaranteesFormat, requirementFormat};
+ghost use Rattle.shape.specs.Text.{inSets, outSets, emptyRequirement};
+ghost use Rattle.scan.specs.Scan.{numbersOf, setsWith, setsOf, requirementOf};
 
 // A list of sets and the place behind it; no sets where there is a fault.
 pub struct SetList {
-    pub words: [u64; 4],
+    pub sets: [Set; 4],
     pub count: usize,
     pub end: Step,
 }
@@ -30,50 +32,52 @@ pub struct RequirementScan {
 fn no_list(p: usize) -> SetList
     ensures { λ r. ⌜ r ≡ setsOf (fault p) ⌝ }
 {
+    let x = sets::empty();
     SetList {
-        words: [0u64; 4],
+        sets: [x; 4],
         count: 0,
         end: Step::Fault(p),
     }
 }
 
 // The sets at place i behind the first, x.
-fn more_sets(s: &[u8], i: usize, x: u64) -> SetList
-    ensures { λ r. ⌜ r ≡ setsOf (run (moreSets 3 (push noSets x)) (bytes (now (s .entry))) i) ⌝ }
+fn more_sets(s: &[u8], i: usize, x: Set) -> SetList
+    ensures { λ r. ⌜ r ≡ setsOf (run (moreSets 3 (push noSets (bitsOf x))) (bytes (now (s .entry))) i) ⌝ }
 {
-    let mut words = [0u64; 4];
-    words[0] = x;
+    let none = sets::empty();
+    let mut list = [none; 4];
+    list[0] = x;
     let mut count: usize = 1;
     let mut at = i;
     while count < 4 {
         let b = pieces::byte_at(s, at);
-        if b == 41 {
+        if b == pieces::CLOSE {
             return SetList {
-                words,
+                sets: list,
                 count,
                 end: Step::At(at + 1),
             };
         }
-        if b != 32 {
+        if b != pieces::BLANK {
             return no_list(at);
         }
         let t = pieces::set_at(s, at + 1);
         match t {
-            Set::Fault(p) => {
+            SetScan::Fault(p) => {
                 return no_list(p);
             }
-            Set::Members(y, j) => {
-                words[count] = y;
+            SetScan::Members(y, j) => {
+                list[count] = y;
                 count += 1;
                 at = j;
             }
         }
     }
-    if pieces::byte_at(s, at) != 41 {
+    if pieces::byte_at(s, at) != pieces::CLOSE {
         return no_list(at);
     }
     SetList {
-        words,
+        sets: list,
         count,
         end: Step::At(at + 1),
     }
@@ -83,46 +87,52 @@ fn more_sets(s: &[u8], i: usize, x: u64) -> SetList
 pub fn sets_at(s: &[u8], i: usize) -> SetList
     ensures { λ r. ⌜ r ≡ setsOf (run setsFormat (bytes (now (s .entry))) i) ⌝ }
 {
-    if pieces::byte_at(s, i) != 40 {
+    if pieces::byte_at(s, i) != pieces::OPEN {
         return no_list(i);
     }
     let j = i + 1;
-    if pieces::byte_at(s, j) == 41 {
+    if pieces::byte_at(s, j) == pieces::CLOSE {
+        let none = sets::empty();
         return SetList {
-            words: [0u64; 4],
+            sets: [none; 4],
             count: 0,
             end: Step::At(j + 1),
         };
     }
     let t = pieces::set_at(s, j);
     match t {
-        Set::Fault(p) => no_list(p),
-        Set::Members(x, m) => more_sets(s, m, x),
+        SetScan::Fault(p) => no_list(p),
+        SetScan::Members(x, m) => more_sets(s, m, x),
     }
 }
 
-fn in_sets(w: [u64; 4]) -> [InSet; 4]
-    requires { ⌜ length w ≡ 4 ⌝ }
-    ensures { λ r. ⌜ r ≡ inSets w ⌝ }
+// Sets of the list as sets of input states.
+fn in_sets(l: [Set; 4]) -> [InSet; 4]
+    requires { ⌜ (length l ≡ 4) × (setsWith (numbersOf l) ≡ l) ⌝ }
+    ensures { λ r. ⌜ r ≡ inSets (numbersOf l) ⌝ }
 {
-    [InSet(w[0]), InSet(w[1]), InSet(w[2]), InSet(w[3])]
+    [InSet(l[0]), InSet(l[1]), InSet(l[2]), InSet(l[3])]
 }
 
-fn out_sets(w: [u64; 4]) -> [OutSet; 4]
-    requires { ⌜ length w ≡ 4 ⌝ }
-    ensures { λ r. ⌜ r ≡ outSets w ⌝ }
+// Sets of the list as sets of output states.
+fn out_sets(l: [Set; 4]) -> [OutSet; 4]
+    requires { ⌜ (length l ≡ 4) × (setsWith (numbersOf l) ≡ l) ⌝ }
+    ensures { λ r. ⌜ r ≡ outSets (numbersOf l) ⌝ }
 {
-    [OutSet(w[0]), OutSet(w[1]), OutSet(w[2]), OutSet(w[3])]
+    [OutSet(l[0]), OutSet(l[1]), OutSet(l[2]), OutSet(l[3])]
 }
 
 // A requirement without sets.
 pub fn empty_requirement() -> Requirement
     ensures { λ r. ⌜ r ≡ emptyRequirement ⌝ }
 {
+    let none = sets::empty();
+    let x = InSet(none);
+    let y = OutSet(none);
     Requirement {
-        assumptions: [InSet(0), InSet(0), InSet(0), InSet(0)],
+        assumptions: [x; 4],
         assumed: 0,
-        guarantees: [OutSet(0), OutSet(0), OutSet(0), OutSet(0)],
+        guarantees: [y; 4],
         guaranteed: 0,
     }
 }
@@ -138,11 +148,11 @@ fn no_requirement(p: usize) -> RequirementScan
 }
 
 // A requirement's line at place i, behind its first list.
-fn guarantees_at(s: &[u8], i: usize, words: [u64; 4], count: usize) -> RequirementScan
-    requires { ⌜ length words ≡ 4 ⌝ }
-    ensures { λ r. ⌜ r ≡ requirementOf (run (guaranteesFormat (record { words = words; count = count })) (bytes (now (s .entry))) i) ⌝ }
+fn guarantees_at(s: &[u8], i: usize, first: [Set; 4], count: usize) -> RequirementScan
+    requires { ⌜ (length first ≡ 4) × (setsWith (numbersOf first) ≡ first) ⌝ }
+    ensures { λ r. ⌜ r ≡ requirementOf (run (guaranteesFormat (record { words = numbersOf first; count = count })) (bytes (now (s .entry))) i) ⌝ }
 {
-    if pieces::byte_at(s, i) != 32 {
+    if pieces::byte_at(s, i) != pieces::BLANK {
         return no_requirement(i);
     }
     let b = sets_at(s, i + 1);
@@ -154,9 +164,9 @@ fn guarantees_at(s: &[u8], i: usize, words: [u64; 4], count: usize) -> Requireme
             match t {
                 Step::Fault(p) => no_requirement(p),
                 Step::At(m) => {
-                    let v = b.words;
+                    let v = b.sets;
                     let n = b.count;
-                    let x = in_sets(words);
+                    let x = in_sets(first);
                     let y = out_sets(v);
                     let q = Requirement {
                         assumptions: x,
@@ -187,7 +197,7 @@ pub fn requirement_at(s: &[u8], i: usize) -> RequirementScan
             match e {
                 Step::Fault(p) => no_requirement(p),
                 Step::At(m) => {
-                    let v = a.words;
+                    let v = a.sets;
                     let n = a.count;
                     guarantees_at(s, m, v, n)
                 }

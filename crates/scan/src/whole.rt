@@ -6,13 +6,15 @@ use game::Requirement;
 use lines::Header;
 use lines::Row;
 use pieces::Step;
+use sets::Set;
 ghost use mathlib.Core.Path.{_≡_};
 ghost use Prim.Native.Nat.{_+_, _<_, _≤_};
 ghost use lib.ListN.{replicate};
+ghost use Rattle.sets.specs.Words.{capacity, bitsOf, setOf};
 ghost use Rattle.grammar.specs.Format.{run};
 ghost use Rattle.grammar.specs.Format.Run.{fault};
 ghost use Rattle.grammar.specs.Place.{bytes};
-ghost use Rattle.shape.specs.Text.{emptyRequirement, emptyGame};
+ghost use Rattle.shape.specs.Text.{recordOf, emptyRequirement, emptyGame};
 ghost use Rattle.shape.specs.Shape.{mark, statesFormat, emptyGraph, requirementsFormat, outputFormat, gameFormat};
 ghost use Rattle.scan.specs.Scan.{graphOf, requirementsOf, gameOf};
 
@@ -35,12 +37,13 @@ pub struct GameScan {
 }
 
 fn empty_graph(n: usize) -> Graph
-    ensures { λ r. ⌜ r ≡ emptyGraph n ⌝ }
+    ensures { λ r. ⌜ r ≡ recordOf (emptyGraph n) ⌝ }
 {
+    let none = sets::empty();
     Graph {
         states: n,
-        initial: 0,
-        moves: [0u64; 64],
+        initial: none,
+        moves: [0u64; sets::ROW_WORDS],
     }
 }
 
@@ -55,9 +58,9 @@ fn no_graph(p: usize) -> GraphScan
 }
 
 // The set x, with the state t where f is 1.
-fn marked(x: u64, t: usize, f: usize) -> u64
-    requires { ⌜ t < 64 ⌝ }
-    ensures { λ r. ⌜ r ≡ mark x t f ⌝ }
+fn marked(x: Set, t: usize, f: usize) -> Set
+    requires { ⌜ t < capacity ⌝ }
+    ensures { λ r. ⌜ (bitsOf r ≡ mark (bitsOf x) t f) × (setOf (bitsOf r) ≡ r) ⌝ }
 {
     if f == 1 {
         return sets::insert(x, t);
@@ -67,11 +70,11 @@ fn marked(x: u64, t: usize, f: usize) -> u64
 
 // The lines of the n states of a graph at place i, by the word w.
 fn graph_at(s: &[u8], i: usize, w: usize, n: usize) -> GraphScan
-    requires { ⌜ (w < 10) × (n ≤ 64) ⌝ }
+    requires { ⌜ (w < 10) × (n ≤ capacity) ⌝ }
     ensures { λ r. ⌜ r ≡ graphOf (run (statesFormat w n 0 (emptyGraph n)) (bytes (now (s .entry))) i) ⌝ }
 {
-    let mut moves = [0u64; 64];
-    let mut initial: u64 = 0;
+    let mut moves = [0u64; sets::ROW_WORDS];
+    let mut initial = sets::empty();
     let mut at = i;
     let mut t: usize = 0;
     while t < n {
@@ -81,7 +84,7 @@ fn graph_at(s: &[u8], i: usize, w: usize, n: usize) -> GraphScan
                 return no_graph(p);
             }
             Row::Moves(f, x, j) => {
-                moves[t] = x;
+                sets::put_of(&mut moves, t, x);
                 initial = marked(initial, t, f);
                 at = j;
                 t += 1;
@@ -165,7 +168,7 @@ fn no_game(p: usize) -> GameScan
 
 // The text at place i behind the header, with the output graph and the requirements still to come.
 fn outputs_at(s: &[u8], i: usize, a: Graph, outputs: usize, k: usize) -> GameScan
-    requires { ⌜ (outputs ≤ 64) × (k ≤ 8) ⌝ }
+    requires { ⌜ (outputs ≤ capacity) × (k ≤ 8) ⌝ }
     ensures { λ r. ⌜ r ≡ gameOf (run (outputFormat a outputs k) (bytes (now (s .entry))) i) ⌝ }
 {
     let y = graph_at(s, i, 2, outputs);

@@ -1,2 +1,4 @@
--- Laws of scratch that is cleared from the front.
+-- Laws of scratch.
+pub mod Areas
+pub mod Read
 pub mod Cleared

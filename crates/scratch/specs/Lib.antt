@@ -1,2 +1,4 @@
--- The length of scratch, and what is left in it.
+-- Scratch: what it holds, how long it is, and what is left in it.
 pub mod Scratch
+pub mod Stored
+pub mod Areas

@@ -1,26 +1,163 @@
-// How long scratch is, and how it is left.
+// Scratch: its length, what the solver keeps in it, and how it is left. Where each set stands is known here alone: for n inputs first the inputs'
+// closure, then the rows of the winning region, then the outputs' closure.
 ghost use mathlib.Core.Path.{_≡_};
-ghost use Prim.Native.Nat.{_≤_};
-ghost use lib.ListN.{length as lengthOf};
-ghost use Rattle.scratch.specs.Scratch.{scratchLength, cleared};
+ghost use Prim.Native.Nat.{_+_, _≤_, _<_};
+ghost use lib.ListN.{length as lengthOf, drop};
+ghost use Rattle.finite.specs.Bounded.{count as members};
+ghost use Rattle.bits.specs.Member.{has, pack};
+ghost use Rattle.sets.specs.Words.{capacity, bitsOf, setsIn, setCount};
+ghost use Rattle.components.specs.Component.{together, nontrivialAt};
+ghost use Rattle.game.specs.Fits.{Fits};
+ghost use Rattle.scratch.specs.Scratch.{scratchSets, scratchLength, Kept};
+ghost use Rattle.scratch.specs.Stored.{inReachAt, rowAt, outReachAt, outArea, wonAt, someWonAt, Reached, RowPut, NontrivialOf, Laid};
+ghost use Rattle.scratch.specs.Areas.{ClosedAt};
 use game::Game;
+use game::Graph;
+use game::InSet;
+use game::InState;
+use game::OutSet;
+use game::OutState;
+use sets::Set;
+
+// The states in nontrivial components of both graphs.
+pub struct Nontrivial {
+    pub inputs: InSet,
+    pub outputs: OutSet,
+}
 
 // How many words of scratch a game asks for.
 pub fn length(g: Game) -> usize
-    requires { ⌜ (g .input .states ≤ 64) × (g .output .states ≤ 64) ⌝ }
+    requires { ⌜ (g .input .states ≤ capacity) × (g .output .states ≤ capacity) ⌝ }
     ensures { λ r. ⌜ r ≡ scratchLength g ⌝ }
 {
-    2 * g.input.states + g.output.states
+    sets::words(2 * g.input.states + g.output.states)
 }
 
-// Sets the first n words to zero.
-pub fn clear(s: &mut [u64], n: usize)
-    requires { ⌜ n ≤ lengthOf (now s) ⌝ }
-    ensures { λ _. ⌜ now (s .exit) ≡ cleared n (now (s .entry)) ⌝ }
+// The outputs in the region's row of input j.
+pub fn region_row(s: &[u64], n: usize, j: InState) -> OutSet
+    requires { ⌜ (n ≤ capacity) × (j .0 < n) × (n + n ≤ setCount (now s)) ⌝ }
+    ensures { λ r. ⌜ bitsOf (r .0) ≡ rowAt (setsIn (now (s .entry))) n (j .0) ⌝ }
 {
-    let mut i: usize = 0;
-    while i < n {
-        s[i] = 0;
-        i += 1;
+    OutSet(sets::row(s, n + j.0))
+}
+
+// Writes the region's row of input j.
+pub fn put_region_row(s: &mut [u64], n: usize, j: InState, x: OutSet)
+    requires { ⌜ (n ≤ capacity) × (j .0 < n) × (n + n ≤ setCount (now s)) ⌝ }
+    ensures { λ _. ⌜ RowPut n (j .0) (bitsOf (x .0)) (now (s .entry)) (now (s .exit)) ⌝ }
+{
+    sets::put(s, n + j.0, x.0);
+}
+
+// How many inputs input i reaches.
+pub fn reach_count(s: &[u64], i: InState) -> usize
+    requires { ⌜ i .0 < setCount (now s) ⌝ }
+    ensures { λ r. ⌜ r ≡ members capacity (has (inReachAt (setsIn (now (s .entry))) (i .0))) ⌝ }
+{
+    sets::count(sets::row(s, i.0))
+}
+
+// The outputs that output o reaches.
+pub fn out_reach(s: &[u64], n: usize, o: OutState) -> OutSet
+    requires { ⌜ (n ≤ capacity) × (o .0 < capacity) × (scratchSets n (o .0) < setCount (now s)) ⌝ }
+    ensures { λ r. ⌜ bitsOf (r .0) ≡ outReachAt (setsIn (now (s .entry))) n (o .0) ⌝ }
+{
+    OutSet(sets::row(s, n + n + o.0))
+}
+
+// The component of input i.
+pub fn in_component(s: &[u64], n: usize, i: InState) -> InSet
+    requires { ⌜ (n ≤ capacity) × (i .0 < n) × (n ≤ setCount (now s)) ⌝ }
+    ensures { λ r. ⌜ bitsOf (r .0) ≡ pack n (together (setsIn (now (s .entry))) (i .0)) ⌝ }
+{
+    InSet(components::component(s, n, i.0))
+}
+
+// The component of output o, of m outputs.
+pub fn out_component(s: &[u64], n: usize, m: usize, o: OutState) -> OutSet
+    requires { ⌜ (n ≤ capacity) × (m ≤ capacity) × (o .0 < m) × (scratchSets n m ≤ setCount (now s)) ⌝ }
+    ensures { λ r. ⌜ bitsOf (r .0) ≡ pack m (together (outArea (setsIn (now (s .entry))) n) (o .0)) ⌝ }
+{
+    let at = sets::words(n + n);
+    OutSet(components::component(&s[at..], m, o.0))
+}
+
+// The closure of f, from set number at of s on.
+fn close_at(f: Graph, s: &mut [u64], at: usize)
+    requires { ⌜ (f .states ≤ capacity) × (at ≤ capacity + capacity) × (at + f .states ≤ setCount (now s)) ⌝ }
+    ensures { λ _. ⌜ ClosedAt f at (setsIn (now (s .entry))) (setsIn (now (s .exit))) ⌝ }
+{
+    let start = sets::words(at);
+    closure::close(f, &mut s[start..]);
+}
+
+// Works out both closures.
+pub fn close(g: Game, s: &mut [u64])
+    requires { ⌜ Fits g × (scratchLength g ≤ lengthOf (now s)) ⌝ }
+    ensures { λ _. ⌜ Laid g (now (s .exit)) × Kept g (now (s .entry)) (now (s .exit)) ⌝ }
+{
+    let n = g.input.states;
+    close_at(g.input, s, 0);
+    close_at(g.output, s, n + n);
+}
+
+// The states of f in nontrivial components, its closure standing from set number at of s on.
+fn nontrivial_at(f: Graph, s: &[u64], at: usize) -> Set
+    requires { ⌜ (f .states ≤ capacity) × (at ≤ capacity + capacity) × (at + f .states ≤ setCount (now s)) ⌝ }
+    ensures { λ r. ⌜ bitsOf r ≡ pack (f .states) (nontrivialAt (setsIn (f .moves)) (drop at (setsIn (now (s .entry)))) (f .states)) ⌝ }
+{
+    let start = sets::words(at);
+    components::nontrivial(f, &s[start..])
+}
+
+// The states in nontrivial components, from both closures.
+pub fn nontrivial_states(g: Game, s: &[u64]) -> Nontrivial
+    requires { ⌜ Fits g × Laid g (now s) ⌝ }
+    ensures { λ r. ⌜ NontrivialOf g r ⌝ }
+{
+    let n = g.input.states;
+    Nontrivial {
+        inputs: InSet(nontrivial_at(g.input, s, 0)),
+        outputs: OutSet(nontrivial_at(g.output, s, n + n)),
     }
+}
+
+// Whether (j, o) is won; c are the inputs in nontrivial components.
+pub fn won(s: &[u64], n: usize, c: InSet, j: InState, o: OutState) -> bool
+    requires { ⌜ (n ≤ capacity) × (j .0 < n) × (o .0 < capacity) × (scratchSets n (o .0) < setCount (now s)) ⌝ }
+    ensures { λ r. ⌜ r ≡ wonAt (setsIn (now (s .entry))) n (bitsOf (c .0)) (j .0) (o .0) ⌝ }
+{
+    let homes = region_row(s, n, j);
+    if sets::member(c.0, j.0) {
+        let reach = out_reach(s, n, o);
+        return sets::meets(homes.0, reach.0);
+    }
+    sets::member(homes.0, o.0)
+}
+
+// Whether some output of y is won with j; z is what the outputs of y reach. In a nontrivial component one is won where z has a home of j.
+pub fn some_won(s: &[u64], n: usize, m: usize, c: InSet, j: InState, y: OutSet, z: OutSet) -> bool
+    requires { ⌜ (n ≤ capacity) × (m ≤ capacity) × (j .0 < n) × (n + n ≤ setCount (now s))
+        × Reached (setsIn (now s)) n m (bitsOf (y .0)) (bitsOf (z .0)) ⌝ }
+    ensures { λ r. ⌜ r ≡ someWonAt (setsIn (now (s .entry))) n m (bitsOf (c .0)) (j .0) (bitsOf (y .0)) ⌝ }
+{
+    let homes = region_row(s, n, j);
+    if sets::member(c.0, j.0) {
+        return sets::meets(homes.0, z.0);
+    }
+    sets::meets(homes.0, y.0)
+}
+
+// The outputs that are won with input i, of m outputs.
+pub fn won_outputs(s: &[u64], n: usize, m: usize, c: InSet, i: InState) -> OutSet
+    requires { ⌜ (n ≤ capacity) × (m ≤ capacity) × (i .0 < n) × (scratchSets n m ≤ setCount (now s)) ⌝ }
+    ensures { λ r. ⌜ bitsOf (r .0) ≡ pack m (wonAt (setsIn (now (s .entry))) n (bitsOf (c .0)) (i .0)) ⌝ }
+{
+    let mut x = sets::empty();
+    let mut o: usize = 0;
+    while o < m {
+        x = sets::insert_if(x, o, won(s, n, c, i, OutState(o)));
+        o += 1;
+    }
+    OutSet(x)
 }

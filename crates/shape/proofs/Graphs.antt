@@ -10,14 +10,29 @@ use lib.ListN.{length, getD, set, length-set, replicate, length-replicate}
 use borrow.Author.Tests.{eqb-true, eqb-false, eq-eqb, ne-eqb, leb-true, leb-false}
 use Rattle.finite.specs.Bounded.{one}
 use Rattle.finite.proofs.Truth.{false-of, clash}
-use Rattle.sets.specs.Member.{has, within}
-use Rattle.sets.proofs.Membership.{has-zero, ext, zero-within, within-has, has-within}
+use Rattle.bits.specs.Member.{has, within}
+use Rattle.bits.proofs.Membership.{has-zero, ext, zero-within, within-has, has-within}
+use Rattle.sets.specs.Words.{capacity, noStates}
+use Rattle.sets.proofs.Rows.{no-bits, no-states}
 use Rattle.grammar.specs.Format.{Format, TextOf, Live, Bytes}
 use Rattle.grammar.specs.Format.Format.{done}
 use Rattle.grammar.proofs.Format.{by-cases, bind-text, bind-parts, bind-live, done-text, done-parts, done-live}
-use Rattle.game.specs.declared.Graph.{Graph}
 use Rattle.game.specs.declared.Requirement.{Requirement}
-use Rattle.shape.specs.Text.{stateLine, stateLines, requirementLine, requirementLines, ShapedGraph, ShapedSets, ShapedRequirement, emptyRequirement}
+use Rattle.shape.specs.Text.{
+  PlainGraph,
+  inWords,
+  outWords,
+  inSets,
+  outSets,
+  stateLine,
+  stateLines,
+  requirementLine,
+  requirementLines,
+  ShapedPlain,
+  ShapedSets,
+  ShapedRequirement,
+  emptyRequirement,
+}
 use Rattle.shape.specs.Shape.{opening, insert, StateRow, stateFormat, mark, store, statesFormat, emptyGraph, requirementFormat, requirementsFormat}
 use Rattle.shape.proofs.Members.{insert-same, insert-other}
 use Rattle.shape.proofs.Fill.{Upto, Blank, blank-replicate, blank-step, fill-none, fill-step, fill-back, fill-end}
@@ -49,12 +64,12 @@ mark-same x s f l h =
     zero-of ne = let less : f < 1 = lt-of-le-ne l ne in omega arith
 
 -- a graph under way: the states below s are stored
-record OpenGraph (s : ℕ) (h : Graph) : Type 0 where
-  cells : length (h .moves) ≡ 64
+record OpenGraph (s : ℕ) (h : PlainGraph) : Type 0 where
+  cells : length (h .moves) ≡ capacity
   blank : Blank 0 s (h .moves)
   fresh : (i : ℕ) → s ≤ i → has (h .initial) i ≡ false
 
-open-store : (s : ℕ) (h : Graph) (q : StateRow) → OpenGraph s h → OpenGraph (suc s) (store h s q)
+open-store : (s : ℕ) (h : PlainGraph) (q : StateRow) → OpenGraph s h → OpenGraph (suc s) (store h s q)
 unfolding store
 open-store s h q O =
     record {
@@ -64,16 +79,16 @@ open-store s h q O =
     }
 
 -- g is h with n more states, whose lines are t
-record Grown (w n s : ℕ) (h : Graph) (t : List ℕ) (g : Graph) : Type 0 where
+record Grown (w n s : ℕ) (h : PlainGraph) (t : List ℕ) (g : PlainGraph) : Type 0 where
   count : g .states ≡ h .states
   fill : Upto 0 s (h .moves) (g .moves)
   initial : (i : ℕ) → i < s → has (g .initial) i ≡ has (h .initial) i
   blank : Blank 0 (s + n) (g .moves)
   fresh : (i : ℕ) → s + n ≤ i → has (g .initial) i ≡ false
-  rows : (i : ℕ) → s ≤ i → within (getD (g .moves) i 0) 64 ≡ true
+  rows : (i : ℕ) → s ≤ i → within (getD (g .moves) i 0) capacity ≡ true
   text : t ≡ stateLines w n s g
 
-grown-none : (w s : ℕ) (h : Graph) → OpenGraph s h → Grown w 0 s h [] h
+grown-none : (w s : ℕ) (h : PlainGraph) → OpenGraph s h → Grown w 0 s h [] h
 unfolding stateLines
 grown-none w s h O =
     record {
@@ -82,11 +97,11 @@ grown-none w s h O =
       initial = λ i l. refl;
       blank = λ i l. O .blank i (omega arith);
       fresh = λ i l. O .fresh i (omega arith);
-      rows = λ i l. ap (λ (x : ℕ). within x 64) (O .blank i l) ∙ zero-within 64;
+      rows = λ i l. ap (λ (x : ℕ). within x capacity) (O .blank i l) ∙ zero-within capacity;
       text = refl;
     }
 
-grown-step : (w n s : ℕ) (h : Graph) (q : StateRow) (t u : List ℕ) (g : Graph) → s < 64 → OpenGraph s h → StateParts w s t q
+grown-step : (w n s : ℕ) (h : PlainGraph) (q : StateRow) (t u : List ℕ) (g : PlainGraph) → s < capacity → OpenGraph s h → StateParts w s t q
     → Grown w n (suc s) (store h s q) u g
     → Grown w (suc n) s h (t ++ u) g
 unfolding store stateLines
@@ -102,7 +117,7 @@ grown-step w n s h q t u g l O S G =
       blank = λ i m. G .blank i (omega arith);
       fresh = λ i m. G .fresh i (omega arith);
       rows = λ i m. by-cases (eqb i s)
-          (λ b. ap (λ (j : ℕ). within (getD (g .moves) j 0) 64) (eqb-true i s b) ∙ ap (λ (x : ℕ). within x 64) (back .1) ∙ S .moves)
+          (λ b. ap (λ (j : ℕ). within (getD (g .moves) j 0) capacity) (eqb-true i s b) ∙ ap (λ (x : ℕ). within x capacity) (back .1) ∙ S .moves)
           (λ b. let ne = eqb-false i s b in G .rows i (lt-of-le-ne m (λ e. ne (sym e))));
       text =
           ap (λ (l : List ℕ). l ++ u) (S .text) ∙ ap (λ (l : List ℕ). stateLine w s (q .initial) (q .moves) ++ l) (G .text)
@@ -110,11 +125,12 @@ grown-step w n s h q t u g l O S G =
           ∙ ap (λ (x : ℕ). stateLine w s (q .initial) x ++ stateLines w n (suc s) g) (back .1));
     }
 
-states-sound : (w n s : ℕ) (h : Graph) (t : List ℕ) (g : Graph) → s + n ≤ 64 → OpenGraph s h → TextOf (statesFormat w n s h) t g → Grown w n s h t g
+states-sound : (w n s : ℕ) (h : PlainGraph) (t : List ℕ) (g : PlainGraph) → s + n ≤ capacity → OpenGraph s h
+    → TextOf (statesFormat w n s h) t g → Grown w n s h t g
 unfolding statesFormat
 states-sound w zero s h t g l O p =
     let d = done-parts h t g p in
-    subst (λ (x : Graph). Grown w 0 s h t x) (sym (d .1)) (subst (λ (x : List ℕ). Grown w 0 s h x h) (sym (d .0)) (grown-none w s h O))
+    subst (λ (x : PlainGraph). Grown w 0 s h t x) (sym (d .1)) (subst (λ (x : List ℕ). Grown w 0 s h x h) (sym (d .0)) (grown-none w s h O))
 states-sound w (suc n) s h t g l O p =
     let P = bind-parts (stateFormat w s) (λ q. statesFormat w n (suc s) (store h s q)) t g p in
     let S = state-sound w s (P .front) (P .value) (P .is-front) in
@@ -123,10 +139,10 @@ states-sound w (suc n) s h t g l O p =
 
 empty-open : (n : ℕ) → OpenGraph 0 (emptyGraph n)
 unfolding emptyGraph
-empty-open n = record { cells = refl; blank = blank-replicate 0 0 64; fresh = λ i l. has-zero i }
+empty-open n = record { cells = refl; blank = blank-replicate 0 0 capacity; fresh = λ i l. has-zero i }
 
-pub graph-sound : (w n : ℕ) (t : List ℕ) (g : Graph) → 1 ≤ n → n ≤ 64 → TextOf (statesFormat w n 0 (emptyGraph n)) t g
-    → ShapedGraph g × (g .states ≡ n) × (t ≡ stateLines w n 0 g)
+pub graph-sound : (w n : ℕ) (t : List ℕ) (g : PlainGraph) → 1 ≤ n → n ≤ capacity → TextOf (statesFormat w n 0 (emptyGraph n)) t g
+    → ShapedPlain g × (g .states ≡ n) × (t ≡ stateLines w n 0 g)
 unfolding emptyGraph
 graph-sound w n t g p q h =
     let G = states-sound w n 0 (emptyGraph n) t g (omega arith) (empty-open n) h in
@@ -146,13 +162,13 @@ graph-sound w n t g p q h =
     )
 
 -- what is left of g behind h
-record GraphRest (s : ℕ) (h g : Graph) : Type 0 where
+record GraphRest (s : ℕ) (h g : PlainGraph) : Type 0 where
   count : h .states ≡ g .states
   fill : Upto 0 s (h .moves) (g .moves)
   initial : (i : ℕ) → i < s → has (h .initial) i ≡ has (g .initial) i
 
 -- the line of state s of g
-rowOf : Graph → ℕ → StateRow
+rowOf : PlainGraph → ℕ → StateRow
 rowOf g s = record { initial = one (has (g .initial) s); moves = getD (g .moves) s 0 }
 
 one-le : (b : Bool) → one b ≤ 1
@@ -165,7 +181,7 @@ unfolding one
 mark-one x s i true e h = ap (λ (y : ℕ). has y i) (mark-on x s 1 refl) ∙ ap (has (insert x s)) e ∙ insert-same x s
 mark-one x s i false e h = ap (λ (y : ℕ). has y i) (mark-off x s 0 (λ (z : 0 ≡ 1). omega arith)) ∙ h
 
-rest-store : (s : ℕ) (h g : Graph) → s < 64 → OpenGraph s h → GraphRest s h g → GraphRest (suc s) (store h s (rowOf g s)) g
+rest-store : (s : ℕ) (h g : PlainGraph) → s < capacity → OpenGraph s h → GraphRest s h g → GraphRest (suc s) (store h s (rowOf g s)) g
 unfolding store rowOf
 rest-store s h g l O R =
     let c = O .cells in
@@ -177,7 +193,7 @@ rest-store s h g l O R =
           (λ b. let ne = eqb-false i s b in mark-other (h .initial) s (one (has (g .initial) s)) i ne ∙ R .initial i (lt-of-le-ne (omega arith) ne));
     }
 
-graph-end : (s : ℕ) (h g : Graph) → s ≡ g .states → OpenGraph s h → ShapedGraph g → GraphRest s h g → h ≡ g
+graph-end : (s : ℕ) (h g : PlainGraph) → s ≡ g .states → OpenGraph s h → ShapedPlain g → GraphRest s h g → h ≡ g
 graph-end s h g e O S R =
     let starts : h .initial ≡ g .initial =
     ext (h .initial) (g .initial) (λ i. by-cases (leb s i)
@@ -187,10 +203,10 @@ graph-end s h g e O S R =
     let moves = fill-end 0 s (h .moves) (g .moves) (R .fill) (O .blank) (λ i l. S .unused i (omega arith)) in
     λ i. record { states = R .count i; initial = starts i; moves = moves i }
 
-states-complete : (w n s : ℕ) (h g : Graph) → s + n ≡ g .states → OpenGraph s h → ShapedGraph g → GraphRest s h g
+states-complete : (w n s : ℕ) (h g : PlainGraph) → s + n ≡ g .states → OpenGraph s h → ShapedPlain g → GraphRest s h g
     → TextOf (statesFormat w n s h) (stateLines w n s g) g
 unfolding statesFormat stateLines rowOf
-states-complete w zero s h g e O S R = subst (λ (x : Graph). TextOf (done h) [] x) (graph-end s h g (omega arith) O S R) (done-text h)
+states-complete w zero s h g e O S R = subst (λ (x : PlainGraph). TextOf (done h) [] x) (graph-end s h g (omega arith) O S R) (done-text h)
 states-complete w (suc n) s h g e O S R =
     let q = rowOf g s in
     let m = S .most in
@@ -198,13 +214,13 @@ states-complete w (suc n) s h g e O S R =
     (state-complete w s q (omega arith) (one-le (has (g .initial) s)) (S .row s))
     (states-complete w n (suc s) (store h s q) g (omega arith) (open-store s h q O) S (rest-store s h g (omega arith) O R))
 
-pub graph-complete : (w : ℕ) (g : Graph) → ShapedGraph g → TextOf (statesFormat w (g .states) 0 (emptyGraph (g .states))) (stateLines w (g .states) 0 g) g
+pub graph-complete : (w : ℕ) (g : PlainGraph) → ShapedPlain g → TextOf (statesFormat w (g .states) 0 (emptyGraph (g .states))) (stateLines w (g .states) 0 g) g
 unfolding emptyGraph
 graph-complete w g S =
     states-complete w (g .states) 0 (emptyGraph (g .states)) g (omega arith) (empty-open (g .states)) S
-    (record { count = refl; fill = fill-none 0 64 (g .moves) (S .rows); initial = λ i l. absurd (omega arith) })
+    (record { count = refl; fill = fill-none 0 capacity (g .moves) (S .rows); initial = λ i l. absurd (omega arith) })
 
-pub states-live : (w n s : ℕ) (h : Graph) → s + n ≤ 1000 → Bytes (opening w) → Live (statesFormat w n s h)
+pub states-live : (w n s : ℕ) (h : PlainGraph) → s + n ≤ 1000 → Bytes (opening w) → Live (statesFormat w n s h)
 unfolding statesFormat
 states-live w zero s h l b = done-live h
 states-live w (suc n) s h l b =
@@ -217,13 +233,25 @@ empty-sets =
     record {
       most = omega arith;
       all = refl;
-      each = λ i. ap (λ (x : ℕ). within x 64) (blank-replicate 0 0 4 i (omega arith)) ∙ zero-within 64;
+      each = λ i. ap (λ (x : ℕ). within x capacity) (blank-replicate 0 0 4 i (omega arith)) ∙ zero-within capacity;
       unused = blank-replicate 0 0 4;
     }
 
 pub empty-shaped : ShapedRequirement emptyRequirement
 unfolding emptyRequirement
-empty-shaped = record { assumptions = empty-sets; guarantees = empty-sets }
+empty-shaped =
+    record {
+      assumptions = subst (ShapedSets 0) (sym ins) empty-sets;
+      guarantees = subst (ShapedSets 0) (sym outs) empty-sets;
+      in-words = ap inSets ins ∙ (λ i. replicate 4 (record { 0 = no-states i }));
+      out-words = ap outSets outs ∙ (λ i. replicate 4 (record { 0 = no-states i }));
+    }
+  where
+    ins : inWords (replicate 4 (record { 0 = noStates })) ≡ replicate 4 0
+    ins = λ i. replicate 4 (no-bits i)
+
+    outs : outWords (replicate 4 (record { 0 = noStates })) ≡ replicate 4 0
+    outs = λ i. replicate 4 (no-bits i)
 
 record OpenList (r : ℕ) (qs : List Requirement) : Type 0 where
   cells : length qs ≡ 8

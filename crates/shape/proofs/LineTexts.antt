@@ -2,9 +2,11 @@
 use Prim.Native.Nat.{ℕ, _+_, _≤_, _<_}
 use native.Mathlib.Omega.{arith}
 use mathlib.Core.Bool.{true, false}
-use mathlib.Core.List.{List, [], _∷_, _++_, map, append-assoc, append-nil}
+use mathlib.Core.List.{List, [], _∷_, _++_, append-assoc, append-nil}
 use mathlib.Core.Path.{_≡_, refl, sym, _∙_, ap, subst}
-use Rattle.sets.specs.Member.{within}
+use Rattle.bits.specs.Member.{within}
+use Rattle.sets.specs.Words.{capacity}
+use Rattle.sets.proofs.Rows.{bits-of}
 use Rattle.grammar.specs.Format.{Format, TextOf, Live, lit, bind, chars, Bytes}
 use Rattle.grammar.specs.Format.Format.{done}
 use Rattle.grammar.specs.Number.{decimal, digit}
@@ -24,8 +26,6 @@ use Rattle.grammar.proofs.Format.{
   done-live,
 }
 use Rattle.grammar.proofs.Number.{num-text, num-parts, num-live, ends-lit}
-use Rattle.game.specs.declared.InSet.{InSet}
-use Rattle.game.specs.declared.OutSet.{OutSet}
 use Rattle.game.specs.declared.Requirement.{Requirement}
 use Rattle.shape.specs.Text.{
   words,
@@ -40,6 +40,8 @@ use Rattle.shape.specs.Text.{
   stateLine,
   inWords,
   outWords,
+  inSets,
+  outSets,
   requirementLine,
   ShapedSets,
   ShapedRequirement,
@@ -102,9 +104,9 @@ header-words i o k = simp (append-assoc, append-nil)
 
 pub record HeaderParts (t : List ℕ) (h : Header) : Type 0 where
   pub some-inputs : 1 ≤ h .inputs
-  pub most-inputs : h .inputs ≤ 64
+  pub most-inputs : h .inputs ≤ capacity
   pub some-outputs : 1 ≤ h .outputs
-  pub most-outputs : h .outputs ≤ 64
+  pub most-outputs : h .outputs ≤ capacity
   pub most-k : h .k ≤ 8
   pub text : t ≡ headerLine (h .inputs) (h .outputs) (h .k)
 
@@ -118,10 +120,10 @@ header-k : ℕ → ℕ → Format Header
 header-k i o = bind (numThen 0 8 41) (λ k. header-end i o k)
 
 header-o : ℕ → Format Header
-header-o i = bind (numThen 1 64 32) (λ o. header-k i o)
+header-o i = bind (numThen 1 capacity 32) (λ o. header-k i o)
 
 header-i : Format Header
-header-i = bind (numThen 1 64 32) (λ i. header-o i)
+header-i = bind (numThen 1 capacity 32) (λ i. header-o i)
 
 header-is : headerFormat ≡ bind (chars (opening 0)) (λ _. header-i)
 unfolding headerFormat outputsFormat header-i header-o header-k header-end counts
@@ -131,10 +133,10 @@ pub header-sound : (t : List ℕ) (h : Header) → TextOf headerFormat t h → H
 unfolding header-i header-o header-k header-end counts
 header-sound t h p =
     let C = chars-parts (opening 0) header-i t h (rw header-is at p) in
-    let I = bind-parts (numThen 1 64 32) (λ i. header-o i) (C .0) h (C .2) in
-    let i = number-parts 1 64 32 (I .front) (I .value) (I .is-front) in
-    let O = bind-parts (numThen 1 64 32) (λ o. header-k (I .value) o) (I .back) h (I .is-back) in
-    let o = number-parts 1 64 32 (O .front) (O .value) (O .is-front) in
+    let I = bind-parts (numThen 1 capacity 32) (λ i. header-o i) (C .0) h (C .2) in
+    let i = number-parts 1 capacity 32 (I .front) (I .value) (I .is-front) in
+    let O = bind-parts (numThen 1 capacity 32) (λ o. header-k (I .value) o) (I .back) h (I .is-back) in
+    let o = number-parts 1 capacity 32 (O .front) (O .value) (O .is-front) in
     let K = bind-parts (numThen 0 8 41) (λ k. header-end (I .value) (O .value) k) (O .back) h (O .is-back) in
     let k = number-parts 0 8 41 (K .front) (K .value) (K .is-front) in
     let L = lit-parts 10 (done (counts (I .value) (O .value) (K .value))) (K .back) h (K .is-back) in
@@ -149,7 +151,7 @@ header-sound t h p =
     subst (λ (g : Header). HeaderParts t g) (sym (D .1))
     (record { some-inputs = i .0; most-inputs = i .1; some-outputs = o .0; most-outputs = o .1; most-k = k .1; text = whole })
 
-pub header-complete : (h : Header) → 1 ≤ h .inputs → h .inputs ≤ 64 → 1 ≤ h .outputs → h .outputs ≤ 64 → h .k ≤ 8
+pub header-complete : (h : Header) → 1 ≤ h .inputs → h .inputs ≤ capacity → 1 ≤ h .outputs → h .outputs ≤ capacity → h .k ≤ 8
     → TextOf headerFormat (headerLine (h .inputs) (h .outputs) (h .k)) h
 unfolding header-i header-o header-k header-end counts digit
 header-complete h a b c d e =
@@ -159,8 +161,8 @@ header-complete h a b c d e =
     let end = lit-text 10 (done h) [] h (done-text h) in
     let K = bind-text (numThen 0 8 41) (λ u. header-end i o u) (decimal k ++ 41 ∷ []) (10 ∷ []) k h
     (number-text 0 8 41 (omega arith) refl k (omega arith) e) end in
-    let O = bind-text (numThen 1 64 32) (λ u. header-k i u) (decimal o ++ 32 ∷ []) _ o h (number-text 1 64 32 (omega arith) refl o c d) K in
-    let I = bind-text (numThen 1 64 32) (λ u. header-o u) (decimal i ++ 32 ∷ []) _ i h (number-text 1 64 32 (omega arith) refl i a b) O in
+    let O = bind-text (numThen 1 capacity 32) (λ u. header-k i u) (decimal o ++ 32 ∷ []) _ o h (number-text 1 capacity 32 (omega arith) refl o c d) K in
+    let I = bind-text (numThen 1 capacity 32) (λ u. header-o u) (decimal i ++ 32 ∷ []) _ i h (number-text 1 capacity 32 (omega arith) refl i a b) O in
     rw header-is (rw (← header-words i o k) (chars-then (opening 0) header-i _ h I))
 
 pub header-live : Live headerFormat
@@ -169,8 +171,8 @@ header-live =
     rw header-is
     (bind-live (chars (opening 0)) (λ _. header-i)
     (chars-live (opening 0) (omega arith, (omega arith, (omega arith, (omega arith, (omega arith, (omega arith, tt)))))))
-    (λ t u p. bind-live (numThen 1 64 32) (λ i. header-o i) (number-live 1 64 32 (omega arith) refl (omega arith) (omega arith))
-    (λ t i p. bind-live (numThen 1 64 32) (λ o. header-k i o) (number-live 1 64 32 (omega arith) refl (omega arith) (omega arith))
+    (λ t u p. bind-live (numThen 1 capacity 32) (λ i. header-o i) (number-live 1 capacity 32 (omega arith) refl (omega arith) (omega arith))
+    (λ t i p. bind-live (numThen 1 capacity 32) (λ o. header-k i o) (number-live 1 capacity 32 (omega arith) refl (omega arith) (omega arith))
     (λ t o p. bind-live (numThen 0 8 41) (λ k. header-end i o k) (number-live 0 8 41 (omega arith) refl (omega arith) (omega arith))
     (λ t k p. lit-live 10 (done (counts i o k)) (omega arith) (done-live (counts i o k)))))))
 
@@ -200,7 +202,7 @@ state-is w s = refl
 
 pub record StateParts (w s : ℕ) (t : List ℕ) (q : StateRow) : Type 0 where
   pub flag : q .initial ≤ 1
-  pub moves : within (q .moves) 64 ≡ true
+  pub moves : within (q .moves) capacity ≡ true
   pub text : t ≡ stateLine w s (q .initial) (q .moves)
 
 pub state-sound : (w s : ℕ) (t : List ℕ) (q : StateRow) → TextOf (stateFormat w s) t q → StateParts w s t q
@@ -227,7 +229,7 @@ state-sound w s t q p =
     ∙ state-words w s (F .value) (X .value) in
     subst (λ (r : StateRow). StateParts w s t r) (sym (D .1)) (record { flag = f .1; moves = x .0; text = whole })
 
-pub state-complete : (w s : ℕ) (q : StateRow) → s < 1000 → q .initial ≤ 1 → within (q .moves) 64 ≡ true
+pub state-complete : (w s : ℕ) (q : StateRow) → s < 1000 → q .initial ≤ 1 → within (q .moves) capacity ≡ true
     → TextOf (stateFormat w s) (stateLine w s (q .initial) (q .moves)) q
 unfolding state-number state-initial state-moves state-end row digit
 state-complete w s q l f m =
@@ -264,21 +266,13 @@ if-words : (n m : ℕ) (xs ys : List ℕ)
 unfolding line bracket items gapText opening
 if-words n m xs ys = simp (append-assoc, append-nil)
 
-in-out : (ws : List ℕ) → inWords (map (λ (x : ℕ). record { 0 = x }) ws) ≡ ws
+in-out : (ws : List ℕ) → inWords (inSets ws) ≡ ws
 in-out [] = refl
-in-out (x ∷ ws) = ap (λ (l : List ℕ). x ∷ l) (in-out ws)
+in-out (x ∷ ws) = λ i. bits-of x i ∷ in-out ws i
 
-out-out : (ws : List ℕ) → outWords (map (λ (x : ℕ). record { 0 = x }) ws) ≡ ws
+out-out : (ws : List ℕ) → outWords (outSets ws) ≡ ws
 out-out [] = refl
-out-out (x ∷ ws) = ap (λ (l : List ℕ). x ∷ l) (out-out ws)
-
-in-in : (xs : List InSet) → map (λ (x : ℕ). record { 0 = x }) (inWords xs) ≡ xs
-in-in [] = refl
-in-in (x ∷ xs) = ap (λ (l : List InSet). x ∷ l) (in-in xs)
-
-out-in : (xs : List OutSet) → map (λ (x : ℕ). record { 0 = x }) (outWords xs) ≡ xs
-out-in [] = refl
-out-in (x ∷ xs) = ap (λ (l : List OutSet). x ∷ l) (out-in xs)
+out-out (x ∷ ws) = λ i. bits-of x i ∷ out-out ws i
 
 if-end : Sets → Sets → Format Requirement
 if-end a b = bind (chars (41 ∷ 10 ∷ [])) (λ _. done (requirement a b))
@@ -302,7 +296,13 @@ requirement-line a b = rw (in-out (a .words), out-out (b .words))
 
 requirement-shaped : (a b : Sets) → ShapedSets (a .count) (a .words) → ShapedSets (b .count) (b .words) → ShapedRequirement (requirement a b)
 unfolding requirement
-requirement-shaped a b p q = record { assumptions = rw (in-out (a .words)) p; guarantees = rw (out-out (b .words)) q }
+requirement-shaped a b p q =
+    record {
+      assumptions = rw (in-out (a .words)) p;
+      guarantees = rw (out-out (b .words)) q;
+      in-words = ap inSets (in-out (a .words));
+      out-words = ap outSets (out-out (b .words));
+    }
 
 pub requirement-sound : (t : List ℕ) (q : Requirement) → TextOf requirementFormat t q → ShapedRequirement q × (t ≡ requirementLine q)
 unfolding if-assumptions if-blank if-guarantees if-end
@@ -333,10 +333,10 @@ assumption-sets q = record { words = inWords (q .assumptions); count = q .assume
 guarantee-sets : Requirement → Sets
 guarantee-sets q = record { words = outWords (q .guarantees); count = q .guaranteed }
 
-requirement-again : (q : Requirement) → requirement (assumption-sets q) (guarantee-sets q) ≡ q
+requirement-again : (q : Requirement) → ShapedRequirement q → requirement (assumption-sets q) (guarantee-sets q) ≡ q
 unfolding requirement assumption-sets guarantee-sets
-requirement-again q =
-    λ i. record { assumptions = in-in (q .assumptions) i; assumed = q .assumed; guarantees = out-in (q .guarantees) i; guaranteed = q .guaranteed }
+requirement-again q S =
+    λ i. record { assumptions = S .in-words i; assumed = q .assumed; guarantees = S .out-words i; guaranteed = q .guaranteed }
 
 requirement-text : (a b : Sets) → ShapedSets (a .count) (a .words) → ShapedSets (b .count) (b .words)
     → TextOf requirementFormat (requirementLine (requirement a b)) (requirement a b)
@@ -352,7 +352,7 @@ requirement-text a b p q =
 pub requirement-complete : (q : Requirement) → ShapedRequirement q → TextOf requirementFormat (requirementLine q) q
 unfolding assumption-sets guarantee-sets
 requirement-complete q S =
-    subst (λ (r : Requirement). TextOf requirementFormat (requirementLine r) r) (requirement-again q)
+    subst (λ (r : Requirement). TextOf requirementFormat (requirementLine r) r) (requirement-again q S)
     (requirement-text (assumption-sets q) (guarantee-sets q) (S .assumptions) (S .guarantees))
 
 pub requirement-live : Live requirementFormat

@@ -9,8 +9,9 @@ use lib.Arith.{lt-of-le-ne}
 use lib.Dec.{eqb, leb}
 use borrow.Author.Tests.{eq-eqb, ne-eqb, eqb-true, eqb-false, leb-false, le-leb, lt-leb, leb-true}
 use Rattle.finite.proofs.Truth.{clash, or-right, false-of}
-use Rattle.sets.specs.Member.{has, within}
-use Rattle.sets.proofs.Membership.{has-or, has-single, has-zero, ext, has-within, within-has, zero-within}
+use Rattle.bits.specs.Member.{has, within}
+use Rattle.bits.proofs.Membership.{has-or, has-single, has-zero, ext, has-within, within-has, zero-within}
+use Rattle.sets.specs.Words.{capacity, highest}
 use Rattle.grammar.specs.Format.{Format, TextOf, Live, lit, alt, IsNode}
 use Rattle.grammar.specs.Format.Format.{done}
 use Rattle.grammar.specs.Number.{decimal, num, digit}
@@ -79,11 +80,11 @@ members-jump (suc d) n lo x h =
 -- v is the first member from lo on; n counts the states behind it
 record First (lo x v n : ℕ) : Type 0 where
   from : lo ≤ v
-  end : suc v + n ≡ 64
+  end : suc v + n ≡ capacity
   is : has x v ≡ true
   before : (s : ℕ) → lo ≤ s → s < v → has x s ≡ false
 
-members-first : (m lo x v n : ℕ) → lo + m ≡ 64 → First lo x v n → members m lo x ≡ v ∷ members n (suc v) x
+members-first : (m lo x v n : ℕ) → lo + m ≡ capacity → First lo x v n → members m lo x ≡ v ∷ members n (suc v) x
 members-first m lo x v n e F =
     let l = F .from in
     let f = F .end in
@@ -95,7 +96,7 @@ members-first m lo x v n e F =
     ∙ members-take n v x (F .is)
 
 -- the next member from lo on, if there is one
-next : (m lo x : ℕ) → lo + m ≡ 64 → ((s : ℕ) → lo ≤ s → s < 64 → has x s ≡ false) ⊎ ((v : ℕ) × (n : ℕ) × First lo x v n)
+next : (m lo x : ℕ) → lo + m ≡ capacity → ((s : ℕ) → lo ≤ s → s < capacity → has x s ≡ false) ⊎ ((v : ℕ) × (n : ℕ) × First lo x v n)
 next zero lo x e = inl (λ s p q. absurd (omega arith))
 next (suc m) lo x e =
     by-cases (has x lo)
@@ -111,7 +112,7 @@ next (suc m) lo x e =
         (λ q. ap (has x) (sym (eqb-true lo s q)) ∙ h)
         (λ q. let ne = eqb-false lo s q in k (lt-of-le-ne p ne))
 
-    none-from : has x lo ≡ false → ((s : ℕ) → suc lo ≤ s → s < 64 → has x s ≡ false) → (s : ℕ) → lo ≤ s → s < 64 → has x s ≡ false
+    none-from : has x lo ≡ false → ((s : ℕ) → suc lo ≤ s → s < capacity → has x s ≡ false) → (s : ℕ) → lo ≤ s → s < capacity → has x s ≡ false
     none-from h none s p q = or-later h s p (λ l. none s l q)
 
     further : has x lo ≡ false → (v n : ℕ) → First (suc lo) x v n → First lo x v n
@@ -121,7 +122,7 @@ next (suc m) lo x e =
 record MoreParts (lo m acc : ℕ) (t : List ℕ) (x : ℕ) : Type 0 where
   text : t ≡ items true (map decimal (members m lo x)) ++ 41 ∷ []
   below : (s : ℕ) → s < lo → has x s ≡ has acc s
-  small : (s : ℕ) → has x s ≡ true → s < 64
+  small : (s : ℕ) → has x s ≡ true → s < capacity
 
 Fresh : ℕ → ℕ → Type 0
 Fresh lo x = (s : ℕ) → lo ≤ s → has x s ≡ false
@@ -130,7 +131,7 @@ insert-fresh : (lo v x : ℕ) → lo ≤ v → Fresh lo x → Fresh (suc v) (ins
 unfolding Fresh
 insert-fresh lo v x l h s p = insert-other x v s (λ e. omega arith) ∙ h s (omega arith)
 
-close-parts : (lo m acc : ℕ) (t : List ℕ) (x : ℕ) → lo ≤ 64 → Fresh lo acc → t ≡ 41 ∷ [] → x ≡ acc → MoreParts lo m acc t x
+close-parts : (lo m acc : ℕ) (t : List ℕ) (x : ℕ) → lo ≤ capacity → Fresh lo acc → t ≡ 41 ∷ [] → x ≡ acc → MoreParts lo m acc t x
 unfolding Fresh items
 close-parts lo m acc t x l h e f =
     record {
@@ -148,7 +149,7 @@ lit-end-parts b acc t x p =
     (q .1 ∙ ap (λ (l : List ℕ). b ∷ l) (d .0), d .1)
 
 -- a member v, and then the rest: the whole list from lo on
-first-member : (lo acc v n : ℕ) (t : List ℕ) (x : ℕ) → suc v + n ≡ 64 → lo ≤ v → Fresh lo acc → MoreParts (suc v) n (insert acc v) t x → First lo x v n
+first-member : (lo acc v n : ℕ) (t : List ℕ) (x : ℕ) → suc v + n ≡ capacity → lo ≤ v → Fresh lo acc → MoreParts (suc v) n (insert acc v) t x → First lo x v n
 unfolding Fresh
 first-member lo acc v n t x f l h M =
     record {
@@ -163,7 +164,7 @@ member-text : (gap : Bool) (v : ℕ) (ms : List ℕ)
 unfolding items
 member-text gap v ms = append-assoc (gapText gap) _ _ ∙ ap (λ (l : List ℕ). gapText gap ++ l) (append-assoc (decimal v) _ _)
 
-blank-parts : (lo m acc v n : ℕ) (t u : List ℕ) (x : ℕ) → lo + m ≡ 64 → suc v + n ≡ 64 → lo ≤ v → Fresh lo acc → t ≡ 32 ∷ (decimal v ++ u)
+blank-parts : (lo m acc v n : ℕ) (t u : List ℕ) (x : ℕ) → lo + m ≡ capacity → suc v + n ≡ capacity → lo ≤ v → Fresh lo acc → t ≡ 32 ∷ (decimal v ++ u)
     → MoreParts (suc v) n (insert acc v) u x → MoreParts lo m acc t x
 unfolding gapText
 blank-parts lo m acc v n t u x e f l h w M =
@@ -177,34 +178,37 @@ blank-parts lo m acc v n t u x e f l h w M =
       small = M .small;
     }
 
-pub more-on : (n lo acc : ℕ) → lo ≤ 63 → moreMembers (suc n) lo acc ≡ alt 41 (done acc) (lit 32 (num lo 63 (λ v. moreMembers n (suc v) (insert acc v))))
+pub more-on : (n lo acc : ℕ) → lo ≤ highest
+    → moreMembers (suc n) lo acc ≡ alt 41 (done acc) (lit 32 (num lo highest (λ v. moreMembers n (suc v) (insert acc v))))
 unfolding moreMembers
-more-on n lo acc h = rw (le-leb lo 63 h, moreMembers)
+more-on n lo acc h = rw (le-leb lo highest h, moreMembers)
 
-pub more-off : (n lo acc : ℕ) → 63 < lo → moreMembers n lo acc ≡ lit 41 (done acc)
+pub more-off : (n lo acc : ℕ) → highest < lo → moreMembers n lo acc ≡ lit 41 (done acc)
 unfolding moreMembers
 more-off zero lo acc h = refl
-more-off (suc n) lo acc h = rw (lt-leb lo 63 h, moreMembers)
+more-off (suc n) lo acc h = rw (lt-leb lo highest h, moreMembers)
 
-more-sound : (n lo m acc : ℕ) (t : List ℕ) (x : ℕ) → lo + m ≡ 64 → 64 ≤ lo + n → Fresh lo acc → TextOf (moreMembers n lo acc) t x → MoreParts lo m acc t x
+more-sound : (n lo m acc : ℕ) (t : List ℕ) (x : ℕ) → lo + m ≡ capacity → capacity ≤ lo + n → Fresh lo acc
+    → TextOf (moreMembers n lo acc) t x → MoreParts lo m acc t x
 more-sound zero lo m acc t x e f h p =
     let q = lit-end-parts 41 acc t x (rw (more-off zero lo acc (omega arith)) at p) in
     close-parts lo m acc t x (omega arith) h (q .0) (q .1)
 more-sound (suc n) lo m acc t x e f h p =
-    by-cases (leb lo 63)
-    (λ b. elim (alt-parts 41 (done acc) (lit 32 (num lo 63 (λ v. moreMembers n (suc v) (insert acc v)))) t x (rw (more-on n lo acc (leb-true lo 63 b)) at p)) [
+    by-cases (leb lo highest)
+    (λ b. elim (alt-parts 41 (done acc) (lit 32 (num lo highest (λ v. moreMembers n (suc v) (insert acc v)))) t x
+    (rw (more-on n lo acc (leb-true lo highest b)) at p)) [
       | inl c ↦ (let d = done-parts acc (c .0) x (c .2) in close-parts lo m acc t x (omega arith) h (c .1 ∙ ap (λ (l : List ℕ). 41 ∷ l) (d .0)) (d .1))
       | inr c ↦ (
-          let q = lit-parts 32 (num lo 63 (λ v. moreMembers n (suc v) (insert acc v))) t x c in
-          let N = num-parts lo 63 (λ v. moreMembers n (suc v) (insert acc v)) (q .0) x (q .2) in
+          let q = lit-parts 32 (num lo highest (λ v. moreMembers n (suc v) (insert acc v))) t x c in
+          let N = num-parts lo highest (λ v. moreMembers n (suc v) (insert acc v)) (q .0) x (q .2) in
           let v = N .value in
           let low : lo ≤ v = N .low in
-          let high : v ≤ 63 = N .high in
-          let M = more-sound n (suc v) (63 - v) (insert acc v) (N .back) x (omega arith) (omega arith) (insert-fresh lo v acc low h) (N .is-back) in
-          blank-parts lo m acc v (63 - v) t (N .back) x e (omega arith) low h (q .1 ∙ ap (λ (l : List ℕ). 32 ∷ l) (N .whole)) M)
+          let high : v ≤ highest = N .high in
+          let M = more-sound n (suc v) (highest - v) (insert acc v) (N .back) x (omega arith) (omega arith) (insert-fresh lo v acc low h) (N .is-back) in
+          blank-parts lo m acc v (highest - v) t (N .back) x e (omega arith) low h (q .1 ∙ ap (λ (l : List ℕ). 32 ∷ l) (N .whole)) M)
     ])
     (λ b.
-    let q = lit-end-parts 41 acc t x (rw (more-off (suc n) lo acc (leb-false lo 63 b)) at p) in
+    let q = lit-end-parts 41 acc t x (rw (more-off (suc n) lo acc (leb-false lo highest b)) at p) in
     close-parts lo m acc t x (omega arith) h (q .0) (q .1))
 
 -- behind the members of x below lo, the text of the others finishes x
@@ -214,11 +218,11 @@ Same-below lo x acc = (s : ℕ) → s < lo → has x s ≡ has acc s
 pub more-ends : (n lo acc : ℕ) → Ends (moreMembers n lo acc)
 unfolding moreMembers digit
 more-ends n lo acc =
-    by-cases (leb lo 63)
-    (λ b. on n (leb-true lo 63 b))
-    (λ b. rw (more-off n lo acc (leb-false lo 63 b)) (ends-lit 41 (done acc) refl))
+    by-cases (leb lo highest)
+    (λ b. on n (leb-true lo highest b))
+    (λ b. rw (more-off n lo acc (leb-false lo highest b)) (ends-lit 41 (done acc) refl))
   where
-    on : (n : ℕ) → lo ≤ 63 → Ends (moreMembers n lo acc)
+    on : (n : ℕ) → lo ≤ highest → Ends (moreMembers n lo acc)
     on zero l = ends-lit 41 (done acc) refl
     on (suc n) l = rw (more-on n lo acc l) (ends-alt 41 (done acc) _ refl (ends-lit 32 _ refl))
 
@@ -226,14 +230,14 @@ more-close : (n lo acc : ℕ) → TextOf (moreMembers n lo acc) (41 ∷ []) acc
 unfolding moreMembers
 more-close zero lo acc = lit-text 41 (done acc) [] acc (done-text acc)
 more-close (suc n) lo acc =
-    by-cases (leb lo 63)
-    (λ b. rw (more-on n lo acc (leb-true lo 63 b)) (alt-left 41 (done acc) _ [] acc (done-text acc)))
-    (λ b. rw (more-off (suc n) lo acc (leb-false lo 63 b)) (lit-text 41 (done acc) [] acc (done-text acc)))
+    by-cases (leb lo highest)
+    (λ b. rw (more-on n lo acc (leb-true lo highest b)) (alt-left 41 (done acc) _ [] acc (done-text acc)))
+    (λ b. rw (more-off (suc n) lo acc (leb-false lo highest b)) (lit-text 41 (done acc) [] acc (done-text acc)))
 
 -- a member and what follows it
-member-complete : (lo : ℕ) (k : ℕ → Format ℕ) (v : ℕ) (t : List ℕ) (x : ℕ) → lo ≤ v → v ≤ 63 → Ends (k v) → TextOf (k v) t x
-    → TextOf (num lo 63 k) (decimal v ++ t) x
-member-complete lo k v t x p q E h = num-text lo 63 k v t x (omega arith) p q E h
+member-complete : (lo : ℕ) (k : ℕ → Format ℕ) (v : ℕ) (t : List ℕ) (x : ℕ) → lo ≤ v → v ≤ highest → Ends (k v) → TextOf (k v) t x
+    → TextOf (num lo highest k) (decimal v ++ t) x
+member-complete lo k v t x p q E h = num-text lo highest k v t x (omega arith) p q E h
 
 -- no member is left
 more-last : (n lo m acc x : ℕ) → Fresh lo acc → Same-below lo x acc → ((s : ℕ) → lo ≤ s → has x s ≡ false)
@@ -246,8 +250,8 @@ more-last n lo m acc x h g none =
     (λ b. sym (g s (leb-false lo s b)))) in
     rw (members-none m lo x none) (subst (λ (y : ℕ). TextOf (moreMembers n lo acc) (41 ∷ []) y) same (more-close n lo acc))
 
-past-none : (lo x : ℕ) → within x 64 ≡ true → ((s : ℕ) → lo ≤ s → s < 64 → has x s ≡ false) → (s : ℕ) → lo ≤ s → has x s ≡ false
-past-none lo x w none s p = false-of (has x s) (λ e. clash e (none s p (within-has x 64 s w e)))
+past-none : (lo x : ℕ) → within x capacity ≡ true → ((s : ℕ) → lo ≤ s → s < capacity → has x s ≡ false) → (s : ℕ) → lo ≤ s → has x s ≡ false
+past-none lo x w none s p = false-of (has x s) (λ e. clash e (none s p (within-has x capacity s w e)))
 
 same-insert : (lo acc x v n : ℕ) → Fresh lo acc → Same-below lo x acc → First lo x v n → Same-below (suc v) x (insert acc v)
 unfolding Fresh Same-below
@@ -261,7 +265,7 @@ same-insert lo acc x v n h g F s l =
     (λ c. F .before s (leb-true lo s c) less ∙ sym (h s (leb-true lo s c)) ∙ sym (insert-other acc v s ne))
     (λ c. g s (leb-false lo s c) ∙ sym (insert-other acc v s ne)))
 
-more-complete : (n lo m acc x : ℕ) → lo + m ≡ 64 → 64 ≤ lo + n → Fresh lo acc → Same-below lo x acc → within x 64 ≡ true
+more-complete : (n lo m acc x : ℕ) → lo + m ≡ capacity → capacity ≤ lo + n → Fresh lo acc → Same-below lo x acc → within x capacity ≡ true
     → TextOf (moreMembers n lo acc) (items true (map decimal (members m lo x)) ++ 41 ∷ []) x
 unfolding gapText
 more-complete zero lo m acc x e f h g w = more-last zero lo m acc x h g (past-none lo x w (λ s p q. absurd (omega arith)))
@@ -273,14 +277,15 @@ more-complete (suc n) lo m acc x e f h g w =
           let n′ = N .1 in
           let F = N .2 in
           let low : lo ≤ v = F .from in
-          let end : suc v + n′ ≡ 64 = F .end in
+          let end : suc v + n′ ≡ capacity = F .end in
           let rest = more-complete n (suc v) n′ (insert acc v) x end (omega arith) (insert-fresh lo v acc low h) (same-insert lo acc x v n′ h g F) w in
           let t = items true (map decimal (members n′ (suc v) x)) ++ 41 ∷ [] in
           let k : ℕ → Format ℕ = λ u. moreMembers n (suc u) (insert acc u) in
           let number = member-complete lo k v t x low (omega arith) (more-ends n (suc v) (insert acc v)) rest in
-          let blank = lit-text 32 (num lo 63 k) (decimal v ++ t) x number in
+          let blank = lit-text 32 (num lo highest k) (decimal v ++ t) x number in
           rw (members-first m lo x v n′ e F, member-text true v, more-on n lo acc (omega arith))
-          (alt-right 41 (done acc) (lit 32 (num lo 63 k)) (32 ∷ (decimal v ++ t)) x (opens-lit 32 (num lo 63 k) 41) blank (lit-node 32 (num lo 63 k))))
+          (alt-right 41 (done acc) (lit 32 (num lo highest k)) (32 ∷ (decimal v ++ t)) x (opens-lit 32 (num lo highest k) 41) blank
+          (lit-node 32 (num lo highest k))))
     ]
 
 -- every way can be finished
@@ -288,14 +293,15 @@ more-live : (n lo acc : ℕ) → Live (moreMembers n lo acc)
 unfolding moreMembers
 more-live zero lo acc = lit-live 41 (done acc) (omega arith) (done-live acc)
 more-live (suc n) lo acc =
-    by-cases (leb lo 63)
+    by-cases (leb lo highest)
     (λ b.
     let k : ℕ → Format ℕ = λ u. moreMembers n (suc u) (insert acc u) in
-    let rest : Live (num lo 63 k) = num-live lo 63 k (leb-true lo 63 b) (omega arith)
+    let rest : Live (num lo highest k) = num-live lo highest k (leb-true lo highest b) (omega arith)
     (λ u p q. (more-live n (suc u) (insert acc u), more-ends n (suc u) (insert acc u) .wants)) in
-    rw (more-on n lo acc (leb-true lo 63 b))
-    (alt-live 41 (done acc) (lit 32 (num lo 63 k)) (omega arith) (done-live acc) (lit-live 32 (num lo 63 k) (omega arith) rest) (lit-node 32 (num lo 63 k))))
-    (λ b. rw (more-off (suc n) lo acc (leb-false lo 63 b)) (lit-live 41 (done acc) (omega arith) (done-live acc)))
+    rw (more-on n lo acc (leb-true lo highest b))
+    (alt-live 41 (done acc) (lit 32 (num lo highest k)) (omega arith) (done-live acc) (lit-live 32 (num lo highest k) (omega arith) rest)
+    (lit-node 32 (num lo highest k))))
+    (λ b. rw (more-off (suc n) lo acc (leb-false lo highest b)) (lit-live 41 (done acc) (omega arith) (done-live acc)))
 
 -- a set
 fresh-zero : Fresh 0 0
@@ -313,62 +319,62 @@ set-node = lit-node 40 _
 pub set-live : Live setFormat
 unfolding setFormat membersFormat
 set-live =
-    lit-live 40 (alt 41 (done 0) (num 0 63 (λ v. moreMembers 63 (suc v) (insert 0 v)))) (omega arith)
-    (alt-live 41 (done 0) (num 0 63 (λ v. moreMembers 63 (suc v) (insert 0 v))) (omega arith) (done-live 0)
-    (num-live 0 63 (λ v. moreMembers 63 (suc v) (insert 0 v)) (omega arith) (omega arith)
-    (λ u p q. (more-live 63 (suc u) (insert 0 u), more-ends 63 (suc u) (insert 0 u) .wants)))
-    (num-node 0 63 (λ v. moreMembers 63 (suc v) (insert 0 v))))
+    lit-live 40 (alt 41 (done 0) (num 0 highest (λ v. moreMembers highest (suc v) (insert 0 v)))) (omega arith)
+    (alt-live 41 (done 0) (num 0 highest (λ v. moreMembers highest (suc v) (insert 0 v))) (omega arith) (done-live 0)
+    (num-live 0 highest (λ v. moreMembers highest (suc v) (insert 0 v)) (omega arith) (omega arith)
+    (λ u p q. (more-live highest (suc u) (insert 0 u), more-ends highest (suc u) (insert 0 u) .wants)))
+    (num-node 0 highest (λ v. moreMembers highest (suc v) (insert 0 v))))
 
-pub set-sound : (t : List ℕ) (x : ℕ) → TextOf setFormat t x → (within x 64 ≡ true) × (t ≡ setText x)
+pub set-sound : (t : List ℕ) (x : ℕ) → TextOf setFormat t x → (within x capacity ≡ true) × (t ≡ setText x)
 unfolding setFormat membersFormat setText bracket gapText items
 set-sound t x p =
-    let k : ℕ → Format ℕ = λ v. moreMembers 63 (suc v) (insert 0 v) in
-    let o = lit-parts 40 (alt 41 (done 0) (num 0 63 k)) t x p in
-    elim (alt-parts 41 (done 0) (num 0 63 k) (o .0) x (o .2)) [
+    let k : ℕ → Format ℕ = λ v. moreMembers highest (suc v) (insert 0 v) in
+    let o = lit-parts 40 (alt 41 (done 0) (num 0 highest k)) t x p in
+    elim (alt-parts 41 (done 0) (num 0 highest k) (o .0) x (o .2)) [
       | inl c ↦ (let d = done-parts 0 (c .0) x (c .2) in empty (d .1) (o .1 ∙ ap (λ (l : List ℕ). 40 ∷ l) (c .1 ∙ ap (λ (l : List ℕ). 41 ∷ l) (d .0))))
       | inr c ↦ (
-          let N = num-parts 0 63 k (o .0) x c in
+          let N = num-parts 0 highest k (o .0) x c in
           let v = N .value in
-          let high : v ≤ 63 = N .high in
-          let M = more-sound 63 (suc v) (63 - v) (insert 0 v) (N .back) x (omega arith) (omega arith) (insert-fresh 0 v 0 (omega arith) fresh-zero)
+          let high : v ≤ highest = N .high in
+          let M = more-sound highest (suc v) (highest - v) (insert 0 v) (N .back) x (omega arith) (omega arith) (insert-fresh 0 v 0 (omega arith) fresh-zero)
           (N .is-back) in
-          let F = first-member 0 0 v (63 - v) (N .back) x (omega arith) (omega arith) fresh-zero M in (
-            has-within x 64 (M .small),
+          let F = first-member 0 0 v (highest - v) (N .back) x (omega arith) (omega arith) fresh-zero M in (
+            has-within x capacity (M .small),
             o .1 ∙ ap (λ (l : List ℕ). 40 ∷ l)
                 (N .whole ∙ ap (λ (l : List ℕ). decimal v ++ l) (M .text)
-                ∙ sym (member-text false v (members (63 - v) (suc v) x))
-                ∙ sym (ap (λ (ms : List ℕ). items false (map decimal ms) ++ 41 ∷ []) (members-first 64 0 x v (63 - v) (omega arith) F))),
+                ∙ sym (member-text false v (members (highest - v) (suc v) x))
+                ∙ sym (ap (λ (ms : List ℕ). items false (map decimal ms) ++ 41 ∷ []) (members-first capacity 0 x v (highest - v) (omega arith) F))),
           ))
     ]
   where
-    empty : x ≡ 0 → t ≡ 40 ∷ 41 ∷ [] → (within x 64 ≡ true) × (t ≡ 40 ∷ (items false (map decimal (members 64 0 x)) ++ 41 ∷ []))
+    empty : x ≡ 0 → t ≡ 40 ∷ 41 ∷ [] → (within x capacity ≡ true) × (t ≡ 40 ∷ (items false (map decimal (members capacity 0 x)) ++ 41 ∷ []))
     empty e f = (
-      subst (λ (y : ℕ). within y 64 ≡ true) (sym e) (zero-within 64),
+      subst (λ (y : ℕ). within y capacity ≡ true) (sym e) (zero-within capacity),
       f ∙ sym (ap (λ (ms : List ℕ). 40 ∷ (items false (map decimal ms) ++ 41 ∷ []))
-          (members-none 64 0 x (λ s q. ap (λ (y : ℕ). has y s) e ∙ has-zero s))),
+          (members-none capacity 0 x (λ s q. ap (λ (y : ℕ). has y s) e ∙ has-zero s))),
     )
 
-pub set-complete : (x : ℕ) → within x 64 ≡ true → TextOf setFormat (setText x) x
+pub set-complete : (x : ℕ) → within x capacity ≡ true → TextOf setFormat (setText x) x
 unfolding setFormat membersFormat setText bracket gapText items digit
 set-complete x w =
-    let k : ℕ → Format ℕ = λ v. moreMembers 63 (suc v) (insert 0 v) in
-    lit-text 40 (alt 41 (done 0) (num 0 63 k)) (items false (map decimal (members 64 0 x)) ++ 41 ∷ []) x
-    (elim (next 64 0 x refl) [
+    let k : ℕ → Format ℕ = λ v. moreMembers highest (suc v) (insert 0 v) in
+    lit-text 40 (alt 41 (done 0) (num 0 highest k)) (items false (map decimal (members capacity 0 x)) ++ 41 ∷ []) x
+    (elim (next capacity 0 x refl) [
       | inl none ↦ (
           let all = past-none 0 x w none in
           let zero-set : 0 ≡ x = ext 0 x (λ s. has-zero s ∙ sym (all s (omega arith))) in
-          rw (members-none 64 0 x all)
-          (subst (λ (y : ℕ). TextOf (alt 41 (done 0) (num 0 63 k)) (41 ∷ []) y) zero-set (alt-left 41 (done 0) (num 0 63 k) [] 0 (done-text 0))))
+          rw (members-none capacity 0 x all)
+          (subst (λ (y : ℕ). TextOf (alt 41 (done 0) (num 0 highest k)) (41 ∷ []) y) zero-set (alt-left 41 (done 0) (num 0 highest k) [] 0 (done-text 0))))
       | inr N ↦ (
           let v = N .0 in
           let n = N .1 in
           let F = N .2 in
-          let end : suc v + n ≡ 64 = F .end in
+          let end : suc v + n ≡ capacity = F .end in
           let nothing : Same-below 0 x 0 = none-below x in
-          let rest = more-complete 63 (suc v) n (insert 0 v) x end (omega arith) (insert-fresh 0 v 0 (omega arith) fresh-zero)
+          let rest = more-complete highest (suc v) n (insert 0 v) x end (omega arith) (insert-fresh 0 v 0 (omega arith) fresh-zero)
           (same-insert 0 0 x v n fresh-zero nothing F) w in
           let t = items true (map decimal (members n (suc v) x)) ++ 41 ∷ [] in
-          let number = member-complete 0 k v t x (omega arith) (omega arith) (more-ends 63 (suc v) (insert 0 v)) rest in
-          rw (members-first 64 0 x v n refl F, member-text false v)
-          (alt-right 41 (done 0) (num 0 63 k) (decimal v ++ t) x (opens-num 0 63 k 41 refl) number (num-node 0 63 k)))
+          let number = member-complete 0 k v t x (omega arith) (omega arith) (more-ends highest (suc v) (insert 0 v)) rest in
+          rw (members-first capacity 0 x v n refl F, member-text false v)
+          (alt-right 41 (done 0) (num 0 highest k) (decimal v ++ t) x (opens-num 0 highest k 41 refl) number (num-node 0 highest k)))
     ])

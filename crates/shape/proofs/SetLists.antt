@@ -9,8 +9,9 @@ use lib.ListN.{length, getD, length-set}
 use lib.Arith.{lt-of-le-ne}
 use lib.Dec.{eqb}
 use borrow.Author.Tests.{eqb-true, eqb-false}
-use Rattle.sets.proofs.Membership.{zero-within}
-use Rattle.sets.specs.Member.{within}
+use Rattle.bits.proofs.Membership.{zero-within}
+use Rattle.bits.specs.Member.{within}
+use Rattle.sets.specs.Words.{capacity}
 use Rattle.grammar.specs.Format.{Format, TextOf, Live, lit, alt, bind, opens, IsNode}
 use Rattle.grammar.specs.Format.Format.{done}
 use Rattle.grammar.proofs.Format.{
@@ -69,7 +70,7 @@ record Longer (gap : Bool) (a : Sets) (t : List ℕ) (b : Sets) : Type 0 where
   places : length (b .words) ≡ 4
   fill : Upto 0 (a .count) (a .words) (b .words)
   blank : Blank 0 (b .count) (b .words)
-  sets : (i : ℕ) → a .count ≤ i → within (getD (b .words) i 0) 64 ≡ true
+  sets : (i : ℕ) → a .count ≤ i → within (getD (b .words) i 0) capacity ≡ true
   text : t ≡ items gap (map setText (cells more (a .count) (b .words))) ++ 41 ∷ []
 
 longer-none : (gap : Bool) (n : ℕ) (a : Sets) (t : List ℕ) (b : Sets) → Open n a → t ≡ 41 ∷ [] → b ≡ a → Longer gap a t b
@@ -83,11 +84,12 @@ longer-none gap n a t b O e f =
       places = O .places;
       fill = record { same-length = refl; below = λ i l. refl };
       blank = O .blank;
-      sets = λ i l. ap (λ (x : ℕ). within x 64) (O .blank i l) ∙ zero-within 64;
+      sets = λ i l. ap (λ (x : ℕ). within x capacity) (O .blank i l) ∙ zero-within capacity;
       text = e;
     })
 
-longer-step : (gap : Bool) (n : ℕ) (a : Sets) (x : ℕ) (t u : List ℕ) (b : Sets) → Open (suc n) a → within x 64 ≡ true → t ≡ gapText gap ++ (setText x ++ u)
+longer-step : (gap : Bool) (n : ℕ) (a : Sets) (x : ℕ) (t u : List ℕ) (b : Sets) → Open (suc n) a → within x capacity ≡ true
+    → t ≡ gapText gap ++ (setText x ++ u)
     → Longer true (push a x) u b → Longer gap a t b
 unfolding push
 longer-step gap n a x t u b O w e L =
@@ -104,7 +106,7 @@ longer-step gap n a x t u b O w e L =
       fill = back .0;
       blank = L .blank;
       sets = λ i l. by-cases (eqb i (a .count))
-          (λ h. ap (λ (j : ℕ). within (getD (b .words) j 0) 64) (eqb-true i (a .count) h) ∙ ap (λ (y : ℕ). within y 64) (back .1) ∙ w)
+          (λ h. ap (λ (j : ℕ). within (getD (b .words) j 0) capacity) (eqb-true i (a .count) h) ∙ ap (λ (y : ℕ). within y capacity) (back .1) ∙ w)
           (λ h. let ne = eqb-false i (a .count) h in L .sets i (lt-of-le-ne l (λ f. ne (sym f))));
       text =
           e ∙ ap (λ (l : List ℕ). gapText gap ++ (setText x ++ l)) (L .text)

@@ -25,19 +25,18 @@
 --   gameFormat              == the whole text
 use Prim.Native.Nat.{ℕ, zero, suc, _^_}
 use mathlib.Core.Bool.{true, false}
-use mathlib.Core.List.{List, [], _∷_, _++_, map}
+use mathlib.Core.List.{List, [], _∷_, _++_}
 use lib.Bits.{bitOr}
 use lib.Dec.{eqb, leb}
 use lib.ListN.{replicate, set}
+use Rattle.sets.specs.Words.{capacity, highest}
 use Rattle.grammar.specs.Format.{Format, bind, lit, alt, chars}
 use Rattle.grammar.specs.Format.Format.{done}
 use Rattle.grammar.specs.Number.{num}
 use Rattle.game.specs.declared.Graph.{Graph}
-use Rattle.game.specs.declared.InSet.{InSet}
-use Rattle.game.specs.declared.OutSet.{OutSet}
 use Rattle.game.specs.declared.Requirement.{Requirement}
 use Rattle.game.specs.declared.Game.{Game}
-use Rattle.shape.specs.Text.{word, emptyRequirement}
+use Rattle.shape.specs.Text.{word, PlainGraph, recordOf, inSets, outSets, emptyRequirement}
 
 unfoldable pub insert : ℕ → ℕ → ℕ
 insert x v = bitOr x (2 ^ v)
@@ -45,13 +44,13 @@ insert x v = bitOr x (2 ^ v)
 unfoldable pub moreMembers : ℕ → ℕ → ℕ → Format ℕ
 moreMembers zero lo x = lit 41 (done x)
 moreMembers (suc n) lo x =
-    elim (leb lo 63) [
-      | true ↦ alt 41 (done x) (lit 32 (num lo 63 (λ v. moreMembers n (suc v) (insert x v))))
+    elim (leb lo highest) [
+      | true ↦ alt 41 (done x) (lit 32 (num lo highest (λ v. moreMembers n (suc v) (insert x v))))
       | false ↦ lit 41 (done x)
     ]
 
 unfoldable pub membersFormat : Format ℕ
-membersFormat = alt 41 (done 0) (num 0 63 (λ v. moreMembers 63 (suc v) (insert 0 v)))
+membersFormat = alt 41 (done 0) (num 0 highest (λ v. moreMembers highest (suc v) (insert 0 v)))
 
 unfoldable pub setFormat : Format ℕ
 setFormat = lit 40 membersFormat
@@ -86,12 +85,12 @@ pub record Header : Type 0 where
 
 unfoldable pub outputsFormat : ℕ → Format Header
 outputsFormat i =
-    bind (numThen 1 64 32) (λ o.
+    bind (numThen 1 capacity 32) (λ o.
     bind (numThen 0 8 41) (λ k.
     lit 10 (done (record { inputs = i; outputs = o; k = k }))))
 
 unfoldable pub headerFormat : Format Header
-headerFormat = bind (chars (opening 0)) (λ _. bind (numThen 1 64 32) (λ i. outputsFormat i))
+headerFormat = bind (chars (opening 0)) (λ _. bind (numThen 1 capacity 32) (λ i. outputsFormat i))
 
 pub record StateRow : Type 0 where
   pub initial : ℕ
@@ -109,21 +108,15 @@ stateFormat w s = bind (chars (opening w)) (λ _. bind (numThen s s 32) (λ _. r
 unfoldable pub mark : ℕ → ℕ → ℕ → ℕ
 mark x s f = elim (eqb f 1) [ true ↦ insert x s | false ↦ x ]
 
-unfoldable pub store : Graph → ℕ → StateRow → Graph
+unfoldable pub store : PlainGraph → ℕ → StateRow → PlainGraph
 store h s q = record { states = h .states; initial = mark (h .initial) s (q .initial); moves = set (h .moves) s (q .moves) }
 
-unfoldable pub statesFormat : ℕ → ℕ → ℕ → Graph → Format Graph
+unfoldable pub statesFormat : ℕ → ℕ → ℕ → PlainGraph → Format PlainGraph
 statesFormat w zero s h = done h
 statesFormat w (suc n) s h = bind (stateFormat w s) (λ q. statesFormat w n (suc s) (store h s q))
 
-unfoldable pub emptyGraph : ℕ → Graph
-emptyGraph n = record { states = n; initial = 0; moves = replicate 64 0 }
-
-abbrev pub inSets : List ℕ → List InSet
-inSets xs = map (λ (x : ℕ). record { 0 = x }) xs
-
-abbrev pub outSets : List ℕ → List OutSet
-outSets xs = map (λ (x : ℕ). record { 0 = x }) xs
+unfoldable pub emptyGraph : ℕ → PlainGraph
+emptyGraph n = record { states = n; initial = 0; moves = replicate capacity 0 }
 
 unfoldable pub requirement : Sets → Sets → Requirement
 requirement a b =
@@ -146,9 +139,9 @@ unfoldable pub outputFormat : Graph → ℕ → ℕ → Format Game
 outputFormat a o k =
     bind (statesFormat 2 o 0 (emptyGraph o)) (λ b.
     bind (requirementsFormat k 0 (replicate 8 emptyRequirement)) (λ qs.
-    done (record { input = a; output = b; k = k; requirements = qs })))
+    done (record { input = a; output = recordOf b; k = k; requirements = qs })))
 
 unfoldable pub gameFormat : Format Game
 gameFormat =
     bind headerFormat (λ h.
-    bind (statesFormat 1 (h .inputs) 0 (emptyGraph (h .inputs))) (λ a. outputFormat a (h .outputs) (h .k)))
+    bind (statesFormat 1 (h .inputs) 0 (emptyGraph (h .inputs))) (λ a. outputFormat (recordOf a) (h .outputs) (h .k)))

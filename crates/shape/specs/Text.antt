@@ -11,11 +11,17 @@
 --   setsText n xs           == the text of a list: the first n sets of xs
 --   headerLine i o k        == (game I O K)
 --   stateLine w s f x       == (in S F (moves)) or (out S F (moves)), by the word w
+--   plain h                 == the graph h with its sets as numbers
+--   recordOf h              == the record of such a graph
 --   stateLines w n s h      == the lines of the n states of the graph h from s on
+--   inWords xs, outWords xs == the sets xs as numbers
+--   inSets xs, outSets xs   == the sets with the numbers xs
 --   requirementLine q       == (if (sets) (sets))
 --   requirementLines n r qs == the lines of n requirements of qs from r on
 --   gameText g              == the text of the game g
---   ShapedGraph h           == h is within the shape's limits, and empty past them
+--   ShapedPlain h           == h is within the shape's limits, and empty past them
+--   ShapedGraph h           == so is the record h, and its words are those of its sets
+--   ShapedSets n xs         == n of the sets xs are in use, and the others are empty
 --   ShapedRequirement q     == q is within them
 --   emptyRequirement        == a requirement with no sets
 --   emptyGame               == a game without states
@@ -25,8 +31,9 @@ use mathlib.Core.Bool.{Bool, true, false}
 use mathlib.Core.List.{List, [], _∷_, _++_, map}
 use mathlib.Core.Path.{_≡_}
 use lib.ListN.{length, getD, replicate}
+use Rattle.sets.specs.Words.{capacity, rowWords, bitsOf, setOf, setsIn, wordsOf, noStates}
 use Rattle.finite.specs.Bounded.{one}
-use Rattle.sets.specs.Member.{has, within}
+use Rattle.bits.specs.Member.{has, within}
 use Rattle.grammar.specs.Number.{decimal}
 use Rattle.game.specs.declared.Graph.{Graph}
 use Rattle.game.specs.declared.InSet.{InSet}
@@ -74,7 +81,7 @@ members zero lo x = []
 members (suc n) lo x = elim (has x lo) [ true ↦ lo ∷ members n (suc lo) x | false ↦ members n (suc lo) x ]
 
 unfoldable pub setText : ℕ → List ℕ
-setText x = bracket (map decimal (members 64 0 x))
+setText x = bracket (map decimal (members capacity 0 x))
 
 -- "(if (sets) (sets)), 0 to 4 sets a list"
 unfoldable pub cells : ℕ → ℕ → List ℕ → List ℕ
@@ -92,15 +99,32 @@ headerLine i o k = line (word 0 ∷ decimal i ∷ decimal o ∷ decimal k ∷ []
 unfoldable pub stateLine : ℕ → ℕ → ℕ → ℕ → List ℕ
 stateLine w s f x = line (word w ∷ decimal s ∷ decimal f ∷ setText x ∷ [])
 
-unfoldable pub stateLines : ℕ → ℕ → ℕ → Graph → List ℕ
+pub record PlainGraph : Type 0 where
+  pub states : ℕ
+  pub initial : ℕ
+  pub moves : List ℕ
+
+unfoldable pub plain : Graph → PlainGraph
+plain h = record { states = h .states; initial = bitsOf (h .initial); moves = setsIn (h .moves) }
+
+unfoldable pub recordOf : PlainGraph → Graph
+recordOf h = record { states = h .states; initial = setOf (h .initial); moves = wordsOf (h .moves) }
+
+unfoldable pub stateLines : ℕ → ℕ → ℕ → PlainGraph → List ℕ
 stateLines w zero s h = []
 stateLines w (suc n) s h = stateLine w s (one (has (h .initial) s)) (getD (h .moves) s 0) ++ stateLines w n (suc s) h
 
 abbrev pub inWords : List InSet → List ℕ
-inWords xs = map (λ (x : InSet). x .0) xs
+inWords xs = map (λ (x : InSet). bitsOf (x .0)) xs
 
 abbrev pub outWords : List OutSet → List ℕ
-outWords xs = map (λ (x : OutSet). x .0) xs
+outWords xs = map (λ (x : OutSet). bitsOf (x .0)) xs
+
+abbrev pub inSets : List ℕ → List InSet
+inSets xs = map (λ (x : ℕ). record { 0 = setOf x }) xs
+
+abbrev pub outSets : List ℕ → List OutSet
+outSets xs = map (λ (x : ℕ). record { 0 = setOf x }) xs
 
 unfoldable pub requirementLine : Requirement → List ℕ
 requirementLine q =
@@ -109,9 +133,9 @@ requirementLine q =
 unfoldable pub emptyRequirement : Requirement
 emptyRequirement =
     record {
-      assumptions = replicate 4 (record { 0 = 0 });
+      assumptions = replicate 4 (record { 0 = noStates });
       assumed = 0;
-      guarantees = replicate 4 (record { 0 = 0 });
+      guarantees = replicate 4 (record { 0 = noStates });
       guaranteed = 0;
     }
 
@@ -123,35 +147,41 @@ requirementLines (suc n) r qs = requirementLine (getD qs r emptyRequirement) ++ 
 unfoldable pub gameText : Game → List ℕ
 gameText g =
     headerLine (g .input .states) (g .output .states) (g .k)
-    ++ (stateLines 1 (g .input .states) 0 (g .input)
-    ++ (stateLines 2 (g .output .states) 0 (g .output)
+    ++ (stateLines 1 (g .input .states) 0 (plain (g .input))
+    ++ (stateLines 2 (g .output .states) 0 (plain (g .output))
     ++ requirementLines (g .k) 0 (g .requirements)))
 
 -- "with I and O 1 to 64"; "Rows past the count are empty."
-pub record ShapedGraph (h : Graph) : Type 0 where
+pub record ShapedPlain (h : PlainGraph) : Type 0 where
   pub some : 1 ≤ h .states
-  pub most : h .states ≤ 64
+  pub most : h .states ≤ capacity
   pub initial : within (h .initial) (h .states) ≡ true
-  pub rows : length (h .moves) ≡ 64
-  pub row : (s : ℕ) → within (getD (h .moves) s 0) 64 ≡ true
+  pub rows : length (h .moves) ≡ capacity
+  pub row : (s : ℕ) → within (getD (h .moves) s 0) capacity ≡ true
   pub unused : (s : ℕ) → h .states ≤ s → getD (h .moves) s 0 ≡ 0
+
+pub record ShapedGraph (h : Graph) : Type 0 where
+  pub limits : ShapedPlain (plain h)
+  pub words : recordOf (plain h) ≡ h
 
 -- "Unused sets are empty"
 pub record ShapedSets (n : ℕ) (xs : List ℕ) : Type 0 where
   pub most : n ≤ 4
   pub all : length xs ≡ 4
-  pub each : (i : ℕ) → within (getD xs i 0) 64 ≡ true
+  pub each : (i : ℕ) → within (getD xs i 0) capacity ≡ true
   pub unused : (i : ℕ) → n ≤ i → getD xs i 0 ≡ 0
 
 pub record ShapedRequirement (q : Requirement) : Type 0 where
   pub assumptions : ShapedSets (q .assumed) (inWords (q .assumptions))
   pub guarantees : ShapedSets (q .guaranteed) (outWords (q .guarantees))
+  pub in-words : inSets (inWords (q .assumptions)) ≡ q .assumptions
+  pub out-words : outSets (outWords (q .guarantees)) ≡ q .guarantees
 
 unfoldable pub emptyGame : Game
 emptyGame =
     record {
-      input = record { states = 0; initial = 0; moves = replicate 64 0 };
-      output = record { states = 0; initial = 0; moves = replicate 64 0 };
+      input = record { states = 0; initial = noStates; moves = replicate rowWords 0 };
+      output = record { states = 0; initial = noStates; moves = replicate rowWords 0 };
       k = 0;
       requirements = replicate 8 emptyRequirement;
     }

@@ -79,11 +79,11 @@ pub fn opening_byte(w: usize, k: usize) -> u8
     ensures { λ r. ⌜ r ≡ getD (opening w) k 0 ⌝ }
 {
     if k == 0 {
-        return 40;
+        return b'(';
     }
     let n = letters(w);
     if k <= n {
         return letter(w, k - 1);
     }
-    32
+    b' '
 }

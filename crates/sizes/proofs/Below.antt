@@ -1,6 +1,6 @@
 -- The sets of the first r requirements, one requirement after the other.
 --
---   Listed s    == the sets that the side takes are its words in use
+--   Listed s    == the sets that the side takes are its sets in use
 use Prim.Native.Nat.{ℕ, _+_, _≤_, _<_}
 use mathlib.Core.Path.{_≡_, refl, sym, _∙_, ap}
 use mathlib.Core.Bool.{Bool, false}
@@ -10,7 +10,8 @@ use native.Mathlib.Numerals.{add-one}
 use lib.ListN.{length, getD}
 use Rattle.finite.specs.Tabulate.{tabulate, tabulateFrom}
 use Rattle.finite.proofs.Tabulate.{length-tabulate, getD-tabulate}
-use Rattle.sets.specs.Member.{has}
+use Rattle.sets.specs.Words.{bitsOf}
+use Rattle.bits.specs.Member.{has}
 use Rattle.game.specs.declared.Game.{Game}
 use Rattle.game.specs.declared.Requirement.{Requirement as RequirementRecord}
 use Rattle.game.specs.declared.Acceptance.the-variants.{Accepted}
@@ -24,7 +25,7 @@ use Rattle.sizes.specs.Below.{Side, guaranteeSide, assumptionSide, setsB
 use Rattle.sizes.proofs.Concat.{length-more, getD-within}
 
 abbrev pub Listed : Side → Type 0
-Listed s = (q : RequirementRecord) → s .sets (requirementOf q) ≡ tabulate (s .count q) (λ j. has (s .word q j))
+Listed s = (q : RequirementRecord) → s .sets (requirementOf q) ≡ tabulate (s .count q) (λ j. has (bitsOf (s .set q j)))
 
 pub guarantees-listed : Listed guaranteeSide
 unfolding guaranteeSide requirementOf
@@ -38,7 +39,7 @@ module _ (s : Side) (L : Listed s) (g : Game) where
   -- how many sets requirement r has
   count-at : (r : ℕ) → length (s .sets (requirementOf (requirementAt g r))) ≡ s .count (requirementAt g r)
   count-at r =
-      ap length (L (requirementAt g r)) ∙ length-tabulate (λ j. has (s .word (requirementAt g r) j)) (s .count (requirementAt g r))
+      ap length (L (requirementAt g r)) ∙ length-tabulate (λ j. has (bitsOf (s .set (requirementAt g r) j))) (s .count (requirementAt g r))
 
   pub below-none : 0 ≡ length (setsBelow s g 0)
   unfolding setsBelow tabulate tabulateFrom setsOf
@@ -58,13 +59,13 @@ module _ (s : Side) (L : Listed s) (g : Game) where
   -- set number a of all, j places after those of the first r requirements
 
   pub set-found : (r a j : ℕ) → r < g .k → a ≡ length (setsBelow s g r) + j → j < s .count (requirementAt g r)
-      → has (s .word (requirementAt g r) j) ≡ goalAt (setsIn s g) a
+      → has (bitsOf (s .set (requirementAt g r) j)) ≡ goalAt (setsIn s g) a
   unfolding setsBelow setsIn separatedOf requirementsOf goalAt
   set-found r a j l e b =
       sym
       (getD-within (s .sets) (λ k. requirementOf (requirementAt g k)) (g .k) r a j (λ t. false) l e (omega (arith, count-at r))
       ∙ ap (λ (x : List (ℕ → Bool)). getD x j (λ t. false)) (L (requirementAt g r))
-      ∙ getD-tabulate (λ i. has (s .word (requirementAt g r) i)) (s .count (requirementAt g r)) j (λ t. false) b)
+      ∙ getD-tabulate (λ i. has (bitsOf (s .set (requirementAt g r) i))) (s .count (requirementAt g r)) j (λ t. false) b)
 
 module _ (g : Game) (a : acceptance g ≡ Accepted) where
   pub few : g .k ≤ 8

@@ -1,6 +1,6 @@
 -- The sets by number, one requirement after the other.
 --
---   sets-of                         : a requirement's four words
+--   sets-of                         : a requirement's four sets
 --   upto-none, upto-next, upto-all  : how many sets there are
 --   stretch-short, stretch-set      : the sets of the next requirement, by number
 --   met-further, met-all            : those among them that have a state in x
@@ -11,18 +11,20 @@ use mathlib.Core.List.{_∷_, []}
 use native.Mathlib.Omega.{arith}
 use lib.ListN.{length, getD}
 use Rattle.finite.proofs.Bounded.{any-same}
-use Rattle.sets.specs.Member.{has, pack, meets, both}
+use Rattle.bits.specs.Member.{has, pack, meets, both}
+use Rattle.sets.specs.declared.Set.{Set}
+use Rattle.sets.specs.Words.{capacity, bitsOf, noStates}
 use Rattle.game.specs.declared.Requirement.{Requirement}
 use Rattle.game.specs.declared.Game.{Game}
 use Rattle.game.specs.Access.{requirementAt}
 use Rattle.theory.specs.Tour.{goalAt}
 use Rattle.touring.specs.declared.Stretch.{Stretch}
-use Rattle.touring.specs.Stretches.{metIn, Short, MetMore}
+use Rattle.touring.specs.Stretches.{metIn, setOf, Short, MetMore}
 use Rattle.sizes.specs.Below.{Side, setsIn}
 use Rattle.sizes.specs.Numbered.{SetsOf, Upto}
 use Rattle.sizes.proofs.Below.{Listed, below-none, below-more, below-all, set-found}
 
-four : (f : ℕ → ℕ) (j : ℕ) → j < 4 → getD (f 0 ∷ f 1 ∷ f 2 ∷ f 3 ∷ []) j 0 ≡ f j
+four : (f : ℕ → Set) (j : ℕ) → j < 4 → getD (f 0 ∷ f 1 ∷ f 2 ∷ f 3 ∷ []) j noStates ≡ f j
 four f zero b = refl
 four f (suc zero) b = refl
 four f (suc (suc zero)) b = refl
@@ -30,8 +32,8 @@ four f (suc (suc (suc zero))) b = refl
 four f (suc (suc (suc (suc j)))) b = absurd (omega arith)
 
 pub sets-of : (s : Side) (q : Requirement) (n : ℕ)
-    → SetsOf s q n (record { words = s .word q 0 ∷ s .word q 1 ∷ s .word q 2 ∷ s .word q 3 ∷ []; count = s .count q; from = n })
-sets-of s q n = record { first = refl; count = refl; word = λ j b. four (s .word q) j b }
+    → SetsOf s q n (record { sets = s .set q 0 ∷ s .set q 1 ∷ s .set q 2 ∷ s .set q 3 ∷ []; count = s .count q; from = n })
+sets-of s q n = record { first = refl; count = refl; sets = λ j b. four (s .set q) j b }
 
 module _ (s : Side) (L : Listed s) (g : Game) where
   pub upto-none : Upto s g 0 0
@@ -55,15 +57,15 @@ module _ (s : Side) (L : Listed s) (g : Game) where
     pub stretch-short : Short t
     stretch-short = record { places = omega (arith, W .count); numbers = omega (arith, W .count, W .first, U .few) }
 
-    pub stretch-set : (j : ℕ) → j < t .count → has (getD (t .words) j 0) ≡ goalAt (setsIn s g) (t .from + j)
+    pub stretch-set : (j : ℕ) → j < t .count → has (setOf t j) ≡ goalAt (setsIn s g) (t .from + j)
     stretch-set j b =
-        ap has (W .word j (omega (arith, W .count)))
+        ap (λ (y : Set). has (bitsOf y)) (W .sets j (omega (arith, W .count)))
         ∙ set-found s L g r (t .from + j) j l (omega (arith, W .first, U .count)) (omega (arith, W .count))
 
-    met-at : (x j : ℕ) → j < t .count → meets 64 (getD (t .words) j 0) x ≡ metIn (setsIn s g) x (t .from + j)
+    met-at : (x j : ℕ) → j < t .count → meets capacity (setOf t j) x ≡ metIn (setsIn s g) x (t .from + j)
     unfolding meets both metIn
     met-at x j b =
-        any-same 64 (both (getD (t .words) j 0) x) (λ i. goalAt (setsIn s g) (t .from + j) i && has x i)
+        any-same capacity (both (setOf t j) x) (λ i. goalAt (setsIn s g) (t .from + j) i && has x i)
         (λ i d. ap (λ (p : ℕ → Bool). p i && has x i) (stretch-set j b))
 
     pub met-further : (x q m : ℕ) → q ≡ pack n (metIn (setsIn s g) x) → MetMore t x q (t .count) m → m ≡ pack (n + t .count) (metIn (setsIn s g) x)

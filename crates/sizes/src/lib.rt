@@ -1,11 +1,15 @@
 // The sizes of an accepted game's tables, and the sets of all its requirements by number, in file order: one requirement after the other.
+use counters::CounterSet;
 use game::Game;
+use game::InSet;
+use game::OutSet;
 use game::Requirement;
 use touring::Stretch;
 ghost use mathlib.Core.Path.{_≡_};
 ghost use Prim.Native.Nat.{max};
 ghost use lib.ListN.{length};
-ghost use Rattle.sets.specs.Member.{pack};
+ghost use Rattle.bits.specs.Member.{pack};
+ghost use Rattle.sets.specs.Words.{bitsOf};
 ghost use Rattle.game.specs.Acceptance.{acceptance};
 ghost use Rattle.game.specs.declared.Acceptance.the-variants.{Accepted};
 ghost use Rattle.play.specs.Play.{separatedOf};
@@ -53,24 +57,28 @@ pub fn guarantees_of(q: Requirement, from: usize) -> Stretch
     let b = q.guarantees[1];
     let c = q.guarantees[2];
     let d = q.guarantees[3];
+    let w = a.0;
+    let x = b.0;
+    let y = c.0;
+    let z = d.0;
     Stretch {
-        words: [a.0, b.0, c.0, d.0],
+        sets: [w, x, y, z],
         count: q.guaranteed,
         from,
     }
 }
 
 // The numbers of the guarantees that have a state in x.
-pub fn guarantees_met(g: Game, x: u64) -> u64
+pub fn guarantees_met(g: Game, x: OutSet) -> CounterSet
     requires { ⌜ acceptance g ≡ Accepted ⌝ }
-    ensures { λ q. ⌜ q ≡ pack (length (guarantees (separatedOf g))) (metIn (guarantees (separatedOf g)) x) ⌝ }
+    ensures { λ q. ⌜ q .0 ≡ pack (length (guarantees (separatedOf g))) (metIn (guarantees (separatedOf g)) (bitsOf (x .0))) ⌝ }
 {
-    let mut q: u64 = 0;
+    let mut q = counters::empty();
     let mut n: usize = 0;
     let mut r: usize = 0;
     while r < g.k {
         let s = guarantees_of(g.requirements[r], n);
-        q = touring::add_met(q, s, x);
+        q = touring::add_met(q, s, x.0);
         n += s.count;
         r += 1;
     }
@@ -85,24 +93,28 @@ pub fn assumptions_of(q: Requirement, from: usize) -> Stretch
     let b = q.assumptions[1];
     let c = q.assumptions[2];
     let d = q.assumptions[3];
+    let w = a.0;
+    let x = b.0;
+    let y = c.0;
+    let z = d.0;
     Stretch {
-        words: [a.0, b.0, c.0, d.0],
+        sets: [w, x, y, z],
         count: q.assumed,
         from,
     }
 }
 
 // The numbers of the assumptions that have a state in x.
-pub fn assumptions_met(g: Game, x: u64) -> u64
+pub fn assumptions_met(g: Game, x: InSet) -> CounterSet
     requires { ⌜ acceptance g ≡ Accepted ⌝ }
-    ensures { λ q. ⌜ q ≡ pack (length (assumptions (separatedOf g))) (metIn (assumptions (separatedOf g)) x) ⌝ }
+    ensures { λ q. ⌜ q .0 ≡ pack (length (assumptions (separatedOf g))) (metIn (assumptions (separatedOf g)) (bitsOf (x .0))) ⌝ }
 {
-    let mut q: u64 = 0;
+    let mut q = counters::empty();
     let mut n: usize = 0;
     let mut r: usize = 0;
     while r < g.k {
         let s = assumptions_of(g.requirements[r], n);
-        q = touring::add_met(q, s, x);
+        q = touring::add_met(q, s, x.0);
         n += s.count;
         r += 1;
     }

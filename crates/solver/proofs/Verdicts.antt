@@ -23,7 +23,8 @@ use Rattle.demands.specs.Demands.{playOf, controllerOf, environmentOf}
 use Rattle.demands.proofs.Demands.{demand-three-system, demand-three-environment}
 use Rattle.solver.specs.declared.Verdict.{Verdict}
 use Rattle.solver.specs.declared.Verdict.the-variants.{System, Environment, Refused as NotSolved}
-use Rattle.scratch.specs.Scratch.{scratchLength, cleared}
+use Rattle.clearing.specs.Clearing.{cleared}
+use Rattle.scratch.specs.Scratch.{scratchLength}
 use Rattle.solver.specs.Promise.{
   controllerLength,
   environmentLength,

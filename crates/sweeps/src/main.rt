@@ -3,6 +3,7 @@ use game::Graph;
 use libc::STDOUT_FILENO;
 ghost use mathlib.Core.Path.{_≡_};
 ghost use Prim.Native.Nat.{_≤_, _<_};
+ghost use Rattle.sets.specs.Words.{capacity};
 
 enum Shape {
     // Each state moves to itself.
@@ -23,7 +24,7 @@ enum Shape {
 
 // Row s of a graph of n states.
 fn row(shape: Shape, n: usize, s: usize) -> u64
-    requires { ⌜ (s < n) × (n ≤ 64) ⌝ }
+    requires { ⌜ (s < n) × (n ≤ capacity) ⌝ }
 {
     match shape {
         Shape::Loops => 1u64 << s,
@@ -47,7 +48,7 @@ fn row(shape: Shape, n: usize, s: usize) -> u64
 }
 
 fn graph(shape: Shape, n: usize) -> Graph
-    requires { ⌜ n ≤ 64 ⌝ }
+    requires { ⌜ n ≤ capacity ⌝ }
     ensures { λ r. ⌜ r .states ≡ n ⌝ }
 {
     let mut moves = [0u64; 64];
@@ -58,14 +59,14 @@ fn graph(shape: Shape, n: usize) -> Graph
     }
     Graph {
         states: n,
-        initial: 1,
+        initial: sets::below(1),
         moves,
     }
 }
 
 // A line: the name and the count of sweeps.
 fn report(name: &[u8], shape: Shape, n: usize)
-    requires { ⌜ n ≤ 64 ⌝ }
+    requires { ⌜ n ≤ capacity ⌝ }
 {
     let mut rows = [0u64; 64];
     let sweeps = closure::close(graph(shape, n), &mut rows);
@@ -76,7 +77,7 @@ fn report(name: &[u8], shape: Shape, n: usize)
 
 // The graph of n states whose rows are the digits of the code to the base of 2 to the power n, row 0 lowest.
 fn coded(n: usize, base: u64, code: u64) -> Graph
-    requires { ⌜ (n ≤ 64) × (1 ≤ base) ⌝ }
+    requires { ⌜ (n ≤ capacity) × (1 ≤ base) ⌝ }
     ensures { λ r. ⌜ r .states ≡ n ⌝ }
 {
     let mut moves = [0u64; 64];
@@ -89,14 +90,14 @@ fn coded(n: usize, base: u64, code: u64) -> Graph
     }
     Graph {
         states: n,
-        initial: 1,
+        initial: sets::below(1),
         moves,
     }
 }
 
 // Whether that graph takes no more sweeps than it has states.
 fn bounded(n: usize, base: u64, code: u64) -> bool
-    requires { ⌜ (n ≤ 64) × (1 ≤ base) ⌝ }
+    requires { ⌜ (n ≤ capacity) × (1 ≤ base) ⌝ }
 {
     let mut rows = [0u64; 64];
     closure::close(coded(n, base, code), &mut rows) <= n
@@ -104,7 +105,7 @@ fn bounded(n: usize, base: u64, code: u64) -> bool
 
 // How many of the graphs with codes below some number do.
 fn count_bounded(n: usize, base: u64, codes: u64) -> u64
-    requires { ⌜ (n ≤ 64) × (1 ≤ base) ⌝ }
+    requires { ⌜ (n ≤ capacity) × (1 ≤ base) ⌝ }
 {
     let mut kept = 0u64;
     let mut code = 0u64;
@@ -119,7 +120,7 @@ fn count_bounded(n: usize, base: u64, codes: u64) -> u64
 
 // A line: how many graphs of n states there are, and how many of them take no more sweeps than states.
 fn report_all(name: &[u8], n: usize, base: u64, codes: u64)
-    requires { ⌜ (n ≤ 64) × (1 ≤ base) ⌝ }
+    requires { ⌜ (n ≤ capacity) × (1 ≤ base) ⌝ }
 {
     let kept = count_bounded(n, base, codes);
     io::write_all(STDOUT_FILENO, name);

@@ -1,15 +1,18 @@
 -- One text for each game: the laws that specs/OneText.antt states.
-use Prim.Native.Nat.{ℕ, _≤_, _<_}
+use Prim.Native.Nat.{ℕ, suc, _≤_, _<_, _^_}
 use native.Mathlib.Omega.{arith}
 use mathlib.Core.Bool.{true}
-use mathlib.Core.List.{List}
+use mathlib.Core.List.{List, [], _∷_}
 use mathlib.Core.Path.{_≡_, refl, sym, _∙_, ap, subst}
 use lib.Dec.{ltb, leb}
 use lib.ListN.{length, getD, replicate, length-map, List·getD-eq-default}
 use lib.Seq.{ext-getD}
 use borrow.Author.Tests.{ltb-true, ltb-false, leb-true, leb-false}
-use Rattle.sets.specs.Member.{has, within}
-use Rattle.sets.proofs.Membership.{has-within, zero-within}
+use Rattle.sets.specs.declared.Set.{Set}
+use Rattle.sets.specs.Words.{capacity, rowWords, bitsOf, setOf, setsIn, WordsFit, noStates}
+use Rattle.sets.proofs.Rows.{no-states, set-is, sets-all, words-sets}
+use Rattle.bits.specs.Member.{has, within}
+use Rattle.bits.proofs.Membership.{has-within, zero-within}
 use Rattle.grammar.specs.Format.{Run}
 use Rattle.grammar.specs.Format.Run.{got, fault}
 use Rattle.grammar.specs.Place.{reading}
@@ -25,54 +28,60 @@ use Rattle.game.specs.declared.Game.{Game}
 use Rattle.game.specs.declared.Acceptance.{Acceptance}
 use Rattle.game.specs.declared.Acceptance.the-variants.{Accepted, Refused}
 use Rattle.game.proofs.Laws.{GraphFits, RequirementFits, accepted-fits}
-use Rattle.shape.specs.Text.{gameText, inWords, outWords, ShapedGraph, ShapedSets, ShapedRequirement, Shaped, emptyRequirement}
+use Rattle.shape.specs.Text.{plain, recordOf, gameText, inWords, outWords, inSets, outSets}
+use Rattle.shape.specs.Text.{ShapedGraph, ShapedSets, ShapedRequirement, Shaped, emptyRequirement}
 use Rattle.shape.specs.Shape.{gameFormat}
 use Rattle.shape.proofs.Graphs.{empty-shaped}
 use Rattle.shape.proofs.Shape.{game-sound, game-complete, game-live}
-use Rattle.put.proofs.Bounds.{game-short}
 use Rattle.put.proofs.Pieces.{in-word, out-word}
+use Rattle.put.proofs.Bounds.{game-short}
 use Rattle.text.specs.Read.{Reads, refused, misshapen, judged}
 use Rattle.text.specs.OneText.{Arrays, IsText, OneText}
 use Rattle.text.specs.declared.Answer.{Answer}
 use Rattle.text.specs.declared.Answer.the-variants.{Read, Misshapen, Refused as NotRead}
 use Rattle.text.specs.declared.Reading.{Reading}
-use Rattle.text.proofs.Reader.{text-of, judged-refused, judged-accepted}
 use Rattle.text.proofs.Writer.{accepted-writable}
+use Rattle.text.proofs.Reader.{text-of, judged-refused, judged-accepted}
 
 -- two games within the shape's limits with one text are one game
 one-game : (g h : Game) → Shaped g → Shaped h → gameText g ≡ gameText h → g ≡ h
 one-game g h S T e = one-value gameFormat (gameText g) g h (game-complete g S) (text-of (gameText g) h T e)
 
 -- an accepted game is within the shape's limits
-graph-shaped : (g : Graph) → GraphFits g → length (g .moves) ≡ 64 → ShapedGraph g
-graph-shaped g F l =
+graph-shaped : (g : Graph) → GraphFits g → length (g .moves) ≡ rowWords → ((i : ℕ) → getD (g .moves) i 0 < 2 ^ 64) → WordsFit (g .initial)
+    → ShapedGraph g
+unfolding plain recordOf
+graph-shaped g F l rows start =
     let most = F .most in
     record {
-      some = F .some;
-      most = F .most;
-      initial = has-within (g .initial) (g .states) (F .initial-below);
-      rows = l;
-      row = λ s. by-cases (ltb s (g .states))
-          (λ b. has-within (getD (g .moves) s 0) 64 (λ j h. let m = F .row-below s j (ltb-true s (g .states) b) h in omega arith))
-          (λ b. ap (λ (x : ℕ). within x 64) (past s (ltb-false s (g .states) b)) ∙ zero-within 64);
-      unused = past;
+      limits = record {
+        some = F .some;
+        most = F .most;
+        initial = has-within (bitsOf (g .initial)) (g .states) (F .initial-below);
+        rows = sets-all (g .moves) l;
+        row = λ s. by-cases (ltb s (g .states))
+            (λ b. has-within (getD (setsIn (g .moves)) s 0) capacity (λ j h. let m = F .row-below s j (ltb-true s (g .states) b) h in omega arith))
+            (λ b. ap (λ (x : ℕ). within x capacity) (past s (ltb-false s (g .states) b)) ∙ zero-within capacity);
+        unused = past;
+      };
+      words = λ i. record { states = g .states; initial = set-is (g .initial) start i; moves = words-sets (g .moves) l rows i };
     }
   where
-    past : (s : ℕ) → g .states ≤ s → getD (g .moves) s 0 ≡ 0
+    past : (s : ℕ) → g .states ≤ s → getD (setsIn (g .moves)) s 0 ≡ 0
     past s h =
-        by-cases (ltb s 64)
-        (λ b. F .row-past s h (ltb-true s 64 b))
-        (λ b. let m = ltb-false s 64 b in List·getD-eq-default (g .moves) 0 (omega arith))
+        by-cases (ltb s capacity)
+        (λ b. F .row-past s h (ltb-true s capacity b))
+        (λ b. let m = ltb-false s capacity b in List·getD-eq-default (setsIn (g .moves)) 0 (omega (arith, sets-all (g .moves) l)))
 
-sets-shaped : (n a : ℕ) (ws : List ℕ) → a ≤ 64 → n ≤ 4 → length ws ≡ 4 → ((j s : ℕ) → j < n → has (getD ws j 0) s ≡ true → s < a)
+sets-shaped : (n a : ℕ) (ws : List ℕ) → a ≤ capacity → n ≤ 4 → length ws ≡ 4 → ((j s : ℕ) → j < n → has (getD ws j 0) s ≡ true → s < a)
     → ((j : ℕ) → n ≤ j → j < 4 → getD ws j 0 ≡ 0) → ShapedSets n ws
 sets-shaped n a ws m h l below past =
     record {
       most = h;
       all = l;
       each = λ j. by-cases (ltb j n)
-          (λ b. has-within (getD ws j 0) 64 (λ s t. let q = below j s (ltb-true j n b) t in omega arith))
-          (λ b. ap (λ (x : ℕ). within x 64) (rest j (ltb-false j n b)) ∙ zero-within 64);
+          (λ b. has-within (getD ws j 0) capacity (λ s t. let q = below j s (ltb-true j n b) t in omega arith))
+          (λ b. ap (λ (x : ℕ). within x capacity) (rest j (ltb-false j n b)) ∙ zero-within capacity);
       unused = rest;
     }
   where
@@ -82,39 +91,60 @@ sets-shaped n a ws m h l below past =
         (λ b. past j h (ltb-true j 4 b))
         (λ b. let q = ltb-false j 4 b in List·getD-eq-default ws 0 (omega arith))
 
-in-zero : (x : InSet) → x .0 ≡ 0 → x ≡ noInput
-in-zero x h = λ i. record { 0 = h i }
+-- the words of a requirement's lists
+record Fit (q : Requirement) : Type 0 where
+  in-length : length (q .assumptions) ≡ 4
+  out-length : length (q .guarantees) ≡ 4
+  in-sets : (j : ℕ) → WordsFit (getD (q .assumptions) j noInput .0)
+  out-sets : (j : ℕ) → WordsFit (getD (q .guarantees) j noOutput .0)
 
-out-zero : (x : OutSet) → x .0 ≡ 0 → x ≡ noOutput
-out-zero x h = λ i. record { 0 = h i }
+in-all : (xs : List InSet) → ((j : ℕ) → WordsFit (getD xs j noInput .0)) → inSets (inWords xs) ≡ xs
+in-all [] h = refl
+in-all (x ∷ xs) h = λ i. record { 0 = set-is (x .0) (h 0) i } ∷ in-all xs (λ j. h (suc j)) i
 
-requirement-shaped : (q : Requirement) (a b : ℕ) → a ≤ 64 → b ≤ 64 → RequirementFits q a b → length (q .assumptions) ≡ 4 → length (q .guarantees) ≡ 4
-    → ShapedRequirement q
-requirement-shaped q a b la lb F m n =
+out-all : (xs : List OutSet) → ((j : ℕ) → WordsFit (getD xs j noOutput .0)) → outSets (outWords xs) ≡ xs
+out-all [] h = refl
+out-all (x ∷ xs) h = λ i. record { 0 = set-is (x .0) (h 0) i } ∷ out-all xs (λ j. h (suc j)) i
+
+no-set : (x : Set) → WordsFit x → bitsOf x ≡ 0 → x ≡ noStates
+no-set x w h = sym (set-is x w) ∙ ap setOf h ∙ no-states
+
+requirement-shaped : (q : Requirement) (a b : ℕ) → a ≤ capacity → b ≤ capacity → RequirementFits q a b → Fit q → ShapedRequirement q
+requirement-shaped q a b la lb F W =
     record {
       assumptions =
-          sets-shaped (q .assumed) a (inWords (q .assumptions)) la (F .few-assumed) (length-map (q .assumptions) (λ (x : InSet). x .0) ∙ m)
+          sets-shaped (q .assumed) a (inWords (q .assumptions)) la (F .few-assumed) (length-map (q .assumptions) (λ (x : InSet). bitsOf (x .0)) ∙ W .in-length)
           (λ j s l h. F .assumption-below j s l (ap (λ (x : ℕ). has x s) (in-word (q .assumptions) j) ∙ h))
           (λ j l h. sym (in-word (q .assumptions) j) ∙ F .assumption-past j l h);
       guarantees =
-          sets-shaped (q .guaranteed) b (outWords (q .guarantees)) lb (F .few-guaranteed) (length-map (q .guarantees) (λ (x : OutSet). x .0) ∙ n)
+          sets-shaped (q .guaranteed) b (outWords (q .guarantees)) lb (F .few-guaranteed)
+          (length-map (q .guarantees) (λ (x : OutSet). bitsOf (x .0)) ∙ W .out-length)
           (λ j s l h. F .guarantee-below j s l (ap (λ (x : ℕ). has x s) (out-word (q .guarantees) j) ∙ h))
           (λ j l h. sym (out-word (q .guarantees) j) ∙ F .guarantee-past j l h);
+      in-words = in-all (q .assumptions) (W .in-sets);
+      out-words = out-all (q .guarantees) (W .out-sets);
     }
 
 -- a requirement without sets
-unused-empty : (q : Requirement) (a b : ℕ) → RequirementFits q a b → length (q .assumptions) ≡ 4 → length (q .guarantees) ≡ 4 → q .assumed ≡ 0
-    → q .guaranteed ≡ 0 → q ≡ emptyRequirement
+unused-empty : (q : Requirement) (a b : ℕ) → RequirementFits q a b → Fit q → q .assumed ≡ 0 → q .guaranteed ≡ 0 → q ≡ emptyRequirement
 unfolding emptyRequirement
-unused-empty q a b F m n e f =
+unused-empty q a b F W e f =
+    let m = W .in-length in
+    let n = W .out-length in
     let ins : q .assumptions ≡ replicate 4 noInput =
     ext-getD noInput (q .assumptions) (replicate 4 noInput) m
-    (λ j l. in-zero (getD (q .assumptions) j noInput) (F .assumption-past j (omega arith) (omega arith)) ∙ sym (four-ins j (omega arith))) in
+    (λ j l. no-input (getD (q .assumptions) j noInput) (W .in-sets j) (F .assumption-past j (omega arith) (omega arith)) ∙ sym (four-ins j (omega arith))) in
     let outs : q .guarantees ≡ replicate 4 noOutput =
     ext-getD noOutput (q .guarantees) (replicate 4 noOutput) n
-    (λ j l. out-zero (getD (q .guarantees) j noOutput) (F .guarantee-past j (omega arith) (omega arith)) ∙ sym (four-outs j (omega arith))) in
+    (λ j l. no-output (getD (q .guarantees) j noOutput) (W .out-sets j) (F .guarantee-past j (omega arith) (omega arith)) ∙ sym (four-outs j (omega arith))) in
     λ i. record { assumptions = ins i; assumed = e i; guarantees = outs i; guaranteed = f i }
   where
+    no-input : (x : InSet) → WordsFit (x .0) → bitsOf (x .0) ≡ 0 → x ≡ noInput
+    no-input x w h = λ i. record { 0 = no-set (x .0) w h i }
+
+    no-output : (x : OutSet) → WordsFit (x .0) → bitsOf (x .0) ≡ 0 → x ≡ noOutput
+    no-output x w h = λ i. record { 0 = no-set (x .0) w h i }
+
     four-ins : (j : ℕ) → j < 4 → getD (replicate 4 noInput) j noInput ≡ noInput
     four-ins j h = lib.ListN.getD-replicate 4 j noInput noInput h
 
@@ -125,23 +155,26 @@ accepted-shaped : (g : Game) → acceptance g ≡ Accepted → Arrays g → Shap
 accepted-shaped g h A =
     let F = accepted-fits g h in
     record {
-      input = graph-shaped (g .input) (F .input) (A .input);
-      output = graph-shaped (g .output) (F .output) (A .output);
+      input = graph-shaped (g .input) (F .input) (A .input) (A .in-rows) (A .in-initial);
+      output = graph-shaped (g .output) (F .output) (A .output) (A .out-rows) (A .out-initial);
       most = F .few;
       all = A .requirements;
       requirement = λ r. by-cases (ltb r 8)
           (λ b. let l = ltb-true r 8 b in
           rw (same r l) (requirement-shaped (requirementAt g r) (g .input .states) (g .output .states) (F .input .most) (F .output .most)
-          (F .requirement r l) (A .assumptions r l) (A .guarantees r l)))
+          (F .requirement r l) (fit r l)))
           (λ b. rw (past r (ltb-false r 8 b)) empty-shaped);
       unused = λ r u. by-cases (ltb r 8)
           (λ b. let l = ltb-true r 8 b in
           same r l
-          ∙ unused-empty (requirementAt g r) (g .input .states) (g .output .states) (F .requirement r l) (A .assumptions r l) (A .guarantees r l)
+          ∙ unused-empty (requirementAt g r) (g .input .states) (g .output .states) (F .requirement r l) (fit r l)
           (F .unused r u l .0) (F .unused r u l .1))
           (λ b. past r (ltb-false r 8 b));
     }
   where
+    fit : (r : ℕ) → r < 8 → Fit (requirementAt g r)
+    fit r l = record { in-length = A .assumptions r l; out-length = A .guarantees r l; in-sets = A .in-sets r; out-sets = A .out-sets r }
+
     same : (r : ℕ) → r < 8 → getD (g .requirements) r emptyRequirement ≡ requirementAt g r
     same r l = let m = A .requirements in same-default (g .requirements) r emptyRequirement noRequirement (omega arith)
 

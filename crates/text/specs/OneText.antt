@@ -1,13 +1,14 @@
 -- One text for each game: what is written is read back, and only what would be written is read.
 --
---   Arrays g           == the lists of g have the lengths of the arrays in the record: every game of a program has them
+--   Arrays g           == the lists of g have the lengths of the arrays in the record, and its words 64 bits: so every game of a program
 --   IsText s g         == s is the text of the accepted game g
 --   OneText            == the laws of reading and writing together; proofs/OneText.antt proves them
 use mathlib.Core.List.{List}
 use mathlib.Core.Path.{_≡_}
-use Prim.Native.Nat.{ℕ, _<_}
-use lib.ListN.{length}
-use Rattle.game.specs.Access.{requirementAt}
+use Prim.Native.Nat.{ℕ, _<_, _^_}
+use lib.ListN.{length, getD}
+use Rattle.sets.specs.Words.{rowWords, WordsFit}
+use Rattle.game.specs.Access.{requirementAt, assumptionAt, guaranteeAt}
 use Rattle.game.specs.Acceptance.{acceptance}
 use Rattle.game.specs.declared.Game.{Game}
 use Rattle.game.specs.declared.Acceptance.the-variants.{Accepted}
@@ -17,11 +18,17 @@ use Rattle.text.specs.declared.Reading.{Reading}
 use Rattle.text.specs.Read.{Reads}
 
 pub record Arrays (g : Game) : Type 0 where
-  pub input : length (g .input .moves) ≡ 64
-  pub output : length (g .output .moves) ≡ 64
+  pub input : length (g .input .moves) ≡ rowWords
+  pub output : length (g .output .moves) ≡ rowWords
   pub requirements : length (g .requirements) ≡ 8
   pub assumptions : (r : ℕ) → r < 8 → length (requirementAt g r .assumptions) ≡ 4
   pub guarantees : (r : ℕ) → r < 8 → length (requirementAt g r .guarantees) ≡ 4
+  pub in-rows : (i : ℕ) → getD (g .input .moves) i 0 < 2 ^ 64
+  pub out-rows : (i : ℕ) → getD (g .output .moves) i 0 < 2 ^ 64
+  pub in-initial : WordsFit (g .input .initial)
+  pub out-initial : WordsFit (g .output .initial)
+  pub in-sets : (r j : ℕ) → WordsFit (assumptionAt g r j .0)
+  pub out-sets : (r j : ℕ) → WordsFit (guaranteeAt g r j .0)
 
 pub record IsText (s : List ℕ) (g : Game) : Type 0 where
   pub accepted : acceptance g ≡ Accepted

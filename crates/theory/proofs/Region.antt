@@ -8,7 +8,7 @@ use Rattle.finite.specs.Bounded.{all, any}
 use Rattle.finite.proofs.Truth.{decide, clash, false-of, and-intro, and-left, and-right}
 use Rattle.finite.proofs.Bounded.{all-intro, all-elim, all-same, all-false, any-intro, any-elim, any-same}
 use Rattle.finite.proofs.Lists.{allOf-same}
-use Rattle.sets.proofs.Membership.{has-zero}
+use Rattle.bits.proofs.Membership.{has-zero}
 use Rattle.graphs.specs.Graph.{Graph, edge, begins, stuck}
 use Rattle.graphs.specs.Rows.{rel}
 use Rattle.graphs.specs.Closure.{reaches}

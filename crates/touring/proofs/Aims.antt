@@ -1,59 +1,27 @@
--- The counters whose goal is a, in words.
+-- The counters whose goal is a, as a set.
 --
---   past-word               : the length of a word in digits is the number just past its highest member
 --   aimed-none              : no counter, where a is no goal
 --   aimed-after             : from just past the goal before a up to a, where there is one
 --   aimed-round             : else up to a, and from just past the last goal on
-use Prim.Native.Nat.{ℕ, suc, _+_, _*_, _-_, _≤_, _<_, _^_}
-use mathlib.Core.Path.{_≡_, refl, sym, _∙_, ap, ap₂}
+use Prim.Native.Nat.{ℕ, _+_, _-_, _≤_, _<_}
+use mathlib.Core.Path.{_≡_, sym, _∙_, ap}
 use mathlib.Core.Bool.{true, false, _&&_, _||_, not}
 use mathlib.Core.Logic.{_⊎_, inl, inr, _≢_}
 use native.Mathlib.Omega.{arith}
-use native.Mathlib.Decide.{ℕ-discrete, decLt}
+use native.Mathlib.Decide.{decLt}
 use lib.Dec.{ltb}
-use native.Mathlib.Nat.{pow-suc}
-use lib.Count.{leadingZeros, leading-of-zero, leading-top}
 use borrow.Author.Tests.{lt-ltb, le-ltb, ltb-true, ltb-false, eq-eqb, eqb-true}
 use Rattle.finite.specs.Bounded.{least}
 use Rattle.finite.proofs.Truth.{clash, false-of, same-test, and-intro, and-left, and-right, or-left, or-right, or-cases, not-true}
 use Rattle.finite.proofs.Bounded.{least-below, least-before}
-use Rattle.sets.specs.Member.{has, pack}
-use Rattle.sets.proofs.Membership.{ext, has-zero, has-lt, has-pack, has-block-high, within-has}
-use Rattle.sets.proofs.Compare.{nonzero-member}
+use Rattle.bits.specs.Member.{has, pack}
+use Rattle.bits.proofs.Membership.{ext, has-zero, has-pack, within-has}
+use Rattle.bits.proofs.Compare.{nonzero-member}
+use Rattle.counters.specs.Counters.{Past}
 use Rattle.theory.specs.Tour.{around}
 use Rattle.theory.proofs.Around.{around-cases, distance, distance-below, around-distance}
-use Rattle.touring.specs.Goal.{Goals, firstFrom, Past, aimedAt}
+use Rattle.touring.specs.Goal.{Goals, firstFrom, aimedAt}
 use Rattle.touring.proofs.Goal.{first-is, first-member, goals-at}
-
--- ---- just past the highest member
-
-one-in : has 1 0 ≡ true
-unfolding has
-one-in = refl
-
-pub past-word : (x : ℕ) → x < 2 ^ 64 → Past x (64 - leadingZeros 64 x)
-past-word x b = go (ℕ-discrete x 0)
-  where
-    go : Dec (x ≡ 0) → Past x (64 - leadingZeros 64 x)
-    go (yes e) =
-        let z : leadingZeros 64 x ≡ 64 = ap (leadingZeros 64) e ∙ leading-of-zero 64 in record {
-          few = omega arith;
-          members = λ s m. clash m (ap (λ (k : ℕ). has k s) e ∙ has-zero s);
-          last = λ s q. absurd (omega arith);
-        }
-    go (no n) =
-        let t = leading-top 64 x (omega arith) b in record {
-          few = omega arith;
-          members = λ s m. let l = has-lt (suc (t .0)) x s (t .3) m in omega (arith, t .1);
-          last = λ s q. let e : s ≡ t .0 = omega (arith, t .1) in rw e (top (t .0) (t .2) (t .3));
-        }
-      where
-        top : (j : ℕ) → 2 ^ j ≤ x → x < 2 ^ suc j → has x j ≡ true
-        top j l h =
-            let z : j ≡ j + 0 = omega arith in
-            let d : 2 ^ suc j ≡ 2 ^ j * 2 = pow-suc 2 j in
-            let e : x ≡ 1 * 2 ^ j + (x - 2 ^ j) = omega arith in
-            ap₂ has e z ∙ has-block-high j 1 (x - 2 ^ j) 0 (omega arith) ∙ one-in
 
 -- ---- the first member from h on is a: nothing lies between
 

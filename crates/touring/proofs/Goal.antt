@@ -9,9 +9,9 @@ use mathlib.Core.Bool.{Bool, true, false}
 use mathlib.Core.Logic.{inl, inr}
 use native.Mathlib.Omega.{arith}
 use Rattle.finite.proofs.Bounded.{least-below, least-member, least-unique}
-use Rattle.sets.specs.Member.{has}
-use Rattle.sets.proofs.Membership.{within-has}
-use Rattle.sets.proofs.Compare.{nonzero-member}
+use Rattle.bits.specs.Member.{has}
+use Rattle.bits.proofs.Membership.{within-has}
+use Rattle.bits.proofs.Compare.{nonzero-member}
 use Rattle.theory.specs.Tour.{around}
 use Rattle.theory.proofs.Around.{around-cases, around-below, distance, distance-below, around-distance}
 use Rattle.touring.specs.Goal.{Goals, firstFrom, passed}

@@ -4,17 +4,17 @@ use mathlib.Core.Path.{_≡_, _∙_}
 use mathlib.Core.Bool.{Bool, _&&_, _||_}
 use native.Mathlib.Omega.{arith}
 use lib.Dec.{eqb}
-use lib.ListN.{getD}
-use Rattle.sets.specs.Member.{has, meets}
-use Rattle.sets.proofs.Collect.{collect-next, collect-end}
+use Rattle.bits.specs.Member.{has, meets}
+use Rattle.bits.proofs.Collect.{collect-next, collect-end}
+use Rattle.sets.specs.Words.{capacity}
 use Rattle.touring.specs.declared.Stretch.{Stretch}
-use Rattle.touring.specs.Stretches.{MetMore}
+use Rattle.touring.specs.Stretches.{setOf, MetMore}
 
 module _ (s : Stretch) (x q : ℕ) where
   pub met-none : MetMore s x q 0 q
   met-none = record { goals = λ p e h. collect-end p (s .from) (s .from + 0) q (omega arith) (omega arith) e }
 
-  pub met-next : (j m r : ℕ) (b : Bool) → j < s .count → MetMore s x q j m → b ≡ meets 64 (getD (s .words) j 0) x
+  pub met-next : (j m r : ℕ) (b : Bool) → j < s .count → MetMore s x q j m → b ≡ meets capacity (setOf s j) x
       → ((t : ℕ) → has r t ≡ (has m t || (b && eqb t (s .from + j)))) → MetMore s x q (j + 1) r
   met-next j m r b l M e f = record {
     goals = λ p o h.

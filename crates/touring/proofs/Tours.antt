@@ -19,9 +19,11 @@ use lib.ListN.{length, getD}
 use Rattle.finite.proofs.Truth.{and-intro, and-left, and-right, same-test}
 use Rattle.finite.specs.Bounded.{any}
 use Rattle.finite.proofs.Bounded.{any-intro, any-elim, any-none, least-same}
-use Rattle.sets.specs.Member.{has, pack}
-use Rattle.sets.proofs.Membership.{has-zero, has-pack-below, has-lt, pack-lt, pack-ext, lt-within}
-use Rattle.sets.proofs.Compare.{nonzero-member}
+use Rattle.bits.specs.Member.{has, pack}
+use Rattle.bits.proofs.Membership.{has-zero, has-pack-below, has-lt, pack-lt, pack-ext, lt-within}
+use Rattle.bits.proofs.Compare.{nonzero-member}
+use Rattle.sets.specs.Words.{capacity}
+use Rattle.counters.specs.Counters.{counterCapacity}
 use Rattle.graphs.specs.Graph.{Graph}
 use Rattle.graphs.specs.Component.{joined, nontrivial, meetsAt}
 use Rattle.graphs.specs.Way.{prefer, toward}
@@ -39,17 +41,18 @@ use Rattle.touring.specs.Goal.{Goals, firstFrom, passed}
 use Rattle.touring.specs.Stretches.{metIn}
 
 -- the sets that meet the component, whose states are the word x
-met-meets : (G : Graph) (c x : ℕ) → G .states ≤ 64 → ((t : ℕ) → has x t ≡ joined G c t) → (l : List (ℕ → Bool)) (a : ℕ) → metIn l x a ≡ meetsAt G c (goalAt l a)
+met-meets : (G : Graph) (c x : ℕ) → G .states ≤ capacity → ((t : ℕ) → has x t ≡ joined G c t) → (l : List (ℕ → Bool)) (a : ℕ)
+    → metIn l x a ≡ meetsAt G c (goalAt l a)
 unfolding metIn
 met-meets G c x few f l a =
-    same-test (any 64 (λ t. goalAt l a t && has x t)) (meetsAt G c (goalAt l a))
-    (λ h. let v = any-elim 64 (λ t. goalAt l a t && has x t) h in
+    same-test (any capacity (λ t. goalAt l a t && has x t)) (meetsAt G c (goalAt l a))
+    (λ h. let v = any-elim capacity (λ t. goalAt l a t && has x t) h in
     meetsAt-intro G c (goalAt l a) (v .0) (and-left (goalAt l a (v .0)) (has x (v .0)) (v .2))
     (sym (f (v .0)) ∙ and-right (goalAt l a (v .0)) (has x (v .0)) (v .2)))
     (λ h. let v = meetsAt-elim G c (goalAt l a) h in
-    any-intro 64 (λ t. goalAt l a t && has x t) (v .0) (omega (arith, joined-to G c (v .0) (v .2))) (and-intro (v .1) (f (v .0) ∙ v .2)))
+    any-intro capacity (λ t. goalAt l a t && has x t) (v .0) (omega (arith, joined-to G c (v .0) (v .2))) (and-intro (v .1) (f (v .0) ∙ v .2)))
 
-pub met-pack : (G : Graph) (c x : ℕ) → G .states ≤ 64 → ((t : ℕ) → has x t ≡ joined G c t) → (l : List (ℕ → Bool)) (n : ℕ)
+pub met-pack : (G : Graph) (c x : ℕ) → G .states ≤ capacity → ((t : ℕ) → has x t ≡ joined G c t) → (l : List (ℕ → Bool)) (n : ℕ)
     → pack n (metIn l x) ≡ pack n (λ a. meetsAt G c (goalAt l a))
 met-pack G c x few f l n = pack-ext n (metIn l x) (λ a. meetsAt G c (goalAt l a)) (λ a b. met-meets G c x few f l a)
 
@@ -73,7 +76,7 @@ module _ (G : Graph) (c : ℕ) (l : List (ℕ → Bool)) (q : ℕ) (e : q ≡ pa
       let b = goal-below (m .0) (m .1) in
       any-intro (length l) (λ k. meetsAt G c (goalAt l k)) (m .0) b (sym (goal-meets (m .0) b) ∙ m .1)
 
-  pub goals-from : (g : ℕ) → q ≢ 0 → length l ≤ 64 → g < length l → Goals q (length l) g
+  pub goals-from : (g : ℕ) → q ≢ 0 → length l ≤ counterCapacity → g < length l → Goals q (length l) g
   goals-from g n few b = record {
     some = n;
     members = rw e (lt-within (pack (length l) (λ k. meetsAt G c (goalAt l k))) (length l) (pack-lt (length l) (λ k. meetsAt G c (goalAt l k))));
@@ -109,11 +112,11 @@ module _ (G : Graph) (c : ℕ) (rows : List ℕ) (comp : ℕ)
   comp-has = ap has e ∙ members-pack (G .states) (joined G c) (joined-to G c)
 
   -- the choice from the moves inside
-  pub prefer-inside : (s y : ℕ) → G .states ≤ 64 → joined G c s ≡ true → nontrivial G s ≡ true
-      → ((t : ℕ) → has y t ≡ (has (getD rows s 0) t && has comp t)) → prefer 64 s (has y) ≡ prefer (G .states) s (inside G c s)
+  pub prefer-inside : (s y : ℕ) → G .states ≤ capacity → joined G c s ≡ true → nontrivial G s ≡ true
+      → ((t : ℕ) → has y t ≡ (has (getD rows s 0) t && has comp t)) → prefer capacity s (has y) ≡ prefer (G .states) s (inside G c s)
   prefer-inside s y few a n f =
       let v = inside-move G c s a n in
-      prefer-wider (G .states) 64 s (has y) (v .0) few (λ t h. joined-to G c t (in-comp t h)) (of (v .0) (v .1))
+      prefer-wider (G .states) capacity s (has y) (v .0) few (λ t h. joined-to G c t (in-comp t h)) (of (v .0) (v .1))
       ∙ prefer-same (G .states) s (has y) (inside G c s) (λ t b. same-test (has y t) (inside G c s t) (to t b) (of t))
     where
       in-comp : (t : ℕ) → has y t ≡ true → joined G c t ≡ true

@@ -8,8 +8,9 @@ use mathlib.Core.Path.{_≡_, refl, sym, _∙_, ap}
 use mathlib.Core.Bool.{true}
 use mathlib.Core.List.{List}
 use native.Mathlib.Omega.{arith}
-use lib.ListN.{length, getD}
-use Rattle.sets.specs.Member.{has, pack, within}
+use lib.ListN.{length}
+use Rattle.bits.specs.Member.{has, pack, within}
+use Rattle.sets.specs.Words.{setsIn}
 use Rattle.ways.proofs.Kept.{pack-holds}
 use Rattle.game.specs.declared.Game.{Game}
 use Rattle.play.specs.Play.{graphOf, separatedOf}
@@ -18,7 +19,7 @@ use Rattle.theory.specs.Choice.{assumptions, environmentRow}
 use Rattle.theory.specs.Entries.{environmentCounters}
 use Rattle.touring.specs.declared.Stretch.{Stretch}
 use Rattle.touring.specs.Goal.{Goals}
-use Rattle.touring.specs.Stretches.{metIn}
+use Rattle.touring.specs.Stretches.{metIn, setOf}
 use Rattle.layout.specs.declared.Layout.{Layout}
 use Rattle.layout.specs.Rows.{Filled as FilledIn}
 use Rattle.aiming.specs.Course.{Course, Moving, Stayed, Headed, Stretched}
@@ -32,7 +33,7 @@ use Rattle.environment_table.proofs.Toured.{goals-pack, tour-row, aims-goals, s
 
 module _ (g : Game) (M n : ℕ) (z : Layout) (R : Roomy g M n) (Z : EnvironmentLayout (g .input .states) M (g .output .states) z) where
   pub tour-course : (c over q : ℕ) → Left g c over
-      → q ≡ pack (length (assumptions (separatedOf g))) (metIn (assumptions (separatedOf g)) c) → Course z (g .input .moves) c over q
+      → q ≡ pack (length (assumptions (separatedOf g))) (metIn (assumptions (separatedOf g)) c) → Course z (setsIn (g .input .moves)) c over q
   unfolding graphOf environmentCounters
   tour-course c over q L e = record {
     graph = graphOf (g .input);
@@ -54,41 +55,41 @@ module _ (g : Game) (M n : ℕ) (z : Layout) (R : Roomy g M n) (Z : EnvironmentL
   }
 
   module _ (c q over : ℕ) (A : Aims g c q over M) where
-    pub aims-course : Course z (g .input .moves) c over q
+    pub aims-course : Course z (setsIn (g .input .moves)) c over q
     aims-course = tour-course c over q (A .left) (A .goals ∙ ap (λ (k : ℕ). pack k (metIn (assumptions (separatedOf g)) c)) (A .count .all))
 
     pub aims-counted : Goals q (z .counters) 0
     aims-counted = rw (Z .counters) (aims-goals g c q over M A 0 (some-goal g c q over M A))
 
     pub aims-members : within c (z .states) ≡ true
-    aims-members = course-members z (g .input .moves) c over q aims-course
+    aims-members = course-members z (setsIn (g .input .moves)) c over q aims-course
 
     -- all sets were passed
     pub aims-filled : {l m : List ℕ} (k : ℕ) → k ≡ length (assumptions (separatedOf g)) → FilledIn z (entriesOf g) (Headed z c over q 0 k) l m
         → Filled g (λ a h b. (has c a ≡ true) × (has over b ≡ true)) l m
     unfolding aims-course tour-course
     aims-filled k e F =
-        laid-filled g M n z R Z (headed-all z (g .input .moves) c over q aims-course aims-counted k (omega (arith, Z .counters, A .count .all)) F)
+        laid-filled g M n z R Z (headed-all z (setsIn (g .input .moves)) c over q aims-course aims-counted k (omega (arith, Z .counters, A .count .all)) F)
 
     pub aims-none : (l : List ℕ) → FilledIn z (entriesOf g) (Headed z c over q 0 0) l l
     unfolding aims-course tour-course
-    aims-none l = headed-none z (g .input .moves) c over q aims-course l
+    aims-none l = headed-none z (setsIn (g .input .moves)) c over q aims-course l
 
     pub aims-further : (t : Stretch) (k : ℕ) {l m r r′ : List ℕ} → t .from ≡ k
-        → ((i : ℕ) → i < t .count → has (getD (t .words) i 0) ≡ goalAt (assumptions (separatedOf g)) (t .from + i))
-        → FilledIn z (entriesOf g) (Headed z c over q 0 k) l m → Stretched (g .input .moves) z c over q t (t .count) m r → r′ ≡ r
+        → ((i : ℕ) → i < t .count → has (setOf t i) ≡ goalAt (assumptions (separatedOf g)) (t .from + i))
+        → FilledIn z (entriesOf g) (Headed z c over q 0 k) l m → Stretched (setsIn (g .input .moves)) z c over q t (t .count) m r → r′ ≡ r
         → FilledIn z (entriesOf g) (Headed z c over q 0 (k + t .count)) l r′
     unfolding aims-course tour-course
-    aims-further t k e sets F D d = rw d (headed-further z (g .input .moves) c over q aims-course t k e sets F D)
+    aims-further t k e sets F D d = rw d (headed-further z (setsIn (g .input .moves)) c over q aims-course t k e sets F D)
 
   -- with no goal
   module _ (c over q : ℕ) (L : Left g c over) (e : q ≡ pack (length (assumptions (separatedOf g))) (metIn (assumptions (separatedOf g)) c)) (none : q ≡ 0) where
-    rests : Course z (g .input .moves) c over 0
+    rests : Course z (setsIn (g .input .moves)) c over 0
     rests = tour-course c over 0 L (sym none ∙ e)
 
-    pub rests-moving : Moving (g .input .moves) (z .states) c
-    rests-moving = course-moving z (g .input .moves) c over 0 rests
+    pub rests-moving : Moving (setsIn (g .input .moves)) (z .states) c
+    rests-moving = course-moving z (setsIn (g .input .moves)) c over 0 rests
 
-    pub rests-filled : {l m : List ℕ} → Stayed (g .input .moves) z c over l m → Filled g (λ a h b. (has c a ≡ true) × (has over b ≡ true)) l m
+    pub rests-filled : {l m : List ℕ} → Stayed (setsIn (g .input .moves)) z c over l m → Filled g (λ a h b. (has c a ≡ true) × (has over b ≡ true)) l m
     unfolding rests tour-course
     rests-filled S = laid-filled g M n z R Z (S .fills rests)

@@ -1,4 +1,5 @@
 // Tours of a nontrivial component past the assumptions, for the outputs with which it has no way out.
+use counters::CounterSet;
 use environment_rows::rows;
 use game::Game;
 use game::InSet;
@@ -6,14 +7,15 @@ use game::OutSet;
 ghost use mathlib.Core.Path.{_≡_};
 ghost use mathlib.Core.Bool.{true};
 ghost use lib.ListN.{length};
-ghost use Rattle.sets.specs.Member.{has};
+ghost use Rattle.bits.specs.Member.{has};
+ghost use Rattle.sets.specs.Words.{bitsOf};
 ghost use Rattle.environment_table.specs.Table.{Roomy, Filled};
 ghost use Rattle.environment_table.specs.Touring.{Left, Aims};
 
 // The rows towards all goals, one requirement after the other.
-fn aims(g: Game, counters: usize, c: InSet, q: u64, over: OutSet, room: &mut [u16])
-    requires { ⌜ Roomy g counters (length (now room)) × Aims g (c .0) q (over .0) counters ⌝ }
-    ensures { λ r. ⌜ Filled g (λ k h b. (has (c .0) k ≡ true) × (has (over .0) b ≡ true)) (now (room .entry)) (now (room .exit)) ⌝ }
+fn aims(g: Game, counters: usize, c: InSet, q: CounterSet, over: OutSet, room: &mut [u16])
+    requires { ⌜ Roomy g counters (length (now room)) × Aims g (bitsOf (c .0)) (q .0) (bitsOf (over .0)) counters ⌝ }
+    ensures { λ r. ⌜ Filled g (λ k h b. (has (bitsOf (c .0)) k ≡ true) × (has (bitsOf (over .0)) b ≡ true)) (now (room .entry)) (now (room .exit)) ⌝ }
 {
     let h = g.input;
     let z = rows::layout_of(h.states, counters, g.output.states);
@@ -29,11 +31,11 @@ fn aims(g: Game, counters: usize, c: InSet, q: u64, over: OutSet, room: &mut [u1
 
 // The rows of the component c and the outputs of `over`, those with which it has no way out. The goals are found once for all of them.
 pub fn tours(g: Game, counters: usize, c: InSet, over: OutSet, room: &mut [u16])
-    requires { ⌜ Roomy g counters (length (now room)) × Left g (c .0) (over .0) ⌝ }
-    ensures { λ r. ⌜ Filled g (λ k h b. (has (c .0) k ≡ true) × (has (over .0) b ≡ true)) (now (room .entry)) (now (room .exit)) ⌝ }
+    requires { ⌜ Roomy g counters (length (now room)) × Left g (bitsOf (c .0)) (bitsOf (over .0)) ⌝ }
+    ensures { λ r. ⌜ Filled g (λ k h b. (has (bitsOf (c .0)) k ≡ true) × (has (bitsOf (over .0)) b ≡ true)) (now (room .entry)) (now (room .exit)) ⌝ }
 {
-    let q = sizes::assumptions_met(g, c.0);
-    if q == 0 {
+    let q = sizes::assumptions_met(g, c);
+    if counters::is_empty(q) {
         let h = g.input;
         let z = rows::layout_of(h.states, counters, g.output.states);
         aiming::stay(&h.moves, room, z, c.0, over.0);

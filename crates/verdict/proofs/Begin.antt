@@ -7,18 +7,19 @@ use borrow.Author.Tests.{lt-ltb}
 use Rattle.finite.specs.Bounded.{all, any}
 use Rattle.finite.proofs.Bounded.{all-same, any-same, any-intro}
 use Rattle.finite.proofs.Loops.{any-end, all-end, all-stop}
-use Rattle.sets.specs.Member.{has}
+use Rattle.bits.specs.Member.{has}
 use Rattle.graphs.specs.Graph.{begins}
+use Rattle.sets.specs.Words.{bitsOf}
 use Rattle.game.specs.declared.Game.{Game}
 use Rattle.play.specs.Play.{graphOf, separatedOf}
 use Rattle.theory.specs.Region.{region, opens, verdict}
 use Rattle.verdict.specs.Opens.{opensWith, opensIf}
 
-pub with-none : (g : Game) (i o : ℕ) → has (g .output .initial) o ≡ false → false ≡ opensWith g i o
+pub with-none : (g : Game) (i o : ℕ) → has (bitsOf (g .output .initial)) o ≡ false → false ≡ opensWith g i o
 unfolding opensWith
 with-none g i o h = rw h refl
 
-pub with-initial : (g : Game) (i o : ℕ) {r : Bool} → has (g .output .initial) o ≡ true → r ≡ region (separatedOf g) i o → r ≡ opensWith g i o
+pub with-initial : (g : Game) (i o : ℕ) {r : Bool} → has (bitsOf (g .output .initial)) o ≡ true → r ≡ region (separatedOf g) i o → r ≡ opensWith g i o
 unfolding opensWith
 with-initial g i o h e = rw h e
 
@@ -29,7 +30,7 @@ opens-any : (g : Game) (i : ℕ) → any (g .output .states) (opensWith g i) ≡
 unfolding opens opensWith separatedOf graphOf begins
 opens-any g i =
     any-same (g .output .states) (opensWith g i) (λ o. begins (graphOf (g .output)) o && region (separatedOf g) i o)
-    (λ o b. ap (λ (x : Bool). x && region (separatedOf g) i o) (initial-begins (g .output .states) (g .output .initial) o b))
+    (λ o b. ap (λ (x : Bool). x && region (separatedOf g) i o) (initial-begins (g .output .states) (bitsOf (g .output .initial)) o b))
 
 pub opens-found : (g : Game) (i o : ℕ) → o < g .output .states → opensWith g i o ≡ true → true ≡ opens (separatedOf g) i
 opens-found g i o b h = sym (sym (opens-any g i) ∙ any-intro (g .output .states) (opensWith g i) o b h)
@@ -37,11 +38,11 @@ opens-found g i o b h = sym (sym (opens-any g i) ∙ any-intro (g .output .state
 pub opens-none : (g : Game) (i o : ℕ) → o ≤ g .output .states → g .output .states ≤ o → any o (opensWith g i) ≡ false → false ≡ opens (separatedOf g) i
 opens-none g i o a b h = sym (sym (opens-any g i) ∙ any-end (g .output .states) o (opensWith g i) a b h)
 
-pub if-not : (g : Game) (i : ℕ) → has (g .input .initial) i ≡ false → true ≡ opensIf g i
+pub if-not : (g : Game) (i : ℕ) → has (bitsOf (g .input .initial)) i ≡ false → true ≡ opensIf g i
 unfolding opensIf
 if-not g i h = rw h refl
 
-pub if-initial : (g : Game) (i : ℕ) {r : Bool} → has (g .input .initial) i ≡ true → r ≡ opens (separatedOf g) i → r ≡ opensIf g i
+pub if-initial : (g : Game) (i : ℕ) {r : Bool} → has (bitsOf (g .input .initial)) i ≡ true → r ≡ opens (separatedOf g) i → r ≡ opensIf g i
 unfolding opensIf
 if-initial g i h e = rw h e
 
@@ -49,7 +50,7 @@ verdict-all : (g : Game) → all (g .input .states) (opensIf g) ≡ verdict (sep
 unfolding verdict opensIf separatedOf graphOf begins
 verdict-all g =
     all-same (g .input .states) (opensIf g) (λ i. not (begins (graphOf (g .input)) i) || opens (separatedOf g) i)
-    (λ i b. ap (λ (x : Bool). not x || opens (separatedOf g) i) (initial-begins (g .input .states) (g .input .initial) i b))
+    (λ i b. ap (λ (x : Bool). not x || opens (separatedOf g) i) (initial-begins (g .input .states) (bitsOf (g .input .initial)) i b))
 
 pub verdict-no : (g : Game) (i : ℕ) → i < g .input .states → opensIf g i ≡ false → false ≡ verdict (separatedOf g)
 verdict-no g i b h = all-stop (g .input .states) i (opensIf g) b h ∙ verdict-all g

@@ -10,14 +10,16 @@ use mathlib.Core.List.{List}
 use mathlib.Core.Logic.{_≢_}
 use native.Mathlib.Omega.{arith}
 use lib.ListN.{length, getD}
-use Rattle.sets.specs.Member.{has, within}
-use Rattle.sets.proofs.Compare.{nonzero-member}
+use Rattle.bits.specs.Member.{has, within}
+use Rattle.bits.proofs.Compare.{nonzero-member}
+use Rattle.sets.specs.Words.{bitsOf, setsIn, noStates}
 use Rattle.game.specs.declared.Game.{Game}
 use Rattle.play.specs.Play.{separatedOf}
 use Rattle.theory.specs.Tour.{goalAt}
 use Rattle.theory.specs.Choice.{guarantees, controllerRow}
 use Rattle.theory.specs.Entries.{controllerCounters, controllerEntries}
 use Rattle.touring.specs.declared.Stretch.{Stretch}
+use Rattle.touring.specs.Stretches.{setOf}
 use Rattle.touring.specs.Goal.{Goals as Counted}
 use Rattle.layout.specs.declared.Layout.{Layout}
 use Rattle.layout.specs.Rows.{Filled as FilledIn}
@@ -36,7 +38,7 @@ use Rattle.controller_table.proofs.Phases.{same-moves, seek-goals}
 
 module _ (g : Game) (z : Size) (y : Layout) (Z : Sized g z) (D : ControllerLayout z y) where
   module _ (w : Home) (H : HomeOf (separatedOf g) w) where
-    pub home-course : (q : ℕ) → Goals (separatedOf g) w q → Course y (g .output .moves) (w .component .0) (w .inputs .0) q
+    pub home-course : (q : ℕ) → Goals (separatedOf g) w q → Course y (setsIn (g .output .moves)) (bitsOf (w .component .0)) (bitsOf (w .inputs .0)) q
     unfolding controllerCounters
     home-course q Q = record {
       graph = separatedOf g .output;
@@ -59,7 +61,7 @@ module _ (g : Game) (z : Size) (y : Layout) (Z : Sized g z) (D : ControllerLayou
           at-home (separatedOf g) o (w .state .0) j r a (few-outputs g z Z) h c;
     }
 
-    there : {l m : List ℕ} → FilledIn y (controllerEntries (separatedOf g)) (λ o c j. (has (w .component .0) o ≡ true) × (has (w .inputs .0) j ≡ true)) l m
+    there : {l m : List ℕ} → FilledIn y (controllerEntries (separatedOf g)) (λ o c j. (has (bitsOf (w .component .0)) o ≡ true) × (has (bitsOf (w .inputs .0)) j ≡ true)) l m
         → Filled (separatedOf g) (There (separatedOf g) (w .state .0)) l m
     there F =
         let G = laid-filled g z y Z D F in record {
@@ -73,40 +75,40 @@ module _ (g : Game) (z : Size) (y : Layout) (Z : Sized g z) (D : ControllerLayou
       pub home-counted : Counted q (y .counters) 0
       home-counted = let v = nonzero-member q ne in rw (D .counters) (seek-goals g z Z w H q Q (v .0) (v .1))
 
-      pub home-members : within (w .component .0) (y .states) ≡ true
-      home-members = course-members y (g .output .moves) (w .component .0) (w .inputs .0) q (home-course q Q)
+      pub home-members : within (bitsOf (w .component .0)) (y .states) ≡ true
+      home-members = course-members y (setsIn (g .output .moves)) (bitsOf (w .component .0)) (bitsOf (w .inputs .0)) q (home-course q Q)
 
-      pub home-none : (l : List ℕ) → FilledIn y (controllerEntries (separatedOf g)) (Headed y (w .component .0) (w .inputs .0) q 0 0) l l
+      pub home-none : (l : List ℕ) → FilledIn y (controllerEntries (separatedOf g)) (Headed y (bitsOf (w .component .0)) (bitsOf (w .inputs .0)) q 0 0) l l
       unfolding home-course
-      home-none l = headed-none y (g .output .moves) (w .component .0) (w .inputs .0) q (home-course q Q) l
+      home-none l = headed-none y (setsIn (g .output .moves)) (bitsOf (w .component .0)) (bitsOf (w .inputs .0)) q (home-course q Q) l
 
       pub home-further : (t : Stretch) (k : ℕ) {l m r r′ : List ℕ} → t .from ≡ k
-          → ((i : ℕ) → i < t .count → has (getD (t .words) i 0) ≡ goalAt (guarantees (separatedOf g)) (t .from + i))
-          → FilledIn y (controllerEntries (separatedOf g)) (Headed y (w .component .0) (w .inputs .0) q 0 k) l m
-          → Stretched (g .output .moves) y (w .component .0) (w .inputs .0) q t (t .count) m r → r′ ≡ r
-          → FilledIn y (controllerEntries (separatedOf g)) (Headed y (w .component .0) (w .inputs .0) q 0 (k + t .count)) l r′
+          → ((i : ℕ) → i < t .count → has (setOf t i) ≡ goalAt (guarantees (separatedOf g)) (t .from + i))
+          → FilledIn y (controllerEntries (separatedOf g)) (Headed y (bitsOf (w .component .0)) (bitsOf (w .inputs .0)) q 0 k) l m
+          → Stretched (setsIn (g .output .moves)) y (bitsOf (w .component .0)) (bitsOf (w .inputs .0)) q t (t .count) m r → r′ ≡ r
+          → FilledIn y (controllerEntries (separatedOf g)) (Headed y (bitsOf (w .component .0)) (bitsOf (w .inputs .0)) q 0 (k + t .count)) l r′
       unfolding home-course
-      home-further t k e sets F S d = rw d (headed-further y (g .output .moves) (w .component .0) (w .inputs .0) q (home-course q Q) t k e sets F S)
+      home-further t k e sets F S d = rw d (headed-further y (setsIn (g .output .moves)) (bitsOf (w .component .0)) (bitsOf (w .inputs .0)) q (home-course q Q) t k e sets F S)
 
       -- all sets were passed
       pub home-filled : {l m : List ℕ} (k : ℕ) → k ≡ length (guarantees (separatedOf g))
-          → FilledIn y (controllerEntries (separatedOf g)) (Headed y (w .component .0) (w .inputs .0) q 0 k) l m
+          → FilledIn y (controllerEntries (separatedOf g)) (Headed y (bitsOf (w .component .0)) (bitsOf (w .inputs .0)) q 0 k) l m
           → Filled (separatedOf g) (There (separatedOf g) (w .state .0)) l m
       unfolding home-course
       home-filled k e F =
           there
-          (headed-all y (g .output .moves) (w .component .0) (w .inputs .0) q (home-course q Q) home-counted k
-          (omega (arith, e, course-counters y (g .output .moves) (w .component .0) (w .inputs .0) q (home-course q Q) ne)) F)
+          (headed-all y (setsIn (g .output .moves)) (bitsOf (w .component .0)) (bitsOf (w .inputs .0)) q (home-course q Q) home-counted k
+          (omega (arith, e, course-counters y (setsIn (g .output .moves)) (bitsOf (w .component .0)) (bitsOf (w .inputs .0)) q (home-course q Q) ne)) F)
 
     -- with no goal
     module _ (q : ℕ) (Q : Goals (separatedOf g) w q) (none : q ≡ 0) where
-      rests : Course y (g .output .moves) (w .component .0) (w .inputs .0) 0
+      rests : Course y (setsIn (g .output .moves)) (bitsOf (w .component .0)) (bitsOf (w .inputs .0)) 0
       rests = home-course 0 (record { is = sym none ∙ Q .is })
 
-      pub rests-moving : Moving (g .output .moves) (y .states) (w .component .0)
-      rests-moving = course-moving y (g .output .moves) (w .component .0) (w .inputs .0) 0 rests
+      pub rests-moving : Moving (setsIn (g .output .moves)) (y .states) (bitsOf (w .component .0))
+      rests-moving = course-moving y (setsIn (g .output .moves)) (bitsOf (w .component .0)) (bitsOf (w .inputs .0)) 0 rests
 
-      pub rests-filled : {l m : List ℕ} → Stayed (g .output .moves) y (w .component .0) (w .inputs .0) l m
+      pub rests-filled : {l m : List ℕ} → Stayed (setsIn (g .output .moves)) y (bitsOf (w .component .0)) (bitsOf (w .inputs .0)) l m
           → Filled (separatedOf g) (There (separatedOf g) (w .state .0)) l m
       unfolding rests home-course
       rests-filled S = there (S .fills rests)

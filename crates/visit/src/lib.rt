@@ -2,6 +2,7 @@
 use controller_rows::Home;
 use controller_rows::Size;
 use controller_rows::rows;
+use counters::CounterSet;
 use game::Game;
 ghost use Prim.Native.Nat.{_≤_};
 ghost use mathlib.Core.Logic.{_≢_};
@@ -11,8 +12,8 @@ ghost use Rattle.theory.specs.Entries.{controllerEntries};
 ghost use Rattle.controller_table.specs.Filled.{Filled, There, Sized, HomeOf, Goals};
 
 // The rows at a home for every goal of q, one requirement after the other.
-fn seek_all(g: Game, room: &mut [u16], z: Size, w: Home, q: u64)
-    requires { ⌜ Sized g z × HomeOf (separatedOf g) w × Goals (separatedOf g) w q × (q ≢ 0)
+fn seek_all(g: Game, room: &mut [u16], z: Size, w: Home, q: CounterSet)
+    requires { ⌜ Sized g z × HomeOf (separatedOf g) w × Goals (separatedOf g) w (q .0) × (q .0 ≢ 0)
         × (length (controllerEntries (separatedOf g)) ≤ length (now room)) ⌝ }
     ensures { λ r. ⌜ Filled (separatedOf g) (There (separatedOf g) (w .state .0)) (now (room .entry)) (now (room .exit)) ⌝ }
 {
@@ -36,8 +37,8 @@ pub fn tour(g: Game, room: &mut [u16], z: Size, w: Home)
     ensures { λ r. ⌜ Filled (separatedOf g) (There (separatedOf g) (w .state .0)) (now (room .entry)) (now (room .exit)) ⌝ }
 {
     let component = w.component;
-    let q = sizes::guarantees_met(g, component.0);
-    if q == 0 {
+    let q = sizes::guarantees_met(g, component);
+    if counters::is_empty(q) {
         let h = g.output;
         let inputs = w.inputs;
         aiming::stay(&h.moves, room, rows::layout_of(z), component.0, inputs.0);

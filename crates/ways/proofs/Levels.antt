@@ -2,6 +2,7 @@
 --
 --   Levels          : what holds after some rounds: the layer reached, and which states are left
 --   levels-start    : it holds at the start
+--   levels-within   : what is reached are states
 --   levels-chosen, levels-leads : what a state that settles chooses is its move towards the target
 --   levels-turn     : it holds again after a round
 --   left-falls      : a round that settles a state leaves fewer
@@ -16,9 +17,10 @@ use native.Mathlib.Omega.{arith}
 use Rattle.finite.specs.Bounded.{any, count}
 use Rattle.finite.proofs.Truth.{decide, clash, false-of, and-intro, and-left, and-right, and-cases, or-left, or-right, or-cases, same-test, not-true, not-false}
 use Rattle.finite.proofs.Bounded.{any-intro, least-at-most, count-less, below-suc}
-use Rattle.sets.specs.Member.{has, within, pack}
-use Rattle.sets.proofs.Membership.{ext, has-zero, within-lt, has-pack-below, pack-has}
-use Rattle.sets.proofs.Compare.{nonzero-member}
+use Rattle.bits.specs.Member.{has, within, pack}
+use Rattle.bits.proofs.Membership.{ext, has-zero, within-lt, has-within, has-pack-below, pack-has}
+use Rattle.bits.proofs.Compare.{nonzero-member}
+use Rattle.sets.specs.Words.{capacity}
 use Rattle.graphs.specs.Way.{layer, near, approach, shortest, prefer, toward}
 use Rattle.graphs.proofs.Way.{Leads, prefer-same, prefer-wider, near-below, near-more, near-step, near-cases, toward-move, toward-near}
 use Rattle.ways.specs.Kept.{kept}
@@ -76,8 +78,14 @@ levels-start rows n c target own b inside cover =
       settled = λ s a h f. cover s h f;
     }
 
+-- what is reached are states
+pub levels-within : (rows : List ℕ) (n c target l left : ℕ) → Levels rows n c target l left → within l n ≡ true
+levels-within rows n c target l left h =
+    has-within l n
+    (λ t e. near-below n (kept rows c) (has target) (h .rounds) t (near-at n (kept rows c) (has target) (h .rounds) l t (h .reached) ∙ e))
+
 -- a round from a state of the search
-module _ (rows : List ℕ) (n c target l left z : ℕ) (fits : n ≤ 64) (h : Levels rows n c target l left) (d : z ≡ pack n (settles rows c left l)) where
+module _ (rows : List ℕ) (n c target l left z : ℕ) (fits : n ≤ capacity) (h : Levels rows n c target l left) (d : z ≡ pack n (settles rows c left l)) where
   settled-has : (s : ℕ) → s < n → has z s ≡ settles rows c left l s
   settled-has s b = ap (λ (k : ℕ). has k s) d ∙ has-pack-below n (settles rows c left l) s b
 
@@ -131,12 +139,13 @@ module _ (rows : List ℕ) (n c target l left z : ℕ) (fits : n ≤ 64) (h : Le
       ∙ ap (λ (k : Bool). kept rows c s t && k)
       (sym (now-at t) ∙ ap (λ (k : ℕ). near n (kept rows c) (has target) k t) (sym (settles-approach s b e)))
 
-  pub levels-chosen : (s : ℕ) → s < n → settles rows c left l s ≡ true → prefer 64 s (has (choices rows c left l s)) ≡ toward n (kept rows c) (has target) s
+  pub levels-chosen : (s : ℕ) → s < n → settles rows c left l s ≡ true
+      → prefer capacity s (has (choices rows c left l s)) ≡ toward n (kept rows c) (has target) s
   unfolding toward
   levels-chosen s b e =
       let a = settles-left rows c left l s e in
       let m = nonzero-member (choices rows c left l s) (settles-nonzero rows c left l s e) in
-      prefer-wider n 64 s (has (choices rows c left l s)) (m .0) fits
+      prefer-wider n capacity s (has (choices rows c left l s)) (m .0) fits
       (λ t k.
       near-below n (kept rows c) (has target) (h .rounds) t
       (now-at t ∙ and-right (kept rows c s t) (has l t) (sym (has-choices rows c left l s t a (h .inside s a)) ∙ k)))
@@ -210,10 +219,10 @@ module _ (rows : List ℕ) (n c target l left z : ℕ) (fits : n ≤ 64) (h : Le
           settled = λ s b e k. f s ∙ elim (gone s k) [ inl a ↦ or-left (has z s) (h .settled s b e a) | inr a ↦ or-right (has l s) a ];
         }
 
-    pub left-falls : (z ≡ 0 → ⊥) → count 64 (has left′) < count 64 (has left)
+    pub left-falls : (z ≡ 0 → ⊥) → count capacity (has left′) < count capacity (has left)
     left-falls ne =
         let m = nonzero-member z ne in
         let a = settles-left rows c left l (m .0) (settled-settles (m .0) (m .1)) in
-        count-less 64 (has left′) (has left) (λ s b e. still-left s e) (m .0) (omega (arith, settled-below (m .0) (m .1)))
+        count-less capacity (has left′) (has left) (λ s b e. still-left s e) (m .0) (omega (arith, settled-below (m .0) (m .1)))
         (g (m .0) ∙ rw (a, m .1) refl)
         a

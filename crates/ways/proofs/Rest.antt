@@ -15,15 +15,16 @@ use lib.Dec.{eqb, ltb}
 use Rattle.finite.specs.Bounded.{least, count}
 use Rattle.finite.proofs.Truth.{decide, clash}
 use Rattle.finite.proofs.Bounded.{least-before, least-at-most}
-use Rattle.sets.specs.Member.{has}
-use Rattle.sets.proofs.Membership.{has-zero}
-use Rattle.sets.proofs.Remove.{less-in, less-out, less-other, less-falls}
-use Rattle.sets.proofs.Visit.{lowest-below, lowest-in, lowest-less, cut-in, cut-all}
+use Rattle.bits.specs.Member.{has}
+use Rattle.bits.proofs.Membership.{has-zero}
+use Rattle.bits.proofs.Remove.{less-in, less-out, less-other, less-falls}
+use Rattle.bits.proofs.Visit.{small-word, lowest-below, lowest-in, lowest-less, cut-in, cut-all}
+use Rattle.sets.specs.Words.{capacity}
 use Rattle.ways.specs.Search.{Settled}
 use Rattle.ways.proofs.Round.{choices-none, settled-start, settled-miss, settled-end}
 
 pub record Rest (n left k rest : ℕ) : Type 0 where
-  pub small : rest < 2 ^ 64
+  pub bound : n ≤ capacity
   pub member : (t : ℕ) → has rest t ≡ true → has left t ≡ true
   pub from : (t : ℕ) → has rest t ≡ true → k ≤ t
   pub below : (t : ℕ) → has rest t ≡ true → t < n
@@ -36,14 +37,14 @@ pub record Trying (rows : List ℕ) (n c left l : ℕ) (x y : List ℕ) (r rest 
   pub rests : Rest n left done rest
 
 module _ (rows : List ℕ) (n c left l : ℕ) where
-  pub trying-start : (x : List ℕ) (b rest : ℕ) → rest < 2 ^ 64 → ((s : ℕ) → has b s ≡ ltb s n) → ((s : ℕ) → has rest s ≡ (has left s && has b s))
-      → Trying rows n c left l x x 0 rest
-  trying-start x b rest small f i = record {
+  pub trying-start : (x : List ℕ) (r b rest : ℕ) → n ≤ capacity → r ≡ 0 → ((s : ℕ) → has b s ≡ ltb s n)
+      → ((s : ℕ) → has rest s ≡ (has left s && has b s)) → Trying rows n c left l x x r rest
+  trying-start x r b rest bound none f i = record {
     done = 0;
     within = omega arith;
-    settled = settled-start rows c left l x;
+    settled = rw none (settled-start rows c left l x);
     rests = record {
-      small = small;
+      bound = bound;
       member = λ t e. cut-in left b rest n f i t e .1;
       from = λ t e. omega arith;
       below = λ t e. cut-in left b rest n f i t e .0;
@@ -62,18 +63,21 @@ module _ (rows : List ℕ) (n c left l : ℕ) where
       go (no q) rec =
           rw (sym (add-one e)) (settled-miss rows c left l (rec (omega arith)) (choices-none rows c left l e (f e (omega arith) (omega arith))) refl refl refl)
 
-  module _ {x y : List ℕ} {r rest s : ℕ} (T : Trying rows n c left l x y r rest) (ne : rest ≢ 0) (e : s ≡ least 64 (has rest)) where
-    pub try-small : s < 64
-    try-small = lowest-below rest s (T .rests .small) ne e
+  module _ {x y : List ℕ} {r rest s : ℕ} (T : Trying rows n c left l x y r rest) (ne : rest ≢ 0) (e : s ≡ least capacity (has rest)) where
+    small : rest < 2 ^ capacity
+    small = small-word capacity rest (λ t a. omega (arith, T .rests .bound, T .rests .below t a))
+
+    pub try-small : s < capacity
+    try-small = lowest-below capacity rest s small ne e
 
     pub try-in : has rest s ≡ true
-    try-in = lowest-in rest s (T .rests .small) ne e
+    try-in = lowest-in capacity rest s small ne e
 
     pub try-below : s < n
     try-below = T .rests .below s try-in
 
     try-first : (t : ℕ) → t < s → has rest t ≡ false
-    try-first t b = least-before 64 (has rest) t (rw e at b)
+    try-first t b = least-before capacity (has rest) t (rw e at b)
 
     -- the round is done for the states below s
     pub try-at : Settled rows s c left l x y r
@@ -86,20 +90,20 @@ module _ (rows : List ℕ) (n c left l : ℕ) where
               | inr q ↦ q
             ]
 
-    module _ (v : ℕ) (d : (t : ℕ) → has v t ≡ (has rest t && not (eqb t (least 64 (has rest))))) where
+    module _ (v : ℕ) (d : (t : ℕ) → has v t ≡ (has rest t && not (eqb t (least capacity (has rest))))) where
       less : (t : ℕ) → has v t ≡ (has rest t && not (eqb t s))
-      less = lowest-less rest s v e d
+      less = lowest-less capacity rest s v e d
 
-      pub trying-falls : count 64 (has v) < count 64 (has rest)
-      trying-falls = less-falls rest s v less 64 try-small try-in
+      pub trying-falls : count capacity (has v) < count capacity (has rest)
+      trying-falls = less-falls rest s v less capacity try-small try-in
 
-      pub trying-next : {y′ : List ℕ} {r′ : ℕ} → v < 2 ^ 64 → Settled rows (s + 1) c left l x y′ r′ → Trying rows n c left l x y′ r′ v
-      trying-next small h = record {
+      pub trying-next : {y′ : List ℕ} {r′ : ℕ} → Settled rows (s + 1) c left l x y′ r′ → Trying rows n c left l x y′ r′ v
+      trying-next h = record {
         done = s + 1;
         within = omega (arith, try-below);
         settled = h;
         rests = record {
-          small = small;
+          bound = T .rests .bound;
           member = λ t a. T .rests .member t (less-in rest s v less t a);
           from = from;
           below = λ t a. T .rests .below t (less-in rest s v less t a);
@@ -111,7 +115,7 @@ module _ (rows : List ℕ) (n c left l : ℕ) where
           from t a = go (ℕ-discrete t s)
             where
               later : s ≤ t
-              later = rw e (least-at-most 64 (has rest) t (less-in rest s v less t a))
+              later = rw e (least-at-most capacity (has rest) t (less-in rest s v less t a))
 
               go : Dec (t ≡ s) → s + 1 ≤ t
               go (yes q) = clash a (ap (has v) q ∙ less-out rest s v less)

@@ -1,6 +1,7 @@
 -- One round of the search.
 --
---   choices-none, choices-some    : what `choices` gives
+--   choices-none, choices-of      : what `choices` gives
+--   choices-reached               : what is chosen from is reached
 --   settled-start, settled-hit, settled-miss, settled-end : the loop over the states
 --   settles-intro, settles-left, settles-move : a state settles where it is left and has a move into what is reached
 --   length-written, written-settled, written-other : the list after the round
@@ -20,35 +21,50 @@ use borrow.Author.Tests.{eqb-true, eqb-false, eq-eqb, ne-eqb}
 use Rattle.finite.specs.Bounded.{one}
 use Rattle.finite.proofs.Truth.{decide, clash, true-of, and-intro, and-left, and-right, or-left, or-right, or-cases, same-test, not-true}
 use Rattle.finite.proofs.Bounded.{below-suc}
-use Rattle.sets.specs.Member.{has, pack}
-use Rattle.sets.proofs.Membership.{ext, has-zero, has-and, has-pack-below}
-use Rattle.sets.proofs.Compare.{member-nonzero, nonzero-member, nonzero-below}
+use Rattle.bits.specs.Member.{has, pack}
+use Rattle.bits.proofs.Membership.{ext, has-zero, has-and, has-pack-below}
+use Rattle.bits.proofs.Compare.{member-nonzero, nonzero-member}
+use Rattle.sets.specs.Words.{capacity}
 use Rattle.graphs.specs.Way.{prefer}
-use Rattle.graphs.proofs.Way.{prefer-below}
+use Rattle.graphs.proofs.Way.{prefer-most}
 use Rattle.ways.specs.Kept.{kept}
 use Rattle.ways.specs.Search.{choices, settles, written, Settled}
 use Rattle.ways.proofs.Kept.{kept-from, pack-below, pack-holds}
 
 -- the choice fits a byte
-pub choice-fits : (s x : ℕ) {v : ℕ} → x < 2 ^ 64 → (x ≡ 0 → ⊥) → v ≡ prefer 64 s (has x) → v < 2 ^ 8
-choice-fits s x h ne e =
-    let m = nonzero-below 64 x h ne in
-    omega (arith, prefer-below 64 s (has x) (m .0) (m .1) (m .2))
+pub choice-fits : (s x : ℕ) {v : ℕ} → v ≡ prefer capacity s (has x) → v < 2 ^ 8
+choice-fits s x e = omega (arith, e, prefer-most capacity s (has x))
 
 module _ (rows : List ℕ) (c left l : ℕ) where
   pub choices-none : (s : ℕ) → has left s ≡ false → 0 ≡ choices rows c left l s
   unfolding choices
   choices-none s e = rw (e, choices)
 
-  pub choices-some : (s : ℕ) → has left s ≡ true → bitAnd (bitAnd (getD rows s 0) c) l ≡ choices rows c left l s
+  choices-some : (s : ℕ) → has left s ≡ true → bitAnd (bitAnd (getD rows s 0) c) l ≡ choices rows c left l s
   unfolding choices
   choices-some s e = rw (e, choices)
+
+  -- what they are of three sets
+  pub choices-of : (s row moves : ℕ) {r : ℕ} → has left s ≡ true → row ≡ getD rows s 0 → ((t : ℕ) → has moves t ≡ (has row t && has c t))
+      → ((t : ℕ) → has r t ≡ (has moves t && has l t)) → r ≡ choices rows c left l s
+  choices-of s row moves {r} e q f g =
+      ext r (bitAnd (bitAnd (getD rows s 0) c) l)
+      (λ t. g t
+      ∙ ap (λ (b : Bool). b && has l t) (f t ∙ ap (λ (x : ℕ). has x t && has c t) q ∙ sym (has-and (getD rows s 0) c t))
+      ∙ sym (has-and (bitAnd (getD rows s 0) c) l t))
+      ∙ choices-some s e
 
   -- ---- which states settle
 
   choices-left : (s t : ℕ) → has (choices rows c left l s) t ≡ true → has left s ≡ true
   choices-left s t h =
       true-of (has left s) (λ e. clash h (ap (λ (x : ℕ). has x t) (sym (choices-none s e)) ∙ has-zero t))
+
+  -- what is chosen from is reached
+  pub choices-reached : (s t : ℕ) → has (choices rows c left l s) t ≡ true → has l t ≡ true
+  choices-reached s t h =
+      let moves = bitAnd (getD rows s 0) c in
+      and-right (has moves t) (has l t) (sym (has-and moves l t) ∙ ap (λ (x : ℕ). has x t) (choices-some s (choices-left s t h)) ∙ h)
 
   pub has-choices : (s t : ℕ) → has left s ≡ true → has c s ≡ true → has (choices rows c left l s) t ≡ (kept rows c s t && has l t)
   unfolding kept
@@ -95,7 +111,7 @@ module _ (rows : List ℕ) (c left l : ℕ) where
   -- ---- the list of moves
 
   written-hit : (s : ℕ) (x : List ℕ) → settles rows c left l s ≡ true
-      → written rows c left l (suc s) x ≡ set (written rows c left l s x) s (prefer 64 s (has (choices rows c left l s)))
+      → written rows c left l (suc s) x ≡ set (written rows c left l s x) s (prefer capacity s (has (choices rows c left l s)))
   unfolding written
   written-hit s x e = rw (e, written)
 
@@ -116,27 +132,27 @@ module _ (rows : List ℕ) (c left l : ℕ) where
   written-other (suc n) s x h =
       elim (decide (settles rows c left l n)) [
         | inl e ↦ rw (written-hit n x e)
-            (getD-set-other (written rows c left l n x) n s (prefer 64 n (has (choices rows c left l n))) 0
+            (getD-set-other (written rows c left l n x) n s (prefer capacity n (has (choices rows c left l n))) 0
             (λ q. clash e (ap (settles rows c left l) (sym q) ∙ h))
             ∙ written-other n s x h)
         | inr e ↦ rw (written-miss n x e) (written-other n s x h)
       ]
 
   pub written-settled : (n s : ℕ) (x : List ℕ) → s < n → n ≤ length x → settles rows c left l s ≡ true
-      → getD (written rows c left l n x) s 0 ≡ prefer 64 s (has (choices rows c left l s))
+      → getD (written rows c left l n x) s 0 ≡ prefer capacity s (has (choices rows c left l s))
   written-settled zero s x a b h = absurd (omega arith)
   written-settled (suc n) s x a b h = go (below-suc s n a) (decide (settles rows c left l n)) (λ k. written-settled n s x k (omega arith) h)
     where
       go : (s ≡ n) ⊎ (s < n) → (settles rows c left l n ≡ true) ⊎ (settles rows c left l n ≡ false)
-          → (s < n → getD (written rows c left l n x) s 0 ≡ prefer 64 s (has (choices rows c left l s)))
-          → getD (written rows c left l (suc n) x) s 0 ≡ prefer 64 s (has (choices rows c left l s))
+          → (s < n → getD (written rows c left l n x) s 0 ≡ prefer capacity s (has (choices rows c left l s)))
+          → getD (written rows c left l (suc n) x) s 0 ≡ prefer capacity s (has (choices rows c left l s))
       go (inl q) (inl e) rec =
           rw (q, written-hit n x e)
-          (getD-set-same (written rows c left l n x) n (prefer 64 n (has (choices rows c left l n))) 0 (omega (arith, length-written n x)))
+          (getD-set-same (written rows c left l n x) n (prefer capacity n (has (choices rows c left l n))) 0 (omega (arith, length-written n x)))
       go (inl q) (inr e) rec = clash h (ap (settles rows c left l) q ∙ e)
       go (inr k) (inl e) rec =
           rw (written-hit n x e)
-          (getD-set-other (written rows c left l n x) n s (prefer 64 n (has (choices rows c left l n))) 0 (λ q. omega arith) ∙ rec k)
+          (getD-set-other (written rows c left l n x) n s (prefer capacity n (has (choices rows c left l n))) 0 (λ q. omega arith) ∙ rec k)
       go (inr k) (inr e) rec = rw (written-miss n x e) (rec k)
 
   -- ---- the loop over the states
@@ -179,14 +195,15 @@ module _ (rows : List ℕ) (c left l : ℕ) where
   unfolding pack one
   pack-miss s e = rw (e, pack) (omega arith)
 
-  pub settled-hit : {s r r′ r″ m v : ℕ} {x y y′ : List ℕ} → Settled rows s c left l x y r → m ≡ choices rows c left l s → (m ≡ 0 → ⊥) → v ≡ prefer 64 s (has m)
+  pub settled-hit : {s r r′ r″ m v : ℕ} {x y y′ : List ℕ} → Settled rows s c left l x y r → m ≡ choices rows c left l s → (m ≡ 0 → ⊥)
+      → v ≡ prefer capacity s (has m)
       → ((t : ℕ) → has r′ t ≡ (has r t || eqb t s)) → y′ ≡ set y s v → r″ ≡ r′ → Settled rows (s + 1) c left l x y′ r″
   settled-hit {s} {r} {r′} {r″} {m} {v} {x} {y} {y′} h e ne w more f g =
       let hit = settles-of s (λ z. ne (e ∙ z)) in
       rw add-one
       (record {
         states = g ∙ pack-hit s r r′ (h .states) hit more;
-        moves = f ∙ ap₂ (λ (u : List ℕ) (k : ℕ). set u s k) (h .moves) (w ∙ ap (λ (k : ℕ). prefer 64 s (has k)) e) ∙ sym (written-hit s x hit);
+        moves = f ∙ ap₂ (λ (u : List ℕ) (k : ℕ). set u s k) (h .moves) (w ∙ ap (λ (k : ℕ). prefer capacity s (has k)) e) ∙ sym (written-hit s x hit);
       })
 
   pub settled-miss : {s r r′ m : ℕ} {x y y′ : List ℕ} → Settled rows s c left l x y r → m ≡ choices rows c left l s → m ≡ 0 → y′ ≡ y → r′ ≡ r

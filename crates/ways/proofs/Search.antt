@@ -13,8 +13,9 @@ use mathlib.Core.Logic.{_⊎_, inl, inr}
 use native.Mathlib.Omega.{arith}
 use lib.ListN.{length, getD}
 use Rattle.finite.proofs.Truth.{decide, clash, false-of}
-use Rattle.sets.specs.Member.{has}
-use Rattle.sets.proofs.Membership.{has-zero}
+use Rattle.bits.specs.Member.{has}
+use Rattle.bits.proofs.Membership.{has-zero}
+use Rattle.sets.specs.Words.{capacity}
 use Rattle.graphs.specs.Way.{toward}
 use Rattle.graphs.proofs.Way.{Leads}
 use Rattle.ways.specs.Kept.{kept}
@@ -26,10 +27,10 @@ use Rattle.ways.proofs.Levels.{Levels, levels-start, levels-chosen, lev
 -- next is the list of moves
 pub record Search (rows : List ℕ) (n c target l left : ℕ) (next : List ℕ) : Type 0 where
   pub levels : Levels rows n c target l left
-  pub room : length next ≡ 64
+  pub room : length next ≡ capacity
   pub moves : (s : ℕ) → s < n → has c s ≡ true → has left s ≡ false → getD next s 0 ≡ toward n (kept rows c) (has target) s
 
-pub search-start : (rows : List ℕ) (n c target : ℕ) (next : List ℕ) → Bounds n target → length next ≡ 64 → Search rows n c target target c next
+pub search-start : (rows : List ℕ) (n c target : ℕ) (next : List ℕ) → Bounds n target → length next ≡ capacity → Search rows n c target target c next
 search-start rows n c target next b room = record {
   levels = levels-start rows n c target c (b .members) (λ s h. h) (λ s h f. clash h f);
   room = room;
@@ -42,7 +43,7 @@ search-empty rows n c target l left next h e = record {
 }
 
 -- a round that takes the list x to y and settles the states z
-module _ (rows : List ℕ) (n c target l left : ℕ) (x y : List ℕ) (z : ℕ) (fits : n ≤ 64)
+module _ (rows : List ℕ) (n c target l left : ℕ) (x y : List ℕ) (z : ℕ) (fits : n ≤ capacity)
     (h : Search rows n c target l left x) (d : Settled rows n c left l x y z) where
   -- the moves made before stay
   stays : (s : ℕ) → has left s ≡ false → getD y s 0 ≡ getD x s 0

@@ -11,7 +11,8 @@ use Rattle.game.specs.declared.Game.{Game}
 use Rattle.play.specs.Play.{separatedOf}
 use Rattle.theory.specs.Region.{verdict}
 use Rattle.theory.specs.Entries.{controllerEntries, environmentEntries}
-use Rattle.scratch.specs.Scratch.{scratchLength, cleared}
+use Rattle.clearing.specs.Clearing.{cleared}
+use Rattle.scratch.specs.Scratch.{scratchLength}
 
 -- what is written for an accepted game whose buffers are long enough
 pub record Written (g : Game) (s s′ c c′ e e′ : List ℕ) (r : Bool) : Type 0 where

@@ -18,14 +18,14 @@ pub fn write_winner(g: Game, scratch: &mut [u64], controller: &mut [u16], panel:
         (now (panel .exit)) r ⌝ }
 {
     let used = scratch::length(g);
-    region::prepare(g, scratch);
-    let cores = components::cores(g.input, scratch);
-    if verdict::system_wins(g, scratch, cores) {
-        controller::fill(g, scratch, controller);
-        scratch::clear(scratch, used);
+    let x = region::prepare(g, scratch);
+    let inner = x.inputs;
+    if verdict::system_wins(g, scratch, inner) {
+        controller::fill(g, scratch, inner, controller);
+        clearing::clear(scratch, used);
         return true;
     }
-    environment::fill(g, scratch, panel);
-    scratch::clear(scratch, used);
+    environment::fill(g, scratch, inner, panel);
+    clearing::clear(scratch, used);
     false
 }

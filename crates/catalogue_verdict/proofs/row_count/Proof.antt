@@ -3,13 +3,14 @@ use native.Mathlib.Omega.{arith}
 use Prim.Native.Nat.{ℕ, _-_, _≤_}
 use mathlib.Core.Path.{_≡_, _∙_, ap}
 use Rattle.finite.specs.Bounded.{count}
-use Rattle.sets.specs.Member.{has}
+use Rattle.bits.specs.Member.{has}
+use Rattle.sets.specs.Words.{capacity, bitsOf}
 use Rattle.catalogue_verdict.proofs.Counting.{count-start, count-in, count-out}
 use Rattle.catalogue_verdict.proofs.row_count.Statement.{statement}
 use Rattle.catalogue_verdict.proofs.row_count.Tie as tie
 
 abbrev Inv-loop : tie.InvT-loop
-Inv-loop x m c₀ s₀ c s = (s ≤ m) × (c ≤ s) × (m ≤ 64) × (c ≡ count s (has x))
+Inv-loop x m c₀ s₀ c s = (s ≤ m) × (c ≤ s) × (m ≤ capacity) × (c ≡ count s (has (bitsOf x)))
 
 abbrev μ-loop : tie.MeasureT-loop
 μ-loop x m c₀ s₀ c s = m - s
@@ -54,7 +55,7 @@ loop-again-2 c = (
 )
 
 returns : tie.Need-returns Inv-loop μ-loop
-returns c = c .before .loop .inv .3 ∙ ap (λ (k : ℕ). count k (has (c .before .before .args .x))) (omega arith)
+returns c = c .before .loop .inv .3 ∙ ap (λ (k : ℕ). count k (has (bitsOf (c .before .before .args .x)))) (omega arith)
 
 pub row-count-spec : {M : Type 1} → statement M
 row-count-spec =

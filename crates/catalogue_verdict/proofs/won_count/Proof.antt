@@ -22,7 +22,7 @@ map-count-requires : tie.Need-map-count-requires
 map-count-requires c κs =
     let p = c .before .before .before .before .before in
     let a = p .before .pre in
-    (map-long a (c .before .before .before .won-map .ensures) refl refl, inputs-most _ a, outputs-most _ a)
+    (map-long _ _ a (c .before .before .before .won-map .kept .1 .1 .0), inputs-most _ a, outputs-most _ a)
 
 returns : tie.Need-returns
 returns c =

@@ -1,19 +1,22 @@
 -- `joined` takes in the rows of the members, one state after the other.
-use Prim.Native.Nat.{_≤_, _-_}
-use mathlib.Core.Path.{_≡_, sym, _∙_}
+use Prim.Native.Nat.{ℕ, _≤_, _-_}
+use mathlib.Core.Path.{_≡_, sym, _∙_, ap}
+use mathlib.Core.Bool.{_||_}
 use mathlib.Core.Logic.{⊎-elim}
-use native.Mathlib.Omega.{arith}
-use borrow.Author.Needs.{needs}
+use Rattle.bits.specs.Member.{has}
+use Rattle.sets.specs.Words.{bitsOf, setsIn}
 use Rattle.closure.specs.Sweep.{grown}
 use Rattle.closure.proofs.Growth.{grown-start, grown-member, grown-other}
+use native.Mathlib.Omega.{arith}
+use borrow.Author.Needs.{needs}
 use Rattle.closure.proofs.joined.Statement.{statement}
 use Rattle.closure.proofs.joined.Tie as tie
 
 abbrev Inv-loop : tie.InvT-loop
-Inv-loop rows n x y₀ t₀ y t = (t ≤ n) × (y ≡ grown rows t x)
+Inv-loop rows n y₀ t₀ y t = (t ≤ n) × (bitsOf y ≡ grown (setsIn rows) t (bitsOf y₀))
 
 abbrev μ-loop : tie.MeasureT-loop
-μ-loop rows n x y₀ t₀ y t = n - t
+μ-loop rows n y₀ t₀ y t = n - t
 
 loop-holds : tie.Need-loop-holds Inv-loop μ-loop
 loop-holds c = (omega arith, grown-start _ _)
@@ -21,11 +24,8 @@ loop-holds c = (omega arith, grown-start _ _)
 member-requires : tie.Need-member-requires Inv-loop μ-loop
 member-requires c κs = omega arith
 
-mul-union : tie.Need-mul-union Inv-loop μ-loop
-mul-union c = omega arith
-
-shared-slice-read-union : tie.Need-shared-slice-read-union Inv-loop μ-loop
-shared-slice-read-union c = omega arith
+row-requires : tie.Need-row-requires Inv-loop μ-loop
+row-requires c κs = omega arith
 
 union-requires : tie.Need-union-requires Inv-loop μ-loop
 union-requires c κs = search needs
@@ -38,11 +38,13 @@ loop-less c = omega arith
 
 loop-again : tie.Need-loop-again Inv-loop μ-loop
 loop-again c =
-    let b = c .before .before .before in (
+    let b = c .before .before .before in
+    let tested = c .before .member .ensures in (
       omega arith,
       ⊎-elim
-          (λ w. w .3 ∙ grown-member _ _ (b .loop .t) (b .loop .inv .1) (sym (c .before .member .ensures) ∙ w .0 .taken) (w .2 .ensures))
-          (λ w. w .1 ∙ grown-other _ _ (b .loop .t) (b .loop .inv .1) (sym (c .before .member .ensures) ∙ w .0 .left))
+          (λ w. ap bitsOf (w .3) ∙ grown-member _ _ (b .loop .t) (b .loop .inv .1) (sym tested ∙ w .0 .taken)
+          (λ u. w .2 .ensures u ∙ ap (λ (k : ℕ). has (bitsOf (b .loop .y)) u || has k u) (w .1 .ensures)))
+          (λ w. ap bitsOf (w .1) ∙ grown-other _ _ (b .loop .t) (b .loop .inv .1) (sym tested ∙ w .0 .left))
           (c .if1 .came),
     )
 
@@ -59,8 +61,7 @@ joined-spec =
     μ-loop
     loop-holds
     member-requires
-    mul-union
-    shared-slice-read-union
+    row-requires
     union-requires
     add-t
     loop-less

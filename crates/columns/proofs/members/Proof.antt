@@ -4,41 +4,54 @@ use borrow.Author.Needs.{needs}
 use native.Mathlib.Omega.{arith}
 use mathlib.Core.Path.{_≡_}
 use mathlib.Core.Bool.{true}
+use mathlib.Core.Logic.{_≢_}
 use lib.ListN.{length}
 use Rattle.finite.specs.Bounded.{count}
-use Rattle.sets.specs.Member.{has}
+use Rattle.bits.specs.Member.{has}
+use Rattle.bits.proofs.Visit.{lowest-below, lowest-in}
+use Rattle.sets.proofs.Rows.{is-none, is-some}
+use Rattle.counters.specs.Counters.{counterCapacity}
 use Rattle.columns.proofs.Columns.{Columning, columning-start, columning-turn, columning-end, column-falls}
-use Rattle.sets.proofs.Visit.{lowest-below, lowest-in}
 use Rattle.columns.proofs.members.Statement.{statement}
 use Rattle.columns.proofs.members.Tie as tie
 
 abbrev Inv-loop : tie.InvT-loop
-Inv-loop room₀ base step which first more rest₀ room rest = Columning room₀ room base step which first more rest
+Inv-loop room₀ base step first more rest₀ room rest = Columning room₀ room base step (rest₀ .0) first more (rest .0)
 
 abbrev μ-loop : tie.MeasureT-loop
-μ-loop room₀ base step which first more rest₀ room rest = count 64 (has rest)
+μ-loop room₀ base step first more rest₀ room rest = count counterCapacity (has (rest .0))
+
+some-left : (c : tie.Then1 Inv-loop μ-loop) → c .before .before .loop .rest .0 ≢ 0
+some-left c = is-some _ (c .before .is-empty .ensures) (c .if1 .taken)
 
 loop-holds : tie.Need-loop-holds Inv-loop μ-loop
-loop-holds c = columning-start _ _ _ _ _ _ (c .before .fits .which .fits)
+loop-holds c = columning-start _ _ _ _ _ _ (omega arith)
+
+is-empty-requires : tie.Need-is-empty-requires Inv-loop μ-loop
+is-empty-requires c κs = search needs
 
 lowest-requires : tie.Need-lowest-requires Inv-loop μ-loop
 lowest-requires c κs = search needs
 
-below : (c : tie.After-lowest Inv-loop μ-loop) → c .lowest .result < 64
-below c = let b = c .before .before in lowest-below (b .loop .rest) _ (b .loop .inv .small) (c .before .loop-test .taken) (c .lowest .ensures)
+below : (c : tie.After-lowest Inv-loop μ-loop) → c .lowest .result < counterCapacity
+below c =
+    let l = c .before .before .before in
+    lowest-below counterCapacity (l .loop .rest .0) _ (l .loop .inv .small) (some-left (c .before)) (c .lowest .ensures)
 
-member : (c : tie.After-lowest Inv-loop μ-loop) → has (c .before .before .before .before .args .which) (c .lowest .result) ≡ true
+member : (c : tie.After-lowest Inv-loop μ-loop) → let l = c .before .before .before in has (l .before .before .args .which .0) (c .lowest .result) ≡ true
 member c =
-    let b = c .before .before in
-    b .loop .inv .inside _ (lowest-in (b .loop .rest) _ (b .loop .inv .small) (c .before .loop-test .taken) (c .lowest .ensures))
+    let l = c .before .before .before in
+    l .loop .inv .inside _ (lowest-in counterCapacity (l .loop .rest .0) _ (l .loop .inv .small) (some-left (c .before)) (c .lowest .ensures))
 
 entry-small : (c : tie.After-lowest Inv-loop μ-loop)
-    → c .before .before .before .before .args .first + c .before .before .before .before .args .more * c .lowest .result < 65536
-entry-small c = c .before .before .before .before .pre .small (c .lowest .result) (member c)
+    → let l = c .before .before .before in l .before .before .args .first + l .before .before .args .more * c .lowest .result < 65536
+entry-small c = let l = c .before .before .before in l .before .before .pre .small (c .lowest .result) (member c)
 
 place-below : (c : tie.After-lowest Inv-loop μ-loop)
-    → c .before .before .before .before .args .base + c .before .before .before .before .args .step * c .lowest .result < length (c .before .before .loop .room)
-place-below c = omega (arith, c .before .before .before .before .pre .below (c .lowest .result) (member c), c .before .before .loop .inv .long)
+    → let l = c .before .before .before in l .before .before .args .base + l .before .before .args .step * c .lowest .result < length (l .loop .room)
+place-below c =
+    let l = c .before .before .before in
+    omega (arith, l .before .before .pre .below (c .lowest .result) (member c), l .loop .inv .long)
 
 cast-room : tie.Need-cast-room Inv-loop μ-loop
 cast-room c = omega (arith, below c)
@@ -62,25 +75,25 @@ slice-write-room : tie.Need-slice-write-room Inv-loop μ-loop
 slice-write-room c = omega (arith, place-below c)
 
 without-lowest-requires : tie.Need-without-lowest-requires Inv-loop μ-loop
-without-lowest-requires c κs = c .before .loop-test .taken
+without-lowest-requires c κs = some-left (c .before)
 
 loop-less : tie.Need-loop-less Inv-loop μ-loop
 loop-less c =
-    let b = c .before .before .before in
-    column-falls _ _ _ _ _ _ _ (b .loop .rest) _ _ (b .loop .inv) (c .before .before .loop-test .taken) (c .before .lowest .ensures)
+    let l = c .before .before .before .before in
+    column-falls _ _ _ _ _ _ _ (l .loop .rest .0) _ _ (l .loop .inv) (some-left (c .before .before)) (c .before .lowest .ensures)
     (c .without-lowest .ensures)
 
 loop-again : tie.Need-loop-again Inv-loop μ-loop
 loop-again c =
-    let b = c .before .before .before in
-    columning-turn _ _ _ _ _ _ _ (b .loop .rest) _ _ (b .loop .inv) (c .before .before .loop-test .taken) (c .before .lowest .ensures)
-    (c .without-lowest .ensures) (omega (arith, c .without-lowest .ok))
+    let l = c .before .before .before .before in
+    columning-turn _ _ _ _ _ _ _ (l .loop .rest .0) _ _ (l .loop .inv) (some-left (c .before .before)) (c .before .lowest .ensures)
+    (c .without-lowest .ensures)
 
 same-length : tie.Need-same-length Inv-loop μ-loop
-same-length c = c .before .loop .inv .long
+same-length c = c .before .before .loop .inv .long
 
 returns : tie.Need-returns Inv-loop μ-loop
-returns c = columning-end _ _ _ _ _ _ _ _ (c .before .loop .inv) (c .loop-test .left)
+returns c = columning-end _ _ _ _ _ _ _ _ (c .before .before .loop .inv) (is-none _ (c .before .is-empty .ensures) (c .if1 .left))
 
 pub members-spec : {M : Type 1} → statement M
 members-spec =
@@ -89,6 +102,7 @@ members-spec =
     Inv-loop
     μ-loop
     loop-holds
+    is-empty-requires
     lowest-requires
     cast-room
     mul-room

@@ -1,32 +1,43 @@
--- `row` is a run where the set is all below the width, else the members of a column with steps of 1.
+-- `row` is a run where the set is all below the width, else its places one by one.
 use borrow.Author.Needs.{needs}
-use native.Mathlib.Omega.{arith}
-use Rattle.columns.proofs.Rows.{run-fits, run-row, column-fits, column-row}
+use borrow.Author.Tests.{eqb-true}
+use mathlib.Core.Path.{_≡_, sym, _∙_}
+use Rattle.sets.specs.Words.{bitsOf}
+use Rattle.columns.proofs.Rows.{run-fits, run-row}
 use Rattle.columns.proofs.row.Statement.{statement}
 use Rattle.columns.proofs.row.Tie as tie
 
 below-requires : tie.Need-below-requires
 below-requires c κs = search needs
 
+same-requires : tie.Need-same-requires
+same-requires c κs = search needs
+
+whole : (c : tie.Then1) → bitsOf (c .before .before .before .before .args .over) ≡ bitsOf (c .before .before .below .result)
+whole c = eqb-true _ _ (sym (c .before .same .ensures) ∙ c .if1 .taken)
+
 run-requires : tie.Need-run-requires
-run-requires c κs = run-fits _ _ _ (c .before .if1 .taken) (c .before .before .below .ensures) _ _ (c .before .before .before .before .pre)
+run-requires c κs =
+    let t = c .before in
+    run-fits _ _ _ (whole t) (t .before .before .below .ensures) _ _ (t .before .before .before .before .pre)
 
 same-length : tie.Need-same-length
 same-length c = search needs
 
 returns : tie.Need-returns
 returns c =
-    run-row _ _ _ (c .before .before .before .before .if1 .taken) (c .before .before .before .before .before .below .ensures) _ _ _ _
-    (c .before .before .run .ensures)
+    let t = c .before .before .before .before in
+    run-row _ _ _ (whole t) (t .before .before .below .ensures) _ _ _ _ (c .before .before .run .ensures)
 
-members-requires : tie.Need-members-requires
-members-requires c κs = column-fits _ _ _ _ _ (omega arith) (c .before .before .before .before .pre)
+scattered-requires : tie.Need-scattered-requires
+scattered-requires c κs = search needs
 
 same-length-2 : tie.Need-same-length-2
 same-length-2 c = search needs
 
 returns-2 : tie.Need-returns-2
-returns-2 c = column-row _ _ _ _ _ (c .before .before .members .ensures)
+returns-2 c = search needs
 
 pub row-spec : {M : Type 1} → statement M
-row-spec = tie.close (tie.spec below-requires run-requires same-length returns members-requires same-length-2 returns-2)
+row-spec =
+    tie.close (tie.spec below-requires same-requires run-requires same-length returns scattered-requires same-length-2 returns-2)

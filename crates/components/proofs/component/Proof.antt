@@ -1,34 +1,34 @@
 -- `component` collects the states that are mutually reached. Invariant: the states below t that are, are collected.
-use mathlib.Core.Path.{_≡_}
-use Prim.Native.Nat.{_≤_, _-_}
-use native.Mathlib.Omega.{arith}
-use Rattle.sets.specs.Member.{pack}
-use Rattle.sets.proofs.Collect.{collect-none, collect-next, collect-end}
+use mathlib.Core.Path.{_≡_, _∙_, ap₂}
+use mathlib.Core.Bool.{_&&_}
+use Prim.Native.Nat.{ℕ, _≤_, _-_}
+use Rattle.bits.specs.Member.{has, pack}
+use Rattle.bits.proofs.Collect.{collect-none, collect-next, collect-end}
+use Rattle.sets.specs.Words.{bitsOf, setsIn}
 use Rattle.components.specs.Component.{together}
 use Rattle.components.proofs.Steps.{together-at}
+use native.Mathlib.Omega.{arith}
+use borrow.Author.Needs.{needs}
 use Rattle.components.proofs.component.Statement.{statement}
 use Rattle.components.proofs.component.Tie as tie
 
 abbrev Inv-loop : tie.InvT-loop
-Inv-loop rows n s row c₀ t₀ c t = (t ≤ n) × (c ≡ pack t (together rows s))
+Inv-loop rows n s row c₀ t₀ c t = (t ≤ n) × (bitsOf c ≡ pack t (together (setsIn rows) s))
 
 abbrev μ-loop : tie.MeasureT-loop
 μ-loop rows n s row c₀ t₀ c t = n - t
 
-mul-row : tie.Need-mul-row Inv-loop μ-loop
-mul-row c = omega arith
+row-requires : tie.Need-row-requires Inv-loop μ-loop
+row-requires c κs = omega arith
 
-shared-slice-read-row : tie.Need-shared-slice-read-row Inv-loop μ-loop
-shared-slice-read-row c = omega arith
+empty-requires : tie.Need-empty-requires Inv-loop μ-loop
+empty-requires c κs = search needs
 
 loop-holds : tie.Need-loop-holds Inv-loop μ-loop
-loop-holds c = (omega arith, collect-none _)
+loop-holds c = (omega arith, c .empty .ensures .1 ∙ collect-none _)
 
-mul-both-ways : tie.Need-mul-both-ways Inv-loop μ-loop
-mul-both-ways c = omega arith
-
-shared-slice-read-both-ways : tie.Need-shared-slice-read-both-ways Inv-loop μ-loop
-shared-slice-read-both-ways c = omega arith
+row-requires-2 : tie.Need-row-requires-2 Inv-loop μ-loop
+row-requires-2 c κs = omega arith
 
 both-ways-requires : tie.Need-both-ways-requires Inv-loop μ-loop
 both-ways-requires c κs = omega arith
@@ -45,11 +45,10 @@ loop-less c = omega arith
 loop-again : tie.Need-loop-again Inv-loop μ-loop
 loop-again c =
     let b = c .before .before .before .before in
-    let a = b .before .before .before .args in (
-      omega arith,
-      collect-next _ (b .loop .t) (b .loop .c) (c .insert-if .result) (c .before .both-ways .result) (b .loop .inv .1)
-          (together-at (a .rows .now) (a .s) (b .loop .t) (c .before .both-ways .ensures)) (c .insert-if .ensures),
-    )
+    let read = b .before .before in
+    let both = c .before .both-ways in
+    let met = both .ensures ∙ ap₂ (λ (x y : ℕ). has x (b .loop .t) && has y (read .before .before .args .s)) (read .row .ensures) (c .before .before .row2 .ensures) in
+    (omega arith, collect-next _ (b .loop .t) _ _ _ (b .loop .inv .1) (together-at _ _ (b .loop .t) met) (c .insert-if .ensures))
 
 returns : tie.Need-returns Inv-loop μ-loop
 returns c = collect-end _ (c .before .loop .t) _ _ (omega arith) (omega arith) (c .before .loop .inv .1)
@@ -60,11 +59,10 @@ component-spec =
     (tie.spec
     Inv-loop
     μ-loop
-    mul-row
-    shared-slice-read-row
+    row-requires
+    empty-requires
     loop-holds
-    mul-both-ways
-    shared-slice-read-both-ways
+    row-requires-2
     both-ways-requires
     insert-if-requires
     add-t

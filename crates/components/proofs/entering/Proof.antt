@@ -1,28 +1,30 @@
 -- `entering` joins the rows of the states of c.
 use mathlib.Core.Path.{_≡_, _∙_, ap}
+use mathlib.Core.Bool.{_&&_, _||_}
 use Prim.Native.Nat.{ℕ, _≤_, _-_}
-use borrow.Author.Needs.{needs}
-use native.Mathlib.Omega.{arith}
-use Rattle.sets.specs.Member.{has}
+use Rattle.bits.specs.Member.{has}
+use Rattle.sets.specs.Words.{bitsOf, setsIn}
 use Rattle.components.specs.Component.{enters}
 use Rattle.components.proofs.Steps.{enters-none, enters-next}
+use native.Mathlib.Omega.{arith}
+use borrow.Author.Needs.{needs}
 use Rattle.components.proofs.entering.Statement.{statement}
 use Rattle.components.proofs.entering.Tie as tie
 
 abbrev Inv-loop : tie.InvT-loop
-Inv-loop c h n x₀ k₀ x k = (k ≤ n) × ((t : ℕ) → has x t ≡ enters (h .moves) c k t)
+Inv-loop c h n x₀ k₀ x k = (k ≤ n) × ((t : ℕ) → has (bitsOf x) t ≡ enters (setsIn (h .moves)) (bitsOf c) k t)
 
 abbrev μ-loop : tie.MeasureT-loop
 μ-loop c h n x₀ k₀ x k = n - k
 
+empty-requires : tie.Need-empty-requires Inv-loop μ-loop
+empty-requires c κs = search needs
+
 loop-holds : tie.Need-loop-holds Inv-loop μ-loop
-loop-holds c = (omega arith, λ t. enters-none _ _ t)
+loop-holds c = (omega arith, λ t. ap (λ (x : ℕ). has x t) (c .empty .ensures .1) ∙ enters-none _ _ t)
 
-mul-row : tie.Need-mul-row Inv-loop μ-loop
-mul-row c = omega arith
-
-element-copy-out-row : tie.Need-element-copy-out-row Inv-loop μ-loop
-element-copy-out-row c = omega arith
+row-of-requires : tie.Need-row-of-requires Inv-loop μ-loop
+row-of-requires c κs = omega arith
 
 member-requires : tie.Need-member-requires Inv-loop μ-loop
 member-requires c κs = omega arith
@@ -38,17 +40,19 @@ loop-less c = omega arith
 
 loop-again : tie.Need-loop-again Inv-loop μ-loop
 loop-again c =
-    let b = c .before .before .before .before in
-    let a = b .before .args in (
+    let read = c .before .before in
+    let b = read .before .before .before .before in
+    let held = c .before .member in (
       omega arith,
-      λ t. enters-next (a .t1 .moves) (a .c) (b .loop .k) t (b .loop .x) (c .union-if .result) (c .before .member .result) (b .loop .inv .1 t)
-          (c .before .member .ensures) (c .union-if .ensures t),
+      λ t. enters-next _ _ (b .loop .k) t _ _ _ (b .loop .inv .1 t) (held .ensures)
+          (c .union-if .ensures t ∙ ap (λ (y : ℕ). has (bitsOf (b .loop .x)) t || (held .result && has y t)) (read .row-of .ensures .1)),
     )
 
 returns : tie.Need-returns Inv-loop μ-loop
-returns c t =
-    let e : c .before .loop .k ≡ c .before .before .args .t1 .states = omega arith in
-    c .before .loop .inv .1 t ∙ ap (λ (k : ℕ). enters (c .before .before .args .t1 .moves) (c .before .before .args .c) k t) e
+returns c =
+    let a = c .before .before .before .args in
+    let e : c .before .loop .k ≡ a .t1 .states = omega arith in
+    λ t. c .before .loop .inv .1 t ∙ ap (λ (k : ℕ). enters (setsIn (a .t1 .moves)) (bitsOf (a .c)) k t) e
 
 pub entering-spec : {M : Type 1} → statement M
 entering-spec =
@@ -56,9 +60,9 @@ entering-spec =
     (tie.spec
     Inv-loop
     μ-loop
+    empty-requires
     loop-holds
-    mul-row
-    element-copy-out-row
+    row-of-requires
     member-requires
     union-if-requires
     add-k

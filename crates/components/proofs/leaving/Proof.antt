@@ -1,8 +1,9 @@
 -- `leaving` takes the set itself away from what its moves enter.
 use mathlib.Core.Path.{_∙_, ap}
 use mathlib.Core.Bool.{Bool, _&&_, not}
+use Rattle.bits.specs.Member.{has}
+use Rattle.sets.specs.Words.{bitsOf}
 use borrow.Author.Needs.{needs}
-use Rattle.sets.specs.Member.{has}
 use Rattle.components.proofs.leaving.Statement.{statement}
 use Rattle.components.proofs.leaving.Tie as tie
 
@@ -13,8 +14,8 @@ difference-requires : tie.Need-difference-requires
 difference-requires c κs = search needs
 
 returns : tie.Need-returns
-returns c t =
-    c .difference .ensures t ∙ ap (λ (b : Bool). b && not (has (c .before .before .args .c) t)) (c .before .entering .ensures t)
+returns c =
+    λ t. c .difference .ensures t ∙ ap (λ (b : Bool). b && not (has (bitsOf (c .before .before .args .c)) t)) (c .before .entering .ensures t)
 
 pub leaving-spec : {M : Type 1} → statement M
 leaving-spec = tie.close (tie.spec entering-requires difference-requires returns)

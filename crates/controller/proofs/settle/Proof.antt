@@ -1,6 +1,8 @@
 -- `settle`: no resident, or the way home and the tour.
+use Rattle.sets.specs.Words.{bitsOf}
+use Rattle.sets.proofs.Rows.{none, some}
 use Rattle.controller_table.proofs.Setting.{table-of, scratch-long}
-use Rattle.controller_table.proofs.Homes.{part-long, no-home, home-given, settled-here}
+use Rattle.controller_table.proofs.Homes.{no-home, home-given, settled-here}
 use native.Mathlib.Omega.{arith}
 use borrow.Author.Needs.{needs}
 use Rattle.controller.proofs.settle.Statement.{statement}
@@ -12,47 +14,34 @@ residents-requires c κs =
     let t = table-of (b .args .g) (b .args .z) (b .pre .0 .sized) _ (b .pre .2) in
     omega (arith, scratch-long (b .pre .0), b .pre .1, t .inputs, t .outputs)
 
+is-empty-requires : tie.Need-is-empty-requires
+is-empty-requires c κs = search needs
+
 returns : tie.Need-returns
 returns c =
+    let e = c .before in
+    let r = e .before in
+    let b = r .before .before .before in
+    no-home (b .args .g) (b .args .z) (b .args .s .now) (bitsOf (b .args .c .0)) (b .pre .0) (b .args .d .0) (b .pre .1) (r .residents .result)
+    (r .residents .ensures) (none _ (e .is-empty .ensures) (c .if1 .taken)) (b .args .room .now)
+
+out-component-requires : tie.Need-out-component-requires
+out-component-requires c κs =
     let r = c .before .before in
     let b = r .before .before .before in
-    no-home (b .args .g) (b .args .z) (b .args .s .now) (b .args .cores .0) (b .pre .0) (b .args .d) (b .pre .1) (r .residents .result)
-    (r .residents .ensures) (c .if1 .taken) (b .args .room .now)
-
-add-outputs : tie.Need-add-outputs
-add-outputs c = search needs
-
-mul-component : tie.Need-mul-component
-mul-component c = search needs
-
-sub-component : tie.Need-sub-component
-sub-component c = search needs
-
-part-component-start : tie.Need-part-component-start
-part-component-start c = search needs
-
-part-component-end : tie.Need-part-component-end
-part-component-end c = search needs
-
-component-requires : tie.Need-component-requires
-component-requires c κs =
-    let at-step = c .before .before .before .before .before in
-    let at-step2 = at-step .before .before in
-    let b = at-step2 in (
-      table-of (b .args .g) (b .args .z) (b .pre .0 .sized) _ (b .pre .2) .outputs,
-      b .pre .1,
-      part-long (b .args .g) (b .args .z) (b .args .s .now)
-          (b .args .cores .0) (b .pre .0),
-    )
+    let t = table-of (b .args .g) (b .args .z) (b .pre .0 .sized) _ (b .pre .2) in
+    (t .inputs, t .outputs, b .pre .1, scratch-long (b .pre .0))
 
 approach-requires : tie.Need-approach-requires
 approach-requires c κs =
     let k = c .before in
-    let r = k .before .before .before .before .before in
+    let t = k .before in
+    let e = t .before in
+    let r = e .before in
     let b = r .before .before .before in (
       b .pre .0,
-      home-given (b .args .g) (b .args .z) (b .args .s .now) (b .args .cores .0) (b .pre .0) (b .args .d) (b .pre .1) (r .residents .result)
-          (r .residents .ensures) _ (k .before .before .before .if1 .left) (k .component .ensures),
+      home-given (b .args .g) (b .args .z) (b .args .s .now) (bitsOf (b .args .c .0)) (b .pre .0) (b .args .d .0) (b .pre .1) (r .residents .result)
+          (r .residents .ensures) _ (some _ (e .is-empty .ensures) (t .if1 .left)) (k .out-component .ensures),
       b .pre .2,
     )
 
@@ -60,13 +49,14 @@ tour-requires : tie.Need-tour-requires
 tour-requires c κs =
     let n = c .before .before .before in
     let k = n .before .before in
-    let r = k .before .before .before .before .before in
+    let t = k .before in
+    let e = t .before in
+    let r = e .before in
     let b = r .before .before .before in (
       b .pre .0 .sized,
-      home-given (b .args .g) (b .args .z) (b .args .s .now) (b .args .cores .0) (b .pre .0) (b .args .d) (b .pre .1)
-          (r .residents .result) (r .residents .ensures) _ (k .before .before .before .if1 .left) (k .component .ensures),
-      omega
-          (arith, b .pre .2, n .approach .ensures .grows .long),
+      home-given (b .args .g) (b .args .z) (b .args .s .now) (bitsOf (b .args .c .0)) (b .pre .0) (b .args .d .0) (b .pre .1)
+          (r .residents .result) (r .residents .ensures) _ (some _ (e .is-empty .ensures) (t .if1 .left)) (k .out-component .ensures),
+      omega (arith, b .pre .2, n .approach .ensures .grows .long),
     )
 
 same-length : tie.Need-same-length
@@ -83,13 +73,9 @@ settle-spec =
     tie.close
     (tie.spec
     residents-requires
+    is-empty-requires
     returns
-    add-outputs
-    mul-component
-    sub-component
-    part-component-start
-    part-component-end
-    component-requires
+    out-component-requires
     approach-requires
     tour-requires
     same-length

@@ -1,34 +1,33 @@
 -- `graph_of` goes through the modes.
 use Prim.Native.Nat.{_≤_, _-_}
-use mathlib.Core.Path.{_≡_, refl}
+use mathlib.Core.Path.{_≡_, refl, _∙_, ap}
 use mathlib.Core.List.{_++_}
 use native.Mathlib.Omega.{arith}
-use lib.ListN.{drop}
+use lib.ListN.{length, drop, replicate}
+use Rattle.sets.specs.Words.{capacity, wordsOf}
+use Rattle.sets.proofs.Rows.{words-none}
 use Rattle.graphs.specs.Rows.{rowsOf}
-use Rattle.graphs.proofs.Front.{rows-none, rows-next}
+use Rattle.graphs.proofs.Front.{rows-none}
 use Rattle.drives.specs.Drive.{madeBy}
-use Rattle.drives.proofs.Moves.{graph-made}
+use Rattle.drives.proofs.Moves.{graph-next, graph-made}
 use Rattle.drives.proofs.graph_of.Statement.{statement}
 use Rattle.drives.proofs.graph_of.Tie as tie
 
 abbrev Inv-loop : tie.InvT-loop
 Inv-loop d moves₀ m₀ moves m =
-    (m ≤ 64) × (moves ≡ rowsOf m (d .modes) (madeBy (d .next) (d .commands)) ++ drop m moves₀)
+    (m ≤ capacity) × (length moves ≡ 64) × (moves ≡ wordsOf (rowsOf m (d .modes) (madeBy (d .next) (d .commands)) ++ drop m (replicate capacity 0)))
 
 abbrev μ-loop : tie.MeasureT-loop
-μ-loop d moves₀ m₀ moves m = 64 - m
+μ-loop d moves₀ m₀ moves m = capacity - m
 
 loop-holds : tie.Need-loop-holds Inv-loop μ-loop
-loop-holds c = (omega arith, rows-none _ _ _)
+loop-holds c = (omega arith, refl, words-none ∙ ap wordsOf (rows-none _ _ _))
 
 moves-from-requires : tie.Need-moves-from-requires Inv-loop μ-loop
 moves-from-requires c κs = let p = c .before .before .before .before .pre in (p .modes, p .commands, c .before .before .loop-test .taken)
 
-mul-moves : tie.Need-mul-moves Inv-loop μ-loop
-mul-moves c = omega arith
-
-array-write-moves : tie.Need-array-write-moves Inv-loop μ-loop
-array-write-moves c = omega arith
+put-of-requires : tie.Need-put-of-requires Inv-loop μ-loop
+put-of-requires c κs = (c .before .before .before .before .loop-test .taken, c .before .before .before .before .before .loop .inv .1)
 
 add-m : tie.Need-add-m Inv-loop μ-loop
 add-m c = omega arith
@@ -38,11 +37,17 @@ loop-less c = omega arith
 
 loop-again : tie.Need-loop-again Inv-loop μ-loop
 loop-again c =
-    let l = c .before .before .before .before in
-    (omega arith, rows-next _ _ _ (l .loop .m) (c .before .before .before .loop-test .taken) (l .loop .inv .1) (c .moves-from .ensures))
+    let put = c .put-of in
+    let from = c .before .before .moves-from in
+    let test = c .before .before .before .before .before in
+    let l = test .before in (
+      omega arith,
+      put .ensures .1 ∙ l .loop .inv .1,
+      graph-next _ _ _ _ _ (l .loop .m) _ (test .loop-test .taken) (l .loop .inv .2) (from .ensures) (put .ensures .0),
+    )
 
 returns : tie.Need-returns Inv-loop μ-loop
-returns c = graph-made _ _ _ (c .before .loop .m) (c .before .loop .inv .0) (c .loop-test .left) refl (c .before .loop .inv .1)
+returns c = let l = c .before .before in graph-made _ _ (l .loop .m) (l .loop .inv .0) (c .before .loop-test .left) (l .loop .inv .2)
 
 pub graph-of-spec : {M : Type 1} → statement M
 graph-of-spec =
@@ -52,8 +57,7 @@ graph-of-spec =
     μ-loop
     loop-holds
     moves-from-requires
-    mul-moves
-    array-write-moves
+    put-of-requires
     add-m
     loop-less
     loop-again

@@ -2,19 +2,20 @@
 use Prim.Native.Nat.{ℕ, _-_, _≤_}
 use mathlib.Core.Path.{_≡_}
 use mathlib.Core.Bool.{_&&_}
-use native.Mathlib.Omega.{arith}
 use Rattle.finite.specs.Bounded.{all}
-use Rattle.sets.specs.Member.{has}
-use Rattle.dues.specs.Dues.{dueIn, admits}
+use Rattle.bits.specs.Member.{has}
+use Rattle.sets.specs.Words.{bitsOf}
+use Rattle.dues.specs.Dues.{dueIn, serversAt, admits}
 use Rattle.dues.proofs.Steps.{accepted-start, accepted-next, accepted-end}
+use native.Mathlib.Omega.{arith}
 use Rattle.dues.proofs.accepted.Statement.{statement}
 use Rattle.dues.proofs.accepted.Tie as tie
 
 abbrev Inv-loop : tie.InvT-loop
-Inv-loop a x g t n y₀ r₀ y r = (r ≤ n) × ((d : ℕ) → has y d ≡ (has x d && all r (admits g a (t .outputs) d)))
+Inv-loop a g t n y₀ r₀ y r = (r ≤ n) × ((d : ℕ) → has (bitsOf (y .0)) d ≡ (has (bitsOf (y₀ .0)) d && all r (admits g (bitsOf (a .0)) (t .outputs) d)))
 
 abbrev μ-loop : tie.MeasureT-loop
-μ-loop a x g t n y₀ r₀ y r = n - r
+μ-loop a g t n y₀ r₀ y r = n - r
 
 loop-holds : tie.Need-loop-holds Inv-loop μ-loop
 loop-holds c = (omega arith, accepted-start _ _ _ _)
@@ -23,13 +24,13 @@ mul-q : tie.Need-mul-q Inv-loop μ-loop
 mul-q c = omega arith
 
 element-copy-out-q : tie.Need-element-copy-out-q Inv-loop μ-loop
-element-copy-out-q c = omega arith
+element-copy-out-q c = omega (arith, c .before .before .pre .requirements)
 
 mul-admitted : tie.Need-mul-admitted Inv-loop μ-loop
 mul-admitted c = omega arith
 
 element-copy-out-admitted : tie.Need-element-copy-out-admitted Inv-loop μ-loop
-element-copy-out-admitted c = omega arith
+element-copy-out-admitted c = omega (arith, c .before .before .before .pre .requirements)
 
 admitted-requires : tie.Need-admitted-requires Inv-loop μ-loop
 admitted-requires c κs =
@@ -44,13 +45,13 @@ loop-less : tie.Need-loop-less Inv-loop μ-loop
 loop-less c = omega arith
 
 loop-again : tie.Need-loop-again Inv-loop μ-loop
-unfolding dueIn
+unfolding dueIn serversAt
 loop-again c =
     let b = c .before .before .before .before in
-    (omega arith, accepted-next _ _ _ _ (b .loop .r) (b .loop .y) _ (b .loop .inv .1) (c .admitted .ensures))
+    (omega arith, accepted-next _ _ _ _ (b .loop .r) _ _ (b .loop .inv .1) (c .admitted .ensures))
 
 returns : tie.Need-returns Inv-loop μ-loop
-returns c = accepted-end _ _ _ _ (c .before .loop .r) _ (c .before .loop .y) (omega arith) (omega arith) (c .before .loop .inv .1)
+returns c = accepted-end _ _ _ _ (c .before .loop .r) _ _ (omega arith) (omega arith) (c .before .loop .inv .1)
 
 pub accepted-spec : {M : Type 1} → statement M
 accepted-spec =

@@ -4,13 +4,14 @@ use mathlib.Core.Bool.{true}
 use Rattle.finite.proofs.Loops.{all-start, all-turn, all-stop, all-end, failed, passed}
 use Rattle.dues.specs.Dues.{outMeets, outMeetsAt}
 use borrow.Author.Needs.{needs}
+use Rattle.sets.specs.Words.{bitsOf}
 use mathlib.Core.Path.{_≡_}
 use Prim.Native.Nat.{_-_, _≤_}
 use Rattle.dues.proofs.all_guaranteed.Statement.{statement}
 use Rattle.dues.proofs.all_guaranteed.Tie as tie
 
 abbrev Inv-loop : tie.InvT-loop
-Inv-loop c q n j₀ j = (j ≤ n) × (outMeets q c j ≡ true)
+Inv-loop c q n j₀ j = (j ≤ n) × (outMeets q (bitsOf (c .0)) j ≡ true)
 
 abbrev μ-loop : tie.MeasureT-loop
 μ-loop c q n j₀ j = n - j
@@ -33,7 +34,7 @@ unfolding outMeets outMeetsAt
 returns c =
     let b = c .before .before .before .before in
     let a = b .before .args in
-    all-stop _ (b .loop .j) (outMeetsAt (a .t1) (a .c)) (omega arith) (failed (c .before .meets .ensures) (c .if1 .taken))
+    all-stop _ (b .loop .j) (outMeetsAt (a .t1) (bitsOf (a .c .0))) (omega arith) (failed (c .before .meets .ensures) (c .if1 .taken))
 
 add-j : tie.Need-add-j Inv-loop μ-loop
 add-j c = omega arith
@@ -46,7 +47,7 @@ unfolding outMeets outMeetsAt
 loop-again c =
     let b = c .before .before .before .before in
     let a = b .before .args in
-    (omega arith, all-turn (b .loop .j) (outMeetsAt (a .t1) (a .c)) (b .loop .inv .1) (passed (c .before .meets .ensures) (c .if1 .left)))
+    (omega arith, all-turn (b .loop .j) (outMeetsAt (a .t1) (bitsOf (a .c .0))) (b .loop .inv .1) (passed (c .before .meets .ensures) (c .if1 .left)))
 
 returns-2 : tie.Need-returns-2 Inv-loop μ-loop
 unfolding outMeets

@@ -1,29 +1,35 @@
 -- `served`. Invariant: the outputs below d are in the sets of the requirements that they serve.
 use Prim.Native.Nat.{_-_, _≤_}
 use mathlib.Core.Path.{_≡_, refl, _∙_}
-use native.Mathlib.Omega.{arith}
 use lib.ListN.{length}
+use Rattle.sets.specs.Words.{setsIn}
+use Rattle.scratch.specs.Stored.{outArea}
 use Rattle.dues.specs.Dues.{Serves}
 use Rattle.dues.proofs.Steps.{serves-start, serves-next, serves-end}
+use native.Mathlib.Omega.{arith}
+use borrow.Author.Needs.{needs}
 use Rattle.dues.proofs.served.Statement.{statement}
 use Rattle.dues.proofs.served.Tie as tie
 
 abbrev Inv-loop : tie.InvT-loop
-Inv-loop g rows m outputs₀ d₀ outputs d = (d ≤ m) × (length outputs ≡ 8) × Serves g rows d outputs
+Inv-loop g s n m t₀ d₀ t d = (d ≤ m) × (length (t .outputs) ≡ 8) × Serves g (outArea (setsIn s) n) d (t .outputs)
 
 abbrev μ-loop : tie.MeasureT-loop
-μ-loop g rows m outputs₀ d₀ outputs d = m - d
+μ-loop g s n m t₀ d₀ t d = m - d
+
+empty-requires : tie.Need-empty-requires Inv-loop μ-loop
+empty-requires c κs = search needs
 
 loop-holds : tie.Need-loop-holds Inv-loop μ-loop
-loop-holds c = (omega arith, refl, serves-start _ _ 8 (c .before .pre .0 .requirements))
+loop-holds c = (omega arith, refl, serves-start _ _ 8 _ (c .empty .ensures .1) (c .before .before .pre .0 .requirements))
 
-component-requires : tie.Need-component-requires Inv-loop μ-loop
-component-requires c κs = omega arith
+out-component-requires : tie.Need-out-component-requires Inv-loop μ-loop
+out-component-requires c κs = omega arith
 
 mark-requires : tie.Need-mark-requires Inv-loop μ-loop
 mark-requires c κs =
-    let b = c .before .before .before in
-    (b .before .before .pre .0, omega arith, b .loop .inv .1)
+    let b = c .before .before in
+    (b .before .before .before .pre .0, omega arith, b .loop .inv .1)
 
 add-d : tie.Need-add-d Inv-loop μ-loop
 add-d c = omega arith
@@ -33,9 +39,9 @@ loop-less c = omega arith
 
 loop-again : tie.Need-loop-again Inv-loop μ-loop
 loop-again c =
-    let b = c .before .before .before .before in
+    let b = c .before .before .before in
     let M = c .mark .ensures in
-    (omega arith, M .long ∙ b .loop .inv .1, serves-next _ _ (b .loop .d) _ _ _ (b .loop .inv .2) (c .before .before .component .ensures) M)
+    (omega arith, M .long ∙ b .loop .inv .1, serves-next _ _ (b .loop .d) _ _ _ (b .loop .inv .2) (c .before .out-component .ensures) M)
 
 returns : tie.Need-returns Inv-loop μ-loop
 returns c = serves-end _ _ (c .before .loop .d) _ _ (omega arith) (omega arith) (c .before .loop .inv .2)
@@ -46,8 +52,9 @@ served-spec =
     (tie.spec
     Inv-loop
     μ-loop
+    empty-requires
     loop-holds
-    component-requires
+    out-component-requires
     mark-requires
     add-d
     loop-less

@@ -3,6 +3,7 @@ use native.Mathlib.Omega.{arith}
 use borrow.Author.Needs.{needs}
 use mathlib.Core.Path.{sym, _∙_}
 use Rattle.finite.proofs.Truth.{not-true, not-false}
+use Rattle.sets.specs.Words.{bitsOf}
 use Rattle.environment_table.specs.Pressing.{Whole}
 use Rattle.environment_table.proofs.Places.{roomy-more}
 use Rattle.environment_table.proofs.Walked.{component-word, skip-trivial, skip-other, whole-of-number, walked-join, left-of}
@@ -10,66 +11,64 @@ use Rattle.environment.proofs.component_rows.Statement.{statement}
 use Rattle.environment.proofs.component_rows.Tie as tie
 
 whole : (c : tie.Else2)
-    → let at-component = c .before .before .before in
-    let at-start = at-component .before .before .before .before .before in
-    Whole (at-start .args .g) (at-component .component .result) (at-start .args .i .0)
+    → let k = c .before .before .before in
+    let start = k .before .before .before .before .before in
+    Whole (start .args .g) (bitsOf (k .in-component .result .0)) (start .args .i .0)
 whole c =
-    let at-member = c .before .before .before .before .before in
-    let at-start = at-member .before .before .before in
-    whole-of-number _ _ _ (at-start .pre .0) _ (at-start .pre .2) _
-    (component-word _ _ _ (at-start .pre .0) _ (at-start .pre .2) (c .before .before .before .component .ensures))
-    (sym (at-member .member .ensures) ∙ not-false _ (c .before .before .before .before .if1 .left)) (c .before .before .lowest .ensures) (c .if2 .left)
+    let k = c .before .before .before in
+    let m = k .before .before in
+    let p = m .before .before .before .pre in
+    whole-of-number _ _ _ (p .0) _ (p .2) _ (component-word _ _ _ (p .0) _ (p .2) (k .in-component .ensures))
+    (sym (m .member .ensures) ∙ not-false _ (k .before .if1 .left)) (c .before .before .lowest .ensures) (c .if2 .left)
 
 member-requires : tie.Need-member-requires
-member-requires c κs = omega arith
+member-requires c κs = let p = c .before .before .pre in omega (arith, p .0 .ready .fits .input .most, p .2)
 
 returns : tie.Need-returns
 returns c =
-    skip-trivial _ _ _ (c .before .before .before .before .pre .0) _ (c .before .before .before .before .pre .2) _
-    (sym (c .before .member .ensures) ∙ not-true _ (c .if1 .taken))
+    let p = c .before .before .before .before .pre in
+    skip-trivial _ _ _ (p .0) _ (p .2) _ (sym (c .before .member .ensures) ∙ not-true _ (c .if1 .taken))
 
-component-requires : tie.Need-component-requires
-component-requires c κs = omega arith
+in-component-requires : tie.Need-in-component-requires
+in-component-requires c κs =
+    let p = c .before .before .before .before .pre in
+    (p .0 .ready .fits .input .most, p .2, omega (arith, p .0 .ready .laid .long))
 
 lowest-requires : tie.Need-lowest-requires
 lowest-requires c κs = search needs
 
 returns-2 : tie.Need-returns-2
 returns-2 c =
-    let at-component = c .before .before .before in
-    let at-start = at-component .before .before .before .before .before in
-    skip-other _ _ _ (at-start .pre .0) _ (at-start .pre .2) _
-    (component-word _ _ _ (at-start .pre .0) _ (at-start .pre .2) (at-component .component .ensures)) _ (c .before .before .lowest .ensures) (c .if2 .taken)
+    let k = c .before .before .before in
+    let p = k .before .before .before .before .before .pre in
+    skip-other _ _ _ (p .0) _ (p .2) _ (component-word _ _ _ (p .0) _ (p .2) (k .in-component .ensures)) _ (c .before .before .lowest .ensures) (c .if2 .taken)
 
 escapes-requires : tie.Need-escapes-requires
 escapes-requires c κs =
-    let at-step = c .before .before .before .before .before in
-    let at-start = at-step .before .before .before .before in
-    (at-start .pre .0, at-start .pre .1, whole (c .before))
+    let e = c .before in
+    let k = e .before .before .before in
+    let p = k .before .before .before .before .before .pre in
+    (p .0, p .1, whole e)
 
 tours-requires : tie.Need-tours-requires
 tours-requires c κs =
-    let at-escapes = c .before .before .before in
-    let at-step = at-escapes .before .before .before .before .before in
-    let at-start = at-step .before .before .before .before .before in (
-      roomy-more _ (at-start .pre .1) (at-escapes .escapes .ensures .filled),
-      left-of _ _ _ (at-start .pre .0) _ (at-start .pre .2)
-          (whole (c .before .before .before .before .before)) (at-escapes .escapes .ensures),
-    )
+    let x = c .before .before .before in
+    let e = x .before .before in
+    let k = e .before .before .before in
+    let p = k .before .before .before .before .before .pre in
+    (roomy-more _ (p .1) (x .escapes .ensures .filled), left-of _ _ _ (p .0) _ (p .2) (whole e) (x .escapes .ensures))
 
 same-length : tie.Need-same-length
 same-length c = search needs
 
 returns-3 : tie.Need-returns-3
 returns-3 c =
-    let at-tours = c .before .before in
-    let at-escapes = at-tours .before .before .before .before in
-    let at-step = at-escapes .before .before in
-    let at-component = at-step .before .before .before in
-    let at-start = at-component .before .before .before .before .before in
-    walked-join _ _ _ (at-start .pre .0) _ (at-start .pre .2) _
-    (component-word _ _ _ (at-start .pre .0) _ (at-start .pre .2) (at-component .component .ensures)) (whole at-step) (at-escapes .escapes .ensures)
-    (at-tours .tours .ensures)
+    let t = c .before .before in
+    let x = t .before .before .before .before in
+    let e = x .before .before in
+    let k = e .before .before .before in
+    let p = k .before .before .before .before .before .pre in
+    walked-join _ _ _ (p .0) _ (p .2) _ (component-word _ _ _ (p .0) _ (p .2) (k .in-component .ensures)) (whole e) (x .escapes .ensures) (t .tours .ensures)
 
 pub component-rows-spec : {M : Type 1} → statement M
 component-rows-spec =
@@ -77,7 +76,7 @@ component-rows-spec =
     (tie.spec
     member-requires
     returns
-    component-requires
+    in-component-requires
     lowest-requires
     returns-2
     escapes-requires

@@ -2,65 +2,52 @@
 use mathlib.Core.Path.{refl}
 use lib.ListN.{length-set}
 use Rattle.environment_table.proofs.Places.{roomy-more}
-use Rattle.environment_table.proofs.Filling.{inputs-bounds, known-of, roomy-of, start-length, filled-all, same-long}
+use Rattle.environment_table.proofs.Filling.{roomy-of, start-length, filled-all, same-long}
 use Rattle.environment.proofs.fill.Statement.{statement}
 use Rattle.environment.proofs.fill.Tie as tie
 
-cores-requires : tie.Need-cores-requires
-cores-requires c κs = inputs-bounds _ _ _ (c .before .before .pre)
-
 environment-counters-requires : tie.Need-environment-counters-requires
-environment-counters-requires c κs = c .before .before .before .pre .accepted
+environment-counters-requires c κs = c .before .before .pre .known .accepted
 
 start-entry-requires : tie.Need-start-entry-requires
-start-entry-requires c κs = known-of _ _ _ (c .before .before .before .before .pre) (c .before .cores .ensures)
+start-entry-requires c κs = c .before .before .before .pre .known
 
 slice-write-room : tie.Need-slice-write-room
-slice-write-room c = start-length _ _ _ (c .before .before .before .before .before .pre)
+slice-write-room c = start-length _ _ _ _ (c .before .before .before .before .pre)
 
 plain-rows-requires : tie.Need-plain-rows-requires
 plain-rows-requires c κs =
-    let at-cores = c .before .before .before in
-    let at-start = at-cores .before .before .before in (
-      known-of _ _ _ (at-start .pre) (at-cores .cores .ensures),
-      roomy-of _ _ _ (at-start .pre) (c .before .before .environment-counters .ensures)
-          (simp length-set),
-    )
+    let k = c .before .before in
+    let start = k .before .before .before in
+    (start .pre .known, roomy-of _ _ _ _ (start .pre) (k .environment-counters .ensures) (simp length-set))
 
 walked-rows-requires : tie.Need-walked-rows-requires
 walked-rows-requires c κs =
-    let at-plain-rows = c .before .before .before in
-    let at-environment-counters = at-plain-rows .before .before .before in
-    let at-cores = at-environment-counters .before in
-    let at-start = at-cores .before .before .before in (
-      known-of _ _ _ (at-start .pre) (at-cores .cores .ensures),
-      roomy-more _
-          (roomy-of _ _ _ (at-start .pre) (at-environment-counters .environment-counters .ensures) (simp length-set)) (at-plain-rows .plain-rows .ensures),
-    )
+    let p = c .before .before .before in
+    let k = p .before .before .before in
+    let start = k .before .before .before in
+    (start .pre .known, roomy-more _ (roomy-of _ _ _ _ (start .pre) (k .environment-counters .ensures) (simp length-set)) (p .plain-rows .ensures))
 
 same-length : tie.Need-same-length
 same-length c =
-    let at-walked-rows = c .before .before in
-    let at-plain-rows = at-walked-rows .before .before .before .before in
-    let at-start-entry = at-plain-rows .before .before in
-    let at-start = at-start-entry .before .before .before .before .before in
-    same-long _ _ _ (at-start .pre) (at-start .args .room .now) _ _ _ refl (at-start-entry .start-entry .ensures) (at-plain-rows .plain-rows .ensures)
-    (at-walked-rows .walked-rows .ensures)
+    let w = c .before .before in
+    let p = w .before .before .before .before in
+    let e = p .before .before in
+    let start = e .before .before .before .before in
+    same-long _ _ _ _ (start .pre) (start .args .room .now) _ _ _ refl (e .start-entry .ensures) (p .plain-rows .ensures) (w .walked-rows .ensures)
 
 returns : tie.Need-returns
 returns c =
-    let at-walked-rows = c .before .before in
-    let at-plain-rows = at-walked-rows .before .before .before .before in
-    let at-start-entry = at-plain-rows .before .before in
-    let at-start = at-start-entry .before .before .before .before .before in
-    filled-all _ _ _ (at-start .pre) _ _ _ _ refl (at-start-entry .start-entry .ensures) (at-plain-rows .plain-rows .ensures)
-    (at-walked-rows .walked-rows .ensures)
+    let w = c .before .before in
+    let p = w .before .before .before .before in
+    let e = p .before .before in
+    let start = e .before .before .before .before in
+    filled-all _ _ _ _ (start .pre) _ _ _ _ refl (e .start-entry .ensures) (p .plain-rows .ensures) (w .walked-rows .ensures)
 
 pub fill-spec : {M : Type 1} → statement M
 fill-spec =
     tie.close
     (tie.spec
-    cores-requires
     environment-counters-requires
     start-entry-requires
     slice-write-room

@@ -1,62 +1,79 @@
 -- `lost` visits the members of x.
 use Prim.Native.Nat.{_<_}
+use mathlib.Core.Logic.{_≢_}
 use borrow.Author.Needs.{needs}
 use native.Mathlib.Omega.{arith}
 use Rattle.finite.specs.Bounded.{count}
-use Rattle.sets.specs.Member.{has}
-use Rattle.sets.proofs.Visit.{Collected, within-start, collected-small, collected-below, collected-falls, collected-next, collected-end}
+use Rattle.bits.specs.Member.{has}
+use Rattle.bits.proofs.Visit.{Collected, within-start, collected-small, collected-below, collected-falls, collected-next, collected-end}
+use Rattle.sets.specs.Words.{capacity, bitsOf, setsIn}
+use Rattle.sets.proofs.Rows.{is-none, is-some}
 use Rattle.environment_table.specs.Reading.{lostAt}
 use Rattle.environment_table.proofs.Outward.{lost-at, lost-all}
 use Rattle.environment_rows.proofs.lost.Statement.{statement}
 use Rattle.environment_rows.proofs.lost.Tie as tie
 
 abbrev Inv-loop : tie.InvT-loop
-Inv-loop s n cores o y₀ rest₀ y rest = Collected rest₀ n (lostAt s n (cores .0) (o .0)) rest y
+Inv-loop s n inner o y₀ rest₀ y rest =
+    Collected capacity (bitsOf rest₀) n (lostAt (setsIn s) n (bitsOf (inner .0)) (o .0)) (bitsOf rest) (bitsOf y)
 
 abbrev μ-loop : tie.MeasureT-loop
-μ-loop s n cores o y₀ rest₀ y rest = count 64 (has rest)
+μ-loop s n inner o y₀ rest₀ y rest = count capacity (has (bitsOf rest))
 
-small : (c : tie.After-lowest Inv-loop μ-loop) → c .lowest .result < 64
-small c = collected-small _ _ _ (c .before .before .loop .rest) _ (c .before .before .loop .inv) (c .before .loop-test .taken) _ (c .lowest .ensures)
+some-left : (c : tie.Then1 Inv-loop μ-loop) → bitsOf (c .before .before .loop .rest) ≢ 0
+some-left c = is-some _ (c .before .is-empty .ensures) (c .if1 .taken)
 
-below : (c : tie.After-lowest Inv-loop μ-loop) → c .lowest .result < c .before .before .before .before .args .n
-below c = collected-below _ _ _ (c .before .before .loop .rest) _ (c .before .before .loop .inv) (c .before .loop-test .taken) _ (c .lowest .ensures)
+small : (c : tie.After-lowest Inv-loop μ-loop) → c .lowest .result < capacity
+small c =
+    let l = c .before .before .before in
+    collected-small capacity _ _ _ (bitsOf (l .loop .rest)) _ (l .loop .inv) (some-left (c .before)) _ (c .lowest .ensures)
+
+below : (c : tie.After-lowest Inv-loop μ-loop) → let l = c .before .before .before in c .lowest .result < l .before .before .before .before .args .n
+below c =
+    let l = c .before .before .before in
+    collected-below capacity _ _ _ (bitsOf (l .loop .rest)) _ (l .loop .inv) (some-left (c .before)) _ (c .lowest .ensures)
+
+empty-requires : tie.Need-empty-requires Inv-loop μ-loop
+empty-requires c κs = search needs
 
 loop-holds : tie.Need-loop-holds Inv-loop μ-loop
-loop-holds c = within-start _ _ _ (c .before .pre .0) (c .before .pre .3)
+loop-holds c = let p = c .before .before .before .pre in rw (c .before .empty .ensures .1) (within-start capacity _ _ _ (p .0) (p .3))
+
+is-empty-requires : tie.Need-is-empty-requires Inv-loop μ-loop
+is-empty-requires c κs = search needs
 
 lowest-requires : tie.Need-lowest-requires Inv-loop μ-loop
 lowest-requires c κs = search needs
 
 won-requires : tie.Need-won-requires Inv-loop μ-loop
-won-requires c κs = omega (arith, below c)
+won-requires c κs =
+    let l = c .before .before .before in
+    let p = l .before .before .before .before .pre in
+    (p .0, below c, p .1, p .2)
 
 insert-if-requires : tie.Need-insert-if-requires Inv-loop μ-loop
 insert-if-requires c κs = small (c .before)
 
-insert-requires : tie.Need-insert-requires Inv-loop μ-loop
-insert-requires c κs = small (c .before .before)
-
-difference-requires : tie.Need-difference-requires Inv-loop μ-loop
-difference-requires c κs = search needs
+without-lowest-requires : tie.Need-without-lowest-requires Inv-loop μ-loop
+without-lowest-requires c κs = some-left (c .before .before .before)
 
 loop-less : tie.Need-loop-less Inv-loop μ-loop
 loop-less c =
-    let l = c .before .before .before .before in
-    let b = l .before .before in
-    collected-falls _ _ _ (b .loop .rest) _ (b .loop .inv) (l .before .loop-test .taken) _ (l .lowest .ensures) _ _ (c .before .insert .ensures)
-    (c .difference .ensures)
+    let o = c .before .before .before in
+    let l = o .before .before .before in
+    collected-falls capacity _ _ _ (bitsOf (l .loop .rest)) _ (l .loop .inv) (some-left (o .before)) _ (o .lowest .ensures) _ (c .without-lowest .ensures)
 
 loop-again : tie.Need-loop-again Inv-loop μ-loop
 loop-again c =
-    let l = c .before .before .before .before in
-    let b = l .before .before in
-    collected-next _ _ _ (b .loop .rest) _ (b .loop .inv) (l .before .loop-test .taken) _ (l .lowest .ensures) _ _ (c .before .insert .ensures)
-    (c .difference .ensures)
-    (omega (arith, c .difference .ok)) (lost-at _ _ _ _ _ (c .before .before .before .won .ensures)) (c .before .before .insert-if .ensures)
+    let o = c .before .before .before in
+    let l = o .before .before .before in
+    collected-next capacity _ _ _ (bitsOf (l .loop .rest)) _ (l .loop .inv) (some-left (o .before)) _ (o .lowest .ensures) _ (c .without-lowest .ensures)
+    (lost-at _ _ _ _ _ (c .before .before .won .ensures)) (c .before .insert-if .ensures)
 
 returns : tie.Need-returns Inv-loop μ-loop
-returns c = lost-all _ _ _ _ _ (collected-end _ _ _ (c .before .loop .rest) _ (c .before .loop .inv) (c .loop-test .left))
+returns c =
+    let l = c .before .before in
+    lost-all _ _ _ _ _ (collected-end capacity _ _ _ (bitsOf (l .loop .rest)) _ (l .loop .inv) (is-none _ (c .before .is-empty .ensures) (c .if1 .left)))
 
 pub lost-spec : {M : Type 1} → statement M
 lost-spec =
@@ -64,12 +81,13 @@ lost-spec =
     (tie.spec
     Inv-loop
     μ-loop
+    empty-requires
     loop-holds
+    is-empty-requires
     lowest-requires
     won-requires
     insert-if-requires
-    insert-requires
-    difference-requires
+    without-lowest-requires
     loop-less
     loop-again
     returns)

@@ -3,12 +3,18 @@ use native.Mathlib.Omega.{arith}
 use borrow.Author.Needs.{needs}
 use Prim.Native.Nat.{_<_}
 use mathlib.Core.Path.{_≡_}
+use mathlib.Core.Logic.{_≢_}
 use lib.ListN.{length}
 use Rattle.finite.specs.Bounded.{count}
-use Rattle.sets.specs.Member.{has}
+use Rattle.bits.specs.Member.{has}
+use Rattle.sets.specs.Words.{capacity, bitsOf, setsIn}
+use Rattle.sets.proofs.Rows.{is-none, is-some}
+use Rattle.arena.specs.Table.{gives}
+use Rattle.theory.specs.Entries.{entry}
+use Rattle.entries.specs.Step.{entryStep}
 use Rattle.environment_table.specs.Table.{Same, Putting}
 use Rattle.environment_table.specs.Pressing.{Going}
-use Rattle.environment_table.proofs.Places.{roomy-more, same-small}
+use Rattle.environment_table.proofs.Places.{roomy-more}
 use Rattle.environment_table.proofs.Members.{Visiting, visit-start, visit-small, visit-in, visit-falls, visit-next, visit-end}
 use Rattle.environment_table.proofs.Outward.{going-same}
 use Rattle.escape.proofs.escape_rows.Statement.{statement}
@@ -16,110 +22,121 @@ use Rattle.escape.proofs.escape_rows.Tie as tie
 
 abbrev Inv-loop : tie.InvT-loop
 Inv-loop moves z o out room₀ w rest₀ room rest =
-    (p : Going (z .outputs) (z .counters) moves rest₀ (o .0) (out .0) (w .next) (length room₀)) → Visiting (p .game) (λ a b. a) (λ a h b. b ≡ o .0) rest₀
-    rest room₀ room
+    (p : Going (z .outputs) (z .counters) (setsIn moves) (bitsOf rest₀) (o .0) (bitsOf (out .0)) (w .next) (length room₀))
+    → Visiting (p .game) (λ a b. a) (λ a h b. b ≡ o .0) (bitsOf rest₀) (bitsOf rest) room₀ room
 
 abbrev μ-loop : tie.MeasureT-loop
-μ-loop moves z o out room₀ w rest₀ room rest = count 64 (has rest)
+μ-loop moves z o out room₀ w rest₀ room rest = count capacity (has (bitsOf rest))
+
+some-left : (c : tie.Then1 Inv-loop μ-loop) → bitsOf (c .before .before .loop .rest) ≢ 0
+some-left c = is-some _ (c .before .is-empty .ensures) (c .if1 .taken)
 
 -- a game that the arguments fit
 abbrev Held : tie.Start Inv-loop μ-loop → Type 0
 Held c =
-    Going (c .args .z .outputs) (c .args .z .counters) (c .args .moves .now) (c .args .c .0) (c .args .o .0) (c .args .out .0) (c .args .t6 .next)
-    (length (c .args .room .now))
+    Going (c .args .z .outputs) (c .args .z .counters) (setsIn (c .args .moves .now)) (bitsOf (c .args .c .0)) (c .args .o .0) (bitsOf (c .args .out .0))
+    (c .args .t6 .next) (length (c .args .room .now))
 
-small : (c : tie.After-lowest Inv-loop μ-loop) → c .lowest .result < 64
+small : (c : tie.After-lowest Inv-loop μ-loop) → c .lowest .result < capacity
 small c =
-    visit-small _ _ _ _ (c .before .before .loop .rest) _ (c .before .before .loop .inv (c .before .before .before .before .pre))
-    (c .before .loop-test .taken) (c .lowest .ensures)
-
--- what belongs in the rows of the state that is visited
-same : (c : tie.After-way-from Inv-loop μ-loop) (p : Held (c .before .before .before .before .before .before .before))
-    → Same (p .game) (c .before .before .before .before .before .before .before .args .z .counters) (c .before .before .before .lowest .result)
-    (c .before .before .before .before .before .before .before .args .o .0) (c .way-from .result) 64
-same c p =
     let l = c .before .before .before in
-    let b = l .before .before in
-    going-same _ _ _ _ _ _ _ _ p _ _ (visit-in _ _ _ _ (b .loop .rest) _ (b .loop .inv p) (l .before .loop-test .taken) (l .lowest .ensures))
-    (c .way-from .ensures)
-
-putting : (c : tie.After-put-arg Inv-loop μ-loop) (p : Held (c .before .before .before .before .before .before .before .before))
-    → Putting (c .before .before .before .before .before .before .before .before .args .z .outputs)
-    (c .before .before .before .before .before .before .before .before .args .z .counters) (c .before .before .before .before .lowest .result)
-    (c .before .before .before .before .before .before .before .before .args .o .0) (c .before .way-from .result) 64
-    (length (c .before .before .before .before .before .before .loop .room))
-putting c p =
-    let at-step = c .before .before .before .before .before in
-    let at-loop = at-step .before in
-    record { game = p .game; outputs = p .outputs; roomy = roomy-more _ (p .roomy) (at-loop .loop .inv p .filled); same = same (c .before) p }
+    visit-small _ _ _ _ (bitsOf (l .loop .rest)) _ (l .loop .inv (l .before .before .before .pre)) (some-left (c .before)) (c .lowest .ensures)
 
 loop-holds : tie.Need-loop-holds Inv-loop μ-loop
 loop-holds c = λ p. visit-start _ _ _ _ _ _ (p .roomy .inputs) (p .outward .below)
 
+is-empty-requires : tie.Need-is-empty-requires Inv-loop μ-loop
+is-empty-requires c κs = search needs
+
 lowest-requires : tie.Need-lowest-requires Inv-loop μ-loop
 lowest-requires c κs = search needs
 
-mul-way-from : tie.Need-mul-way-from Inv-loop μ-loop
-mul-way-from c = omega (arith, small c)
+row-of-requires : tie.Need-row-of-requires Inv-loop μ-loop
+row-of-requires c κs = small c
 
 element-copy-out-way-from : tie.Need-element-copy-out-way-from Inv-loop μ-loop
-element-copy-out-way-from c = omega (arith, small c)
-
-element-copy-out-way-from-2 : tie.Need-element-copy-out-way-from-2 Inv-loop μ-loop
-element-copy-out-way-from-2 c = omega (arith, small (c .before))
+element-copy-out-way-from c = omega (arith, small (c .before))
 
 way-from-requires : tie.Need-way-from-requires Inv-loop μ-loop
 way-from-requires c κs = search needs
 
-cast-put : tie.Need-cast-put Inv-loop μ-loop
-cast-put c =
-    let at-step = c .before .before .before .before .before in
-    let at-start = at-step .before .before in
-    omega (arith, same-small _ _ _ _ _ _ _ (at-start .pre .roomy) (same c (at-start .pre)))
+-- what belongs in the rows of the state that is visited
+same : (c : tie.After-way-from Inv-loop μ-loop)
+    → let w = c .before .before .before in
+    let l = w .before .before .before in
+    let start = l .before .before .before in
+    (p : Held start)
+    → (c .way-from .result < capacity)
+    × Same (p .game) (start .args .z .counters) (w .lowest .result) (start .args .o .0) (entry (gives 0 (c .way-from .result))) entryStep
+same c p =
+    let r = c .before .before in
+    let w = r .before in
+    let l = w .before .before .before in
+    let member = visit-in _ _ _ _ (bitsOf (l .loop .rest)) _ (l .loop .inv p) (some-left (w .before)) (w .lowest .ensures) in
+    going-same _ _ _ _ _ _ _ _ p _ _ _ member (r .row-of .ensures .1) (c .way-from .ensures)
+
+pack-requires : tie.Need-pack-requires Inv-loop μ-loop
+pack-requires c κs =
+    let w = c .before .before .before in
+    let l = w .before .before .before in
+    (same c (l .before .before .before .pre) .0, omega arith)
+
+putting : (c : tie.After-put-arg Inv-loop μ-loop)
+    → let f = c .before in
+    let w = f .before .before .before .before in
+    let l = w .before .before .before in
+    let start = l .before .before .before in
+    Held start → Putting (start .args .z .outputs) (start .args .z .counters) (w .lowest .result) (start .args .o .0) (f .pack .result) entryStep
+    (length (l .loop .room))
+putting c p =
+    let f = c .before in
+    let w = f .before .before .before .before in
+    let l = w .before .before .before in
+    record {
+      game = p .game;
+      outputs = p .outputs;
+      roomy = roomy-more _ (p .roomy) (l .loop .inv p .filled);
+      same = rw (f .pack .ensures) (same (f .before) p .1);
+    }
 
 put-requires : tie.Need-put-requires Inv-loop μ-loop
 put-requires c κs =
-    let at-step = c .before .before .before .before .before in
-    let at-start = at-step .before .before .before in
-    putting c (at-start .pre)
+    let w = c .before .before .before .before .before in
+    let l = w .before .before .before in
+    putting c (l .before .before .before .pre)
 
-insert-requires : tie.Need-insert-requires Inv-loop μ-loop
-insert-requires c κs =
-    let at-step = c .before .before .before .before .before in
-    let at-step2 = at-step .before .before in
-    small at-step2
-
-difference-requires : tie.Need-difference-requires Inv-loop μ-loop
-difference-requires c κs = search needs
+without-lowest-requires : tie.Need-without-lowest-requires Inv-loop μ-loop
+without-lowest-requires c κs =
+    let arg = c .before .before .before in
+    let w = arg .before .before .before .before .before in
+    some-left (w .before)
 
 loop-less : tie.Need-loop-less Inv-loop μ-loop
 loop-less c =
-    let at-insert = c .before in
-    let at-step = at-insert .before .before .before .before .before in
-    let at-step2 = at-step .before .before .before in
-    let at-start = at-step2 .before .before .before .before in
-    let l = at-step2 in
-    let b = l .before .before in
-    visit-falls _ _ _ _ (b .loop .rest) _ (b .loop .inv (at-start .pre)) (l .before .loop-test .taken) (l .lowest .ensures) _ _
-    (at-insert .insert .ensures) (c .difference .ensures)
+    let arg = c .before .before .before .before in
+    let w = arg .before .before .before .before .before in
+    let l = w .before .before .before in
+    visit-falls _ _ _ _ (bitsOf (l .loop .rest)) _ (l .loop .inv (l .before .before .before .pre)) (some-left (w .before)) (w .lowest .ensures) _
+    (c .without-lowest .ensures)
 
 loop-again : tie.Need-loop-again Inv-loop μ-loop
 unfolding putting
 loop-again c =
-    let at-put = c .before .before .before .before in
-    let at-step = at-put .before .before .before .before .before in
-    let l = at-step in
-    let b = l .before .before in
+    let put = c .before .before .before in
+    let arg = put .before in
+    let w = arg .before .before .before .before .before in
+    let l = w .before .before .before in
     λ p.
-    visit-next _ _ _ _ (b .loop .rest) _ (b .loop .inv p) (l .before .loop-test .taken) (l .lowest .ensures) _ _ (c .before .insert .ensures)
-    (c .difference .ensures)
-    (omega (arith, c .difference .ok)) (at-put .put .ensures .fills (putting (c .before .before .before .before .before) p)) (λ a h b e q. (q, e))
+    visit-next _ _ _ _ (bitsOf (l .loop .rest)) _ (l .loop .inv p) (some-left (w .before)) (w .lowest .ensures) _ (c .without-lowest .ensures)
+    (put .put .ensures .fills (putting arg p)) (λ a h b e q. (q, e))
 
 same-length : tie.Need-same-length Inv-loop μ-loop
-same-length c = c .before .loop .inv (c .before .before .before .pre) .filled .grows .long
+same-length c = let l = c .before .before in l .loop .inv (l .before .before .before .pre) .filled .grows .long
 
 returns : tie.Need-returns Inv-loop μ-loop
-returns c = record { fills = λ p. visit-end _ _ _ _ (c .before .loop .rest) (c .before .loop .inv p) (c .loop-test .left) }
+returns c =
+    let l = c .before .before in
+    record { fills = λ p. visit-end _ _ _ _ (bitsOf (l .loop .rest)) (l .loop .inv p) (is-none _ (c .before .is-empty .ensures) (c .if1 .left)) }
 
 pub escape-rows-spec : {M : Type 1} → statement M
 escape-rows-spec =
@@ -128,15 +145,14 @@ escape-rows-spec =
     Inv-loop
     μ-loop
     loop-holds
+    is-empty-requires
     lowest-requires
-    mul-way-from
+    row-of-requires
     element-copy-out-way-from
-    element-copy-out-way-from-2
     way-from-requires
-    cast-put
+    pack-requires
     put-requires
-    insert-requires
-    difference-requires
+    without-lowest-requires
     loop-less
     loop-again
     same-length

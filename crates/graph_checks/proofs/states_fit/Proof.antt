@@ -4,6 +4,7 @@ use mathlib.Core.Bool.{true}
 use Prim.Native.Nat.{_≤_, _-_}
 use borrow.Author.Needs.{needs}
 use native.Mathlib.Omega.{arith}
+use Rattle.sets.specs.Words.{capacity}
 use Rattle.finite.specs.Bounded.{all}
 use Rattle.finite.proofs.Loops.{all-start, all-turn, failed, passed}
 use Rattle.game.proofs.Steps.{row-fits, states-initial, states-row, states-end}
@@ -12,10 +13,10 @@ use Rattle.graph_checks.proofs.states_fit.Statement.{statement}
 use Rattle.graph_checks.proofs.states_fit.Tie as tie
 
 abbrev Inv-loop : tie.InvT-loop
-Inv-loop g s₀ s = (s ≤ 64) × (all s (rowFits g) ≡ true)
+Inv-loop g s₀ s = (s ≤ capacity) × (all s (rowFits g) ≡ true)
 
 abbrev μ-loop : tie.MeasureT-loop
-μ-loop g s₀ s = 64 - s
+μ-loop g s₀ s = capacity - s
 
 within-requires : tie.Need-within-requires Inv-loop μ-loop
 within-requires c κs = search needs
@@ -26,23 +27,20 @@ returns c = states-initial _ (failed (c .before .within .ensures) (c .if1 .taken
 loop-holds : tie.Need-loop-holds Inv-loop μ-loop
 loop-holds c = (omega arith, all-start _)
 
-mul-row-fits : tie.Need-mul-row-fits Inv-loop μ-loop
-mul-row-fits c = omega arith
-
-element-copy-out-row-fits : tie.Need-element-copy-out-row-fits Inv-loop μ-loop
-element-copy-out-row-fits c = omega arith
+row-of-requires : tie.Need-row-of-requires Inv-loop μ-loop
+row-of-requires c κs = omega arith
 
 row-fits-requires : tie.Need-row-fits-requires Inv-loop μ-loop
 row-fits-requires c κs = search needs
 
 returns-2 : tie.Need-returns-2 Inv-loop μ-loop
 returns-2 c =
-    let at-if1 = c .before .before .before .before .before in
-    let at-within = at-if1 .before in
+    let at-test = c .before .before .before .before .before in
+    let at-if1 = at-test .before .before in
     states-row _ _
-    (passed (at-within .within .ensures) (at-if1 .if1 .left))
-    (c .before .before .before .loop-test .taken)
-    (failed (row-fits _ _ _ (c .before .row-fits .ensures)) (c .if2 .taken))
+    (passed (at-if1 .before .within .ensures) (at-if1 .if1 .left))
+    (at-test .loop-test .taken)
+    (failed (row-fits _ _ _ _ (c .before .before .row-of .ensures .1) (c .before .row-fits .ensures)) (c .if2 .taken))
 
 add-s : tie.Need-add-s Inv-loop μ-loop
 add-s c = omega arith
@@ -52,7 +50,8 @@ loop-less c = omega arith
 
 loop-again : tie.Need-loop-again Inv-loop μ-loop
 loop-again c =
-    (omega arith, all-turn _ _ (c .before .before .before .before .loop .inv .1) (passed (row-fits _ _ _ (c .before .row-fits .ensures)) (c .if2 .left)))
+    let at-loop = c .before .before .before .before .before .before in
+    (omega arith, all-turn _ _ (at-loop .loop .inv .1) (passed (row-fits _ _ _ _ (c .before .before .row-of .ensures .1) (c .before .row-fits .ensures)) (c .if2 .left)))
 
 returns-3 : tie.Need-returns-3 Inv-loop μ-loop
 returns-3 c =
@@ -71,8 +70,7 @@ states-fit-spec =
     within-requires
     returns
     loop-holds
-    mul-row-fits
-    element-copy-out-row-fits
+    row-of-requires
     row-fits-requires
     returns-2
     add-s

@@ -1,70 +1,73 @@
--- `home_row`. Invariant: c has the members of `among` that are homes, but those of `rest`.
-use Prim.Native.Nat.{_<_}
+-- `home_row`. Invariant: y has the members of `among` that are homes, but those of `rest`.
+use Rattle.finite.specs.Bounded.{count}
+use Rattle.bits.specs.Member.{has}
+use Rattle.bits.proofs.Visit.{Collected, whole-start, collected-below, collected-falls, collected-next, collected-end}
+use Rattle.sets.specs.Words.{capacity, bitsOf, setsIn}
+use Rattle.sets.proofs.Rows.{is-some, is-none}
+use Rattle.homes.specs.Homes.{safeAt, homeAt}
 use native.Mathlib.Omega.{arith}
 use borrow.Author.Needs.{needs}
-use Rattle.finite.specs.Bounded.{count}
-use Rattle.sets.specs.Member.{has}
-use Rattle.sets.proofs.Visit.{Collected, collected-start, collected-small, collected-below, collected-falls, collected-next, collected-end}
-use Rattle.homes.specs.Homes.{safeAt, homeAt}
 use Rattle.homes.proofs.home_row.Statement.{statement}
 use Rattle.homes.proofs.home_row.Tie as tie
 
 abbrev Inv-loop : tie.InvT-loop
-Inv-loop s n m cores x among c₀ rest₀ c rest = Collected among m (λ d. safeAt s n cores x d n) rest c
+Inv-loop s n m c x y₀ rest₀ y rest = Collected capacity (bitsOf rest₀) m (λ d. safeAt (setsIn s) n (bitsOf (c .0)) (bitsOf (x .0)) d n) (bitsOf rest) (bitsOf y)
 
 abbrev μ-loop : tie.MeasureT-loop
-μ-loop s n m cores x among c₀ rest₀ c rest = count 64 (has rest)
+μ-loop s n m c x y₀ rest₀ y rest = count capacity (has (bitsOf rest))
 
-below-requires : tie.Need-below-requires Inv-loop μ-loop
-below-requires c κs = search needs
-
-intersection-requires : tie.Need-intersection-requires Inv-loop μ-loop
-intersection-requires c κs = search needs
+empty-requires : tie.Need-empty-requires Inv-loop μ-loop
+empty-requires c κs = search needs
 
 loop-holds : tie.Need-loop-holds Inv-loop μ-loop
-loop-holds c = collected-start _ _ _ _ _ (omega (arith, c .intersection .ok)) (c .before .below .ensures) (c .intersection .ensures)
+loop-holds c = rw (c .before .empty .ensures .1) (whole-start capacity _ _ _ (omega arith) (c .before .before .before .pre .4))
+
+is-empty-requires : tie.Need-is-empty-requires Inv-loop μ-loop
+is-empty-requires c κs = search needs
 
 lowest-requires : tie.Need-lowest-requires Inv-loop μ-loop
 lowest-requires c κs = search needs
 
-small : (c : tie.After-lowest Inv-loop μ-loop) → c .lowest .result < 64
-small c =
-    let b = c .before .before in
-    collected-small _ _ _ (b .loop .rest) (b .loop .c) (b .loop .inv) (c .before .loop-test .taken) _ (c .lowest .ensures)
-
 safe-requires : tie.Need-safe-requires Inv-loop μ-loop
 safe-requires c κs =
-    let b = c .before .before in
-    omega (arith, small c, collected-below _ _ _ (b .loop .rest) (b .loop .c) (b .loop .inv) (c .before .loop-test .taken) _ (c .lowest .ensures))
+    let e = c .before .before in
+    let b = e .before in
+    let p = b .before .before .before .before .pre in
+    let below = collected-below capacity _ _ _ _ _ (b .loop .inv) (is-some _ (e .is-empty .ensures) (c .before .if1 .taken)) _ (c .lowest .ensures) in
+    (p .0, omega (arith, p .1), omega (arith, p .2), p .3)
 
 insert-if-requires : tie.Need-insert-if-requires Inv-loop μ-loop
-insert-if-requires c κs = small (c .before)
+insert-if-requires c κs =
+    let l = c .before in
+    let e = l .before .before in
+    let b = e .before in
+    let p = b .before .before .before .before .pre in
+    omega (arith, p .1, collected-below capacity _ _ _ _ _ (b .loop .inv) (is-some _ (e .is-empty .ensures) (l .before .if1 .taken)) _ (l .lowest .ensures))
 
-insert-requires : tie.Need-insert-requires Inv-loop μ-loop
-insert-requires c κs = small (c .before .before)
-
-difference-requires : tie.Need-difference-requires Inv-loop μ-loop
-difference-requires c κs = search needs
+without-lowest-requires : tie.Need-without-lowest-requires Inv-loop μ-loop
+without-lowest-requires c κs =
+    let l = c .before .before in
+    is-some _ (l .before .before .is-empty .ensures) (l .before .if1 .taken)
 
 loop-less : tie.Need-loop-less Inv-loop μ-loop
 loop-less c =
-    let a = c .before .before .before .before in
-    let b = a .before .before in
-    collected-falls _ _ _ (b .loop .rest) (b .loop .c) (b .loop .inv) (a .before .loop-test .taken) _ (a .lowest .ensures) _ _ (c .before .insert .ensures)
-    (c .difference .ensures)
+    let l = c .before .before .before in
+    let e = l .before .before in
+    let ne = is-some _ (e .is-empty .ensures) (l .before .if1 .taken) in
+    collected-falls capacity _ _ _ _ _ (e .before .loop .inv) ne _ (l .lowest .ensures) _ (c .without-lowest .ensures)
 
 loop-again : tie.Need-loop-again Inv-loop μ-loop
 loop-again c =
-    let w = c .before .before .before in
-    let a = w .before in
-    let b = a .before .before in
-    collected-next _ _ _ (b .loop .rest) (b .loop .c) (b .loop .inv) (a .before .loop-test .taken) _ (a .lowest .ensures) _ _ (c .before .insert .ensures)
-    (c .difference .ensures)
-    (omega (arith, c .difference .ok)) (w .safe .ensures) (c .before .before .insert-if .ensures)
+    let w = c .before .before in
+    let l = w .before in
+    let e = l .before .before in
+    let ne = is-some _ (e .is-empty .ensures) (l .before .if1 .taken) in
+    collected-next capacity _ _ _ _ _ (e .before .loop .inv) ne _ (l .lowest .ensures) _ (c .without-lowest .ensures) (w .safe .ensures)
+    (c .before .insert-if .ensures)
 
 returns : tie.Need-returns Inv-loop μ-loop
 unfolding homeAt
-returns c = collected-end _ _ _ (c .before .loop .rest) (c .before .loop .c) (c .before .loop .inv) (c .loop-test .left)
+returns c = collected-end capacity _ _ _ _ _ (c .before .before .loop .inv) (is-none _ (c .before .is-empty .ensures) (c .if1 .left))
 
 pub home-row-spec : {M : Type 1} → statement M
 home-row-spec =
@@ -72,14 +75,13 @@ home-row-spec =
     (tie.spec
     Inv-loop
     μ-loop
-    below-requires
-    intersection-requires
+    empty-requires
     loop-holds
+    is-empty-requires
     lowest-requires
     safe-requires
     insert-if-requires
-    insert-requires
-    difference-requires
+    without-lowest-requires
     loop-less
     loop-again
     returns)

@@ -1,72 +1,70 @@
 -- `safe`. Invariant: the members of x but those of `rest` are won with d.
-use native.Mathlib.Omega.{arith}
-use borrow.Author.Needs.{needs}
 use Rattle.finite.specs.Bounded.{count}
 use Rattle.finite.proofs.Loops.{failed, passed}
-use Rattle.sets.specs.Member.{has}
-use Rattle.sets.proofs.Remove.{rest-less}
-use Rattle.sets.proofs.Passing.{Passing, passing-start, passing-small, passing-below, passing-falls, passing-next}
-use Rattle.stored.specs.Stored.{wonAt}
+use Rattle.bits.specs.Member.{has}
+use Rattle.bits.proofs.Passing.{Passing, passing-whole, passing-below, passing-falls, passing-next}
+use Rattle.sets.specs.Words.{capacity, bitsOf, setsIn}
+use Rattle.sets.proofs.Rows.{is-some, is-none}
+use Rattle.scratch.specs.Stored.{wonAt}
 use Rattle.homes.proofs.Exits.{safe-fails, safe-holds}
+use native.Mathlib.Omega.{arith}
+use borrow.Author.Needs.{needs}
 use Rattle.homes.proofs.safe.Statement.{statement}
 use Rattle.homes.proofs.safe.Tie as tie
 
 abbrev Inv-loop : tie.InvT-loop
-Inv-loop s n cores x d rest₀ rest = Passing x n (λ j. wonAt s n cores j d) rest
+Inv-loop s n c d rest₀ rest = Passing capacity (bitsOf rest₀) n (λ j. wonAt (setsIn s) n (bitsOf (c .0)) j (d .0)) (bitsOf rest)
 
 abbrev μ-loop : tie.MeasureT-loop
-μ-loop s n cores x d rest₀ rest = count 64 (has rest)
-
-below-requires : tie.Need-below-requires Inv-loop μ-loop
-below-requires c κs = search needs
-
-intersection-requires : tie.Need-intersection-requires Inv-loop μ-loop
-intersection-requires c κs = search needs
+μ-loop s n c d rest₀ rest = count capacity (has (bitsOf rest))
 
 loop-holds : tie.Need-loop-holds Inv-loop μ-loop
-loop-holds c = passing-start _ _ _ _ _ (omega (arith, c .intersection .ok)) (c .before .below .ensures) (c .intersection .ensures)
+loop-holds c = passing-whole capacity _ _ _ (omega arith) (c .before .before .pre .3)
+
+is-empty-requires : tie.Need-is-empty-requires Inv-loop μ-loop
+is-empty-requires c κs = search needs
 
 lowest-requires : tie.Need-lowest-requires Inv-loop μ-loop
 lowest-requires c κs = search needs
 
 won-requires : tie.Need-won-requires Inv-loop μ-loop
 won-requires c κs =
-    let b = c .before .before in
-    omega (arith, passing-below _ _ _ (b .loop .rest) (b .loop .inv) (c .before .loop-test .taken) _ (c .lowest .ensures))
+    let e = c .before .before in
+    let b = e .before in
+    let below = passing-below capacity _ _ _ _ (b .loop .inv) (is-some _ (e .is-empty .ensures) (c .before .if1 .taken)) _ (c .lowest .ensures) in
+    omega arith
 
 returns : tie.Need-returns Inv-loop μ-loop
 returns c =
     let a = c .before .before in
-    let b = a .before .before in
-    safe-fails _ _ _ _ _ (b .loop .rest) (b .loop .inv) (a .before .loop-test .taken) _ (a .lowest .ensures) (failed (c .before .won .ensures) (c .if1 .taken))
+    let e = a .before .before in
+    let b = e .before in
+    let ne = is-some _ (e .is-empty .ensures) (a .before .if1 .taken) in
+    safe-fails _ _ _ _ _ _ (b .loop .inv) ne _ (a .lowest .ensures) (failed (c .before .won .ensures) (c .if2 .taken))
 
-insert-requires : tie.Need-insert-requires Inv-loop μ-loop
-insert-requires c κs =
+without-lowest-requires : tie.Need-without-lowest-requires Inv-loop μ-loop
+without-lowest-requires c κs =
     let a = c .before .before in
-    let b = a .before .before in
-    passing-small _ _ _ (b .loop .rest) (b .loop .inv) (a .before .loop-test .taken) _ (a .lowest .ensures)
-
-difference-requires : tie.Need-difference-requires Inv-loop μ-loop
-difference-requires c κs = search needs
+    is-some _ (a .before .before .is-empty .ensures) (a .before .if1 .taken)
 
 loop-less : tie.Need-loop-less Inv-loop μ-loop
 loop-less c =
-    let a = c .before .before .before .before in
-    let b = a .before .before in
-    passing-falls _ _ _ (b .loop .rest) (b .loop .inv) (a .before .loop-test .taken) _ (a .lowest .ensures) _
-    (rest-less _ _ _ _ (c .before .insert .ensures) (c .difference .ensures))
+    let a = c .before .before .before in
+    let e = a .before .before in
+    let ne = is-some _ (e .is-empty .ensures) (a .before .if1 .taken) in
+    passing-falls capacity _ _ _ _ (e .before .loop .inv) ne _ (a .lowest .ensures) _ (c .without-lowest .ensures)
 
 loop-again : tie.Need-loop-again Inv-loop μ-loop
 loop-again c =
-    let w = c .before .before .before in
+    let w = c .before .before in
     let a = w .before in
-    let b = a .before .before in
-    passing-next _ _ _ (b .loop .rest) (b .loop .inv) (a .before .loop-test .taken) _ (a .lowest .ensures) _
-    (rest-less _ _ _ _ (c .before .insert .ensures) (c .difference .ensures))
-    (omega (arith, c .difference .ok)) (passed (w .won .ensures) (c .before .before .if1 .left))
+    let e = a .before .before in
+    let ne = is-some _ (e .is-empty .ensures) (a .before .if1 .taken) in
+    passing-next capacity _ _ _ _ (e .before .loop .inv) ne _ (a .lowest .ensures) _ (c .without-lowest .ensures)
+    (passed (w .won .ensures) (c .before .if2 .left))
 
 returns-2 : tie.Need-returns-2 Inv-loop μ-loop
-returns-2 c = safe-holds _ _ _ _ _ (c .before .loop .rest) (c .before .loop .inv) (c .loop-test .left)
+returns-2 c = safe-holds _ _ _ _ _ _ (c .before .before .loop .inv) (is-none _ (c .before .is-empty .ensures) (c .if1 .left))
 
 pub safe-spec : {M : Type 1} → statement M
 safe-spec =
@@ -74,14 +72,12 @@ safe-spec =
     (tie.spec
     Inv-loop
     μ-loop
-    below-requires
-    intersection-requires
     loop-holds
+    is-empty-requires
     lowest-requires
     won-requires
     returns
-    insert-requires
-    difference-requires
+    without-lowest-requires
     loop-less
     loop-again
     returns-2)

@@ -1,5 +1,6 @@
 -- `map_accepted`.
 use native.Mathlib.Omega.{arith}
+use Rattle.sets.proofs.Rows.{words-held}
 use Rattle.game.proofs.Laws.{accepted-fits}
 use Rattle.joined.proofs.Made.{small-counts, joined-many-inputs, joined-many-outputs, joined-scratch-short, joined-map-short, joined-done}
 use borrow.Author.Needs.{needs}
@@ -20,18 +21,27 @@ returns-3 c =
     let b = b-past .before .before in
     joined-scratch-short _ _ _ (b .pre) (small-counts _ (omega arith) (omega arith)) (c .if3 .taken)
 
+words-requires : tie.Need-words-requires
+words-requires c κs = omega arith
+
+-- where the call began, told from the map's length on
+abbrev began : tie.After-words → tie.Start
+began w = let b-past = w .before .before .before .before .before in b-past .before .before .before
+
 returns-4 : tie.Need-returns-4
 returns-4 c =
-    let b-past = c .before .before .before .before .before in
-    let b = b-past .before .before .before .before in
-    joined-map-short _ _ _ (b .pre) (small-counts _ (omega arith) (omega arith)) (c .if4 .taken)
+    let w = c .before in
+    joined-map-short _ _ _ (began w .pre) (small-counts _ (omega arith) (omega arith)) (omega (arith, w .words .ensures, c .if4 .taken))
 
 make-map-requires : tie.Need-make-map-requires
 make-map-requires c κs =
-    let b-past = c .before .before .before .before .before in
-    let b-past2 = b-past .before .before .before .before .before in
-    let b = b-past2 .before in
-    (record { fits = accepted-fits _ (b .pre); inputs = omega arith; outputs = omega arith }, omega arith, omega arith)
+    let e = c .before .before in
+    let w = e .before in
+    let b = began w in (
+      record { fits = accepted-fits _ (b .pre); inputs = omega arith; outputs = omega arith },
+      omega arith,
+      words-held (b .args .map .now) (b .args .g .input .states) (omega (arith, w .words .ensures, e .if4 .left)),
+    )
 
 same-length : tie.Need-same-length
 same-length c = search needs
@@ -42,10 +52,10 @@ same-length-2 c = search needs
 returns-5 : tie.Need-returns-5
 returns-5 c =
     let m = c .before .before .before .before in
-    let b-past = m .before .before .before .before .before in
-    let b-past2 = b-past .before .before .before .before .before in
-    let b = b-past2 .before .before in
-    joined-done _ _ _ (b .pre) (small-counts _ (omega arith) (omega arith)) _ _ (omega arith) (omega arith) (m .make-map .ensures .0) (m .make-map .ensures .1)
+    let e = m .before .before .before in
+    let w = e .before in
+    joined-done _ _ _ (began w .pre) (small-counts _ (omega arith) (omega arith)) _ _ (omega arith) (omega (arith, w .words .ensures, e .if4 .left))
+    (m .make-map .ensures .0) (m .make-map .ensures .1)
 
 pub map-accepted-spec : {M : Type 1} → statement M
 map-accepted-spec =
@@ -54,6 +64,7 @@ map-accepted-spec =
     returns
     returns-2
     returns-3
+    words-requires
     returns-4
     make-map-requires
     same-length

@@ -1,42 +1,46 @@
 -- `write_map`.
-use Prim.Native.Nat.{_≤_, _-_}
-use mathlib.Core.Path.{_≡_}
+use Prim.Native.Nat.{ℕ, _-_, _^_, _≤_, _<_}
+use mathlib.Core.Path.{_≡_, refl, _∙_}
 use mathlib.Core.List.{_++_}
 use native.Mathlib.Omega.{arith}
-use lib.ListN.{drop}
+use lib.ListN.{length, getD, drop}
 use Rattle.finite.specs.Tabulate.{tabulate}
 use Rattle.finite.proofs.Front.{front-none}
+use Rattle.sets.specs.Words.{setsIn}
+use Rattle.sets.proofs.Rows.{count-same, sets-long}
 use Rattle.marks.specs.Marks.{mapRow}
-use Rattle.marks.proofs.Filled.{filled-length, filled-more, filled-end}
+use Rattle.marks.proofs.Rows.{rows-more, rows-end, map-filled}
+use borrow.Author.Needs.{needs}
 use Rattle.joined.proofs.write_map.Statement.{statement}
 use Rattle.joined.proofs.write_map.Tie as tie
 
 abbrev Inv-loop : tie.InvT-loop
-Inv-loop g s map₀ i₀ map i = (i ≤ g .input .states) × (map ≡ tabulate i (mapRow g) ++ drop i map₀)
+Inv-loop g s map₀ i₀ map i =
+    (i ≤ g .input .states) × (length map ≡ length map₀) × (setsIn map ≡ tabulate i (mapRow g) ++ drop i (setsIn map₀)) × ((k : ℕ) → getD map k 0 < 2 ^ 64)
 
 abbrev μ-loop : tie.MeasureT-loop
 μ-loop g s map₀ i₀ map i = g .input .states - i
 
 loop-holds : tie.Need-loop-holds Inv-loop μ-loop
-loop-holds c = (omega arith, front-none _ _)
+loop-holds c = (omega arith, refl, front-none _ _, λ k. omega (arith, c .slice-known .given k))
 
-add-map : tie.Need-add-map Inv-loop μ-loop
-add-map c = omega arith
+add-set-of : tie.Need-add-set-of Inv-loop μ-loop
+add-set-of c = omega arith
 
-mul-map : tie.Need-mul-map Inv-loop μ-loop
-mul-map c = omega arith
+mul-set-of : tie.Need-mul-set-of Inv-loop μ-loop
+mul-set-of c = omega arith
 
-shared-slice-read-map : tie.Need-shared-slice-read-map Inv-loop μ-loop
-shared-slice-read-map c = omega arith
+shared-slice-read-set-of : tie.Need-shared-slice-read-set-of Inv-loop μ-loop
+shared-slice-read-set-of c = omega arith
 
-mul-map-2 : tie.Need-mul-map-2 Inv-loop μ-loop
-mul-map-2 c = omega arith
+set-of-requires : tie.Need-set-of-requires Inv-loop μ-loop
+set-of-requires c κs = search needs
 
-slice-write-map : tie.Need-slice-write-map Inv-loop μ-loop
-slice-write-map c =
-    let l = c .before .before .before in
-    let b = l .before in
-    omega (arith, b .pre .3, filled-length (mapRow (b .args .g)) (b .args .map .now) (l .loop .map) (l .loop .i) (omega (arith, b .pre .3)) (l .loop .inv .1))
+put-requires : tie.Need-put-requires Inv-loop μ-loop
+put-requires c κs =
+    let l = c .before .before .before .before .before in
+    let b = l .before .before .before in
+    omega (arith, b .pre .3, count-same (l .loop .map) (b .args .map .now) (l .loop .inv .1))
 
 add-i : tie.Need-add-i Inv-loop μ-loop
 add-i c = omega arith
@@ -46,24 +50,27 @@ loop-less c = omega arith
 
 loop-again : tie.Need-loop-again Inv-loop μ-loop
 loop-again c =
-    let l = c .before .before .before in
-    let b = l .before in (
+    let put = c .before .before in
+    let row = put .before in
+    let l = row .before .before .before .before .before in
+    let b = l .before .before .before in (
       omega arith,
-      filled-more (mapRow (b .args .g)) (b .args .map .now) (l .loop .map) (l .loop .i) _ (omega (arith, b .pre .3)) (l .loop .inv .1)
-          (b .pre .2 .rows (l .loop .i) (omega arith)),
+      put .put .kept .0 ∙ l .loop .inv .1,
+      rows-more _ _ _ (l .loop .i) (l .loop .inv .2) _ _ (omega (arith, b .pre .3, sets-long (b .args .map .now)))
+          (row .set-of .ensures ∙ b .pre .2 .rows (l .loop .i) (omega arith)) (put .put .ensures),
+      λ k. omega (arith, c .slice-known2 .given k),
     )
 
 same-length : tie.Need-same-length Inv-loop μ-loop
-same-length c =
-    let l = c .before .before in
-    let b = l .before in
-    filled-length (mapRow (b .args .g)) (b .args .map .now) (l .loop .map) (l .loop .i) (omega (arith, b .pre .3)) (l .loop .inv .1)
+same-length c = c .before .before .loop .inv .1
 
 returns : tie.Need-returns Inv-loop μ-loop
 returns c =
     let l = c .before .before in
-    let b = l .before in
-    filled-end (mapRow (b .args .g)) (b .args .map .now) (l .loop .map) (l .loop .i) _ (omega arith) (omega arith) (l .loop .inv .1)
+    let known = l .before in
+    let g = known .before .before .args .g in
+    let rows = rows-end _ _ _ (l .loop .i) (l .loop .inv .2) (g .input .states) (omega arith) (omega arith) in
+    map-filled g _ _ (l .loop .inv .3) (λ k. omega (arith, known .slice-known .given k)) (l .loop .inv .1) rows
 
 pub write-map-spec : {M : Type 1} → statement M
 write-map-spec =
@@ -72,11 +79,11 @@ write-map-spec =
     Inv-loop
     μ-loop
     loop-holds
-    add-map
-    mul-map
-    shared-slice-read-map
-    mul-map-2
-    slice-write-map
+    add-set-of
+    mul-set-of
+    shared-slice-read-set-of
+    set-of-requires
+    put-requires
     add-i
     loop-less
     loop-again

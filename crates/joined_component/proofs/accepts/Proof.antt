@@ -5,12 +5,13 @@ use mathlib.Core.Bool.{true}
 use native.Mathlib.Omega.{arith}
 use Rattle.finite.specs.Bounded.{all}
 use Rattle.finite.proofs.Loops.{all-start, all-turn, all-stop, all-end, failed, passed}
+use Rattle.sets.specs.Words.{bitsOf}
 use Rattle.joined_component.specs.Component.{acceptsAt, acceptsOn}
 use Rattle.joined_component.proofs.accepts.Statement.{statement}
 use Rattle.joined_component.proofs.accepts.Tie as tie
 
 abbrev Inv-loop : tie.InvT-loop
-Inv-loop g x y r₀ r = (r ≤ g .k) × (all r (acceptsAt g (x .0) (y .0)) ≡ true)
+Inv-loop g x y r₀ r = (r ≤ g .k) × (all r (acceptsAt g (bitsOf (x .0)) (bitsOf (y .0))) ≡ true)
 
 abbrev μ-loop : tie.MeasureT-loop
 μ-loop g x y r₀ r = g .k - r

@@ -1,7 +1,7 @@
 -- `draw_component`.
 use Prim.Native.Nat.{ℕ, _≤_, _<_, _-_}
 use mathlib.Core.Path.{sym, _∙_, ap}
-use Rattle.sets.specs.Member.{has}
+use Rattle.bits.specs.Member.{has}
 use native.Mathlib.Omega.{arith}
 use Rattle.joined_component.proofs.Drawing.{Drawing, drawing-start, drawing-row, drawing-more, drawing-end}
 use Rattle.joined_component.proofs.draw_component.Statement.{statement}

@@ -1,13 +1,14 @@
 -- `inputs_of`.
 use Prim.Native.Nat.{_≤_, _-_}
-use mathlib.Core.Path.{_≡_}
+use mathlib.Core.Path.{_≡_, _∙_}
 use native.Mathlib.Omega.{arith}
-use Rattle.sets.specs.Member.{pack}
-use Rattle.sets.proofs.Collect.{collect-none, collect-next, collect-end}
+use Rattle.bits.specs.Member.{pack}
+use Rattle.bits.proofs.Collect.{collect-none, collect-next, collect-end}
 use Rattle.joint.specs.Solver.{inputsOf}
 use Rattle.play.specs.Play.{separatedOf}
 use Rattle.joined_component.specs.Component.{component}
 use Rattle.joined_component.proofs.Tests.{inhabited}
+use borrow.Author.Needs.{needs}
 use Rattle.joined_component.proofs.inputs_of.Statement.{statement}
 use Rattle.joined_component.proofs.inputs_of.Tie as tie
 
@@ -46,8 +47,13 @@ loop-again c =
       collect-next _ (l .loop .i) _ _ _ (l .loop .inv .1) (inhabited _ _ (b .pre .2) (l .loop .i) (omega arith)) (c .insert-if .ensures),
     )
 
+set-of-requires : tie.Need-set-of-requires Inv-loop μ-loop
+set-of-requires c κs = search needs
+
 returns : tie.Need-returns Inv-loop μ-loop
-returns c = collect-end _ (c .before .before .loop .i) _ _ (omega arith) (omega arith) (c .before .before .loop .inv .1)
+returns c =
+    let l = c .before .before .before in
+    c .set-of .ensures ∙ collect-end _ (l .loop .i) _ _ (omega arith) (omega arith) (l .loop .inv .1)
 
 pub inputs-of-spec : {M : Type 1} → statement M
 inputs-of-spec =
@@ -63,4 +69,5 @@ inputs-of-spec =
     add-i
     loop-less
     loop-again
+    set-of-requires
     returns)

@@ -1,8 +1,8 @@
 -- `outputs_of`.
 use Prim.Native.Nat.{ℕ, _≤_, _-_}
-use mathlib.Core.Path.{_≡_}
+use mathlib.Core.Path.{_≡_, _∙_, ap}
 use native.Mathlib.Omega.{arith}
-use Rattle.sets.specs.Member.{has}
+use Rattle.bits.specs.Member.{has}
 use Rattle.joined_component.proofs.Tests.{outputsBelow, outputs-start, outputs-more, outputs-end}
 use borrow.Author.Needs.{needs}
 use Rattle.joined_component.proofs.outputs_of.Statement.{statement}
@@ -40,8 +40,13 @@ loop-again c =
     let l = c .before .before .before .before in
     (omega arith, outputs-more _ _ (l .loop .i) _ _ (omega arith) (l .loop .inv .1) (c .union .ensures))
 
+set-of-requires : tie.Need-set-of-requires Inv-loop μ-loop
+set-of-requires c κs = search needs
+
 returns : tie.Need-returns Inv-loop μ-loop
-returns c = outputs-end _ _ (c .before .before .loop .i) _ (omega arith) (omega arith) (c .before .before .loop .inv .1)
+returns c =
+    let l = c .before .before .before in
+    λ o. ap (λ (x : ℕ). has x o) (c .set-of .ensures) ∙ outputs-end _ _ (l .loop .i) _ (omega arith) (omega arith) (l .loop .inv .1) o
 
 pub outputs-of-spec : {M : Type 1} → statement M
 outputs-of-spec =
@@ -57,4 +62,5 @@ outputs-of-spec =
     add-i
     loop-less
     loop-again
+    set-of-requires
     returns)

@@ -4,17 +4,17 @@ use Prim.Native.Nat.{_+_, _*_, _<_}
 use mathlib.Core.Path.{refl}
 use native.Mathlib.Omega.{arith}
 use Rattle.finite.specs.Bounded.{count}
-use Rattle.sets.specs.Member.{has}
-use Rattle.sets.proofs.Visit.{Collected, whole-start}
+use Rattle.bits.specs.Member.{has}
+use Rattle.bits.proofs.Visit.{Collected, whole-start, collected-small, collected-below, collected-falls, collected-next}
 use Rattle.joined_component.specs.Component.{rankedIn}
-use Rattle.joined_component.proofs.Visits.{visit-small, visit-below, visit-falls, visit-more, visit-end}
+use Rattle.joined_component.proofs.Visits.{visit-end}
 use Rattle.joined_component.proofs.Drawing.{few-ahead}
 use borrow.Author.Needs.{needs}
 use Rattle.joined_component.proofs.ranked_row.Statement.{statement}
 use Rattle.joined_component.proofs.ranked_row.Tie as tie
 
 abbrev Inv-loop : tie.InvT-loop
-Inv-loop s m n i c₀ rest₀ c rest = Collected rest₀ m (rankedIn s m i n) rest c
+Inv-loop s m n i c₀ rest₀ c rest = Collected 64 rest₀ m (rankedIn s m i n) rest c
 
 abbrev μ-loop : tie.MeasureT-loop
 μ-loop s m n i c₀ rest₀ c rest = count 64 (has rest)
@@ -31,7 +31,7 @@ shared-slice-read-rest c = omega arith
 loop-holds : tie.Need-loop-holds Inv-loop μ-loop
 loop-holds c =
     let b = c .before .before in
-    whole-start _ _ _ (omega (arith, c .shared-slice-known2 .given (0 + b .args .at .0))) (rw (zero-add (b .args .at .0)) (b .pre .3))
+    whole-start 64 _ _ _ (omega (arith, b .pre .0)) (rw (zero-add (b .args .at .0)) (b .pre .3))
 
 lowest-requires : tie.Need-lowest-requires Inv-loop μ-loop
 lowest-requires c κs = search needs
@@ -39,7 +39,7 @@ lowest-requires c κs = search needs
 below : (c : tie.After-lowest Inv-loop μ-loop) → c .lowest .result < c .before .before .before .before .before .args .m
 below c =
     let l = c .before .before in
-    visit-below _ _ _ (l .loop .rest) _ (l .loop .inv) (c .before .loop-test .taken) _ (c .lowest .ensures)
+    collected-below 64 _ _ _ (l .loop .rest) _ (l .loop .inv) (c .before .loop-test .taken) _ (c .lowest .ensures)
 
 ahead : (c : tie.After-lowest Inv-loop μ-loop) → let b = c .before .before .before .before .before in b .args .at .0 * b .args .m + c .lowest .result < 1024
 ahead c = let b = c .before .before .before .before .before in few-ahead (b .args .m) (b .args .at .0) _ (b .pre .0) (b .pre .1) (below c)
@@ -63,7 +63,7 @@ insert-if-requires : tie.Need-insert-if-requires Inv-loop μ-loop
 insert-if-requires c κs =
     let b = c .before in
     let l = b .before .before in
-    visit-small _ _ _ (l .loop .rest) _ (l .loop .inv) (b .before .loop-test .taken) _ (b .lowest .ensures)
+    collected-small 64 _ _ _ (l .loop .rest) _ (l .loop .inv) (b .before .loop-test .taken) _ (b .lowest .ensures)
 
 without-lowest-requires : tie.Need-without-lowest-requires Inv-loop μ-loop
 without-lowest-requires c κs = c .before .before .before .loop-test .taken
@@ -72,15 +72,15 @@ loop-less : tie.Need-loop-less Inv-loop μ-loop
 loop-less c =
     let b = c .before .before .before in
     let l = b .before .before in
-    visit-falls _ _ _ (l .loop .rest) _ (l .loop .inv) (b .before .loop-test .taken) _ (b .lowest .ensures) _ (c .without-lowest .ensures)
+    collected-falls 64 _ _ _ (l .loop .rest) _ (l .loop .inv) (b .before .loop-test .taken) _ (b .lowest .ensures) _ (c .without-lowest .ensures)
 
 loop-again : tie.Need-loop-again Inv-loop μ-loop
 unfolding rankedIn
 loop-again c =
     let b = c .before .before .before in
     let l = b .before .before in
-    visit-more _ _ _ (l .loop .rest) _ (l .loop .inv) (b .before .loop-test .taken) _ (b .lowest .ensures) _ (c .without-lowest .ensures)
-    (omega (arith, c .without-lowest .ok)) refl (c .before .insert-if .ensures)
+    collected-next 64 _ _ _ (l .loop .rest) _ (l .loop .inv) (b .before .loop-test .taken) _ (b .lowest .ensures) _ (c .without-lowest .ensures)
+    refl (c .before .insert-if .ensures)
 
 returns : tie.Need-returns Inv-loop μ-loop
 returns c =

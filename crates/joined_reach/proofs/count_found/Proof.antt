@@ -5,7 +5,7 @@ use mathlib.Core.Path.{_≡_}
 use native.Mathlib.Nat.{zero-add}
 use native.Mathlib.Omega.{arith}
 use Rattle.finite.proofs.Bounded.{count-le}
-use Rattle.sets.specs.Member.{has}
+use Rattle.bits.specs.Member.{has}
 use Rattle.joined_reach.specs.Reach.{foundBelow}
 use Rattle.joined_reach.proofs.Counting.{counted-start, counted-more, counted-end}
 use borrow.Author.Needs.{needs}

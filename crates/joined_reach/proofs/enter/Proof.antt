@@ -3,7 +3,7 @@ use Prim.Native.Nat.{_<_}
 use native.Mathlib.Omega.{arith}
 use Rattle.joined_reach.proofs.Words.{move-below}
 use Rattle.finite.specs.Bounded.{count}
-use Rattle.sets.specs.Member.{has}
+use Rattle.bits.specs.Member.{has}
 use Rattle.joined_reach.proofs.Rows.{Entering, entering-start, entering-member, entering-falls, entering-more, entering-end}
 use borrow.Author.Needs.{needs}
 use Rattle.joined_reach.proofs.enter.Statement.{statement}

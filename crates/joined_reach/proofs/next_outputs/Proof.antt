@@ -1,7 +1,7 @@
 -- `next_outputs`.
 use native.Mathlib.Omega.{arith}
 use Rattle.finite.specs.Bounded.{count}
-use Rattle.sets.specs.Member.{has}
+use Rattle.bits.specs.Member.{has}
 use Rattle.joined_reach.proofs.Rows.{Nexting, next-start, next-member, next-falls, next-more, next-end}
 use borrow.Author.Needs.{needs}
 use Rattle.joined_reach.proofs.next_outputs.Statement.{statement}

@@ -1,24 +1,24 @@
 -- `forcing`.
 use native.Mathlib.Omega.{arith}
 use Rattle.finite.specs.Bounded.{count}
-use Rattle.sets.specs.Member.{has}
-use Rattle.sets.proofs.Visit.{Collected, whole-start}
+use Rattle.bits.specs.Member.{has}
+use Rattle.bits.proofs.Visit.{Collected, whole-start, collected-small, collected-below, collected-falls, collected-next}
 use Rattle.theory.specs.Region.{replies}
 use Rattle.play.specs.Play.{separatedOf}
 use Rattle.joined_component.specs.Component.{won}
-use Rattle.joined_component.proofs.Visits.{visit-small, visit-below, visit-falls, visit-more, visit-end}
+use Rattle.joined_component.proofs.Visits.{visit-end}
 use borrow.Author.Needs.{needs}
 use Rattle.joined_settle.proofs.forcing.Statement.{statement}
 use Rattle.joined_settle.proofs.forcing.Tie as tie
 
 abbrev Inv-loop : tie.InvT-loop
-Inv-loop g s i c₀ rest₀ c rest = Collected rest₀ (g .output .states) (replies (separatedOf g) (won g s) (i .0)) rest c
+Inv-loop g s i c₀ rest₀ c rest = Collected 64 rest₀ (g .output .states) (replies (separatedOf g) (won g s) (i .0)) rest c
 
 abbrev μ-loop : tie.MeasureT-loop
 μ-loop g s i c₀ rest₀ c rest = count 64 (has rest)
 
 loop-holds : tie.Need-loop-holds Inv-loop μ-loop
-loop-holds c = whole-start _ _ _ (search needs) (c .before .pre .3)
+loop-holds c = whole-start 64 _ _ _ (omega (arith, c .before .pre .0 .outputs)) (c .before .pre .3)
 
 lowest-requires : tie.Need-lowest-requires Inv-loop μ-loop
 lowest-requires c κs = search needs
@@ -29,7 +29,7 @@ forces-requires c κs =
     let b = l .before .before in (
       b .pre .0,
       b .pre .1,
-      visit-below _ _ _ (l .loop .rest) _ (l .loop .inv) (c .before .loop-test .taken) _ (c .lowest .ensures),
+      collected-below 64 _ _ _ (l .loop .rest) _ (l .loop .inv) (c .before .loop-test .taken) _ (c .lowest .ensures),
       b .pre .2,
     )
 
@@ -37,7 +37,7 @@ insert-if-requires : tie.Need-insert-if-requires Inv-loop μ-loop
 insert-if-requires c κs =
     let b = c .before in
     let l = b .before .before in
-    visit-small _ _ _ (l .loop .rest) _ (l .loop .inv) (b .before .loop-test .taken) _ (b .lowest .ensures)
+    collected-small 64 _ _ _ (l .loop .rest) _ (l .loop .inv) (b .before .loop-test .taken) _ (b .lowest .ensures)
 
 without-lowest-requires : tie.Need-without-lowest-requires Inv-loop μ-loop
 without-lowest-requires c κs = c .before .before .before .loop-test .taken
@@ -46,14 +46,14 @@ loop-less : tie.Need-loop-less Inv-loop μ-loop
 loop-less c =
     let b = c .before .before .before in
     let l = b .before .before in
-    visit-falls _ _ _ (l .loop .rest) _ (l .loop .inv) (b .before .loop-test .taken) _ (b .lowest .ensures) _ (c .without-lowest .ensures)
+    collected-falls 64 _ _ _ (l .loop .rest) _ (l .loop .inv) (b .before .loop-test .taken) _ (b .lowest .ensures) _ (c .without-lowest .ensures)
 
 loop-again : tie.Need-loop-again Inv-loop μ-loop
 loop-again c =
     let b = c .before .before .before in
     let l = b .before .before in
-    visit-more _ _ _ (l .loop .rest) _ (l .loop .inv) (b .before .loop-test .taken) _ (b .lowest .ensures) _ (c .without-lowest .ensures)
-    (omega (arith, c .without-lowest .ok)) (c .before .before .forces .ensures) (c .before .insert-if .ensures)
+    collected-next 64 _ _ _ (l .loop .rest) _ (l .loop .inv) (b .before .loop-test .taken) _ (b .lowest .ensures) _ (c .without-lowest .ensures)
+    (c .before .before .forces .ensures) (c .before .insert-if .ensures)
 
 returns : tie.Need-returns Inv-loop μ-loop
 returns c = visit-end _ _ _ (c .before .loop .rest) _ (c .before .loop .inv) (c .loop-test .left) (c .before .before .before .pre .3)

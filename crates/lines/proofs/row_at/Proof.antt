@@ -50,7 +50,7 @@ returns-3 c =
     let at-n2 = at-set-at .before .before in
     let at-number-then = at-n2 .before .before in
     state-fault (row-no-end _ _ _ _ (value-number _ (sym (at-n2 .n2 .given .1) ∙ at-number-then .number-then .ensures)) _ _
-    (members-set _ (sym (at-t2 .t2 .given .1) ∙ at-set-at .set-at .ensures)) _
+    (members-set _ (sym (at-t2 .t2 .given .1) ∙ at-set-at .set-at .ensures) .0) _
     (fault-step _ (sym (c .before .e .given .1) ∙ c .before .before .before .end-at .ensures)))
 
 returns-4 : tie.Need-returns-4
@@ -59,8 +59,8 @@ returns-4 c =
     let at-set-at = at-t2 .before .before in
     let at-n2 = at-set-at .before .before in
     let at-number-then = at-n2 .before .before in
-    state-moves (row-got _ _ _ _ (value-number _ (sym (at-n2 .n2 .given .1) ∙ at-number-then .number-then .ensures)) _ _
-    (members-set _ (sym (at-t2 .t2 .given .1) ∙ at-set-at .set-at .ensures)) _
+    let read = members-set _ (sym (at-t2 .t2 .given .1) ∙ at-set-at .set-at .ensures) in
+    state-moves (read .1) (row-got _ _ _ _ (value-number _ (sym (at-n2 .n2 .given .1) ∙ at-number-then .number-then .ensures)) _ _ (read .0) _
     (at-step _ (sym (c .before .e2 .given .1) ∙ c .before .before .before .end-at .ensures)))
 
 pub row-at-spec : {M : Type 1} → statement M

@@ -1,36 +1,36 @@
--- `fill_map`.
-use native.Mathlib.Omega.{arith}
+-- `fill_map` writes one row after the other.
+use Prim.Native.Nat.{ℕ, _-_, _^_, _≤_, _<_}
+use mathlib.Core.Path.{_≡_, refl, _∙_}
 use mathlib.Core.List.{_++_}
-use lib.ListN.{drop}
+use lib.ListN.{length, getD, drop}
 use Rattle.finite.specs.Tabulate.{tabulate}
 use Rattle.finite.proofs.Front.{front-none}
-use Rattle.marks.proofs.Filled.{filled-length, filled-more, filled-end}
+use Rattle.sets.specs.Words.{setsIn}
+use Rattle.sets.proofs.Rows.{count-same, sets-long}
 use Rattle.marks.specs.Marks.{mapRow}
-use mathlib.Core.Path.{_≡_}
-use Prim.Native.Nat.{_-_, _≤_}
+use Rattle.marks.proofs.Rows.{rows-more, rows-end, map-filled}
+use native.Mathlib.Omega.{arith}
 use Rattle.map.proofs.fill_map.Statement.{statement}
 use Rattle.map.proofs.fill_map.Tie as tie
 
 abbrev Inv-loop : tie.InvT-loop
-Inv-loop g s cores map₀ i₀ map i = (i ≤ g .input .states) × (map ≡ tabulate i (mapRow g) ++ drop i map₀)
+Inv-loop g s c map₀ i₀ map i =
+    (i ≤ g .input .states) × (length map ≡ length map₀) × (setsIn map ≡ tabulate i (mapRow g) ++ drop i (setsIn map₀)) × ((k : ℕ) → getD map k 0 < 2 ^ 64)
 
 abbrev μ-loop : tie.MeasureT-loop
-μ-loop g s cores map₀ i₀ map i = g .input .states - i
+μ-loop g s c map₀ i₀ map i = g .input .states - i
 
 loop-holds : tie.Need-loop-holds Inv-loop μ-loop
-loop-holds c = (omega arith, front-none _ _)
+loop-holds c = (omega arith, refl, front-none _ _, λ k. omega (arith, c .slice-known .given k))
 
 map-row-requires : tie.Need-map-row-requires Inv-loop μ-loop
 map-row-requires c κs = (c .before .before .before .before .before .pre .0, omega arith)
 
-mul-map : tie.Need-mul-map Inv-loop μ-loop
-mul-map c = omega arith
-
-slice-write-map : tie.Need-slice-write-map Inv-loop μ-loop
-slice-write-map c =
-    let b = c .before .before .before in
+put-requires : tie.Need-put-requires Inv-loop μ-loop
+put-requires c κs =
+    let b = c .before .before .before .before in
     let s = b .before .before .before in
-    omega (arith, s .pre .1, filled-length (mapRow (s .args .g)) (s .args .map .now) (b .loop .map) (b .loop .i) (omega (arith, s .pre .1)) (b .loop .inv .1))
+    omega (arith, s .pre .1, count-same (b .loop .map) (s .args .map .now) (b .loop .inv .1))
 
 add-i : tie.Need-add-i Inv-loop μ-loop
 add-i c = omega arith
@@ -40,24 +40,26 @@ loop-less c = omega arith
 
 loop-again : tie.Need-loop-again Inv-loop μ-loop
 loop-again c =
-    let b = c .before .before .before in
+    let put = c .before .before in
+    let row = put .before .before in
+    let b = row .before .before .before in
     let s = b .before .before .before in (
       omega arith,
-      filled-more (mapRow (s .args .g)) (s .args .map .now) (b .loop .map) (b .loop .i) (c .map-row .result) (omega (arith, s .pre .1))
-          (b .loop .inv .1) (c .map-row .ensures),
+      put .put .kept .0 ∙ b .loop .inv .1,
+      rows-more _ _ _ (b .loop .i) (b .loop .inv .2) _ _ (omega (arith, s .pre .1, sets-long (s .args .map .now))) (row .map-row .ensures) (put .put .ensures),
+      λ k. omega (arith, c .slice-known2 .given k),
     )
 
 same-length : tie.Need-same-length Inv-loop μ-loop
-same-length c =
-    let b = c .before .before in
-    let s = b .before .before .before in
-    filled-length (mapRow (s .args .g)) (s .args .map .now) (b .loop .map) (b .loop .i) (omega (arith, s .pre .1)) (b .loop .inv .1)
+same-length c = c .before .before .loop .inv .1
 
 returns : tie.Need-returns Inv-loop μ-loop
 returns c =
     let b = c .before .before in
-    let s = b .before .before .before in
-    filled-end (mapRow (s .args .g)) (s .args .map .now) (b .loop .map) (b .loop .i) _ (omega arith) (omega arith) (b .loop .inv .1)
+    let known = b .before in
+    let g = known .before .before .args .g in
+    let rows = rows-end _ _ _ (b .loop .i) (b .loop .inv .2) (g .input .states) (omega arith) (omega arith) in
+    map-filled g _ _ (b .loop .inv .3) (λ k. omega (arith, known .slice-known .given k)) (b .loop .inv .1) rows
 
 pub fill-map-spec : {M : Type 1} → statement M
 fill-map-spec =
@@ -67,8 +69,7 @@ fill-map-spec =
     μ-loop
     loop-holds
     map-row-requires
-    mul-map
-    slice-write-map
+    put-requires
     add-i
     loop-less
     loop-again

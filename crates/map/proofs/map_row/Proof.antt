@@ -1,12 +1,11 @@
 -- `map_row` reads the outputs that are won.
-use Rattle.map.proofs.Scratch.{map-row-read}
+use Rattle.map.proofs.Rows.{map-row-read}
+use borrow.Author.Needs.{needs}
 use Rattle.map.proofs.map_row.Statement.{statement}
 use Rattle.map.proofs.map_row.Tie as tie
 
 won-outputs-requires : tie.Need-won-outputs-requires
-won-outputs-requires c κs =
-    let p = c .before .pre in
-    (p .0 .fits .input .most, p .0 .fits .output .most, p .1, p .0 .ready .laid .long)
+won-outputs-requires c κs = search needs
 
 returns : tie.Need-returns
 returns c =

@@ -2,8 +2,9 @@
 use mathlib.Core.Path.{sym, _∙_}
 use native.Mathlib.Omega.{arith}
 use borrow.Author.Needs.{needs}
+use Rattle.sets.proofs.Rows.{set-is}
 use Rattle.pieces.proofs.Steps.{lit-got}
-use Rattle.pieces.proofs.Outcomes.{set-members, set-fault}
+use Rattle.pieces.proofs.Outcomes.{whole-members, set-fault}
 use Rattle.grammar.proofs.Place.{byte-within}
 use Rattle.grammar.proofs.Format.{run-lit-fault}
 use Rattle.pieces.proofs.closed_set.Statement.{statement}
@@ -16,7 +17,7 @@ add-t6 : tie.Need-add-t6
 add-t6 c = omega (arith, byte-within _ _ _ (sym (c .before .byte-at .ensures) ∙ c .if1 .taken) (omega arith))
 
 returns : tie.Need-returns
-returns c = set-members (lit-got 41 _ _ _ (sym (c .before .byte-at .ensures) ∙ c .if1 .taken))
+returns c = whole-members (set-is _ (omega arith)) (lit-got 41 _ _ _ (sym (c .before .byte-at .ensures) ∙ c .if1 .taken))
 
 returns-2 : tie.Need-returns-2
 returns-2 c = set-fault (run-lit-fault 41 _ _ _ (λ e. c .if1 .left (c .before .byte-at .ensures ∙ e)))

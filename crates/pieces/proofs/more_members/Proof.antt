@@ -4,29 +4,32 @@ use borrow.Author.Needs.{needs}
 use mathlib.Core.Path.{_≡_, refl, sym, _∙_, ap}
 use native.Mathlib.Omega.{arith}
 use Rattle.pieces.proofs.Steps.{members-next, members-past, members-end, members-closed, members-fault, members-more}
-use Rattle.pieces.specs.Pieces.{setOf}
+use Rattle.pieces.specs.Pieces.{setScanOf}
+use Rattle.sets.specs.Words.{capacity, highest, bitsOf, setOf}
+use Rattle.sets.proofs.Rows.{set-is}
 use Rattle.shape.specs.Shape.{moreMembers}
 use Rattle.grammar.specs.Place.{bytes}
 use Rattle.grammar.specs.Format.{run}
-use Rattle.pieces.proofs.Outcomes.{set-members, set-fault}
+use Rattle.pieces.proofs.Outcomes.{whole-members, set-fault}
 use Rattle.pieces.proofs.more_members.Statement.{statement}
 use Rattle.pieces.proofs.more_members.Tie as tie
 
 abbrev Inv-loop : tie.InvT-loop
-Inv-loop s i lo x at₀ low₀ set₀ left₀ at low set left =
-    (run (moreMembers 63 low₀ set₀) (bytes s) at₀ ≡ run (moreMembers left low set) (bytes s) at) × (low ≤ 64)
+Inv-loop s i lo at₀ low₀ set₀ left₀ at low set left =
+    (run (moreMembers highest low₀ (bitsOf set₀)) (bytes s) at₀ ≡ run (moreMembers left low (bitsOf set)) (bytes s) at)
+    × (low ≤ capacity) × (setOf (bitsOf set) ≡ set)
 
 abbrev μ-loop : tie.MeasureT-loop
-μ-loop s i lo x at₀ low₀ set₀ left₀ at low set left = left
+μ-loop s i lo at₀ low₀ set₀ left₀ at low set left = left
 
 loop-holds : tie.Need-loop-holds Inv-loop μ-loop
-loop-holds c = (refl, c .before .pre)
+loop-holds c = (refl, c .before .pre, set-is _ (omega arith))
 
 closed-set-requires : tie.Need-closed-set-requires Inv-loop μ-loop
 closed-set-requires c κs = tt
 
 returns : tie.Need-returns Inv-loop μ-loop
-returns c = c .closed-set .ensures ∙ sym (ap setOf (members-past _ _ _ _ _ _ (c .before .before .before .loop .inv .0) (c .before .if1 .taken)))
+returns c = c .closed-set .ensures ∙ sym (ap setScanOf (members-past _ _ _ _ _ _ (c .before .before .before .loop .inv .0) (c .before .if1 .taken)))
 
 next-member-requires : tie.Need-next-member-requires Inv-loop μ-loop
 next-member-requires c κs = tt
@@ -38,7 +41,8 @@ returns-2 : tie.Need-returns-2 Inv-loop μ-loop
 returns-2 c =
     let at-loop-test = c .before .before .before .before .before in
     let at-loop = at-loop-test .before in
-    set-members (members-closed _ _ _ _ _ _ (at-loop .loop .inv .0) (at-loop-test .loop-test .taken) (c .before .before .before .before .if1 .left) _
+    whole-members (at-loop .loop .inv .2)
+    (members-closed _ _ _ _ _ _ (at-loop .loop .inv .0) (at-loop-test .loop-test .taken) (c .before .before .before .before .if1 .left) _
     (sym (c .before .n .given .1) ∙ c .before .before .before .next-member .ensures))
 
 enum-known-n-2 : tie.Need-enum-known-n-2 Inv-loop μ-loop
@@ -92,14 +96,16 @@ loop-again c =
     let at-if1 = c .before .before .before .before .before in
     let at-loop-test = at-if1 .before in
     let at-loop = at-loop-test .before in
+    let more =
     members-next _ _ _ _ _ _ (at-loop .loop .inv .0) (at-loop-test .loop-test .taken) (at-if1 .if1 .left) _ _ _
-    (sym (c .before .before .n3 .given .1) ∙ c .before .before .before .before .next-member .ensures) (c .insert .ensures)
+    (sym (c .before .before .n3 .given .1) ∙ c .before .before .before .before .next-member .ensures) (c .insert .ensures) in
+    (more .0, more .1, set-is _ (omega (arith, c .insert .ok)))
 
 closed-set-requires-2 : tie.Need-closed-set-requires-2 Inv-loop μ-loop
 closed-set-requires-2 c κs = tt
 
 returns-4 : tie.Need-returns-4 Inv-loop μ-loop
-returns-4 c = c .closed-set2 .ensures ∙ sym (ap setOf (members-end _ _ _ _ _ _ (c .before .before .loop .inv .0) (c .before .loop-test .left)))
+returns-4 c = c .closed-set2 .ensures ∙ sym (ap setScanOf (members-end _ _ _ _ _ _ (c .before .before .loop .inv .0) (c .before .loop-test .left)))
 
 pub more-members-spec : {M : Type 1} → statement M
 more-members-spec =

@@ -3,7 +3,7 @@ use mathlib.Core.Path.{sym, _∙_, ap}
 use native.Mathlib.Omega.{arith}
 use borrow.Author.Needs.{needs}
 use Rattle.pieces.proofs.Steps.{set-on, set-off}
-use Rattle.pieces.specs.Pieces.{setOf}
+use Rattle.pieces.specs.Pieces.{setScanOf}
 use Rattle.grammar.proofs.Place.{byte-within}
 use Rattle.pieces.proofs.Outcomes.{set-fault}
 use Rattle.pieces.proofs.set_at.Statement.{statement}
@@ -19,7 +19,7 @@ members-at-requires : tie.Need-members-at-requires
 members-at-requires c κs = search needs
 
 returns : tie.Need-returns
-returns c = c .members-at .ensures ∙ sym (ap setOf (set-on _ _ (sym (c .before .before .byte-at .ensures) ∙ c .before .if1 .taken)))
+returns c = c .members-at .ensures ∙ sym (ap setScanOf (set-on _ _ (sym (c .before .before .byte-at .ensures) ∙ c .before .if1 .taken)))
 
 returns-2 : tie.Need-returns-2
 returns-2 c = set-fault (set-off _ _ (λ e. c .if1 .left (c .before .byte-at .ensures ∙ e)))

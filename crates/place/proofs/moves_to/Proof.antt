@@ -4,17 +4,14 @@ use borrow.Author.Needs.{needs}
 use Rattle.place.proofs.moves_to.Statement.{statement}
 use Rattle.place.proofs.moves_to.Tie as tie
 
-mul-holds : tie.Need-mul-holds
-mul-holds c = search needs
-
-element-copy-out-holds : tie.Need-element-copy-out-holds
-element-copy-out-holds c = search needs
+row-of-requires : tie.Need-row-of-requires
+row-of-requires c κs = search needs
 
 holds-requires : tie.Need-holds-requires
 holds-requires c κs = search needs
 
 returns : tie.Need-returns
-returns c = edge-of _ _ _ _ (c .before .before .before .pre .0) (c .holds .ensures)
+returns c = edge-of _ _ _ _ _ (c .before .before .before .before .before .pre .0) (c .before .row-of .ensures .1) (c .holds .ensures)
 
 pub moves-to-spec : {M : Type 1} → statement M
-moves-to-spec = tie.close (tie.spec mul-holds element-copy-out-holds holds-requires returns)
+moves-to-spec = tie.close (tie.spec row-of-requires holds-requires returns)

@@ -1,6 +1,7 @@
 -- `none_row`: the won outputs.
 use native.Mathlib.Omega.{arith}
 use borrow.Author.Needs.{needs}
+use Rattle.entries.proofs.Packed.{none-entry}
 use Rattle.environment_table.proofs.Laid.{laid-fits}
 use Rattle.environment_table.proofs.Known.{shaped, none-entries, none-filled}
 use Rattle.plain.proofs.none_row.Statement.{statement}
@@ -24,7 +25,8 @@ write-requires c κs =
     let w = z .before in
     let p = w .before .before .before .pre in
     let Z = z .layout-of .ensures in
-    (laid-fits _ _ _ _ (p .1) Z, omega (arith, p .2, Z .states), none-entries _ _ _ (p .0) _ (p .2) _ (w .won-outputs .ensures) _ _ _ Z (c .below .ensures))
+    let entries = none-entries _ _ _ (p .0) _ (p .2) _ (w .won-outputs .ensures) _ _ 65535 _ Z (c .below .ensures) (omega arith) in
+    (laid-fits _ _ _ _ (p .1) Z, omega (arith, p .2, Z .states), entries)
 
 same-length : tie.Need-same-length
 same-length c = search needs
@@ -35,7 +37,8 @@ returns c =
     let z = b .before .before in
     let w = z .before in
     let p = w .before .before .before .pre in
-    none-filled _ _ _ (p .0) _ (p .2) _ (w .won-outputs .ensures) _ _ _ _ (p .1) (z .layout-of .ensures) (b .below .ensures) (c .before .before .write .ensures)
+    none-filled _ _ _ (p .0) _ (p .2) _ (w .won-outputs .ensures) _ _ _ _ _ none-entry (p .1) (z .layout-of .ensures) (b .below .ensures)
+    (c .before .before .write .ensures)
 
 pub none-row-spec : {M : Type 1} → statement M
 none-row-spec =

@@ -1,53 +1,67 @@
 -- `push_column`: the inputs that are not won with o, where there are any.
 use native.Mathlib.Omega.{arith}
 use borrow.Author.Needs.{needs}
-use Rattle.environment_table.proofs.Known.{shaped, pushed-within, pushes-of, pushes-filled, pushes-none}
+use Rattle.sets.proofs.Rows.{none}
+use Rattle.environment_table.proofs.Known.{shaped, pushed-within, moves-bits, moves-within, pushes-of, pushes-filled, pushes-none}
 use Rattle.plain.proofs.push_column.Statement.{statement}
 use Rattle.plain.proofs.push_column.Tie as tie
 
 lost-requires : tie.Need-lost-requires
 lost-requires c κs =
     let p = c .before .before .pre in
-    (omega arith, omega arith, omega (arith, p .0 .ready .laid .long), pushed-within _ _ _ (p .0) _ _ (p .2) (p .3))
+    let h = shaped _ _ _ (p .0) in
+    (h .inputs, omega (arith, p .3, h .outputs), omega (arith, p .3, h .long), pushed-within _ _ _ (p .0) _ _ (p .2) (p .3))
+
+is-empty-requires : tie.Need-is-empty-requires
+is-empty-requires c κs = search needs
 
 returns : tie.Need-returns
 returns c =
-    let p = c .before .before .before .before .before .pre in
-    pushes-none _ _ _ (p .0) _ _ (p .2) (p .3) _ (c .before .before .lost .ensures) _ (c .if1 .taken)
+    let l = c .before .before in
+    let p = l .before .before .before .pre in
+    pushes-none _ _ _ (p .0) _ _ (p .2) (p .3) _ (l .lost .ensures) _ (none _ (c .before .is-empty .ensures) (c .if1 .taken))
 
 out-moves-requires : tie.Need-out-moves-requires
-out-moves-requires c κs = search needs
+out-moves-requires c κs =
+    let l = c .before .before in
+    let p = l .before .before .before .pre in
+    omega (arith, p .3, shaped _ _ _ (p .0) .outputs)
 
 refused-requires : tie.Need-refused-requires
 refused-requires c κs =
-    let at-step = c .before .before .before .before .before in
-    let at-start = at-step .before in
-    shaped _ _ _ (at-start .pre .0)
+    let l = c .before .before .before in
+    let start = l .before .before .before in
+    let p = start .pre in
+    let moves = moves-bits (start .args .g) (start .args .o) (c .out-moves .ensures) in
+    (shaped _ _ _ (p .0), moves-within _ _ _ (p .0) (start .args .o .0) _ (p .3) moves)
 
 push-rows-requires : tie.Need-push-rows-requires
 push-rows-requires c κs =
-    let at-lost = c .before .before .before .before .before in
-    let at-start = at-lost .before .before .before in
-    let p = at-start .pre in
-    (p .1, pushes-of _ _ _ (p .0) _ _ (p .2) (p .3) _ (at-lost .lost .ensures) _ (c .before .before .out-moves .ensures) (c .before .refused .ensures))
+    let r = c .before in
+    let o = r .before in
+    let l = o .before .before .before in
+    let start = l .before .before .before in
+    let p = start .pre in
+    let moves = moves-bits (start .args .g) (start .args .o) (o .out-moves .ensures) in
+    (p .1, pushes-of _ _ _ (p .0) _ _ (p .2) (p .3) _ (l .lost .ensures) _ moves (r .refused .ensures))
 
 same-length : tie.Need-same-length
 same-length c = search needs
 
 returns-2 : tie.Need-returns-2
 returns-2 c =
-    let at-push-rows = c .before .before in
-    let at-step = at-push-rows .before .before .before .before .before in
-    let at-lost = at-step .before in
-    let at-start = at-lost .before .before .before in
-    let p = at-start .pre in
-    pushes-filled _ _ _ (p .0) _ _ (p .2) (p .3) _ (at-lost .lost .ensures) (at-push-rows .push-rows .ensures)
+    let w = c .before .before in
+    let r = w .before .before in
+    let l = r .before .before .before .before in
+    let p = l .before .before .before .pre in
+    pushes-filled _ _ _ (p .0) _ _ (p .2) (p .3) _ (l .lost .ensures) (w .push-rows .ensures)
 
 pub push-column-spec : {M : Type 1} → statement M
 push-column-spec =
     tie.close
     (tie.spec
     lost-requires
+    is-empty-requires
     returns
     out-moves-requires
     refused-requires

@@ -2,7 +2,7 @@
 use native.Mathlib.Omega.{arith}
 use Prim.Native.Nat.{_<_, _≤_, _-_}
 use borrow.Author.Needs.{needs}
-use mathlib.Core.Path.{_≡_, refl}
+use mathlib.Core.Path.{_≡_}
 use mathlib.Core.Bool.{true, false}
 use Rattle.play.specs.Play.{separatedOf}
 use Rattle.theory.specs.Region.{region}
@@ -14,30 +14,29 @@ use Rattle.plain.proofs.push_columns.Statement.{statement}
 use Rattle.plain.proofs.push_columns.Tie as tie
 
 abbrev Inv-loop : tie.InvT-loop
-Inv-loop g s cores counters lone room₀ h m o₀ room o =
+Inv-loop g s inner counters lone room₀ h m o₀ room o =
     (o ≤ m) × Filled g (λ a k b. (b < o) × (unwalked g a b ≡ true) × (region (separatedOf g) a b ≡ false)) room₀ room
 
 abbrev μ-loop : tie.MeasureT-loop
-μ-loop g s cores counters lone room₀ h m o₀ room o = m - o
+μ-loop g s inner counters lone room₀ h m o₀ room o = m - o
 
 loop-holds : tie.Need-loop-holds Inv-loop μ-loop
 loop-holds c = (omega arith, filled-none _ _ (λ a h b p. omega (arith, p .0)))
 
-mul-t12 : tie.Need-mul-t12 Inv-loop μ-loop
-mul-t12 c = omega arith
-
-element-copy-out-t15 : tie.Need-element-copy-out-t15 Inv-loop μ-loop
-element-copy-out-t15 c = omega arith
+row-of-requires : tie.Need-row-of-requires Inv-loop μ-loop
+row-of-requires c κs = let l = c .before .before .before in omega (arith, l .before .before .before .before .pre .0 .ready .fits .output .most)
 
 pushed-requires : tie.Need-pushed-requires Inv-loop μ-loop
 pushed-requires c κs = search needs
 
 push-column-requires : tie.Need-push-column-requires Inv-loop μ-loop
 push-column-requires c κs =
-    let l = c .before .before .before .before in
+    let r = c .before .before in
+    let t = r .before .before .before in
+    let l = t .before in
     let p = l .before .before .before .before .pre in
-    let o = c .before .before .before .loop-test .taken in
-    (p .0, roomy-more _ (p .1) (l .loop .inv .1), pushed-of _ _ _ (p .0) _ _ _ (p .2) o refl (c .before .pushed .ensures), o)
+    let o = t .loop-test .taken in
+    (p .0, roomy-more _ (p .1) (l .loop .inv .1), pushed-of _ _ _ (p .0) _ _ _ (p .2) o (r .row-of .ensures .1) (c .before .pushed .ensures), o)
 
 add-o : tie.Need-add-o Inv-loop μ-loop
 add-o c = omega arith
@@ -48,7 +47,9 @@ loop-less c = omega arith
 loop-again : tie.Need-loop-again Inv-loop μ-loop
 loop-again c =
     let d = c .before .before in
-    (omega arith, pushes-next _ _ (d .before .before .before .before .before .loop .inv .1) (d .push-column .ensures))
+    let r = d .before .before .before in
+    let l = r .before .before .before .before in
+    (omega arith, pushes-next _ _ (l .loop .inv .1) (d .push-column .ensures))
 
 same-length : tie.Need-same-length Inv-loop μ-loop
 same-length c = c .before .loop .inv .1 .grows .long
@@ -63,8 +64,7 @@ push-columns-spec =
     Inv-loop
     μ-loop
     loop-holds
-    mul-t12
-    element-copy-out-t15
+    row-of-requires
     pushed-requires
     push-column-requires
     add-o

@@ -3,119 +3,129 @@ use native.Mathlib.Omega.{arith}
 use borrow.Author.Needs.{needs}
 use Prim.Native.Nat.{_<_}
 use mathlib.Core.Path.{_≡_, refl}
-use mathlib.Core.Bool.{true}
+use mathlib.Core.Logic.{_≢_}
 use lib.ListN.{length}
 use Rattle.finite.specs.Bounded.{count}
-use Rattle.sets.specs.Member.{has}
+use Rattle.bits.specs.Member.{has}
+use Rattle.sets.specs.Words.{capacity, bitsOf}
+use Rattle.sets.proofs.Rows.{is-none, is-some}
+use Rattle.arena.specs.Table.{gives}
+use Rattle.theory.specs.Entries.{entry}
+use Rattle.entries.specs.Step.{entryStep}
 use Rattle.environment_table.specs.Table.{Same, Putting}
-use Rattle.environment_table.proofs.Places.{roomy-more, same-small}
+use Rattle.environment_table.proofs.Places.{roomy-more}
+use Rattle.environment_table.proofs.Known.{push-of}
 use Rattle.environment_table.proofs.Members.{Visiting, visit-start, visit-small, visit-in, visit-falls, visit-next, visit-end}
 use Rattle.plain.proofs.push_rows.Statement.{statement}
 use Rattle.plain.proofs.push_rows.Tie as tie
 
 abbrev Inv-loop : tie.InvT-loop
-Inv-loop g counters o refused room₀ n h rest₀ room rest = Visiting g (λ a b. a) (λ a h b. b ≡ o .0) rest₀ rest room₀ room
+Inv-loop g counters o refused room₀ n h rest₀ room rest = Visiting g (λ a b. a) (λ a h b. b ≡ o .0) (bitsOf rest₀) (bitsOf rest) room₀ room
 
 abbrev μ-loop : tie.MeasureT-loop
-μ-loop g counters o refused room₀ n h rest₀ room rest = count 64 (has rest)
+μ-loop g counters o refused room₀ n h rest₀ room rest = count capacity (has (bitsOf rest))
 
-small : (c : tie.After-lowest Inv-loop μ-loop) → c .lowest .result < 64
-small c = visit-small _ _ _ _ (c .before .before .loop .rest) _ (c .before .before .loop .inv) (c .before .loop-test .taken) (c .lowest .ensures)
+some-left : (c : tie.Then1 Inv-loop μ-loop) → bitsOf (c .before .before .loop .rest) ≢ 0
+some-left c = is-some _ (c .before .is-empty .ensures) (c .if1 .taken)
 
-member : (c : tie.After-lowest Inv-loop μ-loop) → has (c .before .before .before .before .before .args .which .0) (c .lowest .result) ≡ true
-member c = visit-in _ _ _ _ (c .before .before .loop .rest) _ (c .before .before .loop .inv) (c .before .loop-test .taken) (c .lowest .ensures)
-
--- what belongs in the rows of the input that is visited
-same : (c : tie.After-unanswered Inv-loop μ-loop)
-    → let at-lowest = c .before .before in
-    let at-start = at-lowest .before .before .before .before .before in
-    Same (at-start .args .g) (at-start .args .counters)
-    (at-lowest .lowest .result) (at-start .args .o .0) (c .unanswered .result) 64
-same c =
-    let at-step = c .before .before .before .before .before in
-    let at-start = at-step .before .before in
-    at-start .pre .1 .same _ _ (member (c .before .before)) (c .unanswered .ensures)
-
-putting : (c : tie.After-put-arg Inv-loop μ-loop)
-    → let at-loop = c .before .before .before .before .before in
-    let at-start = at-loop .before .before .before in
-    Putting (at-start .args .g .output .states)
-    (at-start .args .counters) (c .before .before .before .lowest .result)
-    (at-start .args .o .0) (c .before .unanswered .result) 64
-    (length (at-loop .loop .room))
-putting c =
-    let b = c .before .before .before .before .before in
-    record {
-      game =
-          b .before .before .before .args .g;
-      outputs = refl;
-      roomy = roomy-more _ (b .before .before .before .pre .0) (b .loop .inv .filled);
-      same = same
-          (c .before);
-    }
+small : (c : tie.After-lowest Inv-loop μ-loop) → c .lowest .result < capacity
+small c =
+    let l = c .before .before .before in
+    visit-small _ _ _ _ (bitsOf (l .loop .rest)) _ (l .loop .inv) (some-left (c .before)) (c .lowest .ensures)
 
 loop-holds : tie.Need-loop-holds Inv-loop μ-loop
-loop-holds c = visit-start _ _ _ _ _ _ (c .before .before .pre .0 .inputs) (c .before .before .pre .1 .below)
+loop-holds c =
+    let p = c .before .before .before .pre in
+    visit-start _ _ _ _ _ _ (p .0 .inputs) (p .1 .below)
+
+is-empty-requires : tie.Need-is-empty-requires Inv-loop μ-loop
+is-empty-requires c κs = search needs
 
 lowest-requires : tie.Need-lowest-requires Inv-loop μ-loop
 lowest-requires c κs = search needs
 
-mul-difference : tie.Need-mul-difference Inv-loop μ-loop
-mul-difference c = omega (arith, small c)
-
-element-copy-out-difference : tie.Need-element-copy-out-difference Inv-loop μ-loop
-element-copy-out-difference c = omega (arith, small c)
+row-of-requires : tie.Need-row-of-requires Inv-loop μ-loop
+row-of-requires c κs = small (c .before .before)
 
 unanswered-requires : tie.Need-unanswered-requires Inv-loop μ-loop
 unanswered-requires c κs =
-    let at-step = c .before .before .before .before .before in
-    let at-start = at-step .before in
-    (at-start .pre .0 .inputs, at-start .pre .1 .inside)
+    let w = c .before .before .before in
+    let l = w .before .before .before in
+    let p = l .before .before .before .before .pre in
+    (p .0 .inputs, p .1 .inside)
 
-cast-put : tie.Need-cast-put Inv-loop μ-loop
-cast-put c =
-    let at-step = c .before .before .before .before .before in
-    let at-start = at-step .before .before in
-    omega (arith, same-small _ _ _ _ _ _ _ (at-start .pre .0) (same c))
+-- what belongs in the rows of the input that is visited
+same : (c : tie.After-unanswered Inv-loop μ-loop)
+    → let w = c .before .before .before .before in
+    let l = w .before .before .before in
+    let a = l .before .before .before .before .args in
+    (c .unanswered .result < capacity) × Same (a .g) (a .counters) (w .lowest .result) (a .o .0) (entry (gives 0 (c .unanswered .result))) entryStep
+same c =
+    let w = c .before .before .before .before in
+    let l = w .before .before .before in
+    let p = l .before .before .before .before .pre in
+    push-of _ _ _ _ _ (p .1) _ _ _ (visit-in _ _ _ _ (bitsOf (l .loop .rest)) _ (l .loop .inv) (some-left (w .before)) (w .lowest .ensures))
+    (c .before .row-of .ensures .1) (c .unanswered .ensures)
+
+pack-requires : tie.Need-pack-requires Inv-loop μ-loop
+pack-requires c κs = (same c .0, omega arith)
+
+putting : (c : tie.After-put-arg Inv-loop μ-loop)
+    → let f = c .before in
+    let u = f .before in
+    let w = u .before .before .before .before in
+    let l = w .before .before .before in
+    let a = l .before .before .before .before .args in
+    Putting (a .g .output .states) (a .counters) (w .lowest .result) (a .o .0) (f .pack .result) entryStep (length (l .loop .room))
+putting c =
+    let f = c .before in
+    let u = f .before in
+    let w = u .before .before .before .before in
+    let l = w .before .before .before in
+    let start = l .before .before .before .before in
+    record {
+      game = start .args .g;
+      outputs = refl;
+      roomy = roomy-more _ (start .pre .0) (l .loop .inv .filled);
+      same = rw (f .pack .ensures) (same u .1);
+    }
 
 put-requires : tie.Need-put-requires Inv-loop μ-loop
 put-requires c κs = putting c
 
-insert-requires : tie.Need-insert-requires Inv-loop μ-loop
-insert-requires c κs =
-    let at-step = c .before .before .before .before .before in
-    let at-step2 = at-step .before in
-    small at-step2
-
-difference-requires : tie.Need-difference-requires Inv-loop μ-loop
-difference-requires c κs = search needs
+without-lowest-requires : tie.Need-without-lowest-requires Inv-loop μ-loop
+without-lowest-requires c κs =
+    let arg = c .before .before .before in
+    let u = arg .before .before in
+    let w = u .before .before .before .before in
+    some-left (w .before)
 
 loop-less : tie.Need-loop-less Inv-loop μ-loop
 loop-less c =
-    let at-insert = c .before in
-    let at-step = at-insert .before .before .before .before .before in
-    let at-step2 = at-step .before .before in
-    let l = at-step2 in
-    let b = l .before .before in
-    visit-falls _ _ _ _ (b .loop .rest) _ (b .loop .inv) (l .before .loop-test .taken) (l .lowest .ensures) _ _ (at-insert .insert .ensures)
-    (c .difference .ensures)
+    let arg = c .before .before .before .before in
+    let u = arg .before .before in
+    let w = u .before .before .before .before in
+    let l = w .before .before .before in
+    visit-falls _ _ _ _ (bitsOf (l .loop .rest)) _ (l .loop .inv) (some-left (w .before)) (w .lowest .ensures) _ (c .without-lowest .ensures)
 
 loop-again : tie.Need-loop-again Inv-loop μ-loop
 unfolding putting
 loop-again c =
-    let at-put = c .before .before .before .before in
-    let at-step = at-put .before .before .before .before in
-    let l = at-step in
-    let b = l .before .before in
-    visit-next _ _ _ _ (b .loop .rest) _ (b .loop .inv) (l .before .loop-test .taken) (l .lowest .ensures) _ _ (c .before .insert .ensures)
-    (c .difference .ensures)
-    (omega (arith, c .difference .ok)) (at-put .put .ensures .fills (putting (c .before .before .before .before .before))) (λ a h b e p. (p, e))
+    let put = c .before .before .before in
+    let arg = put .before in
+    let u = arg .before .before in
+    let w = u .before .before .before .before in
+    let l = w .before .before .before in
+    visit-next _ _ _ _ (bitsOf (l .loop .rest)) _ (l .loop .inv) (some-left (w .before)) (w .lowest .ensures) _ (c .without-lowest .ensures)
+    (put .put .ensures .fills (putting arg)) (λ a h b e p. (p, e))
 
 same-length : tie.Need-same-length Inv-loop μ-loop
-same-length c = c .before .loop .inv .filled .grows .long
+same-length c = c .before .before .loop .inv .filled .grows .long
 
 returns : tie.Need-returns Inv-loop μ-loop
-returns c = visit-end _ _ _ _ (c .before .loop .rest) (c .before .loop .inv) (c .loop-test .left)
+returns c =
+    let l = c .before .before in
+    visit-end _ _ _ _ (bitsOf (l .loop .rest)) (l .loop .inv) (is-none _ (c .before .is-empty .ensures) (c .if1 .left))
 
 pub push-rows-spec : {M : Type 1} → statement M
 push-rows-spec =
@@ -124,14 +134,13 @@ push-rows-spec =
     Inv-loop
     μ-loop
     loop-holds
+    is-empty-requires
     lowest-requires
-    mul-difference
-    element-copy-out-difference
+    row-of-requires
     unanswered-requires
-    cast-put
+    pack-requires
     put-requires
-    insert-requires
-    difference-requires
+    without-lowest-requires
     loop-less
     loop-again
     same-length

@@ -1,52 +1,70 @@
--- `reached` joins the rows of the outputs below p.
-use Prim.Native.Nat.{ℕ, _≤_, _-_}
-use mathlib.Core.Path.{_≡_}
+-- `reached` joins what the outputs of the set reach, lowest first.
+use Prim.Native.Nat.{_<_}
+use mathlib.Core.Logic.{_≢_}
 use borrow.Author.Needs.{needs}
 use native.Mathlib.Omega.{arith}
-use Rattle.sets.specs.Member.{has}
-use Rattle.environment_table.specs.Reading.{reachedAt}
-use Rattle.environment_table.proofs.Reading.{reached-start, reached-turn, reached-end}
+use Rattle.finite.specs.Bounded.{count}
+use Rattle.bits.specs.Member.{has}
+use Rattle.sets.specs.Words.{capacity, bitsOf, setsIn}
+use Rattle.sets.proofs.Rows.{is-none, is-some}
+use Rattle.environment_table.proofs.Reading.{Reaching, reaching-start, reaching-small, reaching-below, reaching-falls, reaching-turn, reaching-end}
 use Rattle.plain.proofs.reached.Statement.{statement}
 use Rattle.plain.proofs.reached.Tie as tie
 
 abbrev Inv-loop : tie.InvT-loop
-Inv-loop s n m set x₀ p₀ x p = (p ≤ m) × ((t : ℕ) → has x t ≡ reachedAt s n p (set .0) t)
+Inv-loop s n m x₀ rest₀ x rest = Reaching (setsIn s) n m (bitsOf rest₀) (bitsOf rest) (bitsOf x)
 
 abbrev μ-loop : tie.MeasureT-loop
-μ-loop s n m set x₀ p₀ x p = m - p
+μ-loop s n m x₀ rest₀ x rest = count capacity (has (bitsOf rest))
+
+some-left : (c : tie.Then1 Inv-loop μ-loop) → bitsOf (c .before .before .loop .rest) ≢ 0
+some-left c = is-some _ (c .before .is-empty .ensures) (c .if1 .taken)
+
+empty-requires : tie.Need-empty-requires Inv-loop μ-loop
+empty-requires c κs = search needs
 
 loop-holds : tie.Need-loop-holds Inv-loop μ-loop
-loop-holds c = (omega arith, reached-start _ _ _)
+loop-holds c =
+    let e = c .before in
+    let p = e .before .before .pre in
+    reaching-start _ _ _ _ _ (e .empty .ensures .1) (p .0 .outputs) (p .1)
 
-add-union-if : tie.Need-add-union-if Inv-loop μ-loop
-add-union-if c = omega arith
+is-empty-requires : tie.Need-is-empty-requires Inv-loop μ-loop
+is-empty-requires c κs = search needs
 
-add-union-if-2 : tie.Need-add-union-if-2 Inv-loop μ-loop
-add-union-if-2 c = omega arith
+lowest-requires : tie.Need-lowest-requires Inv-loop μ-loop
+lowest-requires c κs = search needs
 
-mul-union-if : tie.Need-mul-union-if Inv-loop μ-loop
-mul-union-if c = omega arith
+out-reach-requires : tie.Need-out-reach-requires Inv-loop μ-loop
+out-reach-requires c κs =
+    let l = c .before .before .before in
+    let p = l .before .before .before .before .pre in
+    let below = reaching-below _ _ _ _ _ _ _ (l .loop .inv) (some-left (c .before)) (c .lowest .ensures) in
+    (p .0 .inputs, omega (arith, below, p .0 .outputs), omega (arith, below, p .0 .long))
 
-shared-slice-read-union-if : tie.Need-shared-slice-read-union-if Inv-loop μ-loop
-shared-slice-read-union-if c = omega arith
+union-requires : tie.Need-union-requires Inv-loop μ-loop
+union-requires c κs = search needs
 
-member-requires : tie.Need-member-requires Inv-loop μ-loop
-member-requires c κs = omega arith
-
-union-if-requires : tie.Need-union-if-requires Inv-loop μ-loop
-union-if-requires c κs = search needs
-
-add-p : tie.Need-add-p Inv-loop μ-loop
-add-p c = omega arith
+without-lowest-requires : tie.Need-without-lowest-requires Inv-loop μ-loop
+without-lowest-requires c κs = some-left (c .before .before .before)
 
 loop-less : tie.Need-loop-less Inv-loop μ-loop
-loop-less c = omega arith
+loop-less c =
+    let o = c .before .before .before in
+    let l = o .before .before .before in
+    reaching-falls _ _ _ _ _ _ _ (l .loop .inv) (some-left (o .before)) (o .lowest .ensures) _ (c .without-lowest .ensures)
 
 loop-again : tie.Need-loop-again Inv-loop μ-loop
-loop-again c = (omega arith, reached-turn _ _ _ _ _ _ (c .before .before .before .before .loop .inv .1) (c .before .member .ensures) (c .union-if .ensures))
+loop-again c =
+    let o = c .before .before .before in
+    let l = o .before .before .before in
+    reaching-turn _ _ _ _ _ _ _ (l .loop .inv) (some-left (o .before)) (o .lowest .ensures) _ (c .without-lowest .ensures)
+    (c .before .before .out-reach .ensures) (c .before .union .ensures)
 
 returns : tie.Need-returns Inv-loop μ-loop
-returns c = reached-end _ _ _ _ _ _ (c .before .loop .inv .0) (c .loop-test .left) (c .before .loop .inv .1)
+returns c =
+    let l = c .before .before in
+    reaching-end _ _ _ _ (bitsOf (l .loop .rest)) _ (l .loop .inv) (is-none _ (c .before .is-empty .ensures) (c .if1 .left))
 
 pub reached-spec : {M : Type 1} → statement M
 reached-spec =
@@ -54,14 +72,13 @@ reached-spec =
     (tie.spec
     Inv-loop
     μ-loop
+    empty-requires
     loop-holds
-    add-union-if
-    add-union-if-2
-    mul-union-if
-    shared-slice-read-union-if
-    member-requires
-    union-if-requires
-    add-p
+    is-empty-requires
+    lowest-requires
+    out-reach-requires
+    union-requires
+    without-lowest-requires
     loop-less
     loop-again
     returns)

@@ -2,8 +2,9 @@
 use native.Mathlib.Omega.{arith}
 use borrow.Author.Needs.{needs}
 use mathlib.Core.Path.{_∙_}
+use Rattle.entries.proofs.Packed.{none-entry}
 use Rattle.environment_table.proofs.Reading.{refused-within, unanswered-both}
-use Rattle.environment_table.proofs.Known.{shaped, start-found, start-none, unanswered-of}
+use Rattle.environment_table.proofs.Known.{shaped, initial-within, start-found, start-none, unanswered-of}
 use Rattle.plain.proofs.start_entry.Statement.{statement}
 use Rattle.plain.proofs.start_entry.Tie as tie
 
@@ -11,33 +12,39 @@ out-initial-requires : tie.Need-out-initial-requires
 out-initial-requires c κs = search needs
 
 refused-requires : tie.Need-refused-requires
-refused-requires c κs = shaped _ _ _ (c .before .before .pre)
+refused-requires c κs = let p = c .before .before .pre in (shaped _ _ _ p, initial-within _ _ _ p (c .out-initial .ensures))
 
 in-initial-requires : tie.Need-in-initial-requires
 in-initial-requires c κs = search needs
 
 unanswered-requires : tie.Need-unanswered-requires
-unanswered-requires c κs = (c .before .before .before .before .pre .inputs, refused-within _ _ (c .before .refused .ensures))
+unanswered-requires c κs =
+    let r = c .before in
+    (shaped _ _ _ (r .before .before .before .pre) .inputs, refused-within _ _ (r .refused .ensures))
 
-cast-result : tie.Need-cast-result
-cast-result c =
-    let at-step = c .before .before .before .before .before in
-    let at-start = at-step .before in
-    omega (arith, at-start .pre .inputs)
+pack-requires : tie.Need-pack-requires
+pack-requires c κs =
+    let i = c .before .before in
+    let r = i .before in
+    omega (arith, c .if1 .taken, shaped _ _ _ (r .before .before .before .pre) .inputs)
 
 returns : tie.Need-returns
 returns c =
-    let at-out-initial = c .before .before .before .before in
-    let at-start = at-out-initial .before .before in
-    start-found _ _ _ (at-start .pre) _ (unanswered-of _ _ _ _ (c .before .before .in-initial .ensures) (at-out-initial .out-initial .ensures)
-    (c .before .unanswered .ensures ∙ unanswered-both _ _ _ _ _ _ (c .before .before .before .refused .ensures))) (c .if1 .taken)
+    let u = c .before .before in
+    let r = u .before .before in
+    let o = r .before in
+    c .pack .ensures
+    ∙ start-found _ _ _ (o .before .before .pre) _ (unanswered-of _ _ _ _ (u .before .in-initial .ensures) (o .out-initial .ensures)
+    (u .unanswered .ensures ∙ unanswered-both _ _ _ _ _ _ (r .refused .ensures))) (c .before .if1 .taken)
 
 returns-2 : tie.Need-returns-2
 returns-2 c =
-    let at-out-initial = c .before .before .before .before in
-    let at-start = at-out-initial .before .before in
-    start-none _ _ _ (at-start .pre) _ (unanswered-of _ _ _ _ (c .before .before .in-initial .ensures) (at-out-initial .out-initial .ensures)
-    (c .before .unanswered .ensures ∙ unanswered-both _ _ _ _ _ _ (c .before .before .before .refused .ensures))) (c .if1 .left)
+    let u = c .before in
+    let r = u .before .before in
+    let o = r .before in
+    none-entry
+    ∙ start-none _ _ _ (o .before .before .pre) _ (unanswered-of _ _ _ _ (u .before .in-initial .ensures) (o .out-initial .ensures)
+    (u .unanswered .ensures ∙ unanswered-both _ _ _ _ _ _ (r .refused .ensures))) (c .if1 .left)
 
 pub start-entry-spec : {M : Type 1} → statement M
 start-entry-spec =
@@ -47,6 +54,6 @@ start-entry-spec =
     refused-requires
     in-initial-requires
     unanswered-requires
-    cast-result
+    pack-requires
     returns
     returns-2)

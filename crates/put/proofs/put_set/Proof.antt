@@ -5,6 +5,7 @@ use mathlib.Core.Bool.{false}
 use Prim.Native.Nat.{_+_, _-_, _^_, _≤_}
 use mathlib.Core.Path.{sym, _∙_}
 use native.Mathlib.Omega.{arith}
+use Rattle.sets.specs.Words.{capacity, bitsOf}
 use Rattle.put.proofs.Pieces.{member-room, set-room, setRest, set-open, set-take, set-skip, set-last}
 use Rattle.put.proofs.Buffer.{Remains, remains-as, remains-all, remains-step, remains-none, remains-room, puts-then, puts-as, puts-length}
 use Rattle.put.proofs.put_set.Statement.{statement}
@@ -12,10 +13,11 @@ use Rattle.put.proofs.put_set.Tie as tie
 
 abbrev Inv-loop : tie.InvT-loop
 Inv-loop buffer₀ at x to₀ gap₀ s₀ buffer to gap s =
-    Remains buffer₀ to₀ (setRest false 0 x) buffer to (setRest gap s x) × (s ≤ 64) × (to₀ + length (setRest false 0 x) ≤ 2 ^ 32)
+    Remains buffer₀ to₀ (setRest false 0 (bitsOf x)) buffer to (setRest gap s (bitsOf x)) × (s ≤ capacity)
+    × (to₀ + length (setRest false 0 (bitsOf x)) ≤ 2 ^ 32)
 
 abbrev μ-loop : tie.MeasureT-loop
-μ-loop buffer₀ at x to₀ gap₀ s₀ buffer to gap s = 64 - s
+μ-loop buffer₀ at x to₀ gap₀ s₀ buffer to gap s = capacity - s
 
 put-byte-requires : tie.Need-put-byte-requires Inv-loop μ-loop
 put-byte-requires c κs = omega (arith, set-room _ _ _ (c .before .before .pre))

@@ -1,6 +1,7 @@
 -- `put_state` meets its contract.
 use native.Mathlib.Omega.{arith}
 use borrow.Author.Needs.{needs}
+use Rattle.sets.specs.Words.{bitsOf}
 use Rattle.put.proofs.Pieces.{state-pieces, state-length}
 use Rattle.put.proofs.Buffer.{puts-then, puts-as}
 use Rattle.put.proofs.put_state.Statement.{statement}
@@ -12,7 +13,7 @@ put-opening-requires c κs = (
   omega (
     arith,
     state-length (c .before .before .args .w) (c .before .before .args .s) (c .before .before .args .f)
-        (c .before .before .args .x),
+        (bitsOf (c .before .before .args .x)),
     c .before .before .pre .1,
   ),
 )
@@ -24,7 +25,7 @@ put-number-then-requires c κs =
     omega (
       arith,
       at-put-opening .put-opening .ensures .next,
-      state-length (at-start .args .w) (at-start .args .s) (at-start .args .f) (at-start .args .x),
+      state-length (at-start .args .w) (at-start .args .s) (at-start .args .f) (bitsOf (at-start .args .x)),
       at-start .pre .1,
     )
 
@@ -38,7 +39,7 @@ put-number-then-requires-2 c κs =
       at-put-opening .put-opening .ensures .next,
       at-put-number-then .put-number-then .ensures .next,
       state-length (at-start .args .w)
-          (at-start .args .s) (at-start .args .f) (at-start .args .x),
+          (at-start .args .s) (at-start .args .f) (bitsOf (at-start .args .x)),
       at-start .pre .1,
     )
 
@@ -53,7 +54,7 @@ put-set-requires c κs =
       at-put-opening .put-opening .ensures .next,
       at-put-number-then .put-number-then .ensures .next,
       at-put-number-then2 .put-number-then2 .ensures .next,
-      state-length (at-start .args .w) (at-start .args .s) (at-start .args .f) (at-start .args .x),
+      state-length (at-start .args .w) (at-start .args .s) (at-start .args .f) (bitsOf (at-start .args .x)),
       at-start .pre .1,
     )
 
@@ -71,7 +72,7 @@ put-end-requires c κs =
       at-put-number-then2 .put-number-then2 .ensures .next,
       at-put-set .put-set .ensures .next,
       state-length (at-start .args .w) (at-start .args .s)
-          (at-start .args .f) (at-start .args .x),
+          (at-start .args .f) (bitsOf (at-start .args .x)),
       at-start .pre .1,
     )
 

@@ -1,17 +1,18 @@
 -- `fill_rank`. Invariant: input i is the next that reaches k states, and the rows of those before it stand.
 use Prim.Native.Nat.{_-_, _≤_, _<_}
 use mathlib.Core.Path.{_≡_}
-use native.Mathlib.Omega.{arith}
-use Rattle.ranks.specs.Fill.{reach, Filling, Kept}
+use Rattle.sets.specs.Words.{setsIn}
+use Rattle.ranks.specs.Fill.{reach, Filling, PastKept}
 use Rattle.ranks.proofs.Order.{kept-none, kept-more, filling-long, filling-skips, filling-at, filling-of, filling-next}
+use native.Mathlib.Omega.{arith}
 use Rattle.ranks.proofs.fill_rank.Statement.{statement}
 use Rattle.ranks.proofs.fill_rank.Tie as tie
 
 abbrev Inv-loop : tie.InvT-loop
-Inv-loop g t s₀ cores turning k n i₀ s i = (i ≤ n) × Filling g cores turning s k i × Kept g s₀ s × (i < n → reach s i ≡ k)
+Inv-loop g t s₀ x k n i₀ s i = (i ≤ n) × Filling g x s k i × PastKept g s₀ s × (i < n → reach (setsIn s) i ≡ k)
 
 abbrev μ-loop : tie.MeasureT-loop
-μ-loop g t s₀ cores turning k n i₀ s i = n - i
+μ-loop g t s₀ x k n i₀ s i = n - i
 
 next-at-requires : tie.Need-next-at-requires Inv-loop μ-loop
 next-at-requires c κs = omega (arith, c .before .before .pre .0 .laid .long)
@@ -40,13 +41,9 @@ loop-again : tie.Need-loop-again Inv-loop μ-loop
 loop-again c =
     let p = c .before .before .before .before in
     let b = p .before .before .before in
-    let N = c .next-at2 .ensures in (
-      N .within,
-      filling-skips (filling-of _ _ (b .loop .inv .3 (p .before .before .loop-test .taken)) (p .place .ensures .0)) N,
-      kept-more
-          (b .loop .inv .2) (p .place .ensures .1),
-      N .hit,
-    )
+    let N = c .next-at2 .ensures in
+    let filled = filling-of _ _ (b .loop .inv .3 (p .before .before .loop-test .taken)) (p .place .ensures .0) in
+    (N .within, filling-skips filled N, kept-more (b .loop .inv .2) (p .place .ensures .1), N .hit)
 
 same-length : tie.Need-same-length Inv-loop μ-loop
 same-length c = c .before .loop .inv .2 .long

@@ -1,6 +1,6 @@
--- `place`.
-use borrow.Author.Needs.{needs}
+-- `place` writes the row where it belongs.
 use Rattle.ranks.proofs.Order.{filling-ready, filling-writes, kept-writes}
+use borrow.Author.Needs.{needs}
 use Rattle.ranks.proofs.place.Statement.{statement}
 use Rattle.ranks.proofs.place.Tie as tie
 
@@ -10,22 +10,19 @@ row-for-requires c κs =
     let r = filling-ready (p .0) (p .2) in
     (r .0, r .1, p .1)
 
-add-s : tie.Need-add-s
-add-s c = search needs
-
-mul-s : tie.Need-mul-s
-mul-s c = search needs
-
-slice-write-s : tie.Need-slice-write-s
-slice-write-s c = search needs
+put-region-row-requires : tie.Need-put-region-row-requires
+put-region-row-requires c κs = search needs
 
 same-length : tie.Need-same-length
 same-length c = search needs
 
 returns : tie.Need-returns
 returns c =
-    let p = c .before .before .before .pre in
-    (filling-writes (p .0) (p .2) (c .row-for .result) (c .row-for .ensures), kept-writes (p .0) (p .2) (c .row-for .result))
+    let w = c .before .before in
+    let f = w .before .before in
+    let p = f .before .before .before .pre in
+    let put = w .put-region-row .ensures in
+    (filling-writes (p .0) (p .2) _ _ put (f .row-for .ensures), kept-writes (p .0) (p .2) _ _ put)
 
 pub place-spec : {M : Type 1} → statement M
-place-spec = tie.close (tie.spec row-for-requires add-s mul-s slice-write-s same-length returns)
+place-spec = tie.close (tie.spec row-for-requires put-region-row-requires same-length returns)

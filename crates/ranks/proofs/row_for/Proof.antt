@@ -1,38 +1,31 @@
--- `row_for`.
-use native.Mathlib.Omega.{arith}
+-- `row_for` takes the row of the component's first input where that stands.
+use mathlib.Core.Path.{_∙_}
 use Rattle.ranks.proofs.Order.{row-taken, row-component}
 use borrow.Author.Needs.{needs}
 use Rattle.ranks.proofs.row_for.Statement.{statement}
 use Rattle.ranks.proofs.row_for.Tie as tie
 
-component-requires : tie.Need-component-requires
-component-requires c κs = search needs
+in-component-requires : tie.Need-in-component-requires
+in-component-requires c κs = search needs
 
 lowest-requires : tie.Need-lowest-requires
 lowest-requires c κs = search needs
 
-add-result : tie.Need-add-result
-add-result c = search needs
-
-mul-result : tie.Need-mul-result
-mul-result c = search needs
-
-shared-slice-read-result : tie.Need-shared-slice-read-result
-shared-slice-read-result c =
-    let b = c .before .before .before in
-    let s = b .before .before in
-    omega (arith, s .pre .0 .laid .long, s .pre .0 .here)
+region-row-requires : tie.Need-region-row-requires
+region-row-requires c κs = search needs
 
 returns : tie.Need-returns
 returns c =
-    let b = c .before .before .before in
-    row-taken (b .before .before .pre .0) (b .before .before .pre .1) (b .component .result) (c .before .before .lowest .result) (b .component .ensures)
-    (c .before .before .lowest .ensures) (c .before .if1 .taken) .1
+    let l = c .before .before .before in
+    let a = l .before in
+    let p = a .before .before .pre in
+    c .region-row .ensures ∙ row-taken (p .0) (p .1) _ _ (a .in-component .ensures) (l .lowest .ensures) (c .before .if1 .taken) .1
 
 stored-row-requires : tie.Need-stored-row-requires
 stored-row-requires c κs =
-    let b = c .before .before in
-    (b .before .before .pre .0, b .before .before .pre .2, row-component (b .before .before .pre .0) (b .component .result) (b .component .ensures))
+    let a = c .before .before .before in
+    let p = a .before .before .pre in
+    (p .0, p .2, row-component (p .0) _ (a .in-component .ensures))
 
 returns-2 : tie.Need-returns-2
 returns-2 c = search needs
@@ -41,11 +34,9 @@ pub row-for-spec : {M : Type 1} → statement M
 row-for-spec =
     tie.close
     (tie.spec
-    component-requires
+    in-component-requires
     lowest-requires
-    add-result
-    mul-result
-    shared-slice-read-result
+    region-row-requires
     returns
     stored-row-requires
     returns-2)

@@ -1,16 +1,16 @@
--- `fill`.
-use native.Mathlib.Omega.{arith}
-use Rattle.ranks.specs.Fill.{Filling, Kept}
-use Rattle.ranks.proofs.Order.{kept-none, kept-more, filling-done}
+-- `fill`. Invariant: the rows of the inputs that reach fewer than k states stand.
 use Prim.Native.Nat.{_+_, _-_, _≤_}
+use Rattle.ranks.specs.Fill.{Filling, PastKept}
+use Rattle.ranks.proofs.Order.{kept-none, kept-more, filling-done}
+use native.Mathlib.Omega.{arith}
 use Rattle.region.proofs.fill.Statement.{statement}
 use Rattle.region.proofs.fill.Tie as tie
 
 abbrev Inv-loop : tie.InvT-loop
-Inv-loop g t s₀ cores turning k₀ s k = (k ≤ g .input .states + 1) × Filling g cores turning s k 0 × Kept g s₀ s
+Inv-loop g t s₀ x k₀ s k = (k ≤ g .input .states + 1) × Filling g x s k 0 × PastKept g s₀ s
 
 abbrev μ-loop : tie.MeasureT-loop
-μ-loop g t s₀ cores turning k₀ s k = g .input .states + 1 - k
+μ-loop g t s₀ x k₀ s k = g .input .states + 1 - k
 
 loop-holds : tie.Need-loop-holds Inv-loop μ-loop
 loop-holds c = (omega arith, c .before .pre .0, kept-none _ _)
@@ -26,16 +26,15 @@ loop-less c = omega arith
 
 loop-again : tie.Need-loop-again Inv-loop μ-loop
 loop-again c =
-    let at-fill-rank = c .before .before in
-    let at-step = at-fill-rank .before .before .before .before in
-    let b = at-step in
-    (omega arith, at-fill-rank .fill-rank .ensures .0, kept-more (b .loop .inv .2) (at-fill-rank .fill-rank .ensures .1))
+    let filled = c .before .before in
+    let b = filled .before .before .before .before in
+    (omega arith, filled .fill-rank .ensures .0, kept-more (b .loop .inv .2) (filled .fill-rank .ensures .1))
 
 same-length : tie.Need-same-length Inv-loop μ-loop
 same-length c = c .before .before .loop .inv .2 .long
 
 returns : tie.Need-returns Inv-loop μ-loop
-returns c = record { ready = filling-done (c .before .before .loop .inv .1) (omega arith); kept = c .before .before .loop .inv .2 }
+returns c = (filling-done (c .before .before .loop .inv .1) (omega arith), c .before .before .loop .inv .2)
 
 pub fill-spec : {M : Type 1} → statement M
 fill-spec =

@@ -1,68 +1,55 @@
--- `prepare`.
-use borrow.Author.Needs.{needs}
+-- `prepare` works out the closures, then the components, then the rows.
 use Rattle.dues.proofs.Meaning.{fits-few}
-use Rattle.region.proofs.Parts.{laid-first, filling-first, serving-first, prepared-both}
+use Rattle.region.proofs.Parts.{filling-first, serving-first, kept-words}
+use native.Mathlib.Omega.{arith}
+use borrow.Author.Needs.{needs}
 use Rattle.region.proofs.prepare.Statement.{statement}
 use Rattle.region.proofs.prepare.Tie as tie
-
-add-at : tie.Need-add-at
-add-at c = search needs
 
 close-requires : tie.Need-close-requires
 close-requires c κs = search needs
 
-close-at-requires : tie.Need-close-at-requires
-close-at-requires c κs = search needs
+nontrivial-states-requires : tie.Need-nontrivial-states-requires
+nontrivial-states-requires c κs = search needs
 
-cores-requires : tie.Need-cores-requires
-cores-requires c κs = search needs
-
-cores-at-requires : tie.Need-cores-at-requires
-cores-at-requires c κs = search needs
-
-served-at-requires : tie.Need-served-at-requires
-served-at-requires c κs =
-    let at-step = c .before .before .before .before .before in
-    let at-step2 = at-step .before .before in
-    let d = at-step2 in
-    let a = d .before .before .before .before in
-    let p = a .before .before .before .before .pre in
-    (fits-few _ (p .0), p .0 .output .most, laid-first _ (p .0) _ _ _ (a .close .ensures) (d .close-at .ensures) (p .1) .long)
+served-requires : tie.Need-served-requires
+served-requires c κs =
+    let closed = c .before .before .before .before .before in
+    let F = closed .before .before .before .pre .0 in
+    (fits-few _ F, F .input .most, F .output .most, closed .close .ensures .0 .long)
 
 fill-requires : tie.Need-fill-requires
 fill-requires c κs =
-    let v = c .before in
-    let u = v .before .before in
-    let e = u .before .before in
-    let d = e .before .before .before .before in
-    let a = d .before .before .before .before in
-    let p = a .before .before .before .before .pre in (
-      filling-first _ (p .0) _ _ _ (a .close .ensures) (d .close-at .ensures) (p .1) _ _ (e .cores .ensures) (u .cores-at .ensures),
-      serving-first _ (p .0) _ _ _ (a .close .ensures) (d .close-at .ensures) (p .1) _ (v .served-at .ensures),
-    )
+    let served = c .before in
+    let found = served .before .before in
+    let closed = found .before .before .before .before in
+    let F = closed .before .before .before .pre .0 in
+    let L = closed .close .ensures .0 in
+    (filling-first F L _ (found .nontrivial-states .ensures), serving-first F L _ (served .served .ensures))
 
 same-length : tie.Need-same-length
 same-length c = search needs
 
 returns : tie.Need-returns
 returns c =
-    let f = c .before .before in
-    let e = f .before .before .before .before .before .before in
-    let d = e .before .before .before .before in
-    let a = d .before .before .before .before in
-    let p = a .before .before .before .before .pre in
-    prepared-both _ (p .0) _ _ _ (a .close .ensures) (d .close-at .ensures) (p .1) _ (f .fill .ensures)
+    let filled = c .before .before in
+    let found = filled .before .before .before .before in
+    let known = found .before .before in
+    let closed = known .before .before in
+    let f = filled .fill .ensures in
+    record {
+      ready = f .0;
+      nontrivial = found .nontrivial-states .ensures;
+      kept = kept-words (λ i. omega (arith, known .slice-known2 .given i)) (λ i. omega (arith, c .slice-known3 .given i)) (closed .close .ensures .1) (f .1);
+    }
 
 pub prepare-spec : {M : Type 1} → statement M
 prepare-spec =
     tie.close
     (tie.spec
-    add-at
     close-requires
-    close-at-requires
-    cores-requires
-    cores-at-requires
-    served-at-requires
+    nontrivial-states-requires
+    served-requires
     fill-requires
     same-length
     returns)

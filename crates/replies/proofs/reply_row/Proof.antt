@@ -1,33 +1,32 @@
--- `reply_row`.
+-- `reply_row` collects the outputs below o.
+use Prim.Native.Nat.{ℕ, _-_, _≤_}
+use mathlib.Core.Path.{_≡_, _∙_, ap}
+use Rattle.bits.specs.Member.{pack}
+use Rattle.bits.proofs.Collect.{collect-none, collect-next, collect-end}
+use Rattle.sets.specs.Words.{bitsOf, setsIn}
+use Rattle.replies.specs.Replies.{repliesAt, replyWith, replyAt}
 use native.Mathlib.Omega.{arith}
-use Rattle.sets.specs.Member.{pack}
-use Rattle.sets.proofs.Collect.{collect-none, collect-next, collect-end}
-use Rattle.replies.specs.Replies.{replyWith, replyAt}
-use mathlib.Core.Path.{_≡_}
-use Prim.Native.Nat.{_-_, _≤_}
+use borrow.Author.Needs.{needs}
 use Rattle.replies.proofs.reply_row.Statement.{statement}
 use Rattle.replies.proofs.reply_row.Tie as tie
 
 abbrev Inv-loop : tie.InvT-loop
-Inv-loop s cores i next n f m c₀ o₀ c o = (o ≤ m) × (c ≡ pack o (replyWith s n cores next (f .moves) m))
+Inv-loop s c next n f m x₀ o₀ x o = (o ≤ m) × (bitsOf x ≡ pack o (replyWith (setsIn s) n (bitsOf (c .0)) (bitsOf (next .0)) (setsIn (f .moves)) m))
 
 abbrev μ-loop : tie.MeasureT-loop
-μ-loop s cores i next n f m c₀ o₀ c o = m - o
+μ-loop s c next n f m x₀ o₀ x o = m - o
 
-mul-next : tie.Need-mul-next Inv-loop μ-loop
-mul-next c = omega arith
+row-of-requires : tie.Need-row-of-requires Inv-loop μ-loop
+row-of-requires c κs = omega arith
 
-element-copy-out-next : tie.Need-element-copy-out-next Inv-loop μ-loop
-element-copy-out-next c = omega arith
+empty-requires : tie.Need-empty-requires Inv-loop μ-loop
+empty-requires c κs = search needs
 
 loop-holds : tie.Need-loop-holds Inv-loop μ-loop
-loop-holds c = (omega arith, collect-none _)
+loop-holds c = (omega arith, c .empty .ensures .1 ∙ collect-none _)
 
-mul-moves : tie.Need-mul-moves Inv-loop μ-loop
-mul-moves c = omega arith
-
-element-copy-out-moves : tie.Need-element-copy-out-moves Inv-loop μ-loop
-element-copy-out-moves c = omega arith
+row-of-requires-2 : tie.Need-row-of-requires-2 Inv-loop μ-loop
+row-of-requires-2 c κs = omega arith
 
 replies-requires : tie.Need-replies-requires Inv-loop μ-loop
 replies-requires c κs = omega arith
@@ -44,15 +43,25 @@ loop-less c = omega arith
 loop-again : tie.Need-loop-again Inv-loop μ-loop
 unfolding replyWith
 loop-again c =
-    let b = c .before .before .before .before in (
-      omega arith,
-      collect-next _ (b .loop .o) (b .loop .c) (c .insert-if .result) (c .before .replies .result) (b .loop .inv .1)
-          (c .before .replies .ensures) (c .insert-if .ensures),
-    )
+    let read = c .before .before in
+    let b = read .before .before .before .before in
+    let first = b .before .before .before in
+    let a = first .before .before .before .before .before .args in
+    let n = a .g .input .states in
+    let answer = ap (λ (y : ℕ). repliesAt (setsIn (a .s .now)) n (bitsOf (a .c .0)) (bitsOf (first .row-of .result)) y (a .g .output .states) n)
+    (read .row-of2 .ensures .1) in
+    (omega arith, collect-next _ (b .loop .o) _ _ _ (b .loop .inv .1) (c .before .replies .ensures ∙ answer) (c .insert-if .ensures))
 
 returns : tie.Need-returns Inv-loop μ-loop
 unfolding replyAt
-returns c = collect-end _ (c .before .loop .o) _ _ (omega arith) (omega arith) (c .before .loop .inv .1)
+returns c =
+    let b = c .before in
+    let first = b .before .before .before in
+    let a = first .before .before .before .before .before .args in
+    let rows = setsIn (a .g .output .moves) in
+    collect-end _ (b .loop .o) _ _ (omega arith) (omega arith) (b .loop .inv .1)
+    ∙ ap (λ (y : ℕ). pack (a .g .output .states) (replyWith (setsIn (a .s .now)) (a .g .input .states) (bitsOf (a .c .0)) y rows (a .g .output .states)))
+    (first .row-of .ensures .1)
 
 pub reply-row-spec : {M : Type 1} → statement M
 reply-row-spec =
@@ -60,11 +69,10 @@ reply-row-spec =
     (tie.spec
     Inv-loop
     μ-loop
-    mul-next
-    element-copy-out-next
+    row-of-requires
+    empty-requires
     loop-holds
-    mul-moves
-    element-copy-out-moves
+    row-of-requires-2
     replies-requires
     insert-if-requires
     add-o

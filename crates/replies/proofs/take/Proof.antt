@@ -1,53 +1,49 @@
 -- `take` moves the lowest output move from those left to those seen.
-use Prim.Native.Nat.{_<_}
+use Prim.Native.Nat.{ℕ}
+use mathlib.Core.Path.{_∙_, ap}
+use mathlib.Core.Bool.{_||_}
+use Rattle.bits.specs.Member.{has}
+use Rattle.sets.specs.Words.{bitsOf}
+use Rattle.replies.proofs.Tries.{take-below, trying-falls, trying-next}
 use native.Mathlib.Omega.{arith}
 use borrow.Author.Needs.{needs}
-use Rattle.replies.proofs.Tries.{take-small, take-below, trying-falls, trying-next}
 use Rattle.replies.proofs.take.Statement.{statement}
 use Rattle.replies.proofs.take.Tie as tie
 
 lowest-requires : tie.Need-lowest-requires
 lowest-requires c κs = search needs
 
-insert-requires : tie.Need-insert-requires
-insert-requires c κs =
-    let b = c .before .before in
-    take-small _ _ _ _ _ (b .pre .3) (b .pre .4) _ (c .lowest .ensures)
+out-reach-requires : tie.Need-out-reach-requires
+out-reach-requires c κs =
+    let b = c .before .before .before .before .before in
+    let p = b .pre in
+    let below = take-below _ _ _ _ _ (p .3) (p .1) (p .4) _ (c .lowest .ensures) in
+    (p .0, omega (arith, p .1), omega (arith, p .2))
 
 without-lowest-requires : tie.Need-without-lowest-requires
-without-lowest-requires c κs = c .before .before .before .pre .4
+without-lowest-requires c κs = search needs
+
+insert-requires : tie.Need-insert-requires
+insert-requires c κs =
+    let chosen = c .before .before in
+    let b = chosen .before .before .before .before .before in
+    let p = b .pre in
+    omega (arith, take-below _ _ _ _ _ (p .3) (p .1) (p .4) _ (chosen .lowest .ensures), p .1)
 
 union-requires : tie.Need-union-requires
 union-requires c κs = search needs
 
-add-union : tie.Need-add-union
-add-union c = search needs
-
-below : (c : tie.After-lowest) → c .lowest .result < c .before .before .args .m
-below c = take-below _ _ _ _ _ (c .before .before .pre .3) (c .before .before .pre .4) _ (c .lowest .ensures)
-
-add-union-2 : tie.Need-add-union-2
-add-union-2 c = omega (arith, below (c .before .before .before))
-
-mul-union : tie.Need-mul-union
-mul-union c = omega (arith, below (c .before .before .before))
-
-shared-slice-read-union : tie.Need-shared-slice-read-union
-shared-slice-read-union c = omega (arith, below (c .before .before .before .before))
-
-union-requires-2 : tie.Need-union-requires-2
-union-requires-2 c κs = search needs
-
 returns : tie.Need-returns
 returns c =
-    let l = c .before .before .before .before .before in
-    let b = l .before .before in
-    let x = c .before .before .before .before .insert in
-    let d = c .before .before .before .without-lowest in (
-      trying-next _ _ _ _ (b .args .t) (b .pre .3) (b .pre .4) _ (l .lowest .ensures) (x .result) _ (x .ensures) (d .ensures) (omega (arith, d .ok))
-          (c .before .before .union .ensures) (c .union2 .ensures),
-      trying-falls _ _ _ _ (b .args .t) (b .pre .3) (b .pre .4) _ (l .lowest .ensures) (x .result) (record { left = d .result; seen = 0; reach = 0 })
-          (x .ensures) (d .ensures),
+    let cut = c .before .before in
+    let chosen = cut .before .before in
+    let b = chosen .before .before .before .before .before in
+    let p = b .pre in
+    let old = bitsOf (b .args .t .reach .0) in (
+      trying-next _ _ _ _ (b .args .t) (p .3) (p .1) (p .4) _ (chosen .lowest .ensures) _ (cut .without-lowest .ensures) (c .before .insert .ensures)
+          (λ s. c .union .ensures s ∙ ap (λ (x : ℕ). has old s || has x s) (cut .before .out-reach .ensures)),
+      trying-falls _ _ _ _ (b .args .t) (p .3) (p .1) (p .4) _ (chosen .lowest .ensures)
+          (record { left = record { 0 = cut .without-lowest .result }; seen = b .args .t .seen; reach = b .args .t .reach }) (cut .without-lowest .ensures),
     )
 
 pub take-spec : {M : Type 1} → statement M
@@ -55,12 +51,8 @@ take-spec =
     tie.close
     (tie.spec
     lowest-requires
-    insert-requires
+    out-reach-requires
     without-lowest-requires
+    insert-requires
     union-requires
-    add-union
-    add-union-2
-    mul-union
-    shared-slice-read-union
-    union-requires-2
     returns)

@@ -1,85 +1,106 @@
 -- `settle` tries the lowest state that is left to try, until none is.
 use Prim.Native.Nat.{_<_}
-use mathlib.Core.Logic.{⊎-elim}
+use mathlib.Core.Path.{ap}
+use mathlib.Core.Logic.{⊎-elim, _≢_}
 use borrow.Author.Needs.{needs}
 use native.Mathlib.Omega.{arith}
 use Rattle.finite.specs.Bounded.{count}
-use Rattle.sets.specs.Member.{has}
+use Rattle.bits.specs.Member.{has}
+use Rattle.sets.specs.Words.{capacity, bitsOf, setsIn}
+use Rattle.sets.proofs.Rows.{is-none, is-some}
 use Rattle.layout.proofs.Places.{fits-same}
 use Rattle.rounds.proofs.Trying.{Trying, trying-start, try-small, try-in, try-below, trying-falls, trying-hit, trying-miss, trying-end}
-use Rattle.rounds.proofs.Stamping.{choice-small}
+use Rattle.rounds.proofs.Stamping.{settling-small}
 use Rattle.rounds.proofs.settle.Statement.{statement}
 use Rattle.rounds.proofs.settle.Tie as tie
 
 abbrev Inv-loop : tie.InvT-loop
-Inv-loop rows room₀ z inside left reached w settled₀ rest₀ room settled rest = Trying rows z inside left reached w room₀ room settled rest
+Inv-loop rows room₀ z inside left reached w settled₀ rest₀ room settled rest =
+    Trying (setsIn rows) z (bitsOf inside) (bitsOf left) (bitsOf reached) w room₀ room (bitsOf settled) (bitsOf rest)
 
 abbrev μ-loop : tie.MeasureT-loop
-μ-loop rows room₀ z inside left reached w settled₀ rest₀ room settled rest = count 64 (has rest)
+μ-loop rows room₀ z inside left reached w settled₀ rest₀ room settled rest = count capacity (has (bitsOf rest))
 
-small : (c : tie.After-lowest Inv-loop μ-loop) → c .lowest .result < 64
-small c = try-small _ _ _ _ _ _ (c .before .before .loop .inv) (c .before .loop-test .taken) (c .lowest .ensures)
+some-left : (c : tie.Then1 Inv-loop μ-loop) → bitsOf (c .before .before .loop .rest) ≢ 0
+some-left c = is-some _ (c .before .is-empty .ensures) (c .if1 .taken)
+
+small : (c : tie.After-lowest Inv-loop μ-loop) → c .lowest .result < capacity
+small c = try-small _ _ _ _ _ _ (c .before .before .before .loop .inv) (some-left (c .before)) (c .lowest .ensures)
+
+empty-requires : tie.Need-empty-requires Inv-loop μ-loop
+empty-requires c κs = search needs
 
 below-requires : tie.Need-below-requires Inv-loop μ-loop
-below-requires c κs = omega (arith, c .before .pre .0 .states)
+below-requires c κs = omega (arith, c .before .before .pre .0 .states)
 
 intersection-requires : tie.Need-intersection-requires Inv-loop μ-loop
 intersection-requires c κs = search needs
 
 loop-holds : tie.Need-loop-holds Inv-loop μ-loop
-loop-holds c = trying-start _ _ _ _ _ _ _ _ _ (omega (arith, c .intersection .ok)) (c .before .below .ensures) (c .intersection .ensures)
+loop-holds c =
+    let e = c .before .before in
+    trying-start _ _ _ _ _ _ _ _ _ _ (e .before .before .pre .0 .states) (e .empty .ensures .1) (c .before .below .ensures) (c .intersection .ensures)
+
+is-empty-requires : tie.Need-is-empty-requires Inv-loop μ-loop
+is-empty-requires c κs = search needs
 
 lowest-requires : tie.Need-lowest-requires Inv-loop μ-loop
 lowest-requires c κs = search needs
 
 choices-requires : tie.Need-choices-requires Inv-loop μ-loop
 choices-requires c κs =
-    (small c, c .before .before .loop .inv .member _ (try-in _ _ _ _ _ _ (c .before .before .loop .inv) (c .before .loop-test .taken) (c .lowest .ensures)))
+    let tried = c .before .before .before .loop .inv in
+    (small c, tried .member _ (try-in _ _ _ _ _ _ tried (some-left (c .before)) (c .lowest .ensures)))
+
+is-empty-requires-2 : tie.Need-is-empty-requires-2 Inv-loop μ-loop
+is-empty-requires-2 c κs = search needs
 
 prefer-requires : tie.Need-prefer-requires Inv-loop μ-loop
-prefer-requires c κs = omega (arith, small (c .before .before .before))
+prefer-requires c κs = omega (arith, small (c .before .before .before .before))
 
 write-move-requires : tie.Need-write-move-requires Inv-loop μ-loop
 write-move-requires c κs =
     let t = c .before .before in
-    let o = t .before .before in
-    let l = o .before .before in
-    let p = l .before .before .before .before .pre in (
+    let o = t .before .before .before in
+    let l = o .before .before .before in
+    let p = l .before .before .before .before .before .pre in (
       fits-same _ _ _ (l .loop .inv .long) (p .0),
-      try-below _ _ _ _ _ _ (l .loop .inv) (o .before .loop-test .taken) (o .lowest .ensures),
-      choice-small _ (t .before .choices .result) (omega (arith, t .before .choices .ok)) (t .if1 .taken) (c .prefer .ensures),
+      try-below _ _ _ _ _ _ (l .loop .inv) (some-left (o .before)) (o .lowest .ensures),
+      settling-small _ _ _ _ _ _ (p .0 .states) (p .2) (t .before .before .choices .ensures) (is-some _ (t .before .is-empty2 .ensures) (t .if2 .taken))
+          (c .prefer .ensures),
       p .1,
     )
 
 insert-requires : tie.Need-insert-requires Inv-loop μ-loop
-insert-requires c κs = let t = c .before .before .before in small (t .before .before .before .before)
+insert-requires c κs = let t = c .before .before .before .before .before in small (t .before .before .before)
 
 without-lowest-requires : tie.Need-without-lowest-requires Inv-loop μ-loop
-without-lowest-requires c κs = c .before .before .before .loop-test .taken
+without-lowest-requires c κs = some-left (c .before .before .before .before)
 
 loop-less : tie.Need-loop-less Inv-loop μ-loop
 loop-less c =
-    let a = c .before .before .before in
-    trying-falls _ _ _ _ _ _ (a .before .before .loop .inv) (a .before .loop-test .taken) (a .lowest .ensures) _ (c .without-lowest .ensures)
+    let a = c .before .before .before .before in
+    trying-falls _ _ _ _ _ _ (a .before .before .before .loop .inv) (some-left (a .before)) (a .lowest .ensures) _ (c .without-lowest .ensures)
 
 loop-again : tie.Need-loop-again Inv-loop μ-loop
 loop-again c =
-    let a = c .before .before .before in
-    let tried = a .before .before .loop .inv in
-    let more = a .before .loop-test .taken in
-    let chosen = c .before .before .choices .ensures in
+    let a = c .before .before .before .before in
+    let tried = a .before .before .before .loop .inv in
+    let more = some-left (a .before) in
+    let chosen = c .before .before .before .choices .ensures in
+    let tested = c .before .before .is-empty2 .ensures in
     ⊎-elim
-    (λ v. trying-hit _ _ _ _ _ _ tried more (a .lowest .ensures) _ (c .without-lowest .ensures) (omega (arith, c .without-lowest .ok)) chosen
-    (v .0 .taken) (v .2 .ensures) (v .6 .ensures) (v .3 .ensures) (v .7) (v .8))
-    (λ v. trying-miss _ _ _ _ _ _ tried more (a .lowest .ensures) _ (c .without-lowest .ensures) (omega (arith, c .without-lowest .ok)) chosen
-    (v .0 .left) (v .1) (v .2))
-    (c .before .if1 .came)
+    (λ v. trying-hit _ _ _ _ _ _ tried more (a .lowest .ensures) _ (c .without-lowest .ensures) chosen
+    (is-some _ tested (v .0 .taken)) (v .2 .ensures) (v .6 .ensures) (v .3 .ensures) (v .7) (ap bitsOf (v .8)))
+    (λ v. trying-miss _ _ _ _ _ _ tried more (a .lowest .ensures) _ (c .without-lowest .ensures) chosen
+    (is-none _ tested (v .0 .left)) (v .1) (ap bitsOf (v .2)))
+    (c .before .if2 .came)
 
 same-length : tie.Need-same-length Inv-loop μ-loop
-same-length c = c .before .loop .inv .long
+same-length c = c .before .before .loop .inv .long
 
 returns : tie.Need-returns Inv-loop μ-loop
-returns c = trying-end _ _ _ _ _ _ (c .before .loop .inv) (c .loop-test .left)
+returns c = trying-end _ _ _ _ _ _ (c .before .before .loop .inv) (is-none _ (c .before .is-empty .ensures) (c .if1 .left))
 
 pub settle-spec : {M : Type 1} → statement M
 settle-spec =
@@ -87,11 +108,14 @@ settle-spec =
     (tie.spec
     Inv-loop
     μ-loop
+    empty-requires
     below-requires
     intersection-requires
     loop-holds
+    is-empty-requires
     lowest-requires
     choices-requires
+    is-empty-requires-2
     prefer-requires
     write-move-requires
     insert-requires

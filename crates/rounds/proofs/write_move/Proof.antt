@@ -9,14 +9,18 @@ first-of-requires c κs = search needs
 
 write-requires : tie.Need-write-requires
 write-requires c κs =
-    let p = c .before .before .before .pre in
-    (p .0, p .1, stamp-entries _ _ _ _ _ (p .0) (p .3) (p .2) (c .before .first-of .ensures))
+    let f = c .before .before .before in
+    let p = f .before .before .pre in
+    (p .0, p .1, stamp-entries _ _ _ _ _ (p .0) (p .3) (p .2) (f .first-of .ensures))
 
 same-length : tie.Need-same-length
 same-length c = search needs
 
 returns : tie.Need-returns
-returns c = rw (c .before .before .before .before .first-of .ensures) at (c .before .before .write .ensures)
+returns c =
+    let w = c .before .before in
+    let f = w .before .before .before .before in
+    rw (f .first-of .ensures) at (w .write .ensures)
 
 pub write-move-spec : {M : Type 1} → statement M
 write-move-spec = tie.close (tie.spec first-of-requires write-requires same-length returns)

@@ -1,14 +1,15 @@
--- `without_lowest`: one less has the lowest bit clear and those above it as they are.
-use native.Mathlib.Omega.{arith}
-use Rattle.sets.proofs.Strip.{strip-lowest}
+-- `without_lowest` meets its contract.
+use Rattle.sets.specs.Words.{bitsOf}
 use Rattle.sets.proofs.without_lowest.Statement.{statement}
 use Rattle.sets.proofs.without_lowest.Tie as tie
 
-sub-result : tie.Need-sub-result
-sub-result c = omega (arith, c .pre)
+without-lowest-requires : tie.Need-without-lowest-requires
+unfolding bitsOf
+without-lowest-requires c κs = c .pre
 
 returns : tie.Need-returns
-returns c = strip-lowest (c .args .x) (c .fits .x .fits) (c .pre)
+unfolding bitsOf
+returns c = c .without-lowest .ensures
 
 pub without-lowest-spec : {M : Type 1} → statement M
-without-lowest-spec = tie.close (tie.spec sub-result returns)
+without-lowest-spec = tie.close (tie.spec without-lowest-requires returns)

@@ -1,10 +1,11 @@
 -- `guarantees_met` goes through the requirements.
 use Prim.Native.Nat.{_-_, _≤_}
-use mathlib.Core.Path.{_≡_}
+use mathlib.Core.Path.{_≡_, _∙_}
 use native.Mathlib.Omega.{arith}
 use borrow.Author.Needs.{needs}
-use Rattle.sets.specs.Member.{pack}
-use Rattle.sets.proofs.Collect.{collect-none}
+use Rattle.sets.specs.Words.{bitsOf}
+use Rattle.bits.specs.Member.{pack}
+use Rattle.bits.proofs.Collect.{collect-none}
 use Rattle.theory.specs.Choice.{guarantees}
 use Rattle.touring.specs.Stretches.{metIn}
 use Rattle.sizes.specs.Below.{guaranteeSide, setsIn}
@@ -15,13 +16,16 @@ use Rattle.sizes.proofs.guarantees_met.Statement.{statement}
 use Rattle.sizes.proofs.guarantees_met.Tie as tie
 
 abbrev Inv-loop : tie.InvT-loop
-Inv-loop x g q₀ n₀ r₀ q n r = (r ≤ g .k) × (g .k ≤ 8) × Upto guaranteeSide g r n × (q ≡ pack n (metIn (setsIn guaranteeSide g) x))
+Inv-loop x g q₀ n₀ r₀ q n r = (r ≤ g .k) × (g .k ≤ 8) × Upto guaranteeSide g r n × (q .0 ≡ pack n (metIn (setsIn guaranteeSide g) (bitsOf (x .0))))
 
 abbrev μ-loop : tie.MeasureT-loop
 μ-loop x g q₀ n₀ r₀ q n r = g .k - r
 
+empty-requires : tie.Need-empty-requires Inv-loop μ-loop
+empty-requires c κs = search needs
+
 loop-holds : tie.Need-loop-holds Inv-loop μ-loop
-loop-holds c = (omega arith, few _ (c .pre), upto-none guaranteeSide guarantees-listed _, collect-none _)
+loop-holds c = (omega arith, few _ (c .before .pre), upto-none guaranteeSide guarantees-listed _, c .empty .ensures ∙ collect-none _)
 
 mul-guarantees-of : tie.Need-mul-guarantees-of Inv-loop μ-loop
 mul-guarantees-of c = omega arith
@@ -37,7 +41,7 @@ unfolding guaranteeSide
 add-met-requires c κs =
     let l = c .before .before .before in
     let b = c .before .before .loop-test .taken in
-    stretch-short guaranteeSide guarantees-listed _ (l .loop .r) _ _ b (l .loop .inv .1) (guaranteed-few _ (l .before .pre) (l .loop .r) b)
+    stretch-short guaranteeSide guarantees-listed _ (l .loop .r) _ _ b (l .loop .inv .1) (guaranteed-few _ (l .before .before .pre) (l .loop .r) b)
     (l .loop .inv .2) (c .guarantees-of .ensures)
 
 add-n : tie.Need-add-n Inv-loop μ-loop
@@ -50,7 +54,7 @@ add-n c =
       arith,
       l .loop .inv .1,
       upto-next guaranteeSide guarantees-listed _ (l .loop .r) _ _ b (l .loop .inv .1)
-          (guaranteed-few _ (l .before .pre) (l .loop .r) b) (l .loop .inv .2) (o .guarantees-of .ensures) .few,
+          (guaranteed-few _ (l .before .before .pre) (l .loop .r) b) (l .loop .inv .2) (o .guarantees-of .ensures) .few,
     )
 
 add-r : tie.Need-add-r Inv-loop μ-loop
@@ -65,7 +69,7 @@ loop-again c =
     let o = c .before .before in
     let l = o .before .before .before in
     let b = o .before .before .loop-test .taken in
-    let f = guaranteed-few _ (l .before .pre) (l .loop .r) b in (
+    let f = guaranteed-few _ (l .before .before .pre) (l .loop .r) b in (
       omega arith,
       l .loop .inv .1,
       upto-next guaranteeSide guarantees-listed _ (l .loop .r) _ _ b (l .loop .inv .1) f (l .loop .inv .2) (o .guarantees-of .ensures),
@@ -85,6 +89,7 @@ guarantees-met-spec =
     (tie.spec
     Inv-loop
     μ-loop
+    empty-requires
     loop-holds
     mul-guarantees-of
     element-copy-out-guarantees-of

@@ -2,28 +2,29 @@
 use native.Mathlib.Omega.{arith}
 use borrow.Author.Needs.{needs}
 use Prim.Native.Nat.{_≤_, _-_}
+use Rattle.sets.specs.Words.{bitsOf}
 use Rattle.touring.specs.Stretches.{MetMore}
 use Rattle.touring.proofs.Stretches.{met-none, met-next, met-end}
 use Rattle.touring.proofs.add_met.Statement.{statement}
 use Rattle.touring.proofs.add_met.Tie as tie
 
 abbrev Inv-loop : tie.InvT-loop
-Inv-loop q x s m₀ j₀ m j = (j ≤ s .count) × MetMore s x q j m
+Inv-loop x s m₀ j₀ m j = (j ≤ s .count) × MetMore s (bitsOf x) (m₀ .0) j (m .0)
 
 abbrev μ-loop : tie.MeasureT-loop
-μ-loop q x s m₀ j₀ m j = s .count - j
+μ-loop x s m₀ j₀ m j = s .count - j
 
 loop-holds : tie.Need-loop-holds Inv-loop μ-loop
 loop-holds c = (omega arith, met-none _ _ _)
 
+mul-y : tie.Need-mul-y Inv-loop μ-loop
+mul-y c = omega (arith, c .before .before .pre .places)
+
+element-copy-out-y : tie.Need-element-copy-out-y Inv-loop μ-loop
+element-copy-out-y c = omega (arith, c .before .before .pre .places)
+
 add-insert-if : tie.Need-add-insert-if Inv-loop μ-loop
-add-insert-if c = omega (arith, c .before .before .pre .numbers)
-
-mul-meets : tie.Need-mul-meets Inv-loop μ-loop
-mul-meets c = omega (arith, c .before .before .pre .places)
-
-element-copy-out-meets : tie.Need-element-copy-out-meets Inv-loop μ-loop
-element-copy-out-meets c = omega (arith, c .before .before .pre .places)
+add-insert-if c = omega (arith, c .before .before .before .pre .numbers)
 
 meets-requires : tie.Need-meets-requires Inv-loop μ-loop
 meets-requires c κs = search needs
@@ -55,9 +56,9 @@ add-met-spec =
     Inv-loop
     μ-loop
     loop-holds
+    mul-y
+    element-copy-out-y
     add-insert-if
-    mul-meets
-    element-copy-out-meets
     meets-requires
     insert-if-requires
     add-j

@@ -3,6 +3,7 @@ use Prim.Native.Nat.{_-_, _≤_}
 use mathlib.Core.Path.{refl}
 use native.Mathlib.Omega.{arith}
 use borrow.Author.Needs.{needs}
+use Rattle.sets.specs.Words.{bitsOf}
 use Rattle.theory.specs.Choice.{assumptions}
 use Rattle.sizes.specs.Below.{assumptionSide, setsIn}
 use Rattle.sizes.specs.Numbered.{Upto}
@@ -19,7 +20,7 @@ use Rattle.tours.proofs.aims.Tie as tie
 
 abbrev Inv-loop : tie.InvT-loop
 Inv-loop counters c q over room₀ g h z n₀ r₀ room n r =
-    (r ≤ g .k) × (g .k ≤ 8) × Upto assumptionSide g r n × Filled z (entriesOf g) (Headed z (c .0) (over .0) q 0 n) room₀ room
+    (r ≤ g .k) × (g .k ≤ 8) × Upto assumptionSide g r n × Filled z (entriesOf g) (Headed z (bitsOf (c .0)) (bitsOf (over .0)) (q .0) 0 n) room₀ room
 
 abbrev μ-loop : tie.MeasureT-loop
 μ-loop counters c q over room₀ g h z n₀ r₀ room n r = g .k - r

@@ -11,10 +11,10 @@ use Rattle.verdict.proofs.opens.Statement.{statement}
 use Rattle.verdict.proofs.opens.Tie as tie
 
 abbrev Inv-loop : tie.InvT-loop
-Inv-loop g s cores i m o₀ o = (o ≤ m) × (any o (opensWith g i) ≡ false)
+Inv-loop g s c i m o₀ o = (o ≤ m) × (any o (opensWith g (i .0)) ≡ false)
 
 abbrev μ-loop : tie.MeasureT-loop
-μ-loop g s cores i m o₀ o = m - o
+μ-loop g s c i m o₀ o = m - o
 
 loop-holds : tie.Need-loop-holds Inv-loop μ-loop
 loop-holds c = (omega arith, any-start _)

@@ -11,10 +11,10 @@ use Rattle.verdict.proofs.system_wins.Statement.{statement}
 use Rattle.verdict.proofs.system_wins.Tie as tie
 
 abbrev Inv-loop : tie.InvT-loop
-Inv-loop g s cores n i₀ i = (i ≤ n) × (all i (opensIf g) ≡ true)
+Inv-loop g s c n i₀ i = (i ≤ n) × (all i (opensIf g) ≡ true)
 
 abbrev μ-loop : tie.MeasureT-loop
-μ-loop g s cores n i₀ i = n - i
+μ-loop g s c n i₀ i = n - i
 
 loop-holds : tie.Need-loop-holds Inv-loop μ-loop
 loop-holds c = (omega arith, all-start _)

@@ -1,5 +1,6 @@
 -- `tour`: with no goal, or with some.
 use borrow.Author.Needs.{needs}
+use Rattle.sets.proofs.Rows.{none, some}
 use Rattle.controller_table.proofs.Phases.{met-goals}
 use Rattle.controller_table.proofs.Laid.{laid-fits}
 use Rattle.visit.proofs.Courses.{rests-moving, rests-filled}
@@ -9,6 +10,9 @@ use Rattle.visit.proofs.tour.Tie as tie
 guarantees-met-requires : tie.Need-guarantees-met-requires
 guarantees-met-requires c κs = search needs
 
+is-empty-requires : tie.Need-is-empty-requires
+is-empty-requires c κs = search needs
+
 layout-of-requires : tie.Need-layout-of-requires
 layout-of-requires c κs = search needs
 
@@ -16,11 +20,12 @@ stay-requires : tie.Need-stay-requires
 stay-requires c κs =
     let h = c .before .before .before in
     let t = h .before .before .before in
-    let m = t .before in
+    let e = t .before in
+    let m = e .before in
     let p = m .before .before .before .pre in
     let y = c .layout-of .ensures in (
       laid-fits _ _ _ (p .0) y _ (p .2),
-      rests-moving _ _ _ (p .0) y _ (p .1) _ (met-goals _ _ (p .0) _ (p .1) _ (m .guarantees-met .ensures)) (t .if1 .taken),
+      rests-moving _ _ _ (p .0) y _ (p .1) _ (met-goals _ _ (p .0) _ (p .1) _ (m .guarantees-met .ensures)) (none _ (e .is-empty .ensures) (t .if1 .taken)),
     )
 
 same-length : tie.Need-same-length
@@ -32,16 +37,18 @@ returns c =
     let y = s .before in
     let h = y .before .before .before in
     let t = h .before .before .before in
-    let m = t .before in
+    let e = t .before in
+    let m = e .before in
     let p = m .before .before .before .pre in
     rests-filled _ _ _ (p .0) (y .layout-of .ensures) _ (p .1) _
-    (met-goals _ _ (p .0) _ (p .1) _ (m .guarantees-met .ensures)) (t .if1 .taken) (s .stay .ensures)
+    (met-goals _ _ (p .0) _ (p .1) _ (m .guarantees-met .ensures)) (none _ (e .is-empty .ensures) (t .if1 .taken)) (s .stay .ensures)
 
 seek-all-requires : tie.Need-seek-all-requires
 seek-all-requires c κs =
-    let m = c .before .before in
+    let e = c .before .before in
+    let m = e .before in
     let p = m .before .before .before .pre in
-    (p .0, p .1, met-goals _ _ (p .0) _ (p .1) _ (m .guarantees-met .ensures), c .before .if1 .left, p .2)
+    (p .0, p .1, met-goals _ _ (p .0) _ (p .1) _ (m .guarantees-met .ensures), some _ (e .is-empty .ensures) (c .before .if1 .left), p .2)
 
 same-length-2 : tie.Need-same-length-2
 same-length-2 c = search needs
@@ -54,6 +61,7 @@ tour-spec =
     tie.close
     (tie.spec
     guarantees-met-requires
+    is-empty-requires
     layout-of-requires
     stay-requires
     same-length

@@ -1,7 +1,7 @@
 -- `write_winner`.
 use native.Mathlib.Omega.{arith}
 use Rattle.game.proofs.Laws.{accepted-fits}
-use Rattle.map.proofs.Made.{reading-made, cleared-kept}
+use Rattle.scratch.proofs.Cleared.{cleared-kept}
 use mathlib.Core.Path.{refl, sym, _∙_}
 use borrow.Author.Needs.{needs}
 use Rattle.winner.proofs.write_winner.Statement.{statement}
@@ -17,24 +17,12 @@ prepare-requires c κs =
     let p = c .before .before .before .before .before .pre in
     (accepted-fits _ (p .0), omega (arith, p .1))
 
-cores-requires : tie.Need-cores-requires
-cores-requires c κs =
-    let prepare = c .before .before .before in
-    let length = prepare .before .before in
-    let F = accepted-fits _ (length .before .before .before .before .pre .0) in
-    (F .input .most, omega (arith, prepare .prepare .ensures .ready .laid .long))
-
 system-wins-requires : tie.Need-system-wins-requires
-system-wins-requires c κs =
-    let cores = c .before in
-    let prepare = cores .before .before .before .before in
-    let length = prepare .before .before in
-    reading-made _ (accepted-fits _ (length .before .before .before .before .pre .0)) _ _ (prepare .prepare .ensures) (cores .cores .ensures)
+system-wins-requires c κs = c .before .before .before .before .prepare .ensures .ready
 
 fill-requires : tie.Need-fill-requires
 fill-requires c κs =
-    let cores = c .before .before .before .before .before in
-    let prepare = cores .before .before .before .before in
+    let prepare = c .before .before .before .before .before .before .before .before in
     let length = prepare .before .before in
     let p = length .before .before .before .before .pre in
     (p .0, prepare .prepare .ensures .ready, p .2)
@@ -53,8 +41,7 @@ returns c =
     let clear = c .before .before in
     let fill = clear .before .before .before .before in
     let branch = fill .before .before .before in
-    let cores = branch .before .before .before in
-    let prepare = cores .before .before .before .before in
+    let prepare = branch .before .before .before .before .before .before in
     record {
       wins = sym (sym (branch .before .system-wins .ensures) ∙ branch .if1 .taken);
       scratch = cleared-kept _ _ _ _ (prepare .prepare .ensures .kept) (prepare .before .before .length .ensures) (clear .clear .ensures);
@@ -64,11 +51,10 @@ returns c =
 
 fill-requires-2 : tie.Need-fill-requires-2
 fill-requires-2 c κs =
-    let cores = c .before .before .before .before .before in
-    let prepare = cores .before .before .before .before in
+    let prepare = c .before .before .before .before .before .before .before .before in
     let length = prepare .before .before in
     let p = length .before .before .before .before .pre in
-    record { accepted = p .0; ready = prepare .prepare .ensures .ready; room = p .3 }
+    record { known = record { accepted = p .0; ready = prepare .prepare .ensures .ready }; room = p .3 }
 
 clear-requires-2 : tie.Need-clear-requires-2
 clear-requires-2 c κs = search needs
@@ -84,8 +70,7 @@ returns-2 c =
     let clear = c .before .before in
     let fill = clear .before .before .before .before in
     let branch = fill .before .before .before in
-    let cores = branch .before .before .before in
-    let prepare = cores .before .before .before .before in
+    let prepare = branch .before .before .before .before .before .before in
     record {
       wins = sym (sym (branch .before .system-wins .ensures) ∙ branch .if1 .left);
       scratch = cleared-kept _ _ _ _ (prepare .prepare .ensures .kept) (prepare .before .before .length .ensures) (clear .clear2 .ensures);
@@ -99,7 +84,6 @@ write-winner-spec =
     (tie.spec
     length-requires
     prepare-requires
-    cores-requires
     system-wins-requires
     fill-requires
     clear-requires

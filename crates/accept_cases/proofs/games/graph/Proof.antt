@@ -29,9 +29,12 @@ loop-less c = omega arith
 loop-again : tie.Need-loop-again Inv-loop μ-loop
 loop-again c = omega arith
 
+set-requires : tie.Need-set-requires Inv-loop μ-loop
+set-requires c κs = search needs
+
 returns : tie.Need-returns Inv-loop μ-loop
 returns c = search needs
 
 pub graph-spec : {M : Type 1} → statement M
 graph-spec =
-    tie.close (tie.spec Inv-loop μ-loop loop-holds mul-moves array-write-moves add-s loop-less loop-again returns)
+    tie.close (tie.spec Inv-loop μ-loop loop-holds mul-moves array-write-moves add-s loop-less loop-again set-requires returns)

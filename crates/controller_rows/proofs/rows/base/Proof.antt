@@ -6,18 +6,18 @@ use Rattle.controller_rows.proofs.rows.base.Tie as tie
 
 mul-result : tie.Need-mul-result
 mul-result c =
-    let a = c .before .args in
-    omega (arith, counters-small (a .z .counters) (a .o) (omega arith) (omega arith))
+    let a = c .before .before .args in
+    omega (arith, counters-small (a .z .counters) (a .o .0) (omega arith) (omega arith))
 
 mul-result-2 : tie.Need-mul-result-2
 mul-result-2 c =
-    let a = c .before .before .args in
-    omega (arith, base-small (a .z .inputs) (a .z .counters) (a .o) (omega arith) (omega arith) (omega arith))
+    let a = c .before .before .before .args in
+    omega (arith, base-small (a .z .inputs) (a .z .counters) (a .o .0) (omega arith) (omega arith) (omega arith))
 
 add-result : tie.Need-add-result
 add-result c =
-    let a = c .before .before .before .args in
-    omega (arith, base-small (a .z .inputs) (a .z .counters) (a .o) (omega arith) (omega arith) (omega arith))
+    let a = c .before .before .before .before .args in
+    omega (arith, base-small (a .z .inputs) (a .z .counters) (a .o .0) (omega arith) (omega arith) (omega arith))
 
 returns : tie.Need-returns
 returns c = base-at _ _

@@ -1,5 +1,6 @@
 -- `write_rows`: a block of entries.
 use Rattle.controller_rows.proofs.Writes.{counter-below, all-small, block-fits, rows-of}
+use Rattle.sets.specs.Words.{bitsOf}
 use borrow.Author.Needs.{needs}
 use Rattle.controller_rows.proofs.rows.write_rows.Statement.{statement}
 use Rattle.controller_rows.proofs.rows.write_rows.Tie as tie
@@ -24,7 +25,7 @@ returns c =
     let at-staying = c .before .before .before .before .before in
     let at-step = at-staying .before .before in
     let b = at-step in
-    rows-of (b .args .z) (b .args .o .0) (b .args .inputs .0) (b .args .p) (c .before .before .before .base .ensures) (at-staying .staying .ensures)
+    rows-of (b .args .z) (b .args .o .0) (bitsOf (b .args .inputs .0)) (b .args .p) (c .before .before .before .base .ensures) (at-staying .staying .ensures)
     (c .before .before .block .ensures)
 
 pub write-rows-spec : {M : Type 1} → statement M

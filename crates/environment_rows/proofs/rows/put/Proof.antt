@@ -27,7 +27,7 @@ same-length : tie.Need-same-length
 same-length c = search needs
 
 returns : tie.Need-returns
-returns c = put-done _ _ _ _ _ _ (c .before .before .before .below .result) (c .before .before .before .below .ensures) (c .before .before .column .ensures)
+returns c = put-done _ _ _ _ _ _ (c .before .before .before .below .result .0) (c .before .before .before .below .ensures) (c .before .before .column .ensures)
 
 pub put-spec : {M : Type 1} → statement M
 put-spec =

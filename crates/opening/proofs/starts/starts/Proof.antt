@@ -1,6 +1,7 @@
 -- `starts` writes the start entries.
 use Prim.Native.Nat.{_-_, _≤_}
 use mathlib.Core.Path.{refl}
+use Rattle.sets.specs.Words.{bitsOf, setsIn}
 use Rattle.controller_rows.specs.Each.{none}
 use Rattle.controller_rows.specs.Writes.{Starts}
 use Rattle.controller_rows.proofs.Each.{each-hit, each-end}
@@ -10,10 +11,10 @@ use Rattle.opening.proofs.starts.starts.Statement.{statement}
 use Rattle.opening.proofs.starts.starts.Tie as tie
 
 abbrev Inv-loop : tie.InvT-loop
-Inv-loop room₀ s z cores ins outs n i₀ room i = (i ≤ n) × Starts z s (cores .0) (ins .0) (outs .0) i room₀ room
+Inv-loop room₀ s z c ins outs n i₀ room i = (i ≤ n) × Starts z (setsIn s) (bitsOf (c .0)) (bitsOf (ins .0)) (bitsOf (outs .0)) i room₀ room
 
 abbrev μ-loop : tie.MeasureT-loop
-μ-loop room₀ s z cores ins outs n i₀ room i = n - i
+μ-loop room₀ s z c ins outs n i₀ room i = n - i
 
 loop-holds : tie.Need-loop-holds Inv-loop μ-loop
 loop-holds c = (omega arith, record { each = none })

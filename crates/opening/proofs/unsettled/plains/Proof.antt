@@ -1,6 +1,7 @@
 -- `plains` writes the rows of all outputs.
 use Prim.Native.Nat.{_-_, _≤_}
 use mathlib.Core.Path.{refl}
+use Rattle.sets.specs.Words.{bitsOf, setsIn}
 use Rattle.controller_rows.specs.Each.{none}
 use Rattle.controller_rows.specs.Writes.{Plains}
 use Rattle.controller_rows.proofs.Each.{each-hit, each-end}
@@ -10,19 +11,16 @@ use Rattle.opening.proofs.unsettled.plains.Statement.{statement}
 use Rattle.opening.proofs.unsettled.plains.Tie as tie
 
 abbrev Inv-loop : tie.InvT-loop
-Inv-loop room₀ s z cores moves m o₀ room o = (o ≤ m) × Plains z s (cores .0) moves o room₀ room
+Inv-loop room₀ s z c moves m o₀ room o = (o ≤ m) × Plains z (setsIn s) (bitsOf (c .0)) (setsIn moves) o room₀ room
 
 abbrev μ-loop : tie.MeasureT-loop
-μ-loop room₀ s z cores moves m o₀ room o = m - o
+μ-loop room₀ s z c moves m o₀ room o = m - o
 
 loop-holds : tie.Need-loop-holds Inv-loop μ-loop
 loop-holds c = (omega arith, record { each = none })
 
-mul-t13 : tie.Need-mul-t13 Inv-loop μ-loop
-mul-t13 c = omega arith
-
-element-copy-out-t16 : tie.Need-element-copy-out-t16 Inv-loop μ-loop
-element-copy-out-t16 c = omega arith
+row-of-requires : tie.Need-row-of-requires Inv-loop μ-loop
+row-of-requires c κs = omega arith
 
 plain-requires : tie.Need-plain-requires Inv-loop μ-loop
 plain-requires c κs =
@@ -37,10 +35,10 @@ loop-less c = omega arith
 
 loop-again : tie.Need-loop-again Inv-loop μ-loop
 loop-again c =
-    let at-plain = c .before .before in
-    let at-step = at-plain .before .before .before .before in
-    let b = at-step in
-    (omega arith, record { each = each-hit (b .loop .inv .1 .each) refl refl (at-plain .plain .ensures) })
+    let at = c .before .before in
+    let b = at .before .before .before .before in
+    let written = rw (at .before .row-of .ensures .1) at (at .plain .ensures) in
+    (omega arith, record { each = each-hit (b .loop .inv .1 .each) refl refl written })
 
 same-length : tie.Need-same-length Inv-loop μ-loop
 same-length c = long-plains (c .before .loop .inv .1)
@@ -55,8 +53,7 @@ plains-spec =
     Inv-loop
     μ-loop
     loop-holds
-    mul-t13
-    element-copy-out-t16
+    row-of-requires
     plain-requires
     add-o
     loop-less

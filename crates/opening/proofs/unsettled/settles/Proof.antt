@@ -1,7 +1,7 @@
--- `settles`: one of cores, and a home in reach.
+-- `settles`: in a nontrivial component, and a home in reach.
 use mathlib.Core.Path.{sym, _∙_}
-use borrow.Author.Needs.{needs}
 use Rattle.controller_rows.proofs.Writes.{settles-in, settles-out}
+use borrow.Author.Needs.{needs}
 use Rattle.opening.proofs.unsettled.settles.Statement.{statement}
 use Rattle.opening.proofs.unsettled.settles.Tie as tie
 

@@ -2,7 +2,7 @@
 use mathlib.Core.Path.{sym, _∙_}
 use native.Mathlib.Omega.{arith}
 use borrow.Author.Needs.{needs}
-use Rattle.scan.proofs.SetListSteps.{requirement-got, requirement-fault, got-list, fault-list, if-no-blank, if-no-list, if-no-end, if-got}
+use Rattle.scan.proofs.SetListSteps.{requirement-got, requirement-fault, got-list, fault-list, list-four, if-no-blank, if-no-list, if-no-end, if-got}
 use Rattle.grammar.proofs.Place.{byte-within}
 use Rattle.pieces.proofs.Outcomes.{at-step, fault-step}
 use Rattle.scan.proofs.set_lists.guarantees_at.Statement.{statement}
@@ -48,7 +48,11 @@ in-sets-requires : tie.Need-in-sets-requires
 in-sets-requires c κs = search needs
 
 out-sets-requires : tie.Need-out-sets-requires
-out-sets-requires c κs = search needs
+out-sets-requires c κs =
+    let at-end-at = c .before .before .before .before .before in
+    let at-e2 = at-end-at .before .before in
+    let at-sets-at = at-e2 .before .before in
+    list-four _ _ (at-sets-at .sets-at .result) _ (at-sets-at .sets-at .ensures) (at-e2 .e2 .given .1)
 
 returns-2 : tie.Need-returns-2
 returns-2 c =
@@ -66,7 +70,7 @@ returns-3 c =
     let at-if1 = at-sets-at .before in
     let at-byte-at = at-if1 .before in
     requirement-fault (c .no-requirement3 .ensures) (if-no-end _ _ _ (sym (at-byte-at .byte-at .ensures) ∙ at-if1 .if1 .left) _ _
-    (got-list _ (at-sets-at .sets-at .result) _ (at-sets-at .sets-at .ensures) (at-e2 .e2 .given .1)) _
+    (got-list _ (at-sets-at .sets-at .result) _ (at-sets-at .sets-at .ensures) (at-e2 .e2 .given .1) .0) _
     (fault-step _ (sym (c .before .before .t .given .1) ∙ at-end-at .end-at .ensures)))
 
 returns-4 : tie.Need-returns-4
@@ -78,7 +82,7 @@ returns-4 c =
     let at-if1 = at-sets-at .before in
     let at-byte-at = at-if1 .before in
     requirement-got (if-got _ _ _ (sym (at-byte-at .byte-at .ensures) ∙ at-if1 .if1 .left) _ _
-    (got-list _ (at-sets-at .sets-at .result) _ (at-sets-at .sets-at .ensures) (at-e2 .e2 .given .1)) _
+    (got-list _ (at-sets-at .sets-at .result) _ (at-sets-at .sets-at .ensures) (at-e2 .e2 .given .1) .0) _
     (at-step _ (sym (at-t2 .t2 .given .1) ∙ at-end-at .end-at .ensures)) _ _ (c .before .in-sets .ensures) (c .out-sets .ensures))
 
 pub guarantees-at-spec : {M : Type 1} → statement M

@@ -4,21 +4,21 @@ use Rattle.scan.proofs.SetListSteps.{four-out}
 use Rattle.scan.proofs.set_lists.out_sets.Statement.{statement}
 use Rattle.scan.proofs.set_lists.out_sets.Tie as tie
 
-array-read-t5 : tie.Need-array-read-t5
-array-read-t5 c = search needs
+array-copy-out-t5 : tie.Need-array-copy-out-t5
+array-copy-out-t5 c = search needs
 
-array-read-t9 : tie.Need-array-read-t9
-array-read-t9 c = search needs
+array-copy-out-t9 : tie.Need-array-copy-out-t9
+array-copy-out-t9 c = search needs
 
-array-read-t13 : tie.Need-array-read-t13
-array-read-t13 c = search needs
+array-copy-out-t13 : tie.Need-array-copy-out-t13
+array-copy-out-t13 c = search needs
 
-array-read-t17 : tie.Need-array-read-t17
-array-read-t17 c = search needs
+array-copy-out-t17 : tie.Need-array-copy-out-t17
+array-copy-out-t17 c = search needs
 
 returns : tie.Need-returns
-returns c = four-out (c .args .t1) (c .pre)
+returns c = let first = c .before .before .before .before in four-out (first .args .t1) (first .pre .0) (first .pre .1)
 
 pub out-sets-spec : {M : Type 1} → statement M
 out-sets-spec =
-    tie.close (tie.spec array-read-t5 array-read-t9 array-read-t13 array-read-t17 returns)
+    tie.close (tie.spec array-copy-out-t5 array-copy-out-t9 array-copy-out-t13 array-copy-out-t17 returns)

@@ -1,7 +1,7 @@
 -- `requirement_at` meets its contract.
 use mathlib.Core.Path.{sym, _∙_, ap}
 use borrow.Author.Needs.{needs}
-use Rattle.scan.proofs.SetListSteps.{requirement-fault, got-list, fault-list, if-no-word, if-no-first, if-on}
+use Rattle.scan.proofs.SetListSteps.{requirement-fault, got-list, fault-list, list-four, if-no-word, if-no-first, if-on}
 use Rattle.scan.specs.Scan.{requirementOf}
 use Rattle.pieces.proofs.Outcomes.{at-step, fault-step}
 use Rattle.scan.proofs.set_lists.requirement_at.Statement.{statement}
@@ -32,7 +32,10 @@ enum-known-e-2 : tie.Need-enum-known-e-2
 enum-known-e-2 c = search needs
 
 guarantees-at-requires : tie.Need-guarantees-at-requires
-guarantees-at-requires c κs = search needs
+guarantees-at-requires c κs =
+    let at-e2 = c .before .before in
+    let at-sets-at = at-e2 .before .before in
+    list-four _ _ (at-sets-at .sets-at .result) _ (at-sets-at .sets-at .ensures) (at-e2 .e2 .given .1)
 
 returns : tie.Need-returns
 returns c =
@@ -53,7 +56,7 @@ returns-3 c =
     let at-o2 = at-sets-at .before .before in
     let at-opening-at = at-o2 .before .before in
     c .guarantees-at .ensures ∙ sym (ap requirementOf (if-on _ _ _ (at-step _ (sym (at-o2 .o2 .given .1) ∙ at-opening-at .opening-at .ensures)) _ _
-    (got-list _ (at-sets-at .sets-at .result) _ (at-sets-at .sets-at .ensures) (c .before .before .before .e2 .given .1))))
+    (got-list _ (at-sets-at .sets-at .result) _ (at-sets-at .sets-at .ensures) (c .before .before .before .e2 .given .1) .0)))
 
 pub requirement-at-spec : {M : Type 1} → statement M
 requirement-at-spec =

@@ -2,7 +2,8 @@
 use mathlib.Core.Path.{sym, _∙_, ap}
 use native.Mathlib.Omega.{arith}
 use borrow.Author.Needs.{needs}
-use Rattle.scan.proofs.SetListSteps.{list-got, list-fault, list-closed, list-empty, list-bad, list-on}
+use Rattle.scan.proofs.SetListSteps.{empty-whole, list-got, list-fault, list-closed, list-empty, list-bad, list-on}
+use Rattle.sets.proofs.Rows.{set-is}
 use Rattle.scan.specs.Scan.{setsOf}
 use Rattle.grammar.proofs.Place.{byte-within}
 use Rattle.pieces.proofs.Outcomes.{members-set, fault-set}
@@ -24,13 +25,19 @@ add-j c = omega (arith, byte-within _ _ _ (sym (c .before .byte-at .ensures) ∙
 byte-at-requires-2 : tie.Need-byte-at-requires-2
 byte-at-requires-2 c κs = search needs
 
-add-t11 : tie.Need-add-t11
-add-t11 c = omega (arith, byte-within _ _ _ (sym (c .before .byte-at2 .ensures) ∙ c .if2 .taken) (omega arith))
+empty-requires : tie.Need-empty-requires
+empty-requires c κs = tt
+
+add-t12 : tie.Need-add-t12
+add-t12 c = omega (arith, byte-within _ _ _ (sym (c .before .before .byte-at2 .ensures) ∙ c .before .if2 .taken) (omega arith))
 
 returns-2 : tie.Need-returns-2
 returns-2 c =
-    list-got (list-empty _ _ (sym (c .before .before .before .byte-at .ensures) ∙ c .before .before .if1 .left)
-    (sym (c .before .byte-at2 .ensures) ∙ c .if2 .taken))
+    let at-if2 = c .before in
+    let at-if1 = at-if2 .before .before in
+    list-got (empty-whole _ (set-is _ (omega (arith, c .empty .ok))))
+    (list-empty _ _ (sym (at-if1 .before .byte-at .ensures) ∙ at-if1 .if1 .left) (sym (at-if2 .before .byte-at2 .ensures) ∙ at-if2 .if2 .taken) _
+    (c .empty .ensures .1))
 
 set-at-requires : tie.Need-set-at-requires
 set-at-requires c κs = search needs
@@ -65,7 +72,7 @@ returns-4 c =
     let at-byte-at = at-if1 .before in
     c .more-sets .ensures ∙ sym (ap setsOf (list-on _ _ (sym (at-byte-at .byte-at .ensures) ∙ at-if1 .if1 .left)
     (λ e. at-if2 .if2 .left (at-byte-at2 .byte-at2 .ensures ∙ e)) _ _
-    (members-set _ (sym (c .before .before .t2 .given .1) ∙ c .before .before .before .before .set-at .ensures))))
+    (members-set _ (sym (c .before .before .t2 .given .1) ∙ c .before .before .before .before .set-at .ensures) .0)))
 
 pub sets-at-spec : {M : Type 1} → statement M
 sets-at-spec =
@@ -76,7 +83,8 @@ sets-at-spec =
     returns
     add-j
     byte-at-requires-2
-    add-t11
+    empty-requires
+    add-t12
     returns-2
     set-at-requires
     enum-known-t

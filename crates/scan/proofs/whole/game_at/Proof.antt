@@ -60,8 +60,9 @@ returns-3 c =
     let at-graph-at = c .before .before .before .before .before in
     let at-h2 = at-graph-at .before .before in
     let at-header-at = at-h2 .before .before in
-    c .outputs-at .ensures ∙ sym (ap gameOf (game-on _ _ _ _ _ _ (counts-header _ (sym (at-h2 .h2 .given .1) ∙ at-header-at .header-at .ensures)) _ _
-    (got-graph _ (at-graph-at .graph-at .result) _ (at-graph-at .graph-at .ensures) (c .before .before .before .e2 .given .1))))
+    let read = got-graph _ (at-graph-at .graph-at .result) _ (at-graph-at .graph-at .ensures) (c .before .before .before .e2 .given .1) in
+    c .outputs-at .ensures ∙ sym (ap gameOf (game-on _ _ _ _ _ _ (counts-header _ (sym (at-h2 .h2 .given .1) ∙ at-header-at .header-at .ensures)) _ _ _
+    (read .0) (read .1)))
 
 pub game-at-spec : {M : Type 1} → statement M
 game-at-spec =

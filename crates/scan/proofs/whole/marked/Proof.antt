@@ -1,6 +1,8 @@
 -- `marked` meets its contract.
 use mathlib.Core.Path.{sym, _∙_}
+use native.Mathlib.Omega.{arith}
 use borrow.Author.Needs.{needs}
+use Rattle.sets.proofs.Rows.{set-is}
 use Rattle.pieces.proofs.Steps.{insert-is}
 use Rattle.shape.proofs.Graphs.{mark-on, mark-off}
 use Rattle.scan.proofs.whole.marked.Statement.{statement}
@@ -10,10 +12,10 @@ insert-requires : tie.Need-insert-requires
 insert-requires c κs = search needs
 
 returns : tie.Need-returns
-returns c = insert-is _ _ _ (c .insert .ensures) ∙ sym (mark-on _ _ _ (c .before .if1 .taken))
+returns c = (insert-is _ _ _ (c .insert .ensures) ∙ sym (mark-on _ _ _ (c .before .if1 .taken)), set-is _ (omega (arith, c .insert .ok)))
 
 returns-2 : tie.Need-returns-2
-returns-2 c = sym (mark-off _ _ _ (c .if1 .left))
+returns-2 c = (sym (mark-off _ _ _ (c .if1 .left)), set-is _ (omega arith))
 
 pub marked-spec : {M : Type 1} → statement M
 marked-spec = tie.close (tie.spec insert-requires returns returns-2)

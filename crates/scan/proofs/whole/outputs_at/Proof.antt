@@ -50,7 +50,7 @@ returns-2 c =
     let at-e2 = at-requirements-at .before .before in
     let at-graph-at = at-e2 .before .before in
     game-fault (c .no-game2 .ensures) (output-bad _ _ _ _ _ _ _
-    (got-graph _ (at-graph-at .graph-at .result) _ (at-graph-at .graph-at .ensures) (at-e2 .e2 .given .1)) _
+    (got-graph _ (at-graph-at .graph-at .result) _ (at-graph-at .graph-at .ensures) (at-e2 .e2 .given .1) .0) _
     (fault-requirements _ (at-requirements-at .requirements-at .result) _ (at-requirements-at .requirements-at .ensures) (c .before .before .f .given .1)))
 
 returns-3 : tie.Need-returns-3
@@ -58,7 +58,8 @@ returns-3 c =
     let at-requirements-at = c .before .before .before .before .before in
     let at-e2 = at-requirements-at .before .before in
     let at-graph-at = at-e2 .before .before in
-    game-got (output-got _ _ _ _ _ _ _ (got-graph _ (at-graph-at .graph-at .result) _ (at-graph-at .graph-at .ensures) (at-e2 .e2 .given .1)) _ _
+    let read = got-graph _ (at-graph-at .graph-at .result) _ (at-graph-at .graph-at .ensures) (at-e2 .e2 .given .1) in
+    game-got (output-got _ _ _ _ _ _ _ (read .0) _ (read .1) _ _
     (got-requirements _ (at-requirements-at .requirements-at .result) _ (at-requirements-at .requirements-at .ensures)
     (c .before .before .before .f2 .given .1)))
 

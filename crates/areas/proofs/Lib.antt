@@ -1,2 +1,0 @@
--- Laws of the closures in their areas of scratch.
-pub mod Parts

@@ -1,2 +1,0 @@
--- The closures in their areas of scratch.
-pub mod Areas

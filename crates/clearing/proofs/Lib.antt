@@ -1,0 +1,2 @@
+-- Laws of a buffer that is cleared from the front.
+pub mod Clearing

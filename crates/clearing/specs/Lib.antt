@@ -1,0 +1,2 @@
+-- How a buffer is left.
+pub mod Clearing

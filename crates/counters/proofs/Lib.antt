@@ -1,0 +1,2 @@
+-- Laws of sets of counters.
+pub mod Highest

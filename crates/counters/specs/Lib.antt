@@ -1,0 +1,2 @@
+-- What the contracts on sets of counters cite.
+pub mod Counters

@@ -1,0 +1,2 @@
+-- What the contracts that write entries cite.
+pub mod Step

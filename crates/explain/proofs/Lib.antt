@@ -1,0 +1,2 @@
+-- Laws for the call that explains a position.
+pub mod Made

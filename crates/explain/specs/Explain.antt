@@ -1,0 +1,84 @@
+-- What the call that explains a position promises, for every input.
+--
+--   inGame g i o                == (i, o) is a position of the game
+--   explainAnswer g s i o       == the answer, scratch being of s words
+--   explainTests g s i o        == its tests under their numbers
+--   numberOf r                  == the number of the refusal r, 0 for a ground
+--   scratchAfter g n s          == scratch s after an answer with the number n
+--   Grounded g i o r            == r tells a ground that explains (i, o)
+--   Explained g s s′ i o r      == the call answers r and leaves scratch s as s′
+use Prim.Native.Nat.{ℕ, zero, suc}
+use mathlib.Core.Path.{_≡_}
+use mathlib.Core.Bool.{Bool, true, false, _&&_}
+use mathlib.Core.List.{List, [], _∷_, _++_}
+use lib.Dec.{ltb, leb}
+use lib.ListN.{length}
+use Rattle.game.specs.declared.Game.{Game}
+use Rattle.game.specs.declared.InState.{InState}
+use Rattle.game.specs.declared.OutState.{OutState}
+use Rattle.game.specs.declared.Acceptance.the-variants.{Accepted, Refused as Faulty}
+use Rattle.game.specs.Acceptance.{acceptance}
+use Rattle.game.specs.Numbers.{firstOf, gameTests}
+use Rattle.play.specs.Play.{separatedOf}
+use Rattle.clearing.specs.Clearing.{cleared}
+use Rattle.scratch.specs.Scratch.{scratchLength}
+use Rattle.grounds.specs.Ground.{Ground, ground}
+use Rattle.grounds.specs.Holds.{Explains}
+use Rattle.ground_search.specs.declared.Explanation.{Explanation}
+use Rattle.ground_search.specs.declared.Explanation.the-variants.{
+  InputStuck,
+  ByReplies,
+  AtHome,
+  OutputStuck,
+  Unanswered,
+  ByWayOut,
+  Unserved,
+  PushedOn,
+  Refused,
+}
+use Rattle.ground_search.specs.Told.{told}
+
+unfoldable pub inGame : Game → InState → OutState → Bool
+inGame g i o = ltb (i .0) (g .input .states) && ltb (o .0) (g .output .states)
+
+-- "The first fitting ground in this order is given, lowest numbers first."
+unfoldable pub explainRoom : Game → ℕ → InState → OutState → Explanation
+explainRoom g s i o = elim (leb (scratchLength g) s) [ true ↦ told (ground (separatedOf g) (i .0) (o .0)) | false ↦ Refused 8 ]
+
+-- "New numbers: 25 a position outside the game, after 7 and before 8."
+unfoldable pub explainPosition : Game → ℕ → InState → OutState → Explanation
+explainPosition g s i o = elim (inGame g i o) [ true ↦ explainRoom g s i o | false ↦ Refused 25 ]
+
+unfoldable pub explainAnswer : Game → ℕ → InState → OutState → Explanation
+explainAnswer g s i o = elim (acceptance g) [ Accepted ↦ explainPosition g s i o | Faulty n ↦ Refused n ]
+
+unfoldable pub explainTests : Game → ℕ → InState → OutState → List (ℕ × Bool)
+explainTests g s i o = gameTests g ++ (25, inGame g i o) ∷ (8, leb (scratchLength g) s) ∷ []
+
+abbrev pub numberOf : Explanation → ℕ
+numberOf InputStuck = 0
+numberOf ByReplies = 0
+numberOf (AtHome d) = 0
+numberOf OutputStuck = 0
+numberOf (Unanswered j) = 0
+numberOf (ByWayOut j) = 0
+numberOf (Unserved k n) = 0
+numberOf PushedOn = 0
+numberOf (Refused n) = n
+
+-- "after an answer the first that many words are zero and the rest unchanged" (M-103); "Each returns its number only .. and changes no lent memory"
+unfoldable pub scratchAfter : Game → ℕ → List ℕ → List ℕ
+scratchAfter g zero s = cleared (scratchLength g) s
+scratchAfter g (suc n) s = s
+
+-- "What the reply names holds with won and lost as 01 defines them, not by a map."
+pub record Grounded (g : Game) (i : InState) (o : OutState) (r : Explanation) : Type 0 where
+  pub ground : Ground
+  pub tells : r ≡ told ground
+  pub explains : Explains (separatedOf g) (i .0) (o .0) ground
+
+pub record Explained (g : Game) (s s′ : List ℕ) (i : InState) (o : OutState) (r : Explanation) : Type 0 where
+  pub answer : r ≡ explainAnswer g (length s) i o
+  pub number : numberOf r ≡ firstOf (explainTests g (length s) i o)
+  pub scratch : s′ ≡ scratchAfter g (numberOf r) s
+  pub grounded : numberOf r ≡ 0 → Grounded g i o r

@@ -1,0 +1,2 @@
+-- What the call that explains a position promises.
+pub mod Explain

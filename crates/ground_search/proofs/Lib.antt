@@ -1,0 +1,5 @@
+-- Laws for the search of a ground.
+pub mod Search
+pub mod Meaning
+pub mod Requirements
+pub mod Told

@@ -1,0 +1,145 @@
+-- What is read from scratch is the winning region.
+--
+--   won-in, won-out            : the two cases of `wonAt`
+--   some-won-in, some-won-out  : the two cases of `someWonAt`
+--   won-region                 : where the rows of j and o are right, `wonAt` is the region
+--   ready-won, ready-row       : so it is where scratch is ready
+use Prim.Native.Nat.{ℕ, _+_, _≤_, _<_}
+use mathlib.Core.Path.{_≡_, refl, sym, _∙_, ap, ap₂}
+use mathlib.Core.Bool.{Bool, true, false, _&&_}
+use mathlib.Core.List.{List}
+use mathlib.Core.Logic.{_⊎_, inl, inr}
+use native.Mathlib.Omega.{arith}
+use Rattle.finite.specs.Bounded.{any}
+use Rattle.finite.proofs.Truth.{decide, same-test, and-intro, and-left, and-right}
+use Rattle.finite.proofs.Bounded.{any-intro, any-elim}
+use Rattle.bits.specs.Member.{has, pack, meets}
+use Rattle.bits.proofs.Membership.{has-pack-below, has-lt, pack-lt, pack-ext}
+use Rattle.bits.proofs.Compare.{meets-intro, meets-elim}
+use Rattle.sets.specs.Words.{capacity, setsIn}
+use Rattle.graphs.specs.Closure.{reaches}
+use Rattle.graphs.specs.Component.{nontrivial}
+use Rattle.arena.specs.Arena.{Separated}
+use Rattle.game.specs.declared.Game.{Game}
+use Rattle.play.specs.Play.{graphOf, separatedOf}
+use Rattle.theory.specs.Region.{homeFor, settles, region}
+use Rattle.theory.proofs.Region.{region-settles}
+use Rattle.scratch.specs.Stored.{rowAt, outReachAt, storedAt, storedRow, wonAt, someWonAt, Reached, Ready}
+
+pub won-in : (l : List ℕ) (n c j o : ℕ) {r : Bool} → has c j ≡ true → r ≡ meets capacity (rowAt l n j) (outReachAt l n o) → r ≡ wonAt l n c j o
+unfolding wonAt
+won-in l n c j o h e = rw (h, wonAt) e
+
+pub won-out : (l : List ℕ) (n c j o : ℕ) {r : Bool} → has c j ≡ false → r ≡ has (rowAt l n j) o → r ≡ wonAt l n c j o
+unfolding wonAt
+won-out l n c j o h e = rw (h, wonAt) e
+
+-- whether some output is won, z being what the outputs of y reach
+module _ (l : List ℕ) (n m c j y z : ℕ) (R : Reached l n m y z) where
+  won-of : ℕ → Bool
+  won-of p = has y p && wonAt l n c j p
+
+  pub some-won-in : {r : Bool} → has c j ≡ true → r ≡ meets capacity (rowAt l n j) z → r ≡ someWonAt l n m c j y
+  unfolding someWonAt won-of
+  some-won-in h e = e ∙ same-test (meets capacity (rowAt l n j) z) (any m won-of) to back
+    where
+      to : meets capacity (rowAt l n j) z ≡ true → any m won-of ≡ true
+      to k =
+          let w = meets-elim capacity (rowAt l n j) z k in
+          let v = R .reached (w .0) (w .3) in
+          any-intro m won-of (v .0) (R .below (v .0) (v .1))
+          (and-intro (v .1) (sym (won-in l n c j (v .0) h refl) ∙ meets-intro capacity (rowAt l n j) (outReachAt l n (v .0)) (w .0) (w .1) (w .2) (v .2)))
+
+      back : any m won-of ≡ true → meets capacity (rowAt l n j) z ≡ true
+      back k =
+          let v = any-elim m won-of k in
+          let won = and-right (has y (v .0)) (wonAt l n c j (v .0)) (v .2) in
+          let w = meets-elim capacity (rowAt l n j) (outReachAt l n (v .0)) (won-in l n c j (v .0) h refl ∙ won) in
+          meets-intro capacity (rowAt l n j) z (w .0) (w .1) (w .2)
+          (R .reaches (v .0) (w .0) (and-left (has y (v .0)) (wonAt l n c j (v .0)) (v .2)) (w .3))
+
+  pub some-won-out : {r : Bool} → m ≤ capacity → has c j ≡ false → r ≡ meets capacity (rowAt l n j) y → r ≡ someWonAt l n m c j y
+  unfolding someWonAt won-of
+  some-won-out small h e = e ∙ same-test (meets capacity (rowAt l n j) y) (any m won-of) to back
+    where
+      to : meets capacity (rowAt l n j) y ≡ true → any m won-of ≡ true
+      to k =
+          let w = meets-elim capacity (rowAt l n j) y k in
+          any-intro m won-of (w .0) (R .below (w .0) (w .3)) (and-intro (w .3) (sym (won-out l n c j (w .0) h refl) ∙ w .2))
+
+      back : any m won-of ≡ true → meets capacity (rowAt l n j) y ≡ true
+      back k =
+          let v = any-elim m won-of k in
+          let won = and-right (has y (v .0)) (wonAt l n c j (v .0)) (v .2) in
+          meets-intro capacity (rowAt l n j) y (v .0) (omega (arith, v .1)) (won-out l n c j (v .0) h refl ∙ won)
+          (and-left (has y (v .0)) (wonAt l n c j (v .0)) (v .2))
+
+-- two sets of outputs meet exactly where some member is common
+meets-packed : (m : ℕ) (p q : ℕ → Bool) → m ≤ capacity → meets capacity (pack m p) (pack m q) ≡ any m (λ d. q d && p d)
+meets-packed m p q b = same-test (meets capacity (pack m p) (pack m q)) (any m (λ d. q d && p d)) there back
+  where
+    there : meets capacity (pack m p) (pack m q) ≡ true → any m (λ d. q d && p d) ≡ true
+    there e =
+        let v = meets-elim capacity (pack m p) (pack m q) e in
+        let l = has-lt m (pack m p) (v .0) (pack-lt m p) (v .2) in
+        any-intro m (λ d. q d && p d) (v .0) l (and-intro (sym (has-pack-below m q (v .0) l) ∙ v .3) (sym (has-pack-below m p (v .0) l) ∙ v .2))
+
+    back : any m (λ d. q d && p d) ≡ true → meets capacity (pack m p) (pack m q) ≡ true
+    back e =
+        let v = any-elim m (λ d. q d && p d) e in
+        meets-intro capacity (pack m p) (pack m q) (v .0) (omega (arith, v .1))
+        (has-pack-below m p (v .0) (v .1) ∙ and-right (q (v .0)) (p (v .0)) (v .2))
+        (has-pack-below m q (v .0) (v .1) ∙ and-left (q (v .0)) (p (v .0)) (v .2))
+
+module _ (S : Separated) where
+  pub stored-nontrivial : (j : ℕ) → nontrivial (S .input) j ≡ true → storedRow S j ≡ pack (S .output .states) (homeFor S (region S) j)
+  unfolding storedRow storedAt
+  stored-nontrivial j t = pack-ext (S .output .states) (storedAt S j) (homeFor S (region S) j) (λ o b. at o)
+    where
+      at : (o : ℕ) → storedAt S j o ≡ homeFor S (region S) j o
+      at o = rw (t, storedAt) refl
+
+  pub stored-trivial : (j : ℕ) → nontrivial (S .input) j ≡ false → storedRow S j ≡ pack (S .output .states) (region S j)
+  unfolding storedRow storedAt
+  stored-trivial j t = pack-ext (S .output .states) (storedAt S j) (region S j) (λ o b. at o)
+    where
+      at : (o : ℕ) → storedAt S j o ≡ region S j o
+      at o = rw (t, storedAt) refl
+
+  settles-any : (j o : ℕ) → settles S (region S) j o ≡ any (S .output .states) (λ d. reaches (S .output) o d && homeFor S (region S) j d)
+  unfolding settles
+  settles-any j o = refl
+
+-- Where the rows of j and o are right, what is read is the region.
+pub won-region : (g : Game) (l : List ℕ) (c j o : ℕ) → g .output .states ≤ capacity → j < g .input .states → o < g .output .states
+    → c ≡ pack (g .input .states) (nontrivial (graphOf (g .input)))
+    → rowAt l (g .input .states) j ≡ storedRow (separatedOf g) j
+    → outReachAt l (g .input .states) o ≡ pack (g .output .states) (reaches (graphOf (g .output)) o)
+    → wonAt l (g .input .states) c j o ≡ region (separatedOf g) j o
+unfolding separatedOf graphOf
+won-region g l c j o m a b inner row out = go (decide (nontrivial (S .input) j))
+  where
+    S : Separated
+    S = separatedOf g
+
+    test : has c j ≡ nontrivial (S .input) j
+    test = ap (λ (x : ℕ). has x j) inner ∙ has-pack-below (g .input .states) (nontrivial (graphOf (g .input))) j a
+
+    go : (nontrivial (S .input) j ≡ true) ⊎ (nontrivial (S .input) j ≡ false) → wonAt l (g .input .states) c j o ≡ region S j o
+    go (inl t) =
+        sym (won-in l (g .input .states) c j o (test ∙ t) refl)
+        ∙ ap₂ (λ (x y : ℕ). meets capacity x y) (row ∙ stored-nontrivial S j t) out
+        ∙ meets-packed (g .output .states) (homeFor S (region S) j) (reaches (graphOf (g .output)) o) m
+        ∙ sym (settles-any S j o) ∙ sym (region-settles S j o a b t)
+    go (inr t) =
+        sym (won-out l (g .input .states) c j o (test ∙ t) refl)
+        ∙ ap (λ (x : ℕ). has x o) (row ∙ stored-trivial S j t) ∙ has-pack-below (g .output .states) (region S j) o b
+
+-- scratch that is ready holds the region
+module _ {g : Game} {s : List ℕ} {c : ℕ} (R : Ready g s c) where
+  pub ready-won : (i o : ℕ) → i < g .input .states → o < g .output .states → wonAt (setsIn s) (g .input .states) c i o ≡ region (separatedOf g) i o
+  ready-won i o a b = won-region g (setsIn s) c i o (R .fits .output .most) a b (R .inner) (R .rows i a) (R .laid .outputs o b)
+
+  pub ready-row : (i : ℕ) → i < g .input .states
+      → pack (g .output .states) (wonAt (setsIn s) (g .input .states) c i) ≡ pack (g .output .states) (region (separatedOf g) i)
+  ready-row i a = pack-ext (g .output .states) (wonAt (setsIn s) (g .input .states) c i) (region (separatedOf g) i) (λ o b. ready-won i o a b)
