@@ -2,8 +2,8 @@
 --
 --   stays-state, stays-none          : the two kinds of entries for every counter
 --   base-small, cell-below           : the place of a row is small, and lies in the buffer
---   column-fits, block-fits          : so what is written fits
---   row-of, rows-of                  : what was written
+--   column-fits                      : so what is written fits
+--   row-of                           : what was written
 --   long-..                          : lengths are kept
 --   table-long                       : the table fits any buffer of the length
 --   lowest-both, settles-in, settles-out, start-in, start-out : the tests by cases
@@ -20,15 +20,15 @@ use Rattle.finite.specs.Bounded.{least}
 use Rattle.finite.proofs.Bounded.{least-same}
 use Rattle.bits.specs.Member.{has, pack, both, meets}
 use Rattle.sets.specs.Words.{capacity}
-use Rattle.arena.specs.Table.{none, gives}
+use Rattle.arena.specs.Table.{gives}
 use Rattle.theory.specs.Entries.{entry}
 use Rattle.scratch.specs.Stored.{wonAt}
 use Rattle.counters.specs.Counters.{mostCounters}
 use Rattle.entries.specs.Step.{entryStep}
 use Rattle.entries.proofs.Packed.{none-entry, entry-small, entry-steps}
-use Rattle.columns.specs.Column.{Fits, Column, BlockFits, Block}
+use Rattle.columns.specs.Column.{Fits, Column}
 use Rattle.controller_rows.specs.declared.Size.{Size}
-use Rattle.controller_rows.specs.Writes.{first, more, Stays, base, Table, Row, Rows, settlesAt, Plain, Plains, Away, startOf, Start, Starts}
+use Rattle.controller_rows.specs.Writes.{first, more, Stays, base, Table, Row, settlesAt, Plain, Plains, startOf, Start, Starts}
 use Rattle.controller_rows.proofs.Each.{each-long}
 
 -- ---- entries for every counter
@@ -41,7 +41,7 @@ pub stays-none : (p : ℕ) → capacity ≤ p → Stays p 65535 0
 unfolding first more
 stays-none p h = record { first = none-entry ∙ rw (le-ltb p capacity h, first) refl; more = rw (le-ltb p capacity h, more) refl }
 
-pub stays-small : (p f m h : ℕ) → Stays p f m → h < mostCounters → f + m * h < 65536
+stays-small : (p f m h : ℕ) → Stays p f m → h < mostCounters → f + m * h < 65536
 stays-small p f m h e b = go (decLt p capacity)
   where
     go : Dec (p < capacity) → f + m * h < 65536
@@ -74,7 +74,7 @@ module _ (z : Size) (long : ℕ) (t : Table z long) where
   pub counter-below : (h : ℕ) → has (z .all .0) h ≡ true → h < z .counters
   counter-below h e = ltb-true h (z .counters) (sym (t .all h) ∙ e)
 
-  pub rows-below : (o : ℕ) → o < z .outputs → base z o + z .inputs * z .counters ≤ long
+  rows-below : (o : ℕ) → o < z .outputs → base z o + z .inputs * z .counters ≤ long
   unfolding base
   rows-below o b =
       omega (
@@ -98,13 +98,6 @@ module _ (z : Size) (long : ℕ) (t : Table z long) where
           small = λ h i. small h (in-range h i);
         })
 
-    pub block-fits : {at : ℕ} (over : ℕ) → at ≡ base z o → BlockFits long at (z .inputs) over which f m
-    block-fits {at} over e = record {
-      narrow = t .inputs;
-      inside = omega (arith, rows-below o b, mul-le-mul-left (z .inputs) (t .some), mul-suc (z .inputs) 0);
-      columns = λ x l i. column-fits x e l;
-    }
-
   pub all-small : (p f m : ℕ) → Stays p f m → (h : ℕ) → h < z .counters → f + m * h < 65536
   all-small p f m e h b = stays-small p f m h e (omega (arith, t .counters))
 
@@ -117,15 +110,9 @@ module _ (z : Size) (o : ℕ) where
   pub row-of : (j p : ℕ) {at f m : ℕ} {l r : List ℕ} → at ≡ base z o → Stays p f m → Column l r (at + j) (z .inputs) (z .all .0) f m → Row z o j p l r
   row-of j p e s c = record { column = rw (← e, ← s .first, ← s .more) c }
 
-  pub rows-of : (w p : ℕ) {at f m : ℕ} {l r : List ℕ} → at ≡ base z o → Stays p f m → Block l r at (z .inputs) w (z .all .0) f m → Rows z o w p l r
-  rows-of w p e s c = record { block = rw (← e, ← s .first, ← s .more) c }
-
 module _ {z : Size} {o : ℕ} {l m : List ℕ} where
   pub row-at : {j p p′ : ℕ} → p ≡ p′ → Row z o j p l m → Row z o j p′ l m
   row-at e r = rw (← e) r
-
-  pub rows-at : {w w′ p p′ : ℕ} → w ≡ w′ → p ≡ p′ → Rows z o w p l m → Rows z o w′ p′ l m
-  rows-at d e r = rw (← d, ← e) r
 
 pub start-of : {z : Size} {s : List ℕ} {c ins outs i v : ℕ} {l : List ℕ} → v ≡ startOf z s c ins outs i → Start z s c ins outs i l (set l i v)
 start-of {i = i} {l = l} e = record { written = ap (set l i) e }
@@ -142,9 +129,6 @@ module _ {z : Size} {l m : List ℕ} where
 
   pub long-starts : {s : List ℕ} {c ins outs k : ℕ} → Starts z s c ins outs k l m → length m ≡ length l
   long-starts e = each-long (λ i a b r. ap length (r .written) ∙ length-set a i _) (e .each)
-
-  pub long-away : {s : List ℕ} {c d comp k : ℕ} {next : List ℕ} → Away z s c d comp next k l m → length m ≡ length l
-  long-away e = each-long (λ o a b r. r .block .long) (e .each)
 
 module _ {z : Size} {l m : List ℕ} where
   pub long-plains : {s : List ℕ} {c : ℕ} {rows : List ℕ} {k : ℕ} → Plains z s c rows k l m → length m ≡ length l

@@ -5,7 +5,6 @@
 --   ControllerLayout z y           == y is the layout of its rows
 --   Table z long                   == a buffer of that length has the table
 --   Row z o j p l m                == the rows of (o, j) were written: state p, the counter stays
---   Rows z o w p l m               == the same for each input of the set w
 --
 -- told from the sets s of scratch, c being the inputs in nontrivial components:
 --   settlesAt c j row reach        == j is in a nontrivial component, and one of its homes, the row, is in reach
@@ -13,7 +12,6 @@
 --   residesAt s n c o d j          == the home of j at output o is d
 --   Plain z s c o moves k          == for each input j < k with no home in reach of o: the lowest of the moves to a member of the row of j, or none
 --   Plains z s c rows k            == the same for each output o < k
---   Away z s c d comp next k       == for each output o < k outside the set comp the inputs that reside at d go on by next
 --   startOf .. i, Starts .. k      == the start entries
 use Prim.Native.Nat.{ℕ, _+_, _*_, _≤_, _<_}
 use mathlib.Core.Path.{_≡_}
@@ -29,7 +27,7 @@ use Rattle.theory.specs.Entries.{entry}
 use Rattle.scratch.specs.Stored.{rowAt, outReachAt, wonAt}
 use Rattle.counters.specs.Counters.{mostCounters}
 use Rattle.entries.specs.Step.{entryStep}
-use Rattle.columns.specs.Column.{Column, Block}
+use Rattle.columns.specs.Column.{Column}
 use Rattle.layout.specs.declared.Layout.{Layout}
 use Rattle.controller_rows.specs.declared.Size.{Size}
 use Rattle.controller_rows.specs.Each.{Each}
@@ -67,9 +65,6 @@ pub record Table (z : Size) (long : ℕ) : Type 0 where
 pub record Row (z : Size) (o j p : ℕ) (l m : List ℕ) : Type 0 where
   pub column : Column l m (base z o + j) (z .inputs) (z .all .0) (first p) (more p)
 
-pub record Rows (z : Size) (o w p : ℕ) (l m : List ℕ) : Type 0 where
-  pub block : Block l m (base z o) (z .inputs) w (z .all .0) (first p) (more p)
-
 unfoldable pub settlesAt : ℕ → ℕ → ℕ → ℕ → Bool
 settlesAt c j row reach = has c j && meets capacity row reach
 
@@ -86,9 +81,6 @@ pub record Plain (z : Size) (s : List ℕ) (c o moves k : ℕ) (l m : List ℕ) 
 
 pub record Plains (z : Size) (s : List ℕ) (c : ℕ) (rows : List ℕ) (k : ℕ) (l m : List ℕ) : Type 0 where
   pub each : Each (λ o. true) (λ o. Plain z s c o (getD rows o 0) (z .inputs)) k l m
-
-pub record Away (z : Size) (s : List ℕ) (c d comp : ℕ) (next : List ℕ) (k : ℕ) (l m : List ℕ) : Type 0 where
-  pub each : Each (λ o. not (has comp o)) (λ o. Rows z o (pack (z .inputs) (residesAt s (z .inputs) c o d)) (getD next o 0)) k l m
 
 unfoldable pub startOf : Size → List ℕ → ℕ → ℕ → ℕ → ℕ → ℕ
 startOf z s c ins outs i =

@@ -4,7 +4,7 @@ use game::InSet;
 use game::OutSet;
 use game::OutState;
 
-pub mod rows; // rows of the table, for many counters or inputs at once
+pub mod rows; // rows of the table, for all counters at once
 
 // The size of a table, with the set of its counters.
 pub struct Size {

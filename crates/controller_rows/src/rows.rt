@@ -1,15 +1,14 @@
-// Rows of the table, for many counters or inputs at once.
+// Rows of the table, for all counters at once.
 use crate::Size;
-use game::InSet;
 use game::InState;
 use game::OutState;
 use layout::Layout;
 ghost use mathlib.Core.Path.{_≡_};
 ghost use Prim.Native.Nat.{_≤_, _<_};
 ghost use lib.ListN.{length};
-ghost use Rattle.sets.specs.Words.{capacity, bitsOf};
+ghost use Rattle.sets.specs.Words.{capacity};
 ghost use Rattle.counters.specs.Counters.{mostCounters};
-ghost use Rattle.controller_rows.specs.Writes.{Stays, base as baseOf, ControllerLayout, Table, Row, Rows};
+ghost use Rattle.controller_rows.specs.Writes.{Stays, base as baseOf, ControllerLayout, Table, Row};
 
 // A pattern of entries: first + more × counter for each counter.
 pub struct Pattern {
@@ -31,13 +30,6 @@ pub fn staying(p: usize) -> Pattern
         first: entries::NONE,
         more: 0,
     }
-}
-
-// A state that was kept in a byte.
-pub fn wide(x: u8) -> usize
-    ensures { λ r. ⌜ r ≡ x ⌝ }
-{
-    x as usize
 }
 
 // Where the rows lie: by output, counter and input, after the starts.
@@ -67,13 +59,4 @@ pub fn write_row(room: &mut [u16], z: Size, o: OutState, j: InState, p: usize)
 {
     let e = staying(p);
     columns::column(room, base(z, o) + j.0, z.inputs, z.all, e.first, e.more);
-}
-
-// The same for each input of a set.
-pub fn write_rows(room: &mut [u16], z: Size, o: OutState, inputs: InSet, p: usize)
-    requires { ⌜ Table z (length (now room)) × (o .0 < z .outputs) ⌝ }
-    ensures { λ r. ⌜ Rows z (o .0) (bitsOf (inputs .0)) p (now (room .entry)) (now (room .exit)) ⌝ }
-{
-    let e = staying(p);
-    columns::block(room, base(z, o), z.inputs, inputs.0, z.all, e.first, e.more);
 }

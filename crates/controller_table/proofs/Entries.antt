@@ -1,7 +1,6 @@
 -- The entries that are written are those of the table.
 --
 --   plain-entry     : the rows with no home in reach
---   away-entry      : the way home
 --   start-entry     : the starts
 use Prim.Native.Nat.{ℕ, _+_, _*_, _≤_, _<_}
 use native.Mathlib.Nat.{zero-mul, mul-zero, add-zero}
@@ -19,10 +18,8 @@ use Rattle.bits.specs.Member.{has, pack, both}
 use Rattle.bits.proofs.Membership.{has-pack-below}
 use Rattle.graphs.specs.Graph.{edge, begins}
 use Rattle.graphs.specs.Component.{joined, nontrivial}
-use Rattle.graphs.specs.Way.{toward}
 use Rattle.graphs.proofs.Graph.{edge-to, begins-below}
 use Rattle.graphs.proofs.Closure.{reaches-edge}
-use Rattle.graphs.proofs.Way.{toward-below}
 use Rattle.arena.specs.Arena.{Separated}
 use Rattle.arena.specs.Table.{none, gives}
 use Rattle.sets.specs.Words.{capacity}
@@ -32,22 +29,22 @@ use Rattle.theory.specs.Tour.{tour}
 use Rattle.theory.specs.Choice.{guarantees, settled, controllerRow, controllerStart}
 use Rattle.theory.specs.Entries.{entry}
 use Rattle.theory.proofs.Region.{answers-elim, answers-false, settles-intro, opens-elim, opens-false}
-use Rattle.theory.proofs.ControllerRow.{row-answers, answers-settles, homeward-at, homeward-away, home-leads}
+use Rattle.theory.proofs.ControllerRow.{row-answers, answers-settles, homeward-at}
 use Rattle.controller_rows.specs.declared.Size.{Size}
 use Rattle.controller_rows.specs.Writes.{first, more, settlesAt, startOf}
 use Rattle.controller_table.specs.Filled.{Resides}
 use Rattle.entries.proofs.Packed.{none-entry, entry-steps}
 use Rattle.controller_rows.proofs.Writes.{stays-state, stays-none}
-use Rattle.controller_table.proofs.Told.{in-both, Told, unsettled, home-reached-at, home-core, row-home}
+use Rattle.controller_table.proofs.Told.{in-both, Told, unsettled, row-home}
 
 -- ---- an answer whose counter stays
 
-pub entry-state : (p c : ℕ) → p < capacity → first p + more p * c ≡ entry (gives c p)
+entry-state : (p c : ℕ) → p < capacity → first p + more p * c ≡ entry (gives c p)
 entry-state p c l =
     let v = stays-state p (entry (gives 0 p)) l refl in
     rw (← v .first, ← v .more) (entry-steps c p)
 
-pub entry-none : (p c : ℕ) → capacity ≤ p → first p + more p * c ≡ entry none
+entry-none : (p c : ℕ) → capacity ≤ p → first p + more p * c ≡ entry none
 entry-none p c l =
     let v = stays-none p l in
     rw (← v .first, ← v .more) (ap (λ (k : ℕ). 65535 + k) (zero-mul c) ∙ none-entry)
@@ -210,13 +207,6 @@ module _ (S : Separated) (s : List ℕ) (n inner : ℕ) (rows : List ℕ) (T : T
 -- ---- residents
 
 module _ (S : Separated) (o d j : ℕ) (r : Resides S o d j) (a : j < S .input .states) (few : S .output .states ≤ capacity) where
-  pub away-entry : (p c : ℕ) → joined (S .output) d o ≡ false → p ≡ toward (S .output .states) (edge (S .output)) (joined (S .output) d) o
-      → first p + more p * c ≡ entry (controllerRow S o c j)
-  away-entry p c h e =
-      let b = toward-below (S .output .states) (edge (S .output)) (joined (S .output) d) o
-      (home-leads (S .output) d o (home-reached-at S o d j r) (home-core S o d j r)) in
-      rw (row-home S o d j r a c, homeward-away S d o c h, ← e) (entry-state p c (omega arith))
-
   module _ (h : joined (S .output) d o ≡ true) where
     pub at-home : (c : ℕ) → controllerRow S o c j ≡ tour (S .output) d (guarantees S) o c
     at-home c = row-home S o d j r a c ∙ homeward-at S d o c h

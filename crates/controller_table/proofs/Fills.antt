@@ -4,7 +4,7 @@
 --   Fills S F P             == every step F fills, the rows with P among them
 --   filled-none, filled-more, filled-part : nothing written; one after the other; fewer rows
 --   fills-each              : a loop of such steps
---   fills-row, fills-rows                 : the steps
+--   fills-row               : a step
 use Prim.Native.Nat.{ℕ, suc, _+_, _*_, _≤_, _<_}
 use native.Mathlib.Nat.{mul-comm, add-mul}
 use mathlib.Core.Path.{_≡_, sym, _∙_, ap, subst}
@@ -23,10 +23,10 @@ use Rattle.filling.specs.Grows.{Right}
 use Rattle.filling.proofs.Grows.{grows-none, grows-more}
 use Rattle.theory.specs.Choice.{controllerRow}
 use Rattle.theory.specs.Entries.{entry, controllerCounters, controllerEntries}
-use Rattle.columns.specs.Column.{Agrees, Columned, BlockAgrees, Blocked, Block}
+use Rattle.columns.specs.Column.{Agrees, Columned}
 use Rattle.controller_rows.specs.declared.Size.{Size}
 use Rattle.controller_rows.specs.Each.{Each, none, hit, miss}
-use Rattle.controller_rows.specs.Writes.{first, more, base, Row, Rows}
+use Rattle.controller_rows.specs.Writes.{first, more, base, Row}
 use Rattle.controller_table.specs.Filled.{place, Filled}
 use Rattle.controller_table.proofs.Cells.{place-in, row-entry}
 
@@ -83,7 +83,7 @@ module _ (S : Separated) where
 -- ---- the steps
 
 module _ (S : Separated) (z : Size) (Z : Sizes S z) where
-  pub place-base : (o c j : ℕ) → base z o + j + z .inputs * c ≡ place S o c j
+  place-base : (o c j : ℕ) → base z o + j + z .inputs * c ≡ place S o c j
   unfolding place base
   place-base o c j =
       rw (Z .inputs, Z .counters)
@@ -96,18 +96,6 @@ module _ (S : Separated) (z : Size) (Z : Sizes S z) where
       below = λ c h. rw (place-base o c j) (place-in S o c j b (r c h) d);
       entry = λ c h. e c h ∙ sym (row-entry S o c j b (r c h) d) ∙ ap (λ (k : ℕ). getD (controllerEntries S) k 0) (sym (place-base o c j));
     }
-
-    pub fills-block : (w which f m : ℕ) → ((c : ℕ) → has which c ≡ true → c < controllerCounters S)
-        → ((c j : ℕ) → has which c ≡ true → j < S .input .states → has w j ≡ true → f + m * c ≡ entry (controllerRow S o c j))
-        → Fills S (λ l r. Block l r (base z o) (z .inputs) w which f m) (λ o′ c j. (o′ ≡ o) × (has w j ≡ true) × (has which c ≡ true))
-    fills-block w which f m r e = record { fills = λ l k s long. go l k (s .fills (controllerEntries S) agree long) }
-      where
-        agree : BlockAgrees (controllerEntries S) (base z o) (z .inputs) w which f m
-        agree = record { columns = λ j d i. agrees j which f m (rw (Z .inputs) at d) r (λ c h. e c j h (rw (Z .inputs) at d) i) }
-
-        go : (l k : List ℕ) → Blocked (controllerEntries S) l k (base z o) (z .inputs) w which (z .inputs)
-            → Filled S (λ o′ c j. (o′ ≡ o) × (has w j ≡ true) × (has which c ≡ true)) l k
-        go l k s = record { grows = s .grows; right = λ o′ c j a x d h. rw (h .0, ← place-base o c j) (s .right j c (rw (Z .inputs) d) (h .1) (h .2)) }
 
     all-below : (c : ℕ) → has (z .all .0) c ≡ true → c < controllerCounters S
     all-below c h = rw (Z .counters) at (ltb-true c (z .counters) (sym (Z .all c) ∙ h))
@@ -125,12 +113,3 @@ module _ (S : Separated) (z : Size) (Z : Sizes S z) where
       where
         go : (l k : List ℕ) → Columned (controllerEntries S) l k (base z o + j) (z .inputs) (z .all .0) → Filled S (λ o′ c j′. (o′ ≡ o) × (j′ ≡ j)) l k
         go l k s = record { grows = s .grows; right = λ o′ c j′ a x y h. rw (h .0, h .1, ← place-base o c j) (s .right c (below-all c x)) }
-
-    pub fills-rows : (w p : ℕ) → ((c j : ℕ) → c < controllerCounters S → j < S .input .states → has w j ≡ true
-        → first p + more p * c ≡ entry (controllerRow S o c j))
-        → Fills S (Rows z o w p) (λ o′ c j. (o′ ≡ o) × (has w j ≡ true))
-    fills-rows w p e = record {
-      fills = λ l k s long.
-          filled-part S (λ o′ c j a x y h. (h .0, h .1, below-all c x))
-          (fills-block w (z .all .0) (first p) (more p) all-below (λ c j h. e c j (all-below c h)) .fills l k (s .block) long);
-    }

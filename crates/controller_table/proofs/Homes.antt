@@ -4,7 +4,7 @@
 --   settled-here                 : the rows of one home
 --   homes-none, homes-next       : the loop over them
 --   filled-table                 : all rows
-use Prim.Native.Nat.{ℕ, _+_, _≤_, _<_}
+use Prim.Native.Nat.{ℕ, _+_, _<_}
 use native.Mathlib.Numerals.{add-one}
 use mathlib.Core.Path.{_≡_, sym, _∙_, ap, subst}
 use mathlib.Core.Bool.{true}

@@ -1,9 +1,8 @@
 -- Each loop fills its rows of the table.
 --
 --   fills-plains    : the rows with no home in reach
---   fills-away      : the rows outside a home
 --   starts-filled   : the starts
-use Prim.Native.Nat.{ℕ, suc, _+_, _≤_, _<_}
+use Prim.Native.Nat.{ℕ, suc, _≤_, _<_}
 use mathlib.Core.Path.{_≡_, refl, sym, _∙_, ap}
 use mathlib.Core.Bool.{Bool, true, false, not}
 use mathlib.Core.List.{List}
@@ -13,14 +12,10 @@ use lib.ListN.{length, getD}
 use Rattle.finite.specs.Bounded.{least}
 use Rattle.finite.proofs.Truth.{clash, not-true}
 use Rattle.finite.proofs.Bounded.{below-suc}
-use Rattle.bits.specs.Member.{has, pack, both}
-use Rattle.bits.proofs.Membership.{has-pack-below}
+use Rattle.bits.specs.Member.{has, both}
 use Rattle.sets.specs.Words.{capacity, bitsOf}
 use Rattle.scratch.specs.Stored.{rowAt, outReachAt}
-use Rattle.graphs.specs.Graph.{edge}
-use Rattle.graphs.specs.Closure.{reaches}
 use Rattle.graphs.specs.Component.{joined}
-use Rattle.graphs.specs.Way.{toward}
 use Rattle.graphs.proofs.Component.{joined-to, joined-sym}
 use Rattle.arena.specs.Arena.{Separated}
 use Rattle.filling.specs.Grows.{Right, Grows}
@@ -31,14 +26,13 @@ use Rattle.ways.proofs.Kept.{members-pack}
 use Rattle.controller_rows.specs.declared.Size.{Size}
 use Rattle.controller_rows.specs.declared.Home.{Home}
 use Rattle.controller_rows.specs.Each.{Each, none, hit, miss}
-use Rattle.controller_rows.specs.Writes.{Row, Rows, settlesAt, residesAt, Plain, Plains, startOf, Start, Starts}
-use Rattle.controller_rows.specs.Writes.{Away as AwayLoop}
-use Rattle.controller_table.specs.Filled.{Resides, Away, HomeOf}
+use Rattle.controller_rows.specs.Writes.{Row, settlesAt, Plain, Plains, startOf, Start, Starts}
+use Rattle.controller_table.specs.Filled.{Resides, HomeOf}
 use Rattle.theory.proofs.Entries.{controller-long}
 use Rattle.controller_table.proofs.Cells.{start-at}
-use Rattle.controller_table.proofs.Fills.{Sizes, Fills, filled-part, fills-each, fills-row, fills-rows}
-use Rattle.controller_table.proofs.Told.{Told, resides-word, resides-at, resides-same, home-reached-at}
-use Rattle.controller_table.proofs.Entries.{plain-entry, away-entry}
+use Rattle.controller_table.proofs.Fills.{Sizes, Fills, filled-part, fills-each, fills-row}
+use Rattle.controller_table.proofs.Told.{Told, resides-same}
+use Rattle.controller_table.proofs.Entries.{plain-entry}
 
 -- the component of a home, as a word
 pub comp-in : (S : Separated) (w : Home) → HomeOf S w → (o : ℕ) → has (bitsOf (w .component .0)) o ≡ joined (S .output) (w .state .0) o
@@ -74,42 +68,6 @@ module _ (S : Separated) (z : Size) (Z : Sizes S z) where
           (λ o b h. fills-plain o (rw (Z .outputs) at b))
           .fills l m (e .each) long);
     }
-
-    module _ (w : Home) (H : HomeOf S w) where
-      pub fills-away : (next : List ℕ)
-          → ((o : ℕ) → o < S .output .states → reaches (S .output) o (w .state .0) ≡ true
-          → getD next o 0 ≡ toward (S .output .states) (edge (S .output)) (joined (S .output) (w .state .0)) o)
-          → Fills S (AwayLoop z s inner (w .state .0) (bitsOf (w .component .0)) next (z .outputs)) (Away S (w .state .0))
-      fills-away next way = record {
-        fills = λ l m e long.
-            filled-part S (λ o c j b y a h. (o, rw (Z .outputs) b, ap not (comp-in S w H o ∙ h .apart), (refl, at o j b a (h .resides))))
-            (fills-each S (λ o. not (has (bitsOf (w .component .0)) o))
-            (λ o. Rows z o (pack (z .inputs) (residesAt s (z .inputs) inner o (w .state .0))) (getD next o 0))
-            (λ i o c j. (o ≡ i) × (has (pack (z .inputs) (residesAt s (z .inputs) inner i (w .state .0))) j ≡ true)) (z .outputs)
-            (λ o b h. step o (rw (Z .outputs) at b) h)
-            .fills l m (e .each) long);
-      }
-        where
-          at : (o j : ℕ) → o < S .output .states → j < S .input .states → Resides S o (w .state .0) j
-              → has (pack (z .inputs) (residesAt s (z .inputs) inner o (w .state .0))) j ≡ true
-          at o j b a r =
-              has-pack-below (z .inputs) (residesAt s (z .inputs) inner o (w .state .0)) j (rw (Z .inputs) a)
-              ∙ resides-at S s (z .inputs) inner rows T j o a b (w .state .0) r
-
-          of : (o j : ℕ) → o < S .output .states → j < S .input .states → has (pack (z .inputs) (residesAt s (z .inputs) inner o (w .state .0))) j ≡ true
-              → Resides S o (w .state .0) j
-          of o j b a h =
-              resides-word S s (z .inputs) inner rows T j o a b (w .state .0) (H .below)
-              (sym (has-pack-below (z .inputs) (residesAt s (z .inputs) inner o (w .state .0)) j (rw (Z .inputs) a)) ∙ h)
-
-          step : (o : ℕ) → o < S .output .states → not (has (bitsOf (w .component .0)) o) ≡ true
-              → Fills S (Rows z o (pack (z .inputs) (residesAt s (z .inputs) inner o (w .state .0))) (getD next o 0))
-              (λ o′ c j. (o′ ≡ o) × (has (pack (z .inputs) (residesAt s (z .inputs) inner o (w .state .0))) j ≡ true))
-          step o b h =
-              fills-rows S z Z o b (pack (z .inputs) (residesAt s (z .inputs) inner o (w .state .0))) (getD next o 0)
-              (λ c j x a i. let r = of o j b a i in
-              away-entry S o (w .state .0) j r a (T .few-outputs) (getD next o 0) c (sym (comp-in S w H o) ∙ not-true (has (bitsOf (w .component .0)) o) h)
-              (way o b (home-reached-at S o (w .state .0) j r)))
 
   module _ (w : Home) (H : HomeOf S w) (few : S .output .states ≤ capacity) where
     -- who resides at the home, at any state of its component

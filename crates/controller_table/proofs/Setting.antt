@@ -3,7 +3,7 @@
 --   sizes-of, table-of    : the size of the table
 --   told-of               : what scratch tells
 --   scratch-long          : scratch has all its rows
-use Prim.Native.Nat.{ℕ, _+_, _≤_, _<_}
+use Prim.Native.Nat.{ℕ, _≤_, _<_}
 use mathlib.Core.Path.{_≡_, refl, _∙_, ap}
 use mathlib.Core.Bool.{true, false}
 use mathlib.Core.List.{List}

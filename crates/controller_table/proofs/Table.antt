@@ -2,13 +2,13 @@
 --
 --   table-filled    : the starts, the rows with no home in reach and the rows with a home are all entries
 use Prim.Native.Nat.{ℕ, _+_, _≤_, _<_}
-use mathlib.Core.Path.{_≡_, refl, _∙_}
+use mathlib.Core.Path.{_≡_, refl}
 use mathlib.Core.Bool.{true, false}
 use mathlib.Core.List.{List, _++_}
 use mathlib.Core.Logic.{_⊎_, inl, inr}
 use native.Mathlib.Omega.{arith}
 use native.Mathlib.Decide.{decLt}
-use lib.ListN.{length, getD, drop}
+use lib.ListN.{length, drop}
 use Rattle.finite.proofs.Truth.{decide, same-test}
 use Rattle.bits.specs.Member.{has}
 use Rattle.graphs.specs.Graph.{begins}

@@ -5,7 +5,7 @@
 --   resides-word, resides-at : the words of residents
 --   row-home                 : the row of a resident
 --   resides-there            : who resides at d resides there also at d
-use Prim.Native.Nat.{ℕ, _+_, _≤_, _<_}
+use Prim.Native.Nat.{ℕ, _≤_, _<_}
 use mathlib.Core.Path.{_≡_, refl, sym, _∙_, ap, ap₂}
 use mathlib.Core.Bool.{Bool, true, false, _&&_}
 use mathlib.Core.List.{List}

@@ -24,7 +24,7 @@ use Rattle.filling.specs.Grows.{Right, Grows}
 use Rattle.game.specs.declared.Game.{Game}
 use Rattle.game.specs.declared.Acceptance.the-variants.{Accepted}
 use Rattle.game.specs.Acceptance.{acceptance}
-use Rattle.play.specs.Play.{graphOf, separatedOf}
+use Rattle.play.specs.Play.{separatedOf}
 use Rattle.sets.specs.Words.{bitsOf}
 use Rattle.scratch.specs.Stored.{Ready}
 use Rattle.theory.specs.Region.{region, settles}

@@ -10,7 +10,7 @@ ghost use Rattle.sets.specs.Words.{capacity, bitsOf, setsIn, setCount};
 ghost use Rattle.scratch.specs.Scratch.{scratchSets};
 ghost use Rattle.environment_table.specs.Pressing.{lostIn};
 
-pub mod rows; // rows of the table, for many counters or outputs at once
+pub mod rows; // where its rows lie
 
 // The members of x that make no won position with o. All of x are below n.
 pub fn lost(s: &[u64], n: usize, inner: InSet, x: InSet, o: OutState) -> InSet

@@ -3,7 +3,7 @@
 --   roomy-of               : what the functions that fill it ask
 --   start-length           : the start's place is there
 --   filled-all             : the start, the rows that need no walk and the others are the table
-use Prim.Native.Nat.{ℕ, zero, suc, _+_, _*_, _/_, _%_, _<_, _≤_}
+use Prim.Native.Nat.{ℕ, zero, suc, _+_, _*_, _/_, _%_, _<_}
 use native.Mathlib.Nat.{div-add-mod', div-lt-iff-lt-mul, mod-lt}
 use native.Mathlib.Numerals.{one-add}
 use mathlib.Core.Path.{_≡_, _∙_, ap, subst}

@@ -14,15 +14,15 @@ use mathlib.Core.Bool.{Bool, true, false, _&&_, not}
 use mathlib.Core.List.{List}
 use mathlib.Core.Logic.{_⊎_, inl, inr, _≢_}
 use native.Mathlib.Omega.{arith}
-use lib.ListN.{length, getD}
+use lib.ListN.{getD}
 use lib.Dec.{eqb, ltb}
 use borrow.Author.Tests.{lt-ltb, ltb-true, eqb-true, eqb-false, eq-eqb, ne-eqb}
 use Rattle.finite.specs.Bounded.{any, least}
 use Rattle.finite.proofs.Truth.{decide, clash, and-intro, and-left, and-right, and-false-left, or-cases, or-right, or-none, not-true, true-of, false-of}
-use Rattle.finite.proofs.Bounded.{any-same, least-same, least-any, least-found}
-use Rattle.bits.specs.Member.{has, pack, within, both}
+use Rattle.finite.proofs.Bounded.{any-same, least-same, least-any, least-found, least-member, least-before, least-unique}
+use Rattle.bits.specs.Member.{has, pack, within, both, meets}
 use Rattle.bits.proofs.Membership.{has-zero, has-pack-below, has-within}
-use Rattle.bits.proofs.Compare.{nonzero-member}
+use Rattle.bits.proofs.Compare.{meets-intro, nonzero-member}
 use Rattle.ways.proofs.Kept.{pack-below}
 use Rattle.sets.specs.Words.{capacity, bitsOf, setsIn, setCount}
 use Rattle.sets.proofs.Rows.{set-bits}
@@ -41,19 +41,17 @@ use Rattle.theory.specs.Region.{region, answers, opens}
 use Rattle.theory.specs.Choice.{environmentRow, environmentStart, refused}
 use Rattle.arena.specs.Table.{none, gives}
 use Rattle.theory.specs.Entries.{entry}
-use Rattle.entries.specs.Step.{entryStep}
-use Rattle.entries.proofs.Packed.{entry-steps}
 use Rattle.theory.proofs.EnvironmentRow.{unanswered, row-pushed}
 use Rattle.scratch.specs.Stored.{wonAt, someWonAt}
 use Rattle.scratch.proofs.Read.{ready-won}
-use Rattle.environment_table.specs.Table.{Known, Roomy, Filled, Same, EnvironmentLayout, Pushes}
+use Rattle.environment_table.specs.Table.{Known, Roomy, Filled, EnvironmentLayout, Pushes}
 use Rattle.environment_table.specs.Reading.{Shaped, refusedAt, openAt, unansweredAt, lostAt, Lone, unwalked, pushedAt, Pushed, plain}
 use Rattle.environment_table.specs.Pressing.{lostIn}
 use Rattle.layout.specs.declared.Layout.{Layout}
 use Rattle.layout.specs.Rows.{Entries, Wrote}
 use Rattle.environment_table.proofs.Laid.{laid-block}
 use Rattle.environment_table.proofs.Places.{pushed-state, some-counter, filled-none, filled-join, filled-same, below-next}
-use Rattle.environment_table.proofs.Reading.{refused-within, unanswered-both}
+use Rattle.environment_table.proofs.Reading.{unanswered-both}
 
 -- what is read of the game's sets
 pub unanswered-of : (l : List ℕ) (n m inner : ℕ) {j : ℕ} {x x′ : InSet} {y y′ : OutSet} → x ≡ x′ → y ≡ y′
@@ -88,7 +86,7 @@ module _ (g : Game) (s : List ℕ) (inner : ℕ) (K : Known g s inner) where
   unfolding separatedOf
   input-edge i j a = moved-edge (g .input) (accepted-fits g (K .accepted) .input) i j a
 
-  pub output-edge : (o p : ℕ) → o < g .output .states → has (getD (setsIn (g .output .moves)) o 0) p ≡ edge (separatedOf g .output) o p
+  output-edge : (o p : ℕ) → o < g .output .states → has (getD (setsIn (g .output .moves)) o 0) p ≡ edge (separatedOf g .output) o p
   unfolding separatedOf
   output-edge o p a = moved-edge (g .output) (accepted-fits g (K .accepted) .output) o p a
 
@@ -155,12 +153,13 @@ module _ (g : Game) (s : List ℕ) (inner : ℕ) (K : Known g s inner) where
   -- rows that need no walk
 
   module _ (i o : ℕ) (a : i < g .input .states) (b : o < g .output .states) where
-    same-none : (M first : ℕ) → first ≡ entry none → wonAt (setsIn s) (g .input .states) inner i o ≡ true → Same g M i o first 0
+    row-none : (first h : ℕ) → first ≡ entry none → wonAt (setsIn s) (g .input .states) inner i o ≡ true
+        → first + 0 * h ≡ entry (environmentRow (separatedOf g) i h o)
     unfolding environmentRow
-    same-none M first q e = record { input = a; output = b; entry = λ h c. omega (arith, zero-mul h, q, is h) }
+    row-none first h q e = omega (arith, zero-mul h, q, is)
       where
-        is : (h : ℕ) → entry none ≡ entry (environmentRow (separatedOf g) i h o)
-        is h = rw (sym (known-won i o a b) ∙ e, environmentRow) refl
+        is : entry none ≡ entry (environmentRow (separatedOf g) i h o)
+        is = rw (sym (known-won i o a b) ∙ e, environmentRow) refl
 
     known-push : unansweredAt (setsIn s) (g .input .states) (g .output .states) inner (getD (setsIn (g .input .moves)) i 0)
         (getD (setsIn (g .output .moves)) o 0)
@@ -179,17 +178,12 @@ module _ (g : Game) (s : List ℕ) (inner : ℕ) (K : Known g s inner) where
     unfolding unanswered unwalked separatedOf graphOf
     row-push h j e t f = row-pushed (separatedOf g) i h o (sym (known-won i o a b) ∙ e) t ∙ ap (gives h) (sym (f ∙ known-push))
 
-    pub same-push : (M j : ℕ) → wonAt (setsIn s) (g .input .states) inner i o ≡ false → unwalked g i o ≡ true
+    -- the lowest such input is a state
+    pushed-below-n : (j : ℕ) → wonAt (setsIn s) (g .input .states) inner i o ≡ false → unwalked g i o ≡ true
         → j ≡ unansweredAt (setsIn s) (g .input .states) (g .output .states) inner (getD (setsIn (g .input .moves)) i 0) (getD (setsIn (g .output .moves)) o 0)
-        → (j < capacity) × Same g M i o (entry (gives 0 j)) entryStep
-    same-push M j e t f = (
-      omega (
-        arith,
-        K .ready .fits .input .most,
-        pushed-state g i 0 o a (some-counter (separatedOf g)) b (K .accepted) (sym (known-won i o a b) ∙ e) 0 j (row-push 0 j e t f),
-      ),
-      record { input = a; output = b; entry = λ h c. entry-steps h j ∙ ap entry (sym (row-push h j e t f)) },
-    )
+        → j < g .input .states
+    pushed-below-n j e t f =
+        pushed-state g i 0 o a (some-counter (separatedOf g)) b (K .accepted) (sym (known-won i o a b) ∙ e) 0 j (row-push 0 j e t f)
 
   -- the rows of an input that are none
 
@@ -212,7 +206,7 @@ module _ (g : Game) (s : List ℕ) (inner : ℕ) (K : Known g s inner) where
         → ((h : ℕ) → has every h ≡ ltb h M) → Wrote z i won every first 0 l m → Filled g (λ x h o. (x ≡ i) × (region (separatedOf g) x o ≡ true)) l m
     none-filled M n every first z q R Z e W =
         filled-same g
-        (laid-block g M n z R Z i won every first 0 e (λ h o lh b y. same-none i o a b M first q (sym (won-has o b) ∙ y) .entry h lh) W)
+        (laid-block g M n z R Z i won every first 0 e (λ h o lh b y. row-none i o a b first h q (sym (won-has o b) ∙ y)) W)
         (λ x h o lx lh lo p. (p .0, won-has o lo ∙ known-won i o a lo ∙ ap (λ (y : ℕ). region (separatedOf g) y o) (sym (p .0)) ∙ p .1))
 
   -- a stuck output has an empty row
@@ -285,16 +279,43 @@ module _ (g : Game) (s : List ℕ) (inner : ℕ) (K : Known g s inner) where
       at-o : (i p : ℕ) → i < g .input .states → p ≡ o → unwalked g i p ≡ true → region (separatedOf g) i p ≡ false → has which i ≡ true
       at-o i p a q u r = in-which i a (ap (unwalked g i) (sym q) ∙ u) (ap (region (separatedOf g) i) (sym q) ∙ r)
 
-      -- they are pushes
-      pub pushes-of : (M : ℕ) {x y : ℕ} → y ≡ getD (setsIn (g .output .moves)) o 0
-          → x ≡ pack (g .input .states) (refusedAt (setsIn s) (g .input .states) (g .output .states) inner y) → Pushes g M which o x
-      pushes-of M {x} {y} q e = record {
-        below = which-below;
-        inside = refused-within (g .input .states) (refusedAt (setsIn s) (g .input .states) (g .output .states) inner y) e;
-        same = λ i j d f. same-push i o (which-below i d) b M j (which-lost i d) (pushed-unwalked i (which-in i d))
-            (f ∙ unanswered-both (setsIn s) (g .input .states) (g .output .states) inner (getD (setsIn (g .input .moves)) i 0) y e
-            ∙ ap (unansweredAt (setsIn s) (g .input .states) (g .output .states) inner (getD (setsIn (g .input .moves)) i 0)) q);
-      }
+      -- they are pushes, v being the inputs that o refuses
+      module _ {v y : ℕ} (q : y ≡ getD (setsIn (g .output .moves)) o 0)
+          (e : v ≡ pack (g .input .states) (refusedAt (setsIn s) (g .input .states) (g .output .states) inner y)) (i : ℕ) (d : has which i ≡ true) where
+        unanswered-is : least (g .input .states) (both (getD (setsIn (g .input .moves)) i 0) v)
+            ≡ unansweredAt (setsIn s) (g .input .states) (g .output .states) inner (getD (setsIn (g .input .moves)) i 0) (getD (setsIn (g .output .moves)) o 0)
+        unanswered-is =
+            unanswered-both (setsIn s) (g .input .states) (g .output .states) inner (getD (setsIn (g .input .moves)) i 0) y e
+            ∙ ap (unansweredAt (setsIn s) (g .input .states) (g .output .states) inner (getD (setsIn (g .input .moves)) i 0)) q
+
+        found : least (g .input .states) (both (getD (setsIn (g .input .moves)) i 0) v) < g .input .states
+        found =
+            pushed-below-n i o (which-below i d) b (least (g .input .states) (both (getD (setsIn (g .input .moves)) i 0) v)) (which-lost i d)
+            (pushed-unwalked i (which-in i d)) unanswered-is
+
+        lowest-is : least capacity (both (getD (setsIn (g .input .moves)) i 0) v) ≡ least (g .input .states) (both (getD (setsIn (g .input .moves)) i 0) v)
+        lowest-is =
+            least-unique capacity (both (getD (setsIn (g .input .moves)) i 0) v) (least (g .input .states) (both (getD (setsIn (g .input .moves)) i 0) v))
+            (omega (arith, found, K .ready .fits .input .most)) (least-member (g .input .states) (both (getD (setsIn (g .input .moves)) i 0) v) found)
+            (λ k l. least-before (g .input .states) (both (getD (setsIn (g .input .moves)) i 0) v) k l)
+
+        push-move : meets capacity (getD (setsIn (g .input .moves)) i 0) v ≡ true
+        unfolding both
+        push-move =
+            let j = least (g .input .states) (both (getD (setsIn (g .input .moves)) i 0) v) in
+            let m = least-member (g .input .states) (both (getD (setsIn (g .input .moves)) i 0) v) found in
+            meets-intro capacity (getD (setsIn (g .input .moves)) i 0) v j (omega (arith, found, K .ready .fits .input .most))
+            (and-left (has (getD (setsIn (g .input .moves)) i 0) j) (has v j) m) (and-right (has (getD (setsIn (g .input .moves)) i 0) j) (has v j) m)
+
+        push-row : (h : ℕ) → environmentRow (separatedOf g) i h o ≡ gives h (least capacity (both (getD (setsIn (g .input .moves)) i 0) v))
+        push-row h =
+            row-push i o (which-below i d) b h (least (g .input .states) (both (getD (setsIn (g .input .moves)) i 0) v)) (which-lost i d)
+            (pushed-unwalked i (which-in i d)) unanswered-is
+            ∙ ap (gives h) (sym lowest-is)
+
+      pub pushes-of : {x y : ℕ} → y ≡ getD (setsIn (g .output .moves)) o 0
+          → x ≡ pack (g .input .states) (refusedAt (setsIn s) (g .input .states) (g .output .states) inner y) → Pushes g which o x
+      pushes-of q e = record { output = b; below = which-below; move = λ i d. push-move q e i d; row = λ i h d. push-row q e i d h }
 
       pub pushes-filled : {l m : List ℕ} → Filled g (λ a h p. (has which a ≡ true) × (p ≡ o)) l m
           → Filled g (λ a h p. (unwalked g a p ≡ true) × (p ≡ o) × (region (separatedOf g) a p ≡ false)) l m
@@ -305,11 +326,6 @@ module _ (g : Game) (s : List ℕ) (inner : ℕ) (K : Known g s inner) where
       pushes-none l z =
           filled-same g (filled-none g {P = λ a h p. ⊥} l (λ a h p q. q))
           (λ a h p la lh lp q. clash (at-o a p la (q .1) (q .0) (q .2)) (ap (λ (y : ℕ). has y a) z ∙ has-zero a))
-
--- the push of one input, from its row
-pub push-of : (g : Game) (M which o refused : ℕ) → Pushes g M which o refused → (i row j : ℕ) → has which i ≡ true → row ≡ getD (setsIn (g .input .moves)) i 0
-    → j ≡ least (g .input .states) (both row refused) → (j < capacity) × Same g M i o (entry (gives 0 j)) entryStep
-push-of g M which o refused P i row j h q e = P .same i j h (e ∙ ap (λ (x : ℕ). least (g .input .states) (both x refused)) q)
 
 -- the rows of won positions and the pushes are the rows that need no walk
 pub plain-join : (g : Game) {l m k : List ℕ} → Filled g (λ i h o. region (separatedOf g) i o ≡ true) l m

@@ -1,7 +1,6 @@
 -- Laws of the filling of the environment's table.
 pub mod Places
 pub mod Laid
-pub mod Members
 pub mod Known
 pub mod Reading
 pub mod Outward

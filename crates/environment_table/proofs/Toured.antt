@@ -80,7 +80,7 @@ module _ (g : Game) (c q over M : ℕ) (A : Aims g c q over M) where
       (goals-from (graphOf (g .input)) (A .left .first) (assumptions (separatedOf g)) q aims-word h (A .some) (omega (arith, A .count .all, A .count .few))
       (omega (arith, A .count .all)))
 
-  pub goal-in : (a : ℕ) → has q a ≡ true → a < M
+  goal-in : (a : ℕ) → has q a ≡ true → a < M
   goal-in a e = omega (arith, A .count .all, goal-below (graphOf (g .input)) (A .left .first) (assumptions (separatedOf g)) q aims-word a e)
 
   pub some-goal : 0 < M

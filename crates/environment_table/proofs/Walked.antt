@@ -65,7 +65,7 @@ component-word g s inner K i b e = e ∙ component-closed (g .input) (setsIn s) 
 
 -- the states whose component has the number i
 module _ (g : Game) (a i : ℕ) (b : a < g .input .states) (e : number (graphOf (g .input)) a ≡ i) where
-  pub number-in : joined (graphOf (g .input)) i a ≡ true
+  number-in : joined (graphOf (g .input)) i a ≡ true
   unfolding graphOf
   number-in =
       joined-sym (graphOf (g .input)) a i

@@ -7,17 +7,14 @@
 --   Roomy g counters n          == the table has so many counters, and fits n entries
 --   EnvironmentLayout N M O z   == z is the layout of the rows of N inputs, M counters and O outputs
 --   Filled g P l m              == from l to m rows were written, those with P among them
---   Same g counters i o first more   == the rows of i and o hold first + more × h
---   Putting O M i o first more n     == so do the rows of i and o of a game with O outputs, whose table fits n entries
---   Put O M i o first more l m       == from l to m they were written, of any such game
---   Pushes g M which o refused       == so do those of an input of `which` and o: its lowest move into the set `refused`; the counter stays
+--   Pushes g which o refused    == the rows of an input of `which` and o hold its lowest move into the set `refused`; the counter stays
 use Prim.Native.Nat.{ℕ, _+_, _*_, _<_, _≤_}
 use mathlib.Core.Path.{_≡_}
 use mathlib.Core.Bool.{true}
 use mathlib.Core.List.{List}
 use lib.ListN.{length, getD}
 use Rattle.finite.specs.Bounded.{least}
-use Rattle.bits.specs.Member.{has, within, both}
+use Rattle.bits.specs.Member.{has, both, meets}
 use Rattle.sets.specs.Words.{capacity, setsIn}
 use Rattle.game.specs.declared.Game.{Game}
 use Rattle.game.specs.declared.Acceptance.the-variants.{Accepted}
@@ -25,10 +22,9 @@ use Rattle.game.specs.Acceptance.{acceptance}
 use Rattle.play.specs.Play.{separatedOf}
 use Rattle.arena.specs.Table.{gives}
 use Rattle.theory.specs.Choice.{environmentRow}
-use Rattle.theory.specs.Entries.{entry, environmentCounters, environmentEntries}
+use Rattle.theory.specs.Entries.{environmentCounters, environmentEntries}
 use Rattle.scratch.specs.Stored.{Ready}
 use Rattle.counters.specs.Counters.{mostCounters}
-use Rattle.entries.specs.Step.{entryStep}
 use Rattle.filling.specs.Grows.{Right, Grows}
 use Rattle.layout.specs.declared.Layout.{Layout}
 
@@ -67,23 +63,10 @@ pub record Filled (g : Game) (P : ℕ → ℕ → ℕ → Type 0) (l m : List �
   pub rows : (i h o : ℕ) → i < g .input .states → h < environmentCounters (separatedOf g) → o < g .output .states → P i h o
       → Right (entriesOf g) m (place (environmentCounters (separatedOf g)) (g .output .states) i h o)
 
-pub record Same (g : Game) (counters i o first more : ℕ) : Type 0 where
-  pub input : i < g .input .states
-  pub output : o < g .output .states
-  pub entry : (h : ℕ) → h < counters → first + more * h ≡ entry (environmentRow (separatedOf g) i h o)
-
-pub record Putting (O M i o first more n : ℕ) : Type 0 where
-  pub game : Game
-  pub outputs : O ≡ game .output .states
-  pub roomy : Roomy game M n
-  pub same : Same game M i o first more
-
-pub record Put (O M i o first more : ℕ) (l m : List ℕ) : Type 0 where
-  pub fills : (p : Putting O M i o first more (length l)) → Filled (p .game) (λ a h b. (b ≡ o) × (a ≡ i)) l m
-
 -- "i's component not stayable: the lowest move to a j for which no output move from o makes a won position; h stays."
-pub record Pushes (g : Game) (M which o refused : ℕ) : Type 0 where
+pub record Pushes (g : Game) (which o refused : ℕ) : Type 0 where
+  pub output : o < g .output .states
   pub below : (i : ℕ) → has which i ≡ true → i < g .input .states
-  pub inside : within refused (g .input .states) ≡ true
-  pub same : (i j : ℕ) → has which i ≡ true → j ≡ least (g .input .states) (both (getD (setsIn (g .input .moves)) i 0) refused)
-      → (j < capacity) × Same g M i o (entry (gives 0 j)) entryStep
+  pub move : (i : ℕ) → has which i ≡ true → meets capacity (getD (setsIn (g .input .moves)) i 0) refused ≡ true
+  pub row : (i h : ℕ) → has which i ≡ true
+      → environmentRow (separatedOf g) i h o ≡ gives h (least capacity (both (getD (setsIn (g .input .moves)) i 0) refused))

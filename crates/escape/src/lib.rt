@@ -1,33 +1,40 @@
-// The rows of a nontrivial component with a way out to a position that is not won.
+// The rows of a nontrivial component with a way out to a position that is not won: at its gates, the states with a move there, the lowest such move; else
+// the way to a gate. The ways are searched once for outputs that follow one another and have the same gates.
 use environment_rows::rows;
 use game::Game;
-use game::Graph;
 use game::InSet;
 use game::InState;
 use game::OutSet;
 use game::OutState;
-use sets::Set;
-use ways::Ways;
+use layout::Layout;
 ghost use mathlib.Core.Path.{_≡_};
 ghost use mathlib.Core.Bool.{true};
 ghost use Prim.Native.Nat.{_≤_, _<_};
 ghost use lib.ListN.{length};
 ghost use Rattle.bits.specs.Member.{pack, within};
 ghost use Rattle.sets.specs.Words.{capacity, bitsOf, setsIn};
-ghost use Rattle.ways.specs.Search.{Bounds, Toward};
+ghost use Rattle.layout.specs.Rows.{Fits};
 ghost use Rattle.environment_table.specs.Table.{Known, Roomy};
-ghost use Rattle.environment_table.specs.Pressing.{Whole, Going, Gone, Pressed, Escape, Escaped, exitsAt, wayFrom};
+ghost use Rattle.environment_table.specs.Pressing.{Whole, Escaped, exitsAt};
+ghost use Rattle.escape.specs.Gates.{Gated, Pressed, Joins, Escape};
 
-// The ways inside a component to its gates, as they were searched last.
-struct Found {
+// Outputs with which a component has the same gates; their rows outside the gates are still to be written.
+struct Group {
     gates: InSet,
-    ways: Ways,
+    outputs: OutSet,
 }
 
-// What one output comes to: whether its rows are left to a tour, and the ways known now.
+// What one output comes to: whether its rows are left to a tour, and the outputs collected now.
 struct Turn {
     tours: bool,
-    found: Found,
+    group: Group,
+}
+
+// A component: its states, the inputs that its moves out enter, and its number.
+struct Part {
+    states: InSet,
+    leaving: InSet,
+    first: InState,
 }
 
 // The members of c, all below n, with a move into the set `out`.
@@ -46,125 +53,86 @@ fn exits(moves: &[u64; 64], n: usize, c: InSet, out: InSet) -> InSet
     InSet(x)
 }
 
-// The ways to the gates inside c: those of `old` where it has the same gates, else searched anew.
-fn renew(moves: &[u64; 64], n: usize, c: InSet, gates: InSet, old: Found) -> Found
-    requires { ⌜ Bounds n (bitsOf (gates .0)) × Toward (setsIn (now moves)) n (bitsOf (c .0)) (bitsOf (old .gates .0)) (old .ways .next) ⌝ }
-    ensures { λ r. ⌜ (bitsOf (r .gates .0) ≡ bitsOf (gates .0))
-        × Toward (setsIn (now (moves .entry))) n (bitsOf (c .0)) (bitsOf (gates .0)) (r .ways .next) ⌝ }
-{
-    let known = old.gates;
-    if sets::same(known.0, gates.0) {
-        return old;
-    }
-    Found {
-        gates,
-        ways: ways::toward(moves, n, c.0, gates.0),
-    }
-}
-
-// The lowest member of the row in `out`; next where there is none. All are states of one graph.
-fn way_from(row: Set, out: Set, next: u8) -> usize
-    ensures { λ r. ⌜ r ≡ wayFrom (bitsOf row) (bitsOf out) next ⌝ }
-{
-    if sets::meets(row, out) {
-        return sets::lowest(sets::intersection(row, out));
-    }
-    next as usize
-}
-
-// The counts of a game, and the counters of its table.
-struct Size {
-    inputs: usize,
-    outputs: usize,
-    counters: usize,
-}
-
-// A component: its states, the inputs that its moves out enter, and its number.
-struct Part {
-    states: InSet,
-    leaving: InSet,
-    first: InState,
-}
-
-// The rows of the states of c with output o: the lowest move into `out`, else the next state on the way to one that has such a move. Of the game only
-// counts and the rows of inputs are passed: so go the rows of any game that these fit.
-fn escape_rows(
+// Output o, with these gates, comes to a group of others. Where their gates differ, the rows of the group are written and o begins another.
+fn join(
     moves: &[u64; 64],
-    z: Size,
-    c: InSet,
-    o: OutState,
-    out: InSet,
-    w: Ways,
     room: &mut [u16],
-)
-    requires { ⌜ Going (z .outputs) (z .counters) (setsIn (now moves)) (bitsOf (c .0)) (o .0) (bitsOf (out .0)) (w .next) (length (now room)) ⌝ }
-    ensures { λ r. ⌜ Gone (z .outputs) (z .counters) (setsIn (now (moves .entry))) (bitsOf (c .0)) (o .0) (bitsOf (out .0)) (w .next)
-        (now (room .entry)) (now (room .exit)) ⌝ }
+    z: Layout,
+    c: InSet,
+    group: Group,
+    gates: InSet,
+    o: OutState,
+) -> Group
+    requires { ⌜ Fits z (length (now room)) × (within (bitsOf (group .gates .0)) (z .states) ≡ true) × (o .0 < capacity) ⌝ }
+    ensures { λ r. ⌜ (bitsOf (r .gates .0) ≡ bitsOf (gates .0))
+        × Joins (setsIn (now (moves .entry))) z (bitsOf (c .0)) (bitsOf (group .gates .0)) (bitsOf (gates .0)) (bitsOf (group .outputs .0)) (o .0)
+        (bitsOf (r .outputs .0)) (now (room .entry)) (now (room .exit)) ⌝ }
 {
-    let mut rest = c.0;
-    while !sets::is_empty(rest) {
-        let k = sets::lowest(rest);
-        let j = way_from(sets::row_of(moves, k), out.0, w.next[k]);
-        let first = entries::pack(j, 0);
-        rows::put(
-            z.outputs,
-            z.counters,
-            InState(k),
-            o,
-            first,
-            entries::STEP,
-            room,
-        );
-        rest = sets::without_lowest(rest);
+    let old = group.gates;
+    let over = group.outputs;
+    if sets::same(old.0, gates.0) {
+        let more = sets::insert(over.0, o.0);
+        return Group {
+            gates,
+            outputs: OutSet(more),
+        };
+    }
+    rounds::approach(moves, room, z, c.0, old.0, over.0);
+    let alone = sets::insert(sets::empty(), o.0);
+    Group {
+        gates,
+        outputs: OutSet(alone),
     }
 }
 
-// The rows of a component with output o, whose moves are `replies`. They are left to a tour where they are not won and there is no way out; where o has no
-// move they need no walk.
+// The rows of a component with output o, whose moves are `replies`: at the gates they are written, and o comes to the group. They are left to a tour
+// where they are not won and there is no gate; where o has no move they need no walk.
 fn escape(
     moves: &[u64; 64],
     s: &[u64],
-    z: Size,
+    z: Layout,
     inner: InSet,
     part: Part,
     o: OutState,
     replies: OutSet,
-    found: Found,
+    group: Group,
     room: &mut [u16],
 ) -> Turn
-    requires { ⌜ Pressed (z .inputs) (z .outputs) (z .counters) (setsIn (now moves)) (now s) (bitsOf (inner .0)) (bitsOf (part .states .0))
-        (bitsOf (part .leaving .0)) (part .first .0) (o .0) (bitsOf (replies .0)) (length (now room))
-        × Toward (setsIn (now moves)) (z .inputs) (bitsOf (part .states .0)) (bitsOf (found .gates .0)) (found .ways .next) ⌝ }
-    ensures { λ r. ⌜ ((p : Pressed (z .inputs) (z .outputs) (z .counters) (setsIn (now (moves .entry))) (now (s .entry)) (bitsOf (inner .0))
-        (bitsOf (part .states .0)) (bitsOf (part .leaving .0)) (part .first .0) (o .0) (bitsOf (replies .0)) (length (now (room .entry))))
-        → Escape (p .game) (part .first .0) (o .0) (now (room .entry)) (now (room .exit)) (r .tours))
-        × Toward (setsIn (now (moves .entry))) (z .inputs) (bitsOf (part .states .0)) (bitsOf (r .found .gates .0)) (r .found .ways .next) ⌝ }
+    requires { ⌜ Pressed z (setsIn (now moves)) (now s) (bitsOf (inner .0)) (bitsOf (part .states .0)) (bitsOf (part .leaving .0)) (part .first .0) (o .0)
+        (bitsOf (replies .0)) (length (now room))
+        × (within (bitsOf (group .gates .0)) (z .states) ≡ true) ⌝ }
+    ensures { λ r. ⌜ ((p : Pressed z (setsIn (now (moves .entry))) (now (s .entry)) (bitsOf (inner .0)) (bitsOf (part .states .0))
+        (bitsOf (part .leaving .0)) (part .first .0) (o .0) (bitsOf (replies .0)) (length (now (room .entry))))
+        → Gated (p .game) (part .first .0) (bitsOf (group .gates .0)) (bitsOf (group .outputs .0))
+        → Escape (p .game) (part .first .0) (o .0) (bitsOf (group .gates .0)) (bitsOf (group .outputs .0)) (bitsOf (r .group .gates .0))
+        (bitsOf (r .group .outputs .0)) (now (room .entry)) (now (room .exit)) (r .tours)) ⌝ }
 {
     if sets::is_empty(replies.0) {
         return Turn {
             tours: false,
-            found,
+            group,
         };
     }
-    let n = z.inputs;
+    let n = z.states;
     let first = part.first;
     if scratch::won(s, n, inner, first, o) {
         return Turn {
             tours: false,
-            found,
+            group,
         };
     }
     let out = environment_rows::lost(s, n, inner, part.leaving, o);
     let c = part.states;
     let gates = exits(moves, n, c, out);
     if sets::is_empty(gates.0) {
-        return Turn { tours: true, found };
+        return Turn { tours: true, group };
     }
-    let known = renew(moves, n, c, gates, found);
-    escape_rows(moves, z, c, o, out, known.ways, room);
+    let alone = sets::insert(sets::empty(), o.0);
+    rounds::enter(moves, room, z, gates.0, out.0, alone);
+    let next = join(moves, room, z, c, group, gates, o);
     Turn {
         tours: false,
-        found: known,
+        group: next,
     }
 }
 
@@ -183,26 +151,20 @@ pub fn escapes(
 {
     let h = g.input;
     let q = g.output;
-    let m = q.states;
+    let z = rows::layout_of(h.states, counters, q.states);
     let leaving = InSet(components::leaving(h, c.0));
     let part = Part {
         states: c,
         leaving,
         first,
     };
-    let next = [0u8; 64];
-    let mut found = Found {
+    let mut group = Group {
         gates: InSet(sets::empty()),
-        ways: Ways { next },
+        outputs: OutSet(sets::empty()),
     };
     let mut touring = sets::empty();
     let mut o: usize = 0;
-    while o < m {
-        let z = Size {
-            inputs: g.input.states,
-            outputs: m,
-            counters,
-        };
+    while o < g.output.states {
         let t = escape(
             &h.moves,
             s,
@@ -211,12 +173,15 @@ pub fn escapes(
             part,
             OutState(o),
             OutSet(sets::row_of(&q.moves, o)),
-            found,
+            group,
             room,
         );
-        found = t.found;
+        group = t.group;
         touring = sets::insert_if(touring, o, t.tours);
         o += 1;
     }
+    let gates = group.gates;
+    let outputs = group.outputs;
+    rounds::approach(&h.moves, room, z, c.0, gates.0, outputs.0);
     OutSet(touring)
 }

@@ -30,10 +30,10 @@ module _ (z : Layout) (a h b : ℕ) (la : a < z .states) (lh : h < z .counters) 
   unfolding place
   place-front = omega (arith, place-below (z .states) (z .counters) (z .width) a h b la lh lb)
 
-  pub place-in : (f : ℕ → ℕ → ℕ → Answer) (E : List ℕ) → Rows z f E → place z a h b < length E
+  place-in : (f : ℕ → ℕ → ℕ → Answer) (E : List ℕ) → Rows z f E → place z a h b < length E
   place-in f E R = rw (R .long) place-front
 
-pub rows-room : (z : Layout) (f : ℕ → ℕ → ℕ → Answer) (E : List ℕ) (n : ℕ) → Rows z f E → Fits z n → length E ≤ n
+rows-room : (z : Layout) (f : ℕ → ℕ → ℕ → Answer) (E : List ℕ) (n : ℕ) → Rows z f E → Fits z n → length E ≤ n
 rows-room z f E n R F = rw (R .long) (F .room)
 
 -- a buffer of the same length has the rows too

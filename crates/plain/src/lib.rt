@@ -114,27 +114,13 @@ fn none_rows(g: Game, s: &[u64], inner: InSet, counters: usize, room: &mut [u16]
 
 // The rows of the inputs of `which` and output o: the lowest move to an input that no move of o answers. Those inputs are `refused`.
 fn push_rows(g: Game, counters: usize, o: OutState, which: InSet, refused: InSet, room: &mut [u16])
-    requires { ⌜ Roomy g counters (length (now room)) × Pushes g counters (bitsOf (which .0)) (o .0) (bitsOf (refused .0)) ⌝ }
+    requires { ⌜ Roomy g counters (length (now room)) × Pushes g (bitsOf (which .0)) (o .0) (bitsOf (refused .0)) ⌝ }
     ensures { λ r. ⌜ Filled g (λ a h b. (has (bitsOf (which .0)) a ≡ true) × (b ≡ o .0)) (now (room .entry)) (now (room .exit)) ⌝ }
 {
-    let n = g.input.states;
     let h = g.input;
-    let mut rest = which.0;
-    while !sets::is_empty(rest) {
-        let k = sets::lowest(rest);
-        let j = unanswered(n, InSet(sets::row_of(&h.moves, k)), refused);
-        let first = entries::pack(j, 0);
-        rows::put(
-            g.output.states,
-            counters,
-            InState(k),
-            o,
-            first,
-            entries::STEP,
-            room,
-        );
-        rest = sets::without_lowest(rest);
-    }
+    let z = rows::layout_of(h.states, counters, g.output.states);
+    let alone = sets::insert(sets::empty(), o.0);
+    rounds::enter(&h.moves, room, z, which.0, refused.0, alone);
 }
 
 // The inputs whose rows with an output need no walk, `moves` being its moves: those of `lone`, and all n where there is none.

@@ -11,7 +11,7 @@ use native.Mathlib.Omega.{arith}
 use native.Mathlib.Decide.{ℕ-discrete}
 use lib.Dec.{eqb, ltb}
 use lib.ListN.{length}
-use borrow.Author.Tests.{eqb-true, eq-eqb, ne-eqb}
+use borrow.Author.Tests.{eqb-true, eq-eqb}
 use Rattle.finite.specs.Bounded.{least, count}
 use Rattle.finite.proofs.Truth.{clash, same-test, or-left, or-right, or-cases}
 use Rattle.bits.specs.Member.{has, pack}
@@ -23,7 +23,7 @@ use Rattle.graphs.specs.Way.{prefer}
 use Rattle.arena.specs.Table.{Answer}
 use Rattle.ways.specs.Search.{choices, settles}
 use Rattle.ways.proofs.Kept.{pack-below, pack-holds}
-use Rattle.ways.proofs.Round.{settles-left}
+use Rattle.ways.proofs.Round.{settles-of, settles-not, settles-left}
 use Rattle.layout.specs.declared.Layout.{Layout}
 use Rattle.layout.specs.Rows.{Rows, Filled, Wrote}
 use Rattle.layout.proofs.Places.{filled-none, filled-join, filled-part}
@@ -41,14 +41,6 @@ pub record Trying (rows : List ℕ) (z : Layout) (c left l : ℕ) (w : Stamp) (x
       → Filled z E (λ s h b. (has rest s ≡ false) × (settles rows c left l s ≡ true) × (has (w .which .0) h ≡ true) × (has (bitsOf (w .over)) b ≡ true)) x y
 
 module _ (rows : List ℕ) (z : Layout) (c left l : ℕ) (w : Stamp) where
-  settles-of : (s : ℕ) → choices rows c left l s ≢ 0 → settles rows c left l s ≡ true
-  unfolding settles
-  settles-of s ne = ap not (ne-eqb (choices rows c left l s) 0 ne)
-
-  settles-not : (s : ℕ) → choices rows c left l s ≡ 0 → settles rows c left l s ≡ false
-  unfolding settles
-  settles-not s e = ap not (eq-eqb (choices rows c left l s) 0 e)
-
   pub trying-start : (x : List ℕ) (r b rest : ℕ) → z .states ≤ capacity → r ≡ 0 → ((s : ℕ) → has b s ≡ ltb s (z .states))
       → ((s : ℕ) → has rest s ≡ (has left s && has b s)) → Trying rows z c left l w x x r rest
   trying-start x r b rest bound none f i = record {
@@ -106,7 +98,7 @@ module _ (rows : List ℕ) (z : Layout) (c left l : ℕ) (w : Stamp) where
           before : (t : ℕ) → has v t ≡ false → settles rows c left l t ≡ true → has rest t ≡ false
           before t a b =
               elim (tried t a) [
-                | inl k ↦ clash (ap (settles rows c left l) (sym k) ∙ b) (settles-not s (sym q ∙ zero))
+                | inl k ↦ clash (ap (settles rows c left l) (sym k) ∙ b) (settles-not rows c left l s (sym q ∙ zero))
                 | inr k ↦ k
               ]
 
@@ -124,7 +116,7 @@ module _ (rows : List ℕ) (z : Layout) (c left l : ℕ) (w : Stamp) where
       })
         where
           hit : settles rows c left l s ≡ true
-          hit = settles-of s (λ k. some (q ∙ k))
+          hit = settles-of rows c left l s (λ k. some (q ∙ k))
 
           taken : (t : ℕ) → t < z .states → has v t ≡ false → settles rows c left l t ≡ true → has r′ t ≡ true
           taken t lt a b =

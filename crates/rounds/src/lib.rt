@@ -5,13 +5,14 @@ use layout::Layout;
 use sets::Set;
 ghost use mathlib.Core.Path.{_≡_};
 ghost use mathlib.Core.Bool.{true};
-ghost use Prim.Native.Nat.{_<_};
+ghost use Prim.Native.Nat.{_≤_, _<_};
 ghost use lib.ListN.{length};
 ghost use Rattle.bits.specs.Member.{within};
 ghost use Rattle.sets.specs.Words.{capacity, bitsOf, setsIn};
 ghost use Rattle.counters.specs.Counters.{mostCounters};
 ghost use Rattle.layout.specs.Rows.{Fits, Wrote};
 ghost use Rattle.rounds.specs.Walk.{firstOf, Stamps, Settled, Ground, Walks};
+ghost use Rattle.rounds.specs.Staying.{Staying, Entering, Enters, Approaches};
 
 // What a state's move to p writes, for the columns of `over` and the counters of `which`: p with the counter `hit` where p is in the set `goal`, else with
 // the counter `miss`, and `more` × counter. So a counter stays where more is the step between counters and the others are 0.
@@ -99,4 +100,52 @@ pub fn walk(
         reached = sets::union(reached, settled);
         left = sets::difference(left, settled);
     }
+}
+
+// What a state's move writes for the columns of `over` where the counter stays, for all counters.
+fn counter_stays(z: Layout, over: Set) -> Stamp
+    requires { ⌜ z .counters ≤ mostCounters ⌝ }
+    ensures { λ r. ⌜ Staying z (bitsOf over) r ⌝ }
+{
+    Stamp {
+        over,
+        which: counters::below(z.counters),
+        goal: sets::empty(),
+        hit: 0,
+        miss: 0,
+        more: entries::STEP,
+    }
+}
+
+// The rows of the states of `own`, for the columns of `over`: the lowest move into the target; the counter stays. Each has such a move.
+pub fn enter(rows: &[u64; 64], room: &mut [u16], z: Layout, own: Set, target: Set, over: Set)
+    requires { ⌜ Fits z (length (now room)) × Entering (setsIn (now rows)) (z .states) (bitsOf own) (bitsOf target) ⌝ }
+    ensures { λ r. ⌜ Enters (setsIn (now (rows .entry))) z (bitsOf own) (bitsOf target) (bitsOf over) (now (room .entry)) (now (room .exit)) ⌝ }
+{
+    let w = counter_stays(z, over);
+    let mut rest = own;
+    while !sets::is_empty(rest) {
+        let s = sets::lowest(rest);
+        let open = sets::intersection(sets::row_of(rows, s), target);
+        write_move(room, z, s, sets::lowest(open), w);
+        rest = sets::without_lowest(rest);
+    }
+}
+
+// The rows of the states inside a set that are not of the target and have a way there, for the columns of `over`: the move with the shortest way; the
+// counter stays.
+pub fn approach(rows: &[u64; 64], room: &mut [u16], z: Layout, inside: Set, target: Set, over: Set)
+    requires { ⌜ Fits z (length (now room)) × (within (bitsOf target) (z .states) ≡ true) ⌝ }
+    ensures { λ r. ⌜ Approaches (setsIn (now (rows .entry))) z (bitsOf inside) (bitsOf target) (bitsOf over) (now (room .entry)) (now (room .exit)) ⌝ }
+{
+    let w = counter_stays(z, over);
+    walk(
+        rows,
+        room,
+        z,
+        inside,
+        target,
+        sets::difference(inside, target),
+        w,
+    );
 }

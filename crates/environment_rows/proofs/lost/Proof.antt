@@ -2,7 +2,6 @@
 use Prim.Native.Nat.{_<_}
 use mathlib.Core.Logic.{_≢_}
 use borrow.Author.Needs.{needs}
-use native.Mathlib.Omega.{arith}
 use Rattle.finite.specs.Bounded.{count}
 use Rattle.bits.specs.Member.{has}
 use Rattle.bits.proofs.Visit.{Collected, within-start, collected-small, collected-below, collected-falls, collected-next, collected-end}

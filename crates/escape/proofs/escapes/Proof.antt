@@ -1,60 +1,65 @@
--- `escapes` goes through the outputs.
+-- `escapes` goes through the outputs, and writes the rows of the last group.
 use native.Mathlib.Omega.{arith}
 use borrow.Author.Needs.{needs}
-use Prim.Native.Nat.{_<_, _≤_, _-_}
-use mathlib.Core.Path.{_≡_, refl, sym, _∙_}
+use Prim.Native.Nat.{_≤_, _-_}
+use mathlib.Core.Path.{_≡_, refl, _∙_}
 use lib.ListN.{length}
-use mathlib.Core.Bool.{true}
 use Rattle.bits.specs.Member.{pack}
 use Rattle.bits.proofs.Collect.{collect-none, collect-next, collect-end}
 use Rattle.sets.specs.Words.{bitsOf, setsIn}
-use Rattle.graphs.specs.Component.{joined}
-use Rattle.play.specs.Play.{graphOf}
-use Rattle.ways.specs.Search.{Toward}
+use Rattle.layout.proofs.Places.{fits-same}
 use Rattle.environment_table.specs.Table.{Filled}
-use Rattle.environment_table.specs.Pressing.{Pressed, leavingAt, touringAt}
-use Rattle.environment_table.proofs.Places.{filled-none, filled-join, filled-same, roomy-more, below-next}
-use Rattle.environment_table.proofs.Outward.{no-ways, known-ways}
+use Rattle.environment_table.specs.Pressing.{touringAt}
+use Rattle.environment_table.proofs.Places.{filled-none, roomy-more}
+use Rattle.environment_table.proofs.Laid.{laid-fits}
+use Rattle.escape.specs.Gates.{Gated, Pressed}
+use Rattle.escape.proofs.Leaving.{Passed, own-layout, own-roomy, gated-none, gated-within, way-filled, leave-next, leave-end}
 use Rattle.escape.proofs.escapes.Statement.{statement}
 use Rattle.escape.proofs.escapes.Tie as tie
 
 abbrev Inv-loop : tie.InvT-loop
-Inv-loop g s inner counters room₀ h q m part found₀ touring₀ o₀ room found touring o =
-    (o ≤ m) × Filled g (λ a h b. (b < o) × (joined (graphOf (g .input)) (part .first .0) a ≡ true) × (leavingAt g (part .first .0) b ≡ true)) room₀ room
+Inv-loop g s inner counters c room₀ h q z part group₀ touring₀ o₀ room group touring o =
+    (o ≤ g .output .states) × Filled g (Passed g (part .first .0) o (bitsOf (group .gates .0)) (bitsOf (group .outputs .0))) room₀ room
     × (bitsOf touring ≡ pack o (touringAt g (part .first .0)))
-    × Toward (setsIn (g .input .moves)) (g .input .states) (bitsOf (part .states .0)) (bitsOf (found .gates .0)) (found .ways .next)
+    × Gated g (part .first .0) (bitsOf (group .gates .0)) (bitsOf (group .outputs .0))
 
 abbrev μ-loop : tie.MeasureT-loop
-μ-loop g s inner counters room₀ h q m part found₀ touring₀ o₀ room found touring o = m - o
+μ-loop g s inner counters c room₀ h q z part group₀ touring₀ o₀ room group touring o = g .output .states - o
 
 -- the game fits what is passed
 pressed : (c : tie.After-escape-arg2 Inv-loop μ-loop)
-    → let t = c .before .before .before .before .before .before in
-    let l = t .before in
-    let y = l .before .before .before in
-    let a = y .before .before .before .before .before .args in
-    Pressed (a .g .input .states) (a .g .output .states) (a .counters) (setsIn (a .g .input .moves)) (a .s .now) (bitsOf (a .inner .0)) (bitsOf (a .c .0))
-    (bitsOf (y .leaving .result)) (a .first .0) (l .loop .o) (bitsOf (c .before .row-of .result)) (length (l .loop .room))
+    → let step = c .before .before .before in
+    let t = step .before .before .before in
+    let l = t .before .before in
+    let y = l .before .before .before .before in
+    let v = y .before in
+    let a = v .before .before .before .before .before .args in
+    Pressed (v .layout-of .result) (setsIn (a .g .input .moves)) (a .s .now) (bitsOf (a .inner .0)) (bitsOf (a .c .0)) (bitsOf (y .leaving .result))
+    (a .first .0) (l .loop .o) (bitsOf (c .before .row-of .result)) (length (l .loop .room))
 pressed c =
-    let t = c .before .before .before .before .before .before in
-    let l = t .before in
-    let y = l .before .before .before in
-    let s = y .before .before .before .before .before in
+    let step = c .before .before .before in
+    let t = step .before .before .before in
+    let l = t .before .before in
+    let y = l .before .before .before .before in
+    let v = y .before in
+    let s = v .before .before .before .before .before in
     record {
       game = s .args .g;
-      inputs = refl;
-      outputs = refl;
+      layout = own-layout (s .args .g) _ _ (v .layout-of .ensures);
       moves = refl;
       known = s .pre .0;
-      roomy = roomy-more _ (s .pre .1) (l .loop .inv .1);
+      roomy = own-roomy _ _ _ (v .layout-of .ensures) (roomy-more _ (s .pre .1) (l .loop .inv .1));
       whole = s .pre .2;
-      output = t .loop-test .taken;
+      output = t .if1 .taken;
       replies = c .before .row-of .ensures .1;
       leaves = record { entered = y .leaving .ensures };
     }
 
+layout-of-requires : tie.Need-layout-of-requires Inv-loop μ-loop
+layout-of-requires c κs = search needs
+
 leaving-requires : tie.Need-leaving-requires Inv-loop μ-loop
-leaving-requires c κs = c .before .before .before .before .pre .0 .ready .fits .input .most
+leaving-requires c κs = c .before .before .before .before .before .pre .0 .ready .fits .input .most
 
 empty-requires : tie.Need-empty-requires Inv-loop μ-loop
 empty-requires c κs = search needs
@@ -62,41 +67,52 @@ empty-requires c κs = search needs
 empty-requires-2 : tie.Need-empty-requires-2 Inv-loop μ-loop
 empty-requires-2 c κs = search needs
 
+empty-requires-3 : tie.Need-empty-requires-3 Inv-loop μ-loop
+empty-requires-3 c κs = search needs
+
 loop-holds : tie.Need-loop-holds Inv-loop μ-loop
 loop-holds c = (
   omega arith,
   filled-none _ _ (λ a h b p. omega (arith, p .0)),
-  c .empty2 .ensures .1 ∙ collect-none _,
-  known-ways _ _ _ _ (sym (c .before .empty .ensures .1)) (no-ways _ _ _ _),
+  c .empty3 .ensures .1 ∙ collect-none _,
+  gated-none _ _ _ _ (c .before .before .empty .ensures .1) (c .before .empty2 .ensures .1),
 )
 
 row-of-requires : tie.Need-row-of-requires Inv-loop μ-loop
 row-of-requires c κs =
     let t = c .before .before .before .before in
-    let y = t .before .before .before .before in
-    let s = y .before .before .before .before .before in
-    omega (arith, t .loop-test .taken, s .pre .0 .ready .fits .output .most)
+    let l = t .before .before in
+    let v = l .before .before .before .before .before in
+    let s = v .before .before .before .before .before in
+    omega (arith, t .if1 .taken, s .pre .0 .ready .fits .output .most)
 
 escape-requires : tie.Need-escape-requires Inv-loop μ-loop
 escape-requires c κs =
-    let t = c .before .before .before .before .before .before in
-    (pressed c, t .before .loop .inv .3)
+    let step = c .before .before .before in
+    let t = step .before .before .before in
+    let l = t .before .before in
+    let v = l .before .before .before .before .before in
+    (pressed c, gated-within _ _ _ (v .layout-of .ensures) (l .loop .inv .3))
 
 insert-if-requires : tie.Need-insert-if-requires Inv-loop μ-loop
 insert-if-requires c κs =
     let e = c .before .before .before in
-    let t = e .before .before .before .before .before .before .before in
-    let y = t .before .before .before .before in
-    let s = y .before .before .before .before .before in
-    omega (arith, t .loop-test .taken, s .pre .0 .ready .fits .output .most)
+    let step = e .before .before .before in
+    let t = step .before .before .before .before in
+    let l = t .before .before in
+    let v = l .before .before .before .before .before in
+    let s = v .before .before .before .before .before in
+    omega (arith, t .if1 .taken, s .pre .0 .ready .fits .output .most)
 
 add-o : tie.Need-add-o Inv-loop μ-loop
 add-o c =
     let e = c .before .before .before .before in
-    let t = e .before .before .before .before .before .before .before in
-    let y = t .before .before .before .before in
-    let s = y .before .before .before .before .before in
-    omega (arith, t .loop-test .taken, s .pre .0 .ready .fits .output .most)
+    let step = e .before .before .before in
+    let t = step .before .before .before .before in
+    let l = t .before .before in
+    let v = l .before .before .before .before .before in
+    let s = v .before .before .before .before .before in
+    omega (arith, t .if1 .taken, s .pre .0 .ready .fits .output .most)
 
 loop-less : tie.Need-loop-less Inv-loop μ-loop
 loop-less c = omega arith
@@ -105,23 +121,48 @@ loop-again : tie.Need-loop-again Inv-loop μ-loop
 unfolding pressed
 loop-again c =
     let e = c .before .before .before .before in
-    let t = e .before .before .before .before .before .before .before in
-    let l = t .before in
-    let E = e .escape .ensures .0 (pressed (e .before)) in (
+    let step = e .before .before .before in
+    let t = step .before .before .before .before in
+    let l = t .before .before in
+    let E = e .escape .ensures (pressed (e .before)) (l .loop .inv .3) in (
       omega arith,
-      filled-join _ (l .loop .inv .1) (E .filled) (λ a h b x y z p. below-next b (l .loop .o) (p .0) (λ q. (q, p .1, p .2)) (λ q. (q, p .1, p .2))),
+      leave-next _ _ (l .loop .o) _ _ (l .loop .inv .1) _ _ E,
       collect-next _ (l .loop .o) (bitsOf (l .loop .touring)) (bitsOf (c .insert-if .result)) _ (l .loop .inv .2) (E .tours) (c .insert-if .ensures),
-      e .escape .ensures .1,
+      E .gated,
+    )
+
+approach-requires : tie.Need-approach-requires Inv-loop μ-loop
+approach-requires c κs =
+    let t = c .before .before .before .before .before in
+    let l = t .before .before in
+    let v = l .before .before .before .before .before in
+    let s = v .before .before .before .before .before in (
+      fits-same _ _ _ (l .loop .inv .1 .grows .long) (laid-fits _ _ _ _ (s .pre .1) (v .layout-of .ensures)),
+      gated-within _ _ _ (v .layout-of .ensures) (l .loop .inv .3),
     )
 
 same-length : tie.Need-same-length Inv-loop μ-loop
-same-length c = c .before .loop .inv .1 .grows .long
+same-length c =
+    let a = c .before .before in
+    let step = a .before .before .before in
+    let t = step .before .before .before in
+    let l = t .before .before in
+    a .approach .ensures .long ∙ l .loop .inv .1 .grows .long
 
 returns : tie.Need-returns Inv-loop μ-loop
-returns c = record {
-  filled = filled-same _ (c .before .loop .inv .1) (λ a h b x y z p. (omega (arith, z, c .loop-test .left), p .0, p .1));
-  tours = collect-end _ (c .before .loop .o) _ _ (omega arith) (omega arith) (c .before .loop .inv .2);
-}
+returns c =
+    let a = c .before .before in
+    let step = a .before .before .before in
+    let t = step .before .before .before in
+    let l = t .before .before in
+    let v = l .before .before .before .before .before in
+    let s = v .before .before .before .before .before in
+    record {
+      filled =
+          leave-end _ _ (l .loop .o) _ _ (l .loop .inv .1) (omega arith)
+          (way-filled _ _ _ _ (s .pre .1) (v .layout-of .ensures) _ _ (s .pre .2) _ _ (l .loop .inv .3) (a .approach .ensures));
+      tours = collect-end _ (l .loop .o) _ _ (omega arith) (omega arith) (l .loop .inv .2);
+    }
 
 pub escapes-spec : {M : Type 1} → statement M
 escapes-spec =
@@ -129,9 +170,11 @@ escapes-spec =
     (tie.spec
     Inv-loop
     μ-loop
+    layout-of-requires
     leaving-requires
     empty-requires
     empty-requires-2
+    empty-requires-3
     loop-holds
     row-of-requires
     escape-requires
@@ -139,5 +182,6 @@ escapes-spec =
     add-o
     loop-less
     loop-again
+    approach-requires
     same-length
     returns)

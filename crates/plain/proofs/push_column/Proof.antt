@@ -43,7 +43,7 @@ push-rows-requires c κs =
     let start = l .before .before .before in
     let p = start .pre in
     let moves = moves-bits (start .args .g) (start .args .o) (o .out-moves .ensures) in
-    (p .1, pushes-of _ _ _ (p .0) _ _ (p .2) (p .3) _ (l .lost .ensures) _ moves (r .refused .ensures))
+    (p .1, pushes-of _ _ _ (p .0) _ _ (p .2) (p .3) _ (l .lost .ensures) moves (r .refused .ensures))
 
 same-length : tie.Need-same-length
 same-length c = search needs

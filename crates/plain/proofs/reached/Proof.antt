@@ -1,5 +1,4 @@
 -- `reached` joins what the outputs of the set reach, lowest first.
-use Prim.Native.Nat.{_<_}
 use mathlib.Core.Logic.{_≢_}
 use borrow.Author.Needs.{needs}
 use native.Mathlib.Omega.{arith}
@@ -7,7 +6,7 @@ use Rattle.finite.specs.Bounded.{count}
 use Rattle.bits.specs.Member.{has}
 use Rattle.sets.specs.Words.{capacity, bitsOf, setsIn}
 use Rattle.sets.proofs.Rows.{is-none, is-some}
-use Rattle.environment_table.proofs.Reading.{Reaching, reaching-start, reaching-small, reaching-below, reaching-falls, reaching-turn, reaching-end}
+use Rattle.environment_table.proofs.Reading.{Reaching, reaching-start, reaching-below, reaching-falls, reaching-turn, reaching-end}
 use Rattle.plain.proofs.reached.Statement.{statement}
 use Rattle.plain.proofs.reached.Tie as tie
 

@@ -1,0 +1,2 @@
+-- Laws of ways out.
+pub mod Leaving

@@ -1,0 +1,2 @@
+-- What the functions here cite.
+pub mod Gates

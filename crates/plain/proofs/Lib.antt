@@ -1,0 +1,2 @@
+-- Laws of the rows that need no walk.
+pub mod Pushing
