@@ -24,32 +24,34 @@ extern "C" {
 #endif
 
 #define NANPUWIQ_VERSION "0.1.0"    /* of header, library and command */
-#define NANPUWIQ_STATES 64          /* states of a graph at most */
+#define NANPUWIQ_STATES 128         /* states of a graph at most */
+#define NANPUWIQ_SET_WORDS 2        /* words of a set */
 #define NANPUWIQ_REQUIREMENTS 8     /* places for requirements */
 #define NANPUWIQ_SETS 4             /* places for sets on each side of a requirement */
-#define NANPUWIQ_SCRATCH_MOST 192   /* words of scratch that the largest game asks for */
+#define NANPUWIQ_SCRATCH_MOST 768   /* words of scratch that the largest game asks for */
 #define NANPUWIQ_JOINED_SCRATCH 4096  /* words of scratch that the map on the joined positions asks for */
 #define NANPUWIQ_JOINED_STATES 32   /* states of a graph at most, for that map */
 #define NANPUWIQ_NONE 65535         /* the entry of a table that is none */
-#define NANPUWIQ_TABLE_MOST 131136  /* entries of the longest controller's table; the longest panel's has 131073 */
-#define NANPUWIQ_TEXT_MOST 40960    /* bytes of the longest text that is read */
+#define NANPUWIQ_TABLE_MOST 524416  /* entries of the longest controller's table; the longest panel's has 524289 */
+#define NANPUWIQ_TEXT_MOST 40960    /* bytes of the longest text that is read; a large game's may be longer */
 #define NANPUWIQ_COMMANDS 16        /* commands of a drive at most */
 #define NANPUWIQ_BARRED 255         /* the next mode where a command is barred */
-#define NANPUWIQ_KIT_MOST 2097216   /* entries of the longest kit's table */
+#define NANPUWIQ_KIT_MOST 8388736   /* entries of the longest kit's table */
 
 /* State numbers, from 0. Those of inputs (the old drive, moved by the panel) and of outputs (the new drive) are types of their own. */
 typedef struct { size_t number; } nanpuwiq_in_state;
 typedef struct { size_t number; } nanpuwiq_out_state;
 
-/* Sets of states: state s belongs where bit s is set. */
-typedef struct { uint64_t states; } nanpuwiq_in_set;
-typedef struct { uint64_t states; } nanpuwiq_out_set;
+/* A set of states: state s below 64 belongs where bit s of low is set, another where bit s - 64 of high is. */
+typedef struct { uint64_t low, high; } nanpuwiq_set;
+typedef struct { nanpuwiq_set states; } nanpuwiq_in_set;
+typedef struct { nanpuwiq_set states; } nanpuwiq_out_set;
 
-/* Row s of moves is the set of the states that state s moves to; rows past the count are 0. */
+/* Row s of moves, its words 2 * s (low) and 2 * s + 1 (high), is the set of the states that state s moves to; rows past the count are 0. */
 typedef struct {
     size_t states;
-    uint64_t initial;
-    uint64_t moves[NANPUWIQ_STATES];
+    nanpuwiq_set initial;
+    uint64_t moves[NANPUWIQ_SET_WORDS * NANPUWIQ_STATES];
 } nanpuwiq_graph;
 
 /* If every assumption recurs, every guarantee does. The first `assumed` and `guaranteed` places are in use, the others 0. */
@@ -71,7 +73,7 @@ typedef struct {
 /* Place 16 * mode + command of next is the mode that the command leads to, or NANPUWIQ_BARRED; places past the counts are barred. */
 typedef struct {
     size_t modes;
-    uint64_t initial;
+    nanpuwiq_set initial;
     size_t commands;
     uint8_t next[NANPUWIQ_STATES * NANPUWIQ_COMMANDS];
 } nanpuwiq_drive;
@@ -92,7 +94,7 @@ typedef struct {
     size_t counter;
 } nanpuwiq_position;
 
-/* Recordings of one run, a state number a byte: the inputs, from the panel, and the outputs, from the drive. They are types of their own too. */
+/* Recordings of one run, a state number (0 to 127) a byte: the inputs, from the panel, and the outputs, from the drive. They are types of their own too. */
 typedef struct {
     const uint8_t *states;
     size_t steps;
@@ -179,21 +181,48 @@ static inline const char *nanpuwiq_words(uint8_t number)
     }
 }
 
-/* Words of scratch that an accepted game asks for, and an accepted kit: 2 * inputs + outputs. On a verdict or a map that many words of scratch are
+/* A set with state s too, s below NANPUWIQ_STATES, and whether s belongs to it. */
+static inline nanpuwiq_set nanpuwiq_with(nanpuwiq_set set, size_t s)
+{
+    if (s < 64)
+        set.low |= (uint64_t)1 << s;
+    else
+        set.high |= (uint64_t)1 << (s - 64);
+    return set;
+}
+static inline bool nanpuwiq_has(nanpuwiq_set set, size_t s)
+{
+    return s < 64 ? set.low >> s & 1 : set.high >> (s - 64) & 1;
+}
+
+/* Set number s of words that hold sets: a row of moves, or of a won map. */
+static inline nanpuwiq_set nanpuwiq_set_at(const uint64_t *words, size_t s)
+{
+    nanpuwiq_set set = {words[2 * s], words[2 * s + 1]};
+    return set;
+}
+static inline void nanpuwiq_put_set(uint64_t *words, size_t s, nanpuwiq_set set)
+{
+    words[2 * s] = set.low;
+    words[2 * s + 1] = set.high;
+}
+
+/* Words of scratch that an accepted game asks for, and an accepted kit: a set of two words for 2 * inputs + outputs. On a verdict or a map that many words of scratch are
  * zero, from the first on, and the rest is as it was. */
 static inline size_t nanpuwiq_scratch_words(nanpuwiq_game game)
 {
-    return 2 * game.input.states + game.output.states;
+    return NANPUWIQ_SET_WORDS * (2 * game.input.states + game.output.states);
 }
 static inline size_t nanpuwiq_kit_scratch_words(nanpuwiq_kit kit)
 {
-    return 2 * kit.old_drive.modes + kit.new_drive.modes;
+    return NANPUWIQ_SET_WORDS * (2 * kit.old_drive.modes + kit.new_drive.modes);
 }
 
 /* Whether the game is accepted: 0, or 1 to 7. */
 uint8_t nanpuwiq_accept(nanpuwiq_game game);
 
-/* The won map: word i of map is the set of the outputs that are won with input i; later words stay as they were.
+/* The won map: words 2 * i and 2 * i + 1 of map are the set of the outputs that are won with input i; later words stay as they were.
+ * A map of n inputs has 2 * n words.
  * A bit is set exactly where a controller with finitely many memory values, started there, makes every reachable round meet all requirements.
  * Code 0, 1 to 7, or 8. On 0 scratch's first nanpuwiq_scratch_words(game) words are zero and the rest is as it was. */
 uint8_t nanpuwiq_won_map(nanpuwiq_game game, uint64_t *scratch, size_t scratch_words, uint64_t *map, size_t map_words);
@@ -209,7 +238,7 @@ nanpuwiq_explained nanpuwiq_explain(nanpuwiq_game game, uint64_t *scratch, size_
 
 /* Names the side that wins and fills the front of its buffer with a table that wins for it; no table of any finite size wins for the other.
  * The rest of that buffer and all of the other stay as they were; scratch's first nanpuwiq_scratch_words(game) words are zero and the rest is as it was.
- * An entry is next state + 64 * next counter, or NANPUWIQ_NONE.
+ * An entry is next state + 128 * next counter, or NANPUWIQ_NONE.
  * Controller: inputs + outputs * max(1, G) * inputs entries, G guarantees in all: a start for each input, then rows by output, counter, input.
  * Panel: 1 + inputs * max(1, H) * outputs entries, H assumptions in all: the start, then rows by input, counter, output.
  * Code 0, 1 to 7, 8, 9 or 10. */
@@ -233,7 +262,8 @@ nanpuwiq_solved nanpuwiq_solve_kit(nanpuwiq_kit kit, uint64_t *scratch, size_t s
 /* The game that the bytes describe. Code 0, 12, 11 (with its place), or 1 to 7. */
 nanpuwiq_reading nanpuwiq_read(const uint8_t *text, size_t bytes);
 
-/* Fills the front of the buffer with the game's text, the one that nanpuwiq_read reads as this game; the rest stays as it was.
+/* Fills the front of the buffer with the game's text, the one that nanpuwiq_read reads as this game where it has at most NANPUWIQ_TEXT_MOST bytes,
+ * and refuses with 12 where it has more; the rest stays as it was.
  * Code 0, 1 to 7, or 13. */
 nanpuwiq_written nanpuwiq_write(nanpuwiq_game game, uint8_t *buffer, size_t bytes);
 

@@ -1,14 +1,14 @@
 /* The numbers of refusals with their words, the one list of them: nanpuwiq_words in nanpuwiq.h answers from it, the Rust crate reads it when it is
  * built, and tests/words.py holds docs/API.md to it. Whoever includes this file defines NANPUWIQ_WORDS(number, words) before. A number has a line, in
  * rising order; the words have no quote and no backslash. */
-NANPUWIQ_WORDS(1, "a count not 1 to 64")
+NANPUWIQ_WORDS(1, "a count not 1 to 128")
 NANPUWIQ_WORDS(2, "a move or initial state past the count, or a used row past it")
 NANPUWIQ_WORDS(3, "no initial state")
 NANPUWIQ_WORDS(4, "does not occur: a state without a move is accepted")
 NANPUWIQ_WORDS(5, "more than 8 requirements")
 NANPUWIQ_WORDS(6, "a length over 4, all eight places counted")
 NANPUWIQ_WORDS(7, "a state past its count in a set, an unused set not empty, or an unused requirement with a length not 0")
-NANPUWIQ_WORDS(8, "scratch under 2 * inputs + outputs words, or, where the call writes the map, a map under one word an input")
+NANPUWIQ_WORDS(8, "scratch under 2 * (2 * inputs + outputs) words, or, where the call writes the map, a map under two words an input")
 NANPUWIQ_WORDS(9, "the controller's buffer too short, or the kit's, whoever wins")
 NANPUWIQ_WORDS(10, "the panel's buffer too short, whoever wins")
 NANPUWIQ_WORDS(11, "bytes that are no game's text")

@@ -9,7 +9,7 @@ is one of the game's (or of the kit's drives, of which the kit's game is made), 
 another such local, or a function's result. Nothing is written into it, nor is a `&mut` to it made. The two functions that make a kit's game out of its
 drives may write what they make.
 
-Then the test is tried itself. It must find something with a byte more in the arrays of eight words, with no type of the game's known, and with the makers
+Then the test is tried itself. It must find something with a set more in the arrays of eight words, with no type of the game's known, and with the makers
 of a kit's game not known.
 """
 import re
@@ -196,10 +196,10 @@ def main():
     for line in test.found:
         print(line)
     print(f"arrays: {test.functions} functions, {test.copies} locals with copies of the game's arrays, {len(test.found)} arrays that are none")
-    eight = "(tyArray (tyInt 8) (lenLit 64))"
+    eight = '(tyArray (tyNamed (pair "sets::Set" lnil)) (lenLit 4))'
     assert all(eight in texts[c] for c in ("solver", "kit"))
     tries = {
-        "a byte more": over(texts, lambda text: text.replace(eight, "(tyArray (tyInt 8) (lenLit 65))")),
+        "a set more": over(texts, lambda text: text.replace(eight, eight.replace("4", "5"))),
         "no type of the game's": over(texts, games=set()),
         "no maker": over(texts, makers=set()),
     }

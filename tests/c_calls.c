@@ -22,17 +22,24 @@ static const char text[] = "(game 2 2 1)\n(in 0 1 (0 1))\n(in 1 0 (0 1))\n(out 0
 static const size_t text_bytes = sizeof text - 1;
 static const uint16_t table[6] = {0, NANPUWIQ_NONE, 1, 1, 1, 1};
 
+/* The set of states below 64 whose bits are set. */
+static nanpuwiq_set low(uint64_t states)
+{
+    nanpuwiq_set set = {states, 0};
+    return set;
+}
+
 static nanpuwiq_game example(void)
 {
     nanpuwiq_game g;
     memset(&g, 0, sizeof g);
     g.input.states = g.output.states = 2;
-    g.input.initial = g.output.initial = 1;
-    g.input.moves[0] = g.input.moves[1] = g.output.moves[0] = g.output.moves[1] = 3;
+    g.input.initial = g.output.initial = low(1);
+    g.input.moves[0] = g.input.moves[2] = g.output.moves[0] = g.output.moves[2] = 3;
     g.k = 1;
-    g.requirements[0].assumptions[0].states = 2;
+    g.requirements[0].assumptions[0].states = low(2);
     g.requirements[0].assumed = 1;
-    g.requirements[0].guarantees[0].states = 2;
+    g.requirements[0].guarantees[0].states = low(2);
     g.requirements[0].guaranteed = 1;
     return g;
 }
@@ -42,53 +49,61 @@ static void acceptance(void)
     nanpuwiq_game g = example();
     same("accept", nanpuwiq_accept(g), 0);
     g.input.states = 65;
-    same("65 states", nanpuwiq_accept(g), 1);
+    same("65 states", nanpuwiq_accept(g), 0);
+    g.input.states = 128;
+    same("128 states", nanpuwiq_accept(g), 0);
+    g.input.states = 129;
+    same("129 states", nanpuwiq_accept(g), 1);
     g = example();
     g.requirements[7].guaranteed = 5;
     same("five sets in the last place", nanpuwiq_accept(g), 6);
     g = example();
-    g.input.moves[1] = g.output.moves[1] = 0;
+    g.input.moves[2] = g.output.moves[2] = 0;
     same("drives that latch", nanpuwiq_accept(g), 0);
 }
 
 static void map(void)
 {
     nanpuwiq_game g = example();
-    uint64_t scratch[7], words[3] = {7, 7, 7};
+    uint64_t scratch[13], words[5] = {7, 7, 7, 7, 7};
     memset(scratch, 255, sizeof scratch);
-    same("scratch of 2 inputs and 2 outputs", nanpuwiq_scratch_words(g), 6);
-    same("map, scratch short", nanpuwiq_won_map(g, scratch, 5, words, 3), 8);
-    same("map, map short", nanpuwiq_won_map(g, scratch, 6, words, 1), 8);
+    same("scratch of 2 inputs and 2 outputs", nanpuwiq_scratch_words(g), 12);
+    same("map, scratch short", nanpuwiq_won_map(g, scratch, 11, words, 5), 8);
+    same("map, map short", nanpuwiq_won_map(g, scratch, 12, words, 3), 8);
     same("map refused: word 0", words[0], 7);
     same("map refused: scratch", scratch[0], UINT64_MAX);
-    same("map", nanpuwiq_won_map(g, scratch, 7, words, 3), 0);
+    same("map", nanpuwiq_won_map(g, scratch, 13, words, 5), 0);
     same("map: word 0", words[0], 3);
-    same("map: word 1", words[1], 3);
-    same("map: word 2", words[2], 7);
+    same("map: word 1", words[1], 0);
+    same("map: word 2", words[2], 3);
+    same("map: word 3", words[3], 0);
+    same("map: word 4", words[4], 7);
     same("map: scratch 0", scratch[0], 0);
-    same("map: scratch 5", scratch[5], 0);
-    same("map: scratch 6", scratch[6], UINT64_MAX);
-    same("map, scratch of the exact length", nanpuwiq_won_map(g, scratch, 6, words, 2), 0);
+    same("map: scratch 11", scratch[11], 0);
+    same("map: scratch 12", scratch[12], UINT64_MAX);
+    same("map, scratch of the exact length", nanpuwiq_won_map(g, scratch, 12, words, 4), 0);
 }
 
 static void map_of_the_joined_positions(void)
 {
     nanpuwiq_game g = example();
     static uint64_t scratch[NANPUWIQ_JOINED_SCRATCH + 1];
-    uint64_t words[3] = {7, 7, 7};
+    uint64_t words[5] = {7, 7, 7, 7, 7};
     memset(scratch, 255, sizeof scratch);
-    same("joined map, scratch short", nanpuwiq_joined_map(g, scratch, NANPUWIQ_JOINED_SCRATCH - 1, words, 3), 8);
-    same("joined map, map short", nanpuwiq_joined_map(g, scratch, NANPUWIQ_JOINED_SCRATCH, words, 1), 8);
+    same("joined map, scratch short", nanpuwiq_joined_map(g, scratch, NANPUWIQ_JOINED_SCRATCH - 1, words, 5), 8);
+    same("joined map, map short", nanpuwiq_joined_map(g, scratch, NANPUWIQ_JOINED_SCRATCH, words, 3), 8);
     g.output.states = NANPUWIQ_JOINED_STATES + 1;
-    same("joined map, 33 outputs, scratch short", nanpuwiq_joined_map(g, scratch, 0, words, 3), 24);
-    g.input.initial = 0;
-    same("joined map, 33 outputs, no initial input", nanpuwiq_joined_map(g, scratch, 0, words, 3), 3);
+    same("joined map, 33 outputs, scratch short", nanpuwiq_joined_map(g, scratch, 0, words, 5), 24);
+    g.input.initial = low(0);
+    same("joined map, 33 outputs, no initial input", nanpuwiq_joined_map(g, scratch, 0, words, 5), 3);
     same("joined map refused: word 0", words[0], 7);
     same("joined map refused: scratch", scratch[0], UINT64_MAX);
-    same("joined map", nanpuwiq_joined_map(example(), scratch, NANPUWIQ_JOINED_SCRATCH + 1, words, 3), 0);
+    same("joined map", nanpuwiq_joined_map(example(), scratch, NANPUWIQ_JOINED_SCRATCH + 1, words, 5), 0);
     same("joined map: word 0", words[0], 3);
-    same("joined map: word 1", words[1], 3);
-    same("joined map: word 2", words[2], 7);
+    same("joined map: word 1", words[1], 0);
+    same("joined map: word 2", words[2], 3);
+    same("joined map: word 3", words[3], 0);
+    same("joined map: word 4", words[4], 7);
     same("joined map: scratch 0", scratch[0], 0);
     same("joined map: the last word", scratch[NANPUWIQ_JOINED_SCRATCH - 1], 0);
     same("joined map: the word after it", scratch[NANPUWIQ_JOINED_SCRATCH], UINT64_MAX);
@@ -97,18 +112,18 @@ static void map_of_the_joined_positions(void)
 static void solving(void)
 {
     nanpuwiq_game g = example();
-    uint64_t scratch[6];
+    uint64_t scratch[12];
     uint16_t controller[7], panel[6];
     memset(scratch, 255, sizeof scratch);
     memset(controller, 1, sizeof controller);
     memset(panel, 2, sizeof panel);
-    same("solve, scratch short", nanpuwiq_solve(g, scratch, 5, controller, 7, panel, 6).code, 8);
-    same("solve, controller short", nanpuwiq_solve(g, scratch, 6, controller, 5, panel, 6).code, 9);
-    same("solve, panel short", nanpuwiq_solve(g, scratch, 6, controller, 6, panel, 4).code, 10);
+    same("solve, scratch short", nanpuwiq_solve(g, scratch, 11, controller, 7, panel, 6).code, 8);
+    same("solve, controller short", nanpuwiq_solve(g, scratch, 12, controller, 5, panel, 6).code, 9);
+    same("solve, panel short", nanpuwiq_solve(g, scratch, 12, controller, 6, panel, 4).code, 10);
     same("solve refused: controller", controller[0], 257);
     same("solve refused: panel", panel[0], 514);
     same("solve refused: scratch", scratch[0], UINT64_MAX);
-    nanpuwiq_solved r = nanpuwiq_solve(g, scratch, 6, controller, 7, panel, 6);
+    nanpuwiq_solved r = nanpuwiq_solve(g, scratch, 12, controller, 7, panel, 6);
     same("solve", r.code, 0);
     same("solve: system", r.system, true);
     same("solve: entries", r.entries, 6);
@@ -116,9 +131,9 @@ static void solving(void)
     same("solve: entry 6", controller[6], 257);
     same("solve: panel", panel[0], 514);
     same("solve: scratch 0", scratch[0], 0);
-    same("solve: scratch 5", scratch[5], 0);
-    g.requirements[0].guarantees[0].states = 0;
-    r = nanpuwiq_solve(g, scratch, 6, controller, 7, panel, 6);
+    same("solve: scratch 11", scratch[11], 0);
+    g.requirements[0].guarantees[0].states = low(0);
+    r = nanpuwiq_solve(g, scratch, 12, controller, 7, panel, 6);
     same("no adapter", r.code, 0);
     same("no adapter: system", r.system, false);
     same("no adapter: entries", r.entries, 5);
@@ -128,28 +143,30 @@ static void solving(void)
     same("no adapter: controller", memcmp(controller, table, sizeof table), 0);
 }
 
-/* 64 states each ask for 192 words: one word less gets 8, that many pass and are zero afterwards, and no word past them is. */
+/* 128 states each ask for 768 words: one word less gets 8, that many pass and are zero afterwards, and no word past them is. */
 static void scratch_of_the_largest(void)
 {
-    static uint16_t controller[64 + 64 * 64], panel[1 + 64 * 64];
+    static uint16_t controller[128 + 128 * 128], panel[1 + 128 * 128];
     nanpuwiq_game g;
-    uint64_t scratch[NANPUWIQ_SCRATCH_MOST + 1], map[64];
+    uint64_t scratch[NANPUWIQ_SCRATCH_MOST + 1], map[NANPUWIQ_SET_WORDS * 128];
     memset(&g, 0, sizeof g);
-    g.input.states = g.output.states = 64;
-    g.input.initial = g.output.initial = 1;
-    for (size_t s = 0; s < 64; s++)
-        g.input.moves[s] = g.output.moves[s] = (uint64_t)1 << (s + 1) % 64;
-    same("64 states: words", nanpuwiq_scratch_words(g), NANPUWIQ_SCRATCH_MOST);
+    g.input.states = g.output.states = 128;
+    g.input.initial = g.output.initial = low(1);
+    for (size_t s = 0; s < 128; s++) {
+        nanpuwiq_put_set(g.input.moves, s, nanpuwiq_with(low(0), (s + 1) % 128));
+        nanpuwiq_put_set(g.output.moves, s, nanpuwiq_with(low(0), (s + 1) % 128));
+    }
+    same("128 states: words", nanpuwiq_scratch_words(g), NANPUWIQ_SCRATCH_MOST);
     memset(scratch, 255, sizeof scratch);
-    same("64 states: 191 words", nanpuwiq_solve(g, scratch, 191, controller, 64 + 64 * 64, panel, 1 + 64 * 64).code, 8);
-    same("64 states, map: 191 words", nanpuwiq_won_map(g, scratch, 191, map, 64), 8);
-    same("64 states: 192 words", nanpuwiq_solve(g, scratch, 192, controller, 64 + 64 * 64, panel, 1 + 64 * 64).code, 0);
-    same("64 states: the last word", scratch[191], 0);
-    same("64 states: the word after it", scratch[192], UINT64_MAX);
+    same("128 states: 767 words", nanpuwiq_solve(g, scratch, 767, controller, 128 + 128 * 128, panel, 1 + 128 * 128).code, 8);
+    same("128 states, map: 767 words", nanpuwiq_won_map(g, scratch, 767, map, NANPUWIQ_SET_WORDS * 128), 8);
+    same("128 states: 768 words", nanpuwiq_solve(g, scratch, 768, controller, 128 + 128 * 128, panel, 1 + 128 * 128).code, 0);
+    same("128 states: the last word", scratch[767], 0);
+    same("128 states: the word after it", scratch[768], UINT64_MAX);
     memset(scratch, 255, sizeof scratch);
-    same("64 states, map: 192 words", nanpuwiq_won_map(g, scratch, 192, map, 64), 0);
-    same("64 states, map: the last word", scratch[191], 0);
-    same("64 states, map: the word after it", scratch[192], UINT64_MAX);
+    same("128 states, map: 768 words", nanpuwiq_won_map(g, scratch, 768, map, NANPUWIQ_SET_WORDS * 128), 0);
+    same("128 states, map: the last word", scratch[767], 0);
+    same("128 states, map: the word after it", scratch[768], UINT64_MAX);
 }
 
 static void explained(const char *what, nanpuwiq_explained got, uint8_t code, uint8_t ground, size_t first, size_t second)
@@ -167,20 +184,22 @@ static nanpuwiq_game eight(void)
     nanpuwiq_game g = {0};
     const uint64_t in[] = {0, 5, 4, 12}, out[] = {1, 0, 1, 8, 10};
     g.input.states = 4;
-    g.input.initial = 1;
-    memcpy(g.input.moves, in, sizeof in);
+    g.input.initial = low(1);
+    for (size_t s = 0; s < 4; s++)
+        nanpuwiq_put_set(g.input.moves, s, low(in[s]));
     g.output.states = 5;
-    g.output.initial = 1;
-    memcpy(g.output.moves, out, sizeof out);
+    g.output.initial = low(1);
+    for (size_t s = 0; s < 5; s++)
+        nanpuwiq_put_set(g.output.moves, s, low(out[s]));
     g.k = 2;
-    g.requirements[0].assumptions[0].states = 8;
+    g.requirements[0].assumptions[0].states = low(8);
     g.requirements[0].assumed = 1;
-    g.requirements[0].guarantees[0].states = 1;
+    g.requirements[0].guarantees[0].states = low(1);
     g.requirements[0].guaranteed = 1;
-    g.requirements[1].assumptions[0].states = 4;
+    g.requirements[1].assumptions[0].states = low(4);
     g.requirements[1].assumed = 1;
-    g.requirements[1].guarantees[0].states = 9;
-    g.requirements[1].guarantees[1].states = 1;
+    g.requirements[1].guarantees[0].states = low(9);
+    g.requirements[1].guarantees[1].states = low(1);
     g.requirements[1].guaranteed = 2;
     return g;
 }
@@ -193,23 +212,23 @@ static nanpuwiq_explained explain(nanpuwiq_game g, uint64_t *scratch, size_t wor
 static void explaining(void)
 {
     nanpuwiq_game g = eight();
-    uint64_t scratch[14];
+    uint64_t scratch[27];
     memset(scratch, 255, sizeof scratch);
     explained("explain, outside", explain(g, scratch, 0, 4, 0), 25, 0, 0, 0);
-    explained("explain, scratch short", explain(g, scratch, 12, 0, 0), 8, 0, 0, 0);
+    explained("explain, scratch short", explain(g, scratch, 25, 0, 0), 8, 0, 0, 0);
     same("explain refused: scratch", scratch[0], UINT64_MAX);
-    explained("input stuck", explain(g, scratch, 14, 0, 1), 0, NANPUWIQ_INPUT_STUCK, 0, 0);
-    same("explain: the last word", scratch[12], 0);
-    same("explain: the word after it", scratch[13], UINT64_MAX);
-    explained("by replies", explain(g, scratch, 14, 1, 2), 0, NANPUWIQ_BY_REPLIES, 0, 0);
-    explained("at home", explain(g, scratch, 14, 2, 2), 0, NANPUWIQ_AT_HOME, 0, 0);
-    explained("output stuck", explain(g, scratch, 14, 3, 1), 0, NANPUWIQ_OUTPUT_STUCK, 0, 0);
-    explained("unanswered", explain(g, scratch, 14, 1, 4), 0, NANPUWIQ_UNANSWERED, 2, 0);
-    explained("by a way out", explain(g, scratch, 14, 3, 3), 0, NANPUWIQ_BY_WAY_OUT, 2, 0);
-    explained("unserved", explain(g, scratch, 14, 2, 3), 0, NANPUWIQ_UNSERVED, 1, 1);
-    explained("pushed on", explain(g, scratch, 14, 2, 4), 0, NANPUWIQ_PUSHED_ON, 0, 0);
-    g.output.initial = 0;
-    explained("explain, no initial output", explain(g, scratch, 14, 4, 0), 3, 0, 0, 0);
+    explained("input stuck", explain(g, scratch, 27, 0, 1), 0, NANPUWIQ_INPUT_STUCK, 0, 0);
+    same("explain: the last word", scratch[25], 0);
+    same("explain: the word after it", scratch[26], UINT64_MAX);
+    explained("by replies", explain(g, scratch, 27, 1, 2), 0, NANPUWIQ_BY_REPLIES, 0, 0);
+    explained("at home", explain(g, scratch, 27, 2, 2), 0, NANPUWIQ_AT_HOME, 0, 0);
+    explained("output stuck", explain(g, scratch, 27, 3, 1), 0, NANPUWIQ_OUTPUT_STUCK, 0, 0);
+    explained("unanswered", explain(g, scratch, 27, 1, 4), 0, NANPUWIQ_UNANSWERED, 2, 0);
+    explained("by a way out", explain(g, scratch, 27, 3, 3), 0, NANPUWIQ_BY_WAY_OUT, 2, 0);
+    explained("unserved", explain(g, scratch, 27, 2, 3), 0, NANPUWIQ_UNSERVED, 1, 1);
+    explained("pushed on", explain(g, scratch, 27, 2, 4), 0, NANPUWIQ_PUSHED_ON, 0, 0);
+    g.output.initial = low(0);
+    explained("explain, no initial output", explain(g, scratch, 27, 4, 0), 3, 0, 0, 0);
 }
 
 static void texts(void)
@@ -290,8 +309,8 @@ static void advancing(void)
     same("advance, no such position", nanpuwiq_advance(g, table, 6, &at, zero), 16);
     same_position("advance refused, no such position: position", at, 1, 1, 1);
     at.counter = 0;
-    g.input.states = 65;
-    same("advance, 65 states", nanpuwiq_advance(g, table, 6, &at, zero), 1);
+    g.input.states = 129;
+    same("advance, 129 states", nanpuwiq_advance(g, table, 6, &at, zero), 1);
     same_position("advance refused 1: position", at, 1, 1, 0);
 }
 
@@ -301,18 +320,18 @@ static void long_run(void)
     nanpuwiq_game g;
     memset(&g, 0, sizeof g);
     g.input.states = g.output.states = 3;
-    g.input.initial = 7;
-    g.output.initial = 1;
+    g.input.initial = low(7);
+    g.output.initial = low(1);
     for (size_t s = 0; s < 3; s++)
-        g.input.moves[s] = g.output.moves[s] = 7;
+        g.input.moves[2 * s] = g.output.moves[2 * s] = 7;
     g.k = 2;
-    g.requirements[0].assumptions[0].states = 2;
-    g.requirements[0].guarantees[0].states = 2;
-    g.requirements[0].guarantees[1].states = 4;
+    g.requirements[0].assumptions[0].states = low(2);
+    g.requirements[0].guarantees[0].states = low(2);
+    g.requirements[0].guarantees[1].states = low(4);
     g.requirements[0].assumed = 1;
     g.requirements[0].guaranteed = 2;
-    g.requirements[1].assumptions[0].states = 4;
-    g.requirements[1].guarantees[0].states = 1;
+    g.requirements[1].assumptions[0].states = low(4);
+    g.requirements[1].guarantees[0].states = low(1);
     g.requirements[1].assumed = g.requirements[1].guaranteed = 1;
     uint64_t scratch[NANPUWIQ_SCRATCH_MOST];
     uint16_t controller[30], panel[19];
@@ -345,7 +364,7 @@ static nanpuwiq_drive drive(size_t modes, size_t commands, const uint8_t *rows)
 {
     nanpuwiq_drive d;
     d.modes = modes;
-    d.initial = 1;
+    d.initial = low(1);
     d.commands = commands;
     memset(d.next, NANPUWIQ_BARRED, sizeof d.next);
     for (size_t m = 0; m < modes; m++)
@@ -356,8 +375,8 @@ static nanpuwiq_drive drive(size_t modes, size_t commands, const uint8_t *rows)
 static void require(nanpuwiq_kit *kit, uint64_t assumed, uint64_t guaranteed)
 {
     nanpuwiq_requirement *q = &kit->requirements[kit->k++];
-    q->assumptions[q->assumed++].states = assumed;
-    q->guarantees[q->guaranteed++].states = guaranteed;
+    q->assumptions[q->assumed++].states = low(assumed);
+    q->guarantees[q->guaranteed++].states = low(guaranteed);
 }
 
 /* Old modes: stop, low, high, service; commands: off, slow, fast, service. New modes: stop, ramp, low, high, flush, park; commands: hold, halt, up,
@@ -375,7 +394,7 @@ static nanpuwiq_kit pump(void)
     require(&kit, 1 << 1, 1 << 2);
     require(&kit, 1 << 2, 1 << 3);
     require(&kit, 1 << 0, 1 << 0);
-    kit.requirements[2].guarantees[1].states = 1 << 4;
+    kit.requirements[2].guarantees[1].states = low(1 << 4);
     kit.requirements[2].guaranteed = 2;
     require(&kit, 1 << 3, 1 << 5);
     return kit;
@@ -385,7 +404,7 @@ enum {
     IN = 4,
     OUT = 6,
     COUNTERS = 5,
-    SCRATCH = 2 * IN + OUT,
+    SCRATCH = NANPUWIQ_SET_WORDS * (2 * IN + OUT),
     CONTROLLER = IN + OUT * COUNTERS * IN,
     PANEL = 1 + IN * 4 * OUT,
     KIT = IN + OUT * COUNTERS * IN * 4
@@ -400,7 +419,7 @@ static nanpuwiq_graph graph_of(const nanpuwiq_drive *d)
     for (size_t m = 0; m < d->modes; m++)
         for (size_t u = 0; u < d->commands; u++)
             if (d->next[16 * m + u] != NANPUWIQ_BARRED)
-                g.moves[m] |= (uint64_t)1 << d->next[16 * m + u];
+                nanpuwiq_put_set(g.moves, m, nanpuwiq_with(nanpuwiq_set_at(g.moves, m), d->next[16 * m + u]));
     return g;
 }
 
@@ -451,9 +470,9 @@ static int wrong_entries(const nanpuwiq_kit *kit, const uint16_t *controller, co
                     unsigned wanted = NANPUWIQ_NONE;
                     if (next != NANPUWIQ_BARRED && controller[of->modes + (o * COUNTERS + c) * of->modes + next] != NANPUWIQ_NONE) {
                         unsigned row = controller[of->modes + (o * COUNTERS + c) * of->modes + next], command = 0;
-                        while (command < to->commands && to->next[16 * o + command] != row % 64)
+                        while (command < to->commands && to->next[16 * o + command] != row % 128)
                             command++;
-                        wanted = command + 16 * (row / 64);
+                        wanted = command + 16 * (row / 128);
                     }
                     wrong += *entry++ != wanted;
                 }
@@ -510,7 +529,7 @@ static void kit_playing(void)
     clear(&r);
     nanpuwiq_solved won = nanpuwiq_solve_kit(kit, r.scratch, SCRATCH, r.controller, CONTROLLER, r.panel, PANEL, r.room, KIT);
     same("kit run: solve", won.code, 0);
-    size_t in = 0, out = r.room[in] % 64, counter = r.room[in] / 64;
+    size_t in = 0, out = r.room[in] % 128, counter = r.room[in] / 128;
     nanpuwiq_in_state next = {in};
     nanpuwiq_moved m = nanpuwiq_begin(g, r.controller, CONTROLLER, next);
     same("kit run: begin", m.code, 0);
@@ -557,7 +576,7 @@ static void kit_playing(void)
 static void kit_no_adapter(void)
 {
     nanpuwiq_kit kit = pump();
-    kit.requirements[0].guarantees[0].states = 1 << 5;
+    kit.requirements[0].guarantees[0].states = low(1 << 5);
     nanpuwiq_game g = game_of(&kit);
     rooms r, by_game;
     clear(&r);
@@ -597,7 +616,7 @@ static void kit_latches(void)
     int wrong = 0;
     for (size_t i = 0; i < IN; i++)
         for (size_t h = 0; h < 4; h++)
-            wrong += r.panel[1 + (i * 4 + h) * OUT + 5] != lowest[i] + 64 * h;
+            wrong += r.panel[1 + (i * 4 + h) * OUT + 5] != lowest[i] + 128 * h;
     same("kit latches: rows for park", wrong, 0);
     memset(kit.old_drive.next + 16 * 3, NANPUWIQ_BARRED, 16);
     clear(&r);
@@ -639,8 +658,8 @@ static void kit_refusals(void)
     nanpuwiq_kit right = pump(), kit = right;
     kit.old_drive.modes = 0;
     faulty("kit, no modes", kit, 1);
-    kit = right, kit.new_drive.modes = 65;
-    faulty("kit, 65 modes", kit, 1);
+    kit = right, kit.new_drive.modes = 129;
+    faulty("kit, 129 modes", kit, 1);
     kit = right, kit.new_drive.commands = 0;
     faulty("kit, no commands", kit, 17);
     kit = right, kit.old_drive.commands = 17;
@@ -653,15 +672,15 @@ static void kit_refusals(void)
     faulty("kit, an entry past the commands", kit, 18);
     kit = right, kit.new_drive.next[16 * 63 + 15] = 0;
     faulty("kit, an entry past the modes", kit, 18);
-    kit = right, kit.old_drive.initial = 1 | 1 << 4;
+    kit = right, kit.old_drive.initial = low(1 | 1 << 4);
     faulty("kit, an initial mode past the count", kit, 2);
-    kit = right, kit.new_drive.initial = 0;
+    kit = right, kit.new_drive.initial = low(0);
     faulty("kit, no initial mode", kit, 3);
     kit = right, kit.k = 9;
     faulty("kit, nine requirements", kit, 5);
     kit = right, kit.requirements[7].guaranteed = 5;
     faulty("kit, five sets in the last place", kit, 6);
-    kit = right, kit.requirements[0].guarantees[0].states = 1 << 6;
+    kit = right, kit.requirements[0].guarantees[0].states = low(1 << 6);
     faulty("kit, a set with a mode past the count", kit, 7);
     refused("kit, scratch short", right, SCRATCH - 1, CONTROLLER, PANEL, KIT, 8);
     refused("kit, controller's room short", right, SCRATCH, CONTROLLER - 1, PANEL, KIT, 9);
@@ -674,16 +693,16 @@ static void kit_refusals(void)
 static void kit_refusals_in_order(void)
 {
     nanpuwiq_kit right = pump(), kit = right;
-    kit.new_drive.modes = 65;
+    kit.new_drive.modes = 129;
     kit.old_drive.commands = 17;
     kit.old_drive.next[16 * 2 + 0] = 4;
     kit.new_drive.next[16 * 63 + 15] = 0;
-    kit.old_drive.initial = 1 | 1 << 4;
-    kit.new_drive.initial = 0;
+    kit.old_drive.initial = low(1 | 1 << 4);
+    kit.new_drive.initial = low(0);
     memset(kit.new_drive.next + 16 * 5, NANPUWIQ_BARRED, 16);
     kit.k = 9;
     kit.requirements[7].guaranteed = 5;
-    kit.requirements[0].guarantees[0].states = 1 << 6;
+    kit.requirements[0].guarantees[0].states = low(1 << 6);
     refused("kit in order: 1", kit, SCRATCH - 1, CONTROLLER - 1, PANEL - 1, KIT - 1, 1);
     kit.new_drive.modes = 6;
     refused("kit in order: 17", kit, SCRATCH - 1, CONTROLLER - 1, PANEL - 1, KIT - 1, 17);
@@ -693,15 +712,15 @@ static void kit_refusals_in_order(void)
     refused("kit in order: 18, past the counts", kit, SCRATCH - 1, CONTROLLER - 1, PANEL - 1, KIT - 1, 18);
     kit.new_drive.next[16 * 63 + 15] = NANPUWIQ_BARRED;
     refused("kit in order: 2", kit, SCRATCH - 1, CONTROLLER - 1, PANEL - 1, KIT - 1, 2);
-    kit.old_drive.initial = 1;
+    kit.old_drive.initial = low(1);
     refused("kit in order: 3", kit, SCRATCH - 1, CONTROLLER - 1, PANEL - 1, KIT - 1, 3);
-    kit.new_drive.initial = 1;
+    kit.new_drive.initial = low(1);
     refused("kit in order: 5", kit, SCRATCH - 1, CONTROLLER - 1, PANEL - 1, KIT - 1, 5);
     kit.k = 4;
     refused("kit in order: 6", kit, SCRATCH - 1, CONTROLLER - 1, PANEL - 1, KIT - 1, 6);
     kit.requirements[7].guaranteed = 0;
     refused("kit in order: 7", kit, SCRATCH - 1, CONTROLLER - 1, PANEL - 1, KIT - 1, 7);
-    kit.requirements[0].guarantees[0].states = 1 << 2;
+    kit.requirements[0].guarantees[0].states = low(1 << 2);
     refused("kit in order: 8", kit, SCRATCH - 1, CONTROLLER - 1, PANEL - 1, KIT - 1, 8);
     refused("kit in order: 9", kit, SCRATCH, CONTROLLER - 1, PANEL - 1, KIT - 1, 9);
     refused("kit in order: 9, the kit's", kit, SCRATCH, CONTROLLER, PANEL - 1, KIT - 1, 9);
@@ -771,7 +790,7 @@ static void recordings(void)
         for (size_t m = 0; m <= 6; m++)
             if (n != m)
                 ends("recordings, fronts of two lengths", nanpuwiq_compare(g, table, 6, inputs(ins, n), outputs(outs, m)), n < m ? n : m);
-    static const uint8_t no_states[] = {2, 63, 64, 65, 128, 192, 255};
+    static const uint8_t no_states[] = {2, 63, 64, 65, 127, 128, 129, 192, 255};
     uint8_t in[6], out[6];
     for (size_t n = 0; n < 6; n++) {
         memcpy(out, outs, 6);
@@ -797,7 +816,7 @@ static void recordings(void)
 static void recordings_with_faulty_tables(void)
 {
     nanpuwiq_game g = example();
-    static const uint16_t starts[] = {NANPUWIQ_NONE, 64, 1, 2, 63, 32768}, rows[] = {NANPUWIQ_NONE, 64, 65, 2, 63, 32769};
+    static const uint16_t starts[] = {NANPUWIQ_NONE, 128, 1, 2, 127, 32768}, rows[] = {NANPUWIQ_NONE, 128, 129, 2, 127, 32769};
     uint16_t other[6];
     for (size_t k = 0; k < 6; k++) {
         memcpy(other, table, sizeof other);
@@ -872,31 +891,31 @@ static void recordings_in_order(void)
     fault("recordings in order: no output", nanpuwiq_compare(g, other, 6, inputs(ins, 6), outputs(outs, 0)), 15, 0);
 }
 
-/* All 64 states, each move there, answered with the input's own number; 64 and 255 are no states even so. */
+/* All 128 states, each move there, answered with the input's own number; 128 and 255 are no states even so. */
 static void recordings_of_all_states(void)
 {
-    static uint16_t by_input[64 + 64 * 64];
+    static uint16_t by_input[128 + 128 * 128];
     nanpuwiq_game g;
     memset(&g, 0, sizeof g);
-    g.input.states = g.output.states = 64;
-    g.input.initial = g.output.initial = UINT64_MAX;
-    for (size_t s = 0; s < 64; s++)
-        g.input.moves[s] = g.output.moves[s] = UINT64_MAX;
-    for (size_t k = 0; k < 64 + 64 * 64; k++)
-        by_input[k] = k % 64;
-    uint8_t in[129], out[129];
-    for (size_t n = 0; n < 129; n++)
-        in[n] = out[n] = (n * 37 + 63) % 64;
-    agrees("64 states", nanpuwiq_compare(g, by_input, 64 + 64 * 64, inputs(in, 129), outputs(out, 129)));
-    for (size_t n = 0; n < 129; n += 64)
-        for (unsigned wrong = 64; wrong < 256; wrong++) {
+    g.input.states = g.output.states = 128;
+    g.input.initial = g.output.initial = (nanpuwiq_set){UINT64_MAX, UINT64_MAX};
+    for (size_t w = 0; w < NANPUWIQ_SET_WORDS * 128; w++)
+        g.input.moves[w] = g.output.moves[w] = UINT64_MAX;
+    for (size_t k = 0; k < 128 + 128 * 128; k++)
+        by_input[k] = k % 128;
+    uint8_t in[257], out[257];
+    for (size_t n = 0; n < 257; n++)
+        in[n] = out[n] = (n * 37 + 127) % 128;
+    agrees("128 states", nanpuwiq_compare(g, by_input, 128 + 128 * 128, inputs(in, 257), outputs(out, 257)));
+    for (size_t n = 0; n < 257; n += 128)
+        for (unsigned wrong = 128; wrong < 256; wrong++) {
             uint8_t right = in[n];
             in[n] = wrong;
-            fault("64 states, no such input", nanpuwiq_compare(g, by_input, 64 + 64 * 64, inputs(in, 129), outputs(out, 129)), 14, n);
+            fault("128 states, no such input", nanpuwiq_compare(g, by_input, 128 + 128 * 128, inputs(in, 257), outputs(out, 257)), 14, n);
             out[n] = wrong;
-            fault("64 states, no such input or output", nanpuwiq_compare(g, by_input, 64 + 64 * 64, inputs(in, 129), outputs(out, 129)), 14, n);
+            fault("128 states, no such input or output", nanpuwiq_compare(g, by_input, 128 + 128 * 128, inputs(in, 257), outputs(out, 257)), 14, n);
             in[n] = right;
-            differs("64 states, no such output", nanpuwiq_compare(g, by_input, 64 + 64 * 64, inputs(in, 129), outputs(out, 129)), n);
+            differs("128 states, no such output", nanpuwiq_compare(g, by_input, 128 + 128 * 128, inputs(in, 257), outputs(out, 257)), n);
             out[n] = right;
         }
 }
@@ -941,9 +960,9 @@ static void recordings_of_the_pump(void)
         differs("pump's recordings, another output", nanpuwiq_compare(g, r.controller, CONTROLLER, inputs(in, STEPS), outputs(out, STEPS)), n);
         out[n] = was;
         was = in[n];
-        uint64_t moves = n == 0 ? g.input.initial : g.input.moves[in[n - 1]];
+        nanpuwiq_set moves = n == 0 ? g.input.initial : nanpuwiq_set_at(g.input.moves, in[n - 1]);
         for (in[n] = 0; in[n] < IN; in[n]++)
-            if (!(moves >> in[n] & 1))
+            if (!nanpuwiq_has(moves, in[n]))
                 fault("pump's recordings, no move", nanpuwiq_compare(g, r.controller, CONTROLLER, inputs(in, STEPS), outputs(out, STEPS)), 14, n);
         in[n] = was;
         /* its entry none: a fault at the first step that has it */
@@ -970,20 +989,20 @@ static void recordings_refused(void)
     static const uint8_t wrong[3] = {255, 255, 255};
     g.input.states = 0;
     compared("recordings refused: 1", nanpuwiq_compare(g, table, 6, inputs(ins, 6), outputs(outs, 6)), 1, false, false, 0);
-    g = right, g.output.states = 65;
-    compared("recordings refused: 1, 65 states", nanpuwiq_compare(g, table, 5, inputs(wrong, 3), outputs(wrong, 3)), 1, false, false, 0);
-    g = right, g.output.initial = 4;
+    g = right, g.output.states = 129;
+    compared("recordings refused: 1, 129 states", nanpuwiq_compare(g, table, 5, inputs(wrong, 3), outputs(wrong, 3)), 1, false, false, 0);
+    g = right, g.output.initial = low(4);
     compared("recordings refused: 2", nanpuwiq_compare(g, table, 6, inputs(ins, 6), outputs(outs, 6)), 2, false, false, 0);
-    g = right, g.input.initial = 0;
+    g = right, g.input.initial = low(0);
     compared("recordings refused: 3", nanpuwiq_compare(g, table, 6, inputs(ins, 6), outputs(outs, 6)), 3, false, false, 0);
     /* the new drive latches in 1, which is no refusal: the row that has it go on is at fault */
-    g = right, g.output.moves[1] = 0;
+    g = right, g.output.moves[2] = 0;
     compared("recordings, a drive that latches", nanpuwiq_compare(g, table, 6, inputs(ins, 6), outputs(outs, 6)), 15, false, false, 2);
     g = right, g.k = 9;
     compared("recordings refused: 5", nanpuwiq_compare(g, table, 6, inputs(ins, 6), outputs(outs, 6)), 5, false, false, 0);
     g = right, g.requirements[7].guaranteed = 5;
     compared("recordings refused: 6", nanpuwiq_compare(g, table, 6, inputs(ins, 6), outputs(outs, 6)), 6, false, false, 0);
-    g = right, g.requirements[0].assumptions[0].states = 4;
+    g = right, g.requirements[0].assumptions[0].states = low(4);
     compared("recordings refused: 7", nanpuwiq_compare(g, table, 5, inputs(wrong, 3), outputs(wrong, 2)), 7, false, false, 0);
     compared("recordings refused: 7, both empty", nanpuwiq_compare(g, table, 6, inputs(ins, 0), outputs(outs, 0)), 7, false, false, 0);
     static const uint16_t longer[7] = {0, NANPUWIQ_NONE, 1, 1, 1, 1, 1};
@@ -1001,7 +1020,7 @@ static void recordings_refused(void)
 static nanpuwiq_game no_adapter(void)
 {
     nanpuwiq_game g = example();
-    g.requirements[0].guarantees[0].states = 0;
+    g.requirements[0].guarantees[0].states = low(0);
     return g;
 }
 
@@ -1034,11 +1053,11 @@ static void panel_numbers(const char *what, nanpuwiq_game g, const uint16_t *ent
 static void panel_refusals(void)
 {
     nanpuwiq_game right = no_adapter(), g;
-    uint64_t scratch[6];
+    uint64_t scratch[12];
     uint16_t controller[6], panel[5];
-    same("panel's table", nanpuwiq_solve(right, scratch, 6, controller, 6, panel, 5).entries, 5);
+    same("panel's table", nanpuwiq_solve(right, scratch, 12, controller, 6, panel, 5).entries, 5);
     static const uint16_t none[5] = {NANPUWIQ_NONE, NANPUWIQ_NONE, NANPUWIQ_NONE, NANPUWIQ_NONE, NANPUWIQ_NONE};
-    static const uint16_t far[5] = {1, 2, 2, 64, 64}; /* no initial input; no input; no counter */
+    static const uint16_t far[5] = {1, 2, 2, 128, 128}; /* no initial input; no input; no counter */
     nanpuwiq_position here = {{0}, {0}, 0}, there = {{1}, {1}, 0}, past[3] = {{{2}, {0}, 0}, {{0}, {2}, 0}, {{0}, {0}, 1}};
     /* first, begin, next, step */
     panel_numbers("panel: all well", right, panel, 5, here, 0, (const uint8_t[]){0, 0, 0, 0});
@@ -1060,12 +1079,12 @@ static void panel_refusals(void)
             continue;
         g = right;
         switch (number) {
-        case 1: g.output.states = 65; break;
+        case 1: g.output.states = 129; break;
         case 2: g.input.moves[0] = 4; break;
-        case 3: g.output.initial = 0; break;
+        case 3: g.output.initial = low(0); break;
         case 5: g.k = 9; break;
         case 6: g.requirements[7].assumed = 5; break;
-        case 7: g.requirements[0].assumptions[0].states = 4; break;
+        case 7: g.requirements[0].assumptions[0].states = low(4); break;
         }
         const uint8_t numbers[] = {number, number, number, number};
         panel_numbers("panel: 1 to 7", g, panel, 5, here, 0, numbers);
@@ -1073,26 +1092,26 @@ static void panel_refusals(void)
     }
 }
 
-static bool member(uint64_t set, size_t state)
+static bool meets(nanpuwiq_set a, nanpuwiq_set b)
 {
-    return state < 64 && (set >> state & 1);
+    return (a.low & b.low) != 0 || (a.high & b.high) != 0;
 }
 
 /* Whether one of the game's requirements is broken by what these positions visit. */
 static bool breaks(const nanpuwiq_game *g, const nanpuwiq_position *from, const nanpuwiq_position *to)
 {
-    uint64_t ins = 0, outs = 0;
+    nanpuwiq_set ins = low(0), outs = low(0);
     for (; from != to; from++) {
-        ins |= (uint64_t)1 << from->input.number;
-        outs |= (uint64_t)1 << from->output.number;
+        ins = nanpuwiq_with(ins, from->input.number);
+        outs = nanpuwiq_with(outs, from->output.number);
     }
     for (size_t r = 0; r < g->k; r++) {
         const nanpuwiq_requirement *q = &g->requirements[r];
         bool due = true, met = true;
         for (size_t j = 0; j < q->assumed; j++)
-            due = due && (q->assumptions[j].states & ins) != 0;
+            due = due && meets(q->assumptions[j].states, ins);
         for (size_t j = 0; j < q->guaranteed; j++)
-            met = met && (q->guarantees[j].states & outs) != 0;
+            met = met && meets(q->guarantees[j].states, outs);
         if (due && !met)
             return true;
     }
@@ -1106,14 +1125,14 @@ static void panel_run(void)
     enum { STEPS = 2000 };
     static uint16_t controller[4 + 6 * 16 * 4], panel[1 + 4 * 16 * 6];
     static nanpuwiq_position trail[STEPS];
-    uint64_t scratch[14];
+    uint64_t scratch[28];
     nanpuwiq_kit kit = pump();
     require(&kit, 1 << 1, 0);
-    kit.requirements[4].assumptions[1].states = 1 << 2;
+    kit.requirements[4].assumptions[1].states = low(1 << 2);
     kit.requirements[4].assumed = 2;
     nanpuwiq_game g = game_of(&kit);
     for (size_t s = 0; s < 6; s++)
-        g.output.moves[s] &= 31;
+        g.output.moves[2 * s] &= 31;
     nanpuwiq_solved r = nanpuwiq_solve(g, scratch, nanpuwiq_scratch_words(g), controller, sizeof controller / 2, panel, sizeof panel / 2);
     same("panel's run: solved", r.code, 0);
     same("panel's run: the panel wins", r.system, false);
@@ -1123,15 +1142,15 @@ static void panel_run(void)
     unsigned seed = 1;
     while (steps < STEPS) {
         nanpuwiq_position last = steps ? trail[steps - 1] : (nanpuwiq_position){{0}, {0}, 0};
-        uint64_t allowed = steps ? g.output.moves[last.output.number] : g.output.initial;
-        if (allowed == 0)
+        nanpuwiq_set allowed = steps ? nanpuwiq_set_at(g.output.moves, last.output.number) : g.output.initial;
+        if (!meets(allowed, allowed))
             break;
         uint16_t entry = panel[steps ? 1 + (last.input.number * counters + last.counter) * g.output.states + last.output.number : 0];
         nanpuwiq_panel_move m = steps ? nanpuwiq_panel_next(g, panel, r.entries, last) : nanpuwiq_panel_first(g, panel, r.entries);
-        apart += m.code != 0 || m.input.number != entry % 64 || m.counter != entry / 64;
+        apart += m.code != 0 || m.input.number != entry % 128 || m.counter != entry / 128;
         nanpuwiq_out_state picked = {(seed = seed * 1103515245 + 12345) >> 16 & 7};
         nanpuwiq_moved to = steps ? nanpuwiq_panel_step(g, panel, r.entries, last, picked) : nanpuwiq_panel_begin(g, panel, r.entries, picked);
-        if (!member(allowed, picked.number)) {
+        if (!nanpuwiq_has(allowed, picked.number)) {
             apart += to.code != 14 || memcmp(&to.at, &last, sizeof last) != 0;
             wrong++;
             continue;

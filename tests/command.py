@@ -92,7 +92,7 @@ def damages(rng, whole, count):
             elif change == 1:
                 del text[at : at + rng.randint(1, 5)]
             else:
-                text[at:at] = rng.choice([b"0", b"63", b" ", b"(", b")", b"64", b"\n", b"(if () ())\n"])
+                text[at:at] = rng.choice([b"0", b"127", b" ", b"(", b")", b"128", b"\n", b"(if () ())\n"])
         yield bytes(text)
 
 
@@ -115,7 +115,7 @@ def explanations():
     yield example.replace("(out 0 1", "(out 0 0"), "4:1", "no output is initial"
     yield example.replace("(in 0 1", "(in 0 0"), "2:1", "no input is initial"
     yield example.replace("(game 2", "(game 02"), "1:7", "no leading zeros"
-    yield example.replace("(game 2", "(game 65"), "1:8", "1 to 64, not 65"
+    yield example.replace("(game 2", "(game 129"), "1:9", "1 to 128, not 129"
     yield example.replace("(game 2", "(game  2"), "1:7", "one blank"
     yield example.replace("(in 0 1 (0 1))", "(in 0\t1 (0 1))"), "2:6", "a tab"
     yield example.replace("(in 1", "(in 2"), "3:5", "states are listed in order: expected 1, found 2"
@@ -326,7 +326,7 @@ def bad_kits():
     yield KIT + "(if ((ramp)) ())", "no mode of this drive"
     yield KIT + "(if (stop) ())", "expected a set in brackets"
     yield KIT + "(if ())", "expected (if (SETS) (SETS))"
-    yield KIT + "(old x 0 (- - -))\n" * 62, "65 lines (old ..): a count not 1 to 64 (refused 1)"
+    yield KIT + "(old x 0 (- - -))\n" * 126, "129 lines (old ..): a count not 1 to 128 (refused 1)"
 
 
 def damaged_forms(check, command, seed):

@@ -42,6 +42,11 @@ def full(states):
     return [(1, list(range(states))) for _ in range(states)]
 
 
+def apart(states):
+    """A graph in which every state moves to itself alone, all of them initial."""
+    return [(1, [s]) for s in range(states)]
+
+
 def counted(inputs, outputs, input_sets, output_sets):
     """A game of full graphs with so many sets, four at most to a requirement."""
     lines = []
@@ -53,7 +58,7 @@ def counted(inputs, outputs, input_sets, output_sets):
 
 
 def longest():
-    """The longest text: every row and every set holds all states."""
+    """A long text: 64 states each, every row and every set holds all of them."""
     all_states = "(" + " ".join(map(str, range(64))) + ")"
     four = " ".join([all_states] * 4)
     return game(full(64), full(64), [(four, four)] * 8)
@@ -67,7 +72,10 @@ def refusals():
     yield "11, a first word alone", b"(game", "11 5"
     yield "11, a leading zero", b"(game 02 2 1)\n", "11 6"
     yield "11, two blanks", b"(game  2 2 1)\n", "11 6"
-    yield "11, 65 states", b"(game 65 2 1)\n", "11 7"
+    yield "11, 129 states", b"(game 129 2 1)\n", "11 8"
+    yield "11, 65 states and no more", b"(game 65 2 1)\n", "11 14"
+    yield "11, a move to 128", game([(1, [128])], ONE, []), "11 %d" % (len("(game 1 1 0)\n(in 0 1 (12"))
+    yield "2, a move to 127", game([(1, [127])], ONE, []), "2"
     yield "11, nine requirements", b"(game 2 2 9)\n", "11 10"
     yield "11, a row out of turn", b"(game 2 2 0)\n(in 1 1 (0))\n", "11 17"
     yield "11, moves that fall", EXAMPLE.replace(b"(in 0 1 (0 1))", b"(in 0 1 (1 0))"), "11 24"
@@ -90,7 +98,10 @@ def refusals():
     yield "9, 64 x 64 with eight output sets", counted(64, 64, 0, 8), "9"
     yield "10, 64 x 64 with eight input sets", counted(64, 64, 8, 0), "10"
     yield "9 before 10", counted(64, 64, 8, 8), "9"
-    yield "9, the longest text", longest(), "9"
+    yield "9, a long text", longest(), "9"
+    yield "12, a game of 128 x 128 with every move", game(full(128), full(128), []), "12"
+    yield "9, 128 x 128 with two output sets", game(apart(128), apart(128), [("", "(127) (0)")]), "9"
+    yield "10, 128 x 128 with two input sets", game(apart(128), apart(128), [("(127) (0)", "")]), "10"
 
 
 def latches():

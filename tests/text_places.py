@@ -41,8 +41,8 @@ def members(t, at, lo, xs):
         yield xs, e
     starts = [at] if not xs else fixed(t, at, " ")
     for s in starts:
-        if lo <= 63:
-            for v, e in number(t, s, lo, 63):
+        if lo <= 127:
+            for v, e in number(t, s, lo, 127):
                 yield from members(t, e, v + 1, xs + [v])
 
 
@@ -95,9 +95,9 @@ def conditions(t, at, n, found):
 
 def games(t):
     for a in fixed(t, 0, "(game "):
-        for i, b in number(t, a, 1, 64):
+        for i, b in number(t, a, 1, 128):
             for c in fixed(t, b, " "):
-                for o, d in number(t, c, 1, 64):
+                for o, d in number(t, c, 1, 128):
                     for e in fixed(t, d, " "):
                         for k, f in number(t, e, 0, 8):
                             for g in fixed(t, f, ")\n"):
@@ -166,7 +166,7 @@ def a_game(rng):
     out = "(game %d %d %d)\n" % (i, o, k)
     for word, n in (("in", i), ("out", o)):
         for s in range(n):
-            top = n if rng.random() < 0.9 else 64
+            top = n if rng.random() < 0.9 else 128
             xs = some(rng, top)
             out += "(%s %d %d %s)\n" % (word, s, 1 if s == 0 else rng.randrange(2), text(map(str, xs)))
     for _ in range(k):

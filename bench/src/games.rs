@@ -1,18 +1,18 @@
 //! The games that are measured.
-use nanpuwiq::{Game, Graph, InSet, OutSet, Requirement, Winner, STATES};
+use nanpuwiq::{Game, Graph, InSet, OutSet, Requirement, Set, Winner, STATES};
 
 type Named = (String, Game);
 
 /// The set of the states from a to below b.
-fn range(a: usize, b: usize) -> u64 {
+fn range(a: usize, b: usize) -> u128 {
     (a..b).fold(0, |x, s| x | 1 << s)
 }
 
 /// A graph of n states, from the set of moves of each.
-fn graph(n: usize, initial: u64, moves: impl Fn(usize) -> u64) -> Graph {
-    let mut g = Graph { states: n, initial, ..Graph::default() };
+fn graph(n: usize, initial: u128, moves: impl Fn(usize) -> u128) -> Graph {
+    let mut g = Graph { states: n, initial: Set::from_bits(initial), ..Graph::default() };
     for s in 0..n {
-        g.moves[s] = moves(s);
+        g.moves[s] = Set::from_bits(moves(s));
     }
     g
 }
@@ -22,14 +22,14 @@ fn circle(n: usize) -> Graph {
     graph(n, 1, |s| 1 << ((s + 1) % n))
 }
 
-/// A requirement from words.
-fn requirement(assumptions: &[u64], guarantees: &[u64]) -> Requirement {
+/// A requirement from numbers of sets.
+fn requirement(assumptions: &[u128], guarantees: &[u128]) -> Requirement {
     let mut q = Requirement { assumed: assumptions.len(), guaranteed: guarantees.len(), ..Requirement::default() };
     for (place, &x) in q.assumptions.iter_mut().zip(assumptions) {
-        *place = InSet(x);
+        *place = InSet(Set::from_bits(x));
     }
     for (place, &x) in q.guarantees.iter_mut().zip(guarantees) {
-        *place = OutSet(x);
+        *place = OutSet(Set::from_bits(x));
     }
     q
 }
@@ -48,7 +48,7 @@ fn game(input: Graph, output: Graph, requirements: &[Requirement]) -> Game {
 }
 
 /// Eight requirements of four sets each on both sides: set number a of all 32.
-fn full(assumption: impl Fn(usize) -> u64, guarantee: impl Fn(usize) -> u64) -> Vec<Requirement> {
+fn full(assumption: impl Fn(usize) -> u128, guarantee: impl Fn(usize) -> u128) -> Vec<Requirement> {
     (0..8)
         .map(|r| {
             let sets = [4 * r, 4 * r + 1, 4 * r + 2, 4 * r + 3];
@@ -104,22 +104,22 @@ impl Random {
         (self.0 >> 16) as usize % n
     }
 
-    fn set(&mut self, n: usize, size: usize) -> u64 {
+    fn set(&mut self, n: usize, size: usize) -> u128 {
         (0..size).fold(0, |x, _| x | 1 << self.below(n))
     }
 
     /// Graphs of n states with up to `degree` moves each, and 32 sets of up to `size` states on either side.
     fn game(&mut self, n: usize, degree: usize, size: usize) -> Game {
         let mut draw = |_| {
-            let mut g = Graph { states: n, initial: 1, ..Graph::default() };
+            let mut g = Graph { states: n, initial: Set::of(0), ..Graph::default() };
             for s in 0..n {
                 let k = 1 + self.below(degree);
-                g.moves[s] = self.set(n, k);
+                g.moves[s] = Set::from_bits(self.set(n, k));
             }
             g
         };
         let (input, output) = (draw(0), draw(1));
-        let sets: Vec<(u64, u64)> = (0..32).map(|_| (self.set(n, size), self.set(n, size))).collect();
+        let sets: Vec<(u128, u128)> = (0..32).map(|_| (self.set(n, size), self.set(n, size))).collect();
         game(input, output, &full(|a| sets[a].0, |a| sets[a].1))
     }
 }
@@ -141,7 +141,7 @@ fn quartets() -> Vec<u64> {
 
 /// Games of the largest size, made to be slow.
 fn worst() -> Vec<Named> {
-    let n = STATES;
+    let n = 64;
     let whole = range(0, n);
     let mut all = Vec::new();
     let mut add = |name: &str, g: Game| all.push((format!("worst {name}"), g));
@@ -187,19 +187,34 @@ fn worst() -> Vec<Named> {
     all
 }
 
+/// The largest games: tables of 524,416 and 524,289 entries.
+fn largest() -> Vec<Named> {
+    let n = STATES;
+    let whole = range(0, n);
+    let fourth = |a: usize| 1 << (4 * a);
+    [
+        ("128: one home", game(circle(n), circle(n), &full(fourth, fourth))),
+        ("128: environment's tour", game(circle(n), circle(n), &full(fourth, |_| 0))),
+        ("128: dense", game(graph(n, whole, |_| whole), graph(n, whole, |_| whole), &full(|_| whole, |_| whole))),
+    ]
+    .map(|(name, g)| (name.to_string(), g))
+    .into()
+}
+
 /// The games whose names begin so. Random games are drawn only where they are asked for, as that takes time.
 pub fn named(front: &str) -> Vec<Named> {
     let mut all = drives();
     all.extend([2, 4, 8].map(modes));
     if "random".starts_with(front) || front.starts_with("random") {
-        all.extend([16, 32, 64].into_iter().flat_map(random));
+        all.extend([16, 32, 64, 128].into_iter().flat_map(random));
     }
     all.extend(worst());
+    all.extend(largest());
     all.retain(|(name, _)| name.starts_with(front));
     all
 }
 
-/// The game with the longest text: every row and every set holds all states.
+/// A game with a text about as long as is read: of 64 states, every row and every set holds all of them.
 pub fn longest() -> Game {
     let all: Vec<usize> = (0..64).collect();
     let moves: Vec<&[usize]> = vec![&all; 64];

@@ -40,7 +40,7 @@ fn row(name: &str, g: &Game, b: &mut Buffers) -> f64 {
     let looped = best(|| plain_loop(black_box(&mut b.controller[..entries])));
     let stores = best(|| single_stores(black_box(&mut b.controller[..entries])));
     println!(
-        "{:<34} {:>2} x {:<2} {:<11} {:>7} {:>10} {:>8.2} {:>8} {:>7.1} {:>8} {:>7.1} {:>10}",
+        "{:<34} {:>3} x {:<3} {:<11} {:>7} {:>10} {:>8.2} {:>8} {:>7.1} {:>8} {:>7.1} {:>10}",
         name,
         g.input.states,
         g.output.states,
@@ -85,7 +85,7 @@ fn main() {
         return;
     }
     println!(
-        "{:<34} {:<7} {:<11} {:>7} {:>10} {:>8} {:>8} {:>7} {:>8} {:>7} {:>10}",
+        "{:<34} {:<9} {:<11} {:>7} {:>10} {:>8} {:>8} {:>7} {:>8} {:>7} {:>10}",
         "game", "states", "wins", "entries", "solver", "ns/entry", "loop", "ratio", "stores", "ratio", "second"
     );
     let mut largest: Option<f64> = None;

@@ -60,7 +60,7 @@ fn figures(label: &str, program: &str, texts: &[Vec<u8>]) {
             black_box(g.solve_into(&mut scratch, &mut controller, &mut environment).is_ok());
         }
     });
-    let mut map = vec![0; 64];
+    let mut map = vec![0; 256];
     let mapping = best(|| {
         for g in &games {
             black_box(g.won_map_into(&mut scratch, &mut map).is_ok());

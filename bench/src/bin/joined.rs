@@ -6,7 +6,7 @@
 mod measure;
 
 use measure::best;
-use nanpuwiq::{Game, Graph, InSet, OutSet, Requirement, JOINED_SCRATCH, JOINED_STATES, SCRATCH_MOST};
+use nanpuwiq::{Game, Graph, InSet, OutSet, Requirement, Set, JOINED_SCRATCH, JOINED_STATES, SCRATCH_MOST};
 use std::hint::black_box;
 
 const N: usize = JOINED_STATES;
@@ -22,8 +22,8 @@ impl Random {
         (self.0 >> 16) as usize % n
     }
 
-    fn set(&mut self, n: usize, size: usize) -> u64 {
-        (0..size).fold(0, |x, _| x | 1 << self.below(n))
+    fn set(&mut self, n: usize, size: usize) -> Set {
+        (0..size).fold(Set::default(), |x, _| x | Set::of(self.below(n)))
     }
 
     fn graph(&mut self, n: usize, least: usize, degree: usize) -> Graph {
@@ -34,8 +34,8 @@ impl Random {
     }
 }
 
-fn graph(n: usize, mut moves: impl FnMut(usize) -> u64) -> Graph {
-    let mut g = Graph { states: n, initial: 1, ..Graph::default() };
+fn graph(n: usize, mut moves: impl FnMut(usize) -> Set) -> Graph {
+    let mut g = Graph { states: n, initial: Set::of(0), ..Graph::default() };
     for s in 0..n {
         g.moves[s] = moves(s);
     }
@@ -43,7 +43,7 @@ fn graph(n: usize, mut moves: impl FnMut(usize) -> u64) -> Graph {
 }
 
 fn ring(n: usize) -> Graph {
-    graph(n, |s| 1 << ((s + 1) % n))
+    graph(n, |s| Set::of((s + 1) % n))
 }
 
 /// Eight requirements of two sets a side, of up to four states.
@@ -70,7 +70,7 @@ fn main() {
     games.push(("random, 8 to 15 moves".into(), game(&mut r, dense.0, dense.1)));
     games.push(("rings of 31 and 32: one component".into(), game(&mut r, ring(31), ring(32))));
     games.push(("rings of 32 and 32: 32 components".into(), game(&mut r, ring(32), ring(32))));
-    let forward = graph(N, |s| (s + 1..N).fold(0, |x, t| x | 1 << t));
+    let forward = graph(N, |s| (s + 1..N).fold(Set::default(), |x, t| x | Set::of(t)));
     games.push(("all moves forward: lone positions".into(), game(&mut r, forward, forward)));
     println!("{:<36} {:>12} {:>12} {:>8}", "game, microseconds a map", "joined", "won map", "times");
     let mut map = [0; N];

@@ -45,7 +45,7 @@ fn main() -> Result<(), Error> {
     // what runs beside the new drive: the table, both modes, and a counter below the number of guarantees; a command that is barred has a row of NONE
     let counters = requirements.iter().map(|q| q.guaranteed).sum::<usize>().max(1);
     let mut from = 0;
-    let (mut to, mut counter) = (table[from] as usize % 64, table[from] as usize / 64);
+    let (mut to, mut counter) = (table[from] as usize % 128, table[from] as usize / 128);
     println!("panel    old drive    answer   new drive");
     println!("         {:12}          {}", OLD_MODES[from], NEW_MODES[to]);
     for command in [0, 0, 1, 1, 1, 1, 1, 1, 2, 2, 2, 2] {

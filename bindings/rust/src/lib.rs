@@ -13,13 +13,15 @@ mod entries;
 /// The version of this crate, which is the header's NANPUWIQ_VERSION.
 pub const VERSION: &str = env!("CARGO_PKG_VERSION");
 /// States of a graph at most.
-pub const STATES: usize = 64;
+pub const STATES: usize = 128;
+/// Words of a set.
+pub const SET_WORDS: usize = 2;
 /// Places for requirements.
 pub const REQUIREMENTS: usize = 8;
 /// Places for sets on each side of a requirement.
 pub const SETS: usize = 4;
 /// Words of scratch that the largest game asks for.
-pub const SCRATCH_MOST: usize = 3 * STATES;
+pub const SCRATCH_MOST: usize = SET_WORDS * 3 * STATES;
 /// Words of scratch that the map on the joined positions asks for.
 pub const JOINED_SCRATCH: usize = 4_096;
 /// States of a graph at most, for that map.
@@ -50,23 +52,85 @@ pub struct InState(pub usize);
 #[derive(Clone, Copy, Debug, PartialEq, Eq)]
 pub struct OutState(pub usize);
 
-/// A set of input states: state s belongs where bit s is set.
+/// A set of states: state s below 64 belongs where bit s of `low` is set, another where bit s - 64 of `high` is.
 #[repr(C)]
 #[derive(Clone, Copy, Debug, PartialEq, Eq, Default)]
-pub struct InSet(pub u64);
+pub struct Set {
+    pub low: u64,
+    pub high: u64,
+}
+
+/// A set of input states.
+#[repr(C)]
+#[derive(Clone, Copy, Debug, PartialEq, Eq, Default)]
+pub struct InSet(pub Set);
 
 /// A set of output states.
 #[repr(C)]
 #[derive(Clone, Copy, Debug, PartialEq, Eq, Default)]
-pub struct OutSet(pub u64);
+pub struct OutSet(pub Set);
+
+impl Set {
+    /// The set whose members are the bits of a number, bit s for state s.
+    pub const fn from_bits(bits: u128) -> Set {
+        Set { low: bits as u64, high: (bits >> 64) as u64 }
+    }
+
+    /// Its number, bit s for state s.
+    pub const fn bits(self) -> u128 {
+        (self.high as u128) << 64 | self.low as u128
+    }
+
+    /// The set of one state; the empty one for a state past 127.
+    pub fn of(s: usize) -> Set {
+        Set::from_bits(if s < STATES { 1 << s } else { 0 })
+    }
+
+    /// Whether state s belongs to it.
+    pub fn has(self, s: usize) -> bool {
+        s < STATES && self.bits() >> s & 1 == 1
+    }
+
+    /// Its states, rising.
+    pub fn states(self) -> impl Iterator<Item = usize> {
+        (0..STATES).filter(move |&s| self.has(s))
+    }
+
+    /// How many states it has.
+    pub fn count(self) -> usize {
+        self.bits().count_ones() as usize
+    }
+}
+
+impl std::ops::BitOr for Set {
+    type Output = Set;
+
+    fn bitor(self, other: Set) -> Set {
+        Set { low: self.low | other.low, high: self.high | other.high }
+    }
+}
+
+impl std::ops::BitOrAssign for Set {
+    fn bitor_assign(&mut self, other: Set) {
+        *self = *self | other;
+    }
+}
+
+impl std::ops::BitAnd for Set {
+    type Output = Set;
+
+    fn bitand(self, other: Set) -> Set {
+        Set { low: self.low & other.low, high: self.high & other.high }
+    }
+}
 
 /// Row s of `moves` is the set of the states that state s moves to.
 #[repr(C)]
 #[derive(Clone, Copy, Debug, PartialEq, Eq)]
 pub struct Graph {
     pub states: usize,
-    pub initial: u64,
-    pub moves: [u64; STATES],
+    pub initial: Set,
+    pub moves: [Set; STATES],
 }
 
 /// If every assumption recurs, every guarantee does. Of the places, `assumed` and `guaranteed` are in use.
@@ -94,7 +158,7 @@ pub struct Game {
 #[derive(Clone, Copy, Debug, PartialEq, Eq)]
 pub struct Drive {
     pub modes: usize,
-    pub initial: u64,
+    pub initial: Set,
     pub commands: usize,
     pub next: [u8; STATES * COMMANDS],
 }
@@ -215,11 +279,11 @@ pub struct Verdict {
     pub table: Vec<u16>,
 }
 
-/// The inputs of a run, recorded by the panel: a state number a byte.
+/// The inputs of a run, recorded by the panel: a state number, 0 to 127, a byte.
 #[derive(Clone, Copy, Debug, PartialEq, Eq)]
 pub struct InRecording<'a>(pub &'a [u8]);
 
-/// The outputs of a run, recorded by the drive: a state number a byte.
+/// The outputs of a run, recorded by the drive: a state number, 0 to 127, a byte.
 #[derive(Clone, Copy, Debug, PartialEq, Eq)]
 pub struct OutRecording<'a>(pub &'a [u8]);
 
@@ -262,7 +326,7 @@ fn ensure(holds: bool, number: u8) -> Result<(), Error> {
 
 impl Default for Graph {
     fn default() -> Graph {
-        Graph { states: 0, initial: 0, moves: [0; STATES] }
+        Graph { states: 0, initial: Set::default(), moves: [Set::default(); STATES] }
     }
 }
 
@@ -275,14 +339,14 @@ impl Graph {
         for (row, to) in g.moves.iter_mut().zip(moves) {
             *row = set_below(states, to).ok_or(refused(2))?;
         }
-        ensure(g.initial != 0, 3)?;
+        ensure(g.initial != Set::default(), 3)?;
         Ok(g)
     }
 }
 
 impl Default for Drive {
     fn default() -> Drive {
-        Drive { modes: 0, initial: 0, commands: 0, next: [BARRED; STATES * COMMANDS] }
+        Drive { modes: 0, initial: Set::default(), commands: 0, next: [BARRED; STATES * COMMANDS] }
     }
 }
 
@@ -296,7 +360,7 @@ impl Drive {
         ensure((1..=COMMANDS).contains(&commands), 17)?;
         ensure(next.iter().copied().flatten().all(|&to| to == BARRED || usize::from(to) < modes), 18)?;
         let mut d = Drive { modes, initial: set_below(modes, initial).ok_or(refused(2))?, commands, ..Drive::default() };
-        ensure(d.initial != 0, 3)?;
+        ensure(d.initial != Set::default(), 3)?;
         for (places, row) in d.next.chunks_mut(COMMANDS).zip(next) {
             places[..row.len()].copy_from_slice(row);
         }
@@ -305,7 +369,7 @@ impl Drive {
 }
 
 impl Requirement {
-    /// If these assumptions recur, these guarantees do: 6, and 7 for a state past 63. A state past the count of a graph is seen by `Game::new` and `Kit::new`.
+    /// If these assumptions recur, these guarantees do: 6, and 7 for a state past 127. A state past the count of a graph is seen by `Game::new` and `Kit::new`.
     pub fn new(assumptions: &[&[usize]], guarantees: &[&[usize]]) -> Result<Requirement, Error> {
         ensure(assumptions.len() <= SETS && guarantees.len() <= SETS, 6)?;
         let mut q = Requirement { assumed: assumptions.len(), guaranteed: guarantees.len(), ..Requirement::default() };
@@ -319,19 +383,24 @@ impl Requirement {
     }
 }
 
-/// The word of a set of states; none where a state is past 63.
-pub fn set(states: &[usize]) -> Option<u64> {
+/// A set of states; none where a state is past 127.
+pub fn set(states: &[usize]) -> Option<Set> {
     set_below(STATES, states)
 }
 
-/// The same with a count of at most 64; none where a state is not below it.
-fn set_below(count: usize, states: &[usize]) -> Option<u64> {
-    states.iter().all(|&s| s < count).then(|| states.iter().fold(0, |x, &s| x | 1 << s))
+/// The same with a count of at most 128; none where a state is not below it.
+fn set_below(count: usize, states: &[usize]) -> Option<Set> {
+    states.iter().all(|&s| s < count).then(|| Set::from_bits(states.iter().fold(0, |x, &s| x | 1 << s)))
+}
+
+/// The sets that words hold, two words a set.
+fn sets_in(words: &[u64]) -> Vec<Set> {
+    words.chunks_exact(SET_WORDS).map(|x| Set { low: x[0], high: x[1] }).collect()
 }
 
 /// Counts that no accepted game has give some number too.
 fn scratch_words(inputs: usize, outputs: usize) -> usize {
-    inputs.saturating_mul(2).saturating_add(outputs)
+    inputs.saturating_mul(2).saturating_add(outputs).saturating_mul(SET_WORDS)
 }
 
 impl Game {
@@ -351,22 +420,22 @@ impl Game {
         refusal(entries::accept(*self))
     }
 
-    /// Words of scratch that the game asks for, where it is accepted: 2 × inputs + outputs. On a verdict or a map that many words of scratch are zero,
+    /// Words of scratch that the game asks for, where it is accepted: 2 × (2 × inputs + outputs). On a verdict or a map that many words of scratch are zero,
     /// from the first on, and the rest is as it was.
     pub fn scratch_words(&self) -> usize {
         scratch_words(self.input.states, self.output.states)
     }
 
-    /// The won map in a buffer of the caller's, a word for each input: 1 to 7, 8.
+    /// The won map in a buffer of the caller's, two words for each input, low states first: 1 to 7, 8.
     pub fn won_map_into(&self, scratch: &mut [u64], map: &mut [u64]) -> Result<(), Error> {
         refusal(entries::won_map(*self, scratch, map))
     }
 
-    /// The won map: word i is the set of the outputs that are won with input i.
-    pub fn won_map(&self) -> Result<Vec<u64>, Error> {
-        let mut map = vec![0; self.input.states.min(STATES)];
+    /// The won map: set i is that of the outputs that are won with input i.
+    pub fn won_map(&self) -> Result<Vec<Set>, Error> {
+        let mut map = vec![0; SET_WORDS * self.input.states.min(STATES)];
         self.won_map_into(&mut [0; SCRATCH_MOST], &mut map)?;
-        Ok(map)
+        Ok(sets_in(&map))
     }
 
     /// The won map of the lecture room's solver in a buffer of the caller's, in a game of at most 32 states a graph: 1 to 7, 24, 8. On a map the first
@@ -376,10 +445,10 @@ impl Game {
     }
 
     /// The won map, worked out on the joined positions: what `won_map` gives, in a game of at most 32 states a graph.
-    pub fn joined_map(&self) -> Result<Vec<u64>, Error> {
-        let mut map = vec![0; self.input.states.min(STATES)];
+    pub fn joined_map(&self) -> Result<Vec<Set>, Error> {
+        let mut map = vec![0; SET_WORDS * self.input.states.min(STATES)];
         self.joined_map_into(&mut vec![0; JOINED_SCRATCH], &mut map)?;
-        Ok(map)
+        Ok(sets_in(&map))
     }
 
     /// What made a position won or lost: 1 to 7, 25 a position outside the game, 8.
@@ -439,9 +508,9 @@ impl Game {
         Ok(r.bytes)
     }
 
-    /// The game's text.
+    /// The game's text. One of over `TEXT_MOST` bytes is not read back.
     pub fn write(&self) -> Result<Vec<u8>, Error> {
-        let mut text = vec![0; 65_536];
+        let mut text = vec![0; 262_144];
         let bytes = self.write_into(&mut text)?;
         text.truncate(bytes);
         Ok(text)

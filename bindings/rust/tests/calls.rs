@@ -41,15 +41,15 @@ fn faulty() -> Vec<(u8, Game)> {
         all.push((number, g));
     };
     add(1, |g| g.input.states = 0);
-    add(1, |g| g.output.states = 65);
-    add(2, |g| g.input.moves[0] = 4);
-    add(2, |g| g.output.initial = 4);
-    add(2, |g| g.output.moves[63] = 1);
-    add(3, |g| g.input.initial = 0);
+    add(1, |g| g.output.states = 129);
+    add(2, |g| g.input.moves[0] = Set::from_bits(4));
+    add(2, |g| g.output.initial = Set::from_bits(4));
+    add(2, |g| g.output.moves[127] = Set::from_bits(1));
+    add(3, |g| g.input.initial = Set::from_bits(0));
     add(5, |g| g.k = 9);
     add(6, |g| g.requirements[7].guaranteed = 5);
-    add(7, |g| g.requirements[0].assumptions[0] = InSet(4));
-    add(7, |g| g.requirements[0].guarantees[1] = OutSet(1));
+    add(7, |g| g.requirements[0].assumptions[0] = InSet(Set::from_bits(4)));
+    add(7, |g| g.requirements[0].guarantees[1] = OutSet(Set::from_bits(1)));
     add(7, |g| g.requirements[1].assumed = 1);
     add(1, |g| *g = Game::default());
     all
@@ -60,7 +60,7 @@ fn the_example() {
     let v = example().solve().unwrap();
     assert_eq!(v.winner, Winner::System);
     assert_eq!(v.table, [0, NONE, 1, 1, 1, 1]);
-    assert_eq!(example().won_map().unwrap(), [3, 3]);
+    assert_eq!(example().won_map().unwrap(), [Set::from_bits(3); 2]);
     assert_eq!(example().accept(), Ok(()));
 }
 
@@ -73,7 +73,7 @@ fn wins_of_the_environment() {
     let v = early().solve().unwrap();
     assert_eq!((v.winner, v.table.len()), (Winner::Environment, 1 + 4 * 2 * 3));
     assert_eq!(v.table[0], 0);
-    assert_eq!(early().won_map().unwrap()[0], 0);
+    assert_eq!(early().won_map().unwrap()[0], Set::default());
 }
 
 #[test]
@@ -83,7 +83,7 @@ fn wins_of_the_system() {
     let v = single(&[requirement(&[&[]], &[&[]])]).solve().unwrap();
     assert_eq!(v.winner, Winner::System);
     let mut g = early();
-    g.output.moves[0] = 7;
+    g.output.moves[0] = Set::from_bits(7);
     assert_eq!(g.solve().unwrap().winner, Winner::System);
 }
 
@@ -99,7 +99,7 @@ fn rows_of_case_8() {
     assert_eq!((v.winner, v.table.len()), (Winner::System, 3 + 3 * 3 * 3));
     let row = |o: usize, c: usize, j: usize| {
         let e = v.table[3 + (o * 3 + c) * 3 + j];
-        (e % 64, e / 64)
+        (e % 128, e / 128)
     };
     assert_eq!(row(0, 0, 1), (1, 0));
     assert_eq!(row(1, 0, 1), (0, 1));
@@ -111,8 +111,8 @@ fn rows_of_case_8() {
 #[test]
 fn faulty_games_are_refused_by_every_entry() {
     for (number, g) in faulty() {
-        let mut scratch = vec![7u64; 600];
-        let mut map = vec![8u64; 70];
+        let mut scratch = vec![7u64; 800];
+        let mut map = vec![8u64; 260];
         let mut controller = vec![9u16; 200];
         let mut environment = vec![10u16; 200];
         let mut text = vec![11u8; 300];
@@ -137,16 +137,16 @@ fn faulty_games_are_refused_by_every_entry() {
 fn short_buffers_are_refused() {
     let g = example();
     let mut scratch = vec![7u64; g.scratch_words()];
-    let mut map = vec![8u64; 2];
+    let mut map = vec![8u64; 4];
     let mut controller = vec![9u16; 6];
     let mut environment = vec![10u16; 5];
-    let calls: [(u8, usize, usize, usize); 5] = [(8, 5, 6, 5), (8, 5, 0, 0), (9, 6, 5, 5), (9, 6, 5, 4), (10, 6, 6, 4)];
+    let calls: [(u8, usize, usize, usize); 5] = [(8, 11, 6, 5), (8, 11, 0, 0), (9, 12, 5, 5), (9, 12, 5, 4), (10, 12, 6, 4)];
     for (number, s, c, e) in calls {
         let r = g.solve_into(&mut scratch[..s], &mut controller[..c], &mut environment[..e]);
         assert_eq!(r, Err(refused(number)));
     }
-    assert_eq!(g.won_map_into(&mut scratch[..5], &mut map), Err(refused(8)));
-    assert_eq!(g.won_map_into(&mut scratch, &mut map[..1]), Err(refused(8)));
+    assert_eq!(g.won_map_into(&mut scratch[..11], &mut map), Err(refused(8)));
+    assert_eq!(g.won_map_into(&mut scratch, &mut map[..3]), Err(refused(8)));
     assert_eq!(g.won_map_into(&mut [], &mut []), Err(refused(8)));
     let mut text = vec![11u8; TEXT.len()];
     assert_eq!(g.write_into(&mut text[..TEXT.len() - 1]), Err(refused(13)));
@@ -164,17 +164,17 @@ fn short_buffers_are_refused() {
 fn the_rest_of_the_buffers_stays() {
     let g = example();
     let mut scratch = vec![7u64; 600];
-    let mut map = vec![8u64; 4];
+    let mut map = vec![8u64; 6];
     let mut controller = vec![9u16; 20];
     let mut environment = vec![10u16; 20];
     let mut text = vec![11u8; 200];
     assert_eq!(g.won_map_into(&mut scratch, &mut map), Ok(()));
-    assert_eq!(map, [3, 3, 8, 8]);
-    assert!(scratch[..6].iter().all(|&x| x == 0) && scratch[6..].iter().all(|&x| x == 7));
+    assert_eq!(map, [3, 0, 3, 0, 8, 8]);
+    assert!(scratch[..12].iter().all(|&x| x == 0) && scratch[12..].iter().all(|&x| x == 7));
     assert_eq!(g.solve_into(&mut scratch, &mut controller, &mut environment), Ok((Winner::System, 6)));
     assert_eq!(controller[..6], [0, NONE, 1, 1, 1, 1]);
     assert!(controller[6..].iter().all(|&x| x == 9) && environment.iter().all(|&x| x == 10));
-    assert!(scratch[..6].iter().all(|&x| x == 0) && scratch[6..].iter().all(|&x| x == 7));
+    assert!(scratch[..12].iter().all(|&x| x == 0) && scratch[12..].iter().all(|&x| x == 7));
     assert_eq!(g.write_into(&mut text), Ok(TEXT.len()));
     assert!(text.starts_with(TEXT) && text[TEXT.len()..].iter().all(|&x| x == 11));
     let g = single(&[requirement(&[&[0]], &[&[]])]);
@@ -256,7 +256,7 @@ fn a_players_refusals() {
     assert_eq!(g.begin(&table, InState(1)), Err(refused(14)));
     assert_eq!(g.begin(&table, InState(usize::MAX)), Err(refused(14)));
     // a start of none, of a counter out of range, of an output that is not initial
-    for entry in [NONE, 64, 1] {
+    for entry in [NONE, 128, 1] {
         let mut other = table.clone();
         other[0] = entry;
         assert_eq!(g.begin(&other, InState(0)), Err(refused(15)));
@@ -270,7 +270,7 @@ fn a_players_refusals() {
         (14, table.clone(), here, 2),
     ];
     // row (1, 0, 0): none, a counter out of range, an output that is no move
-    for entry in [NONE, 64, 2] {
+    for entry in [NONE, 128, 2] {
         let mut other = table.clone();
         other[4] = entry;
         cases.push((15, other, here, 0));
@@ -336,21 +336,24 @@ fn a_long_run() {
 
 #[test]
 fn the_largest_game() {
-    let all: Vec<usize> = (0..64).collect();
-    let rows = vec![&all[..]; 64];
-    let q: Requirement = requirement(&[&[0], &[1], &[2], &[3]], &[&[60], &[61], &[62], &[63]]);
+    let all: Vec<usize> = (0..128).collect();
+    let rows = vec![&all[..]; 128];
+    let q: Requirement = requirement(&[&[0], &[1], &[2], &[3]], &[&[124], &[125], &[126], &[127]]);
     let g = made(graph(&all, &rows), graph(&all, &rows), &[q; 8]);
     let v = g.solve().unwrap();
     assert_eq!((v.winner, v.table.len()), (Winner::System, CONTROLLER_MOST));
-    assert_eq!(g.won_map().unwrap(), vec![u64::MAX; 64]);
-    assert_eq!(Game::read(&g.write().unwrap()), Ok(g));
+    assert_eq!(g.won_map().unwrap(), vec![Set::from_bits(u128::MAX); 128]);
+    // its text is written, and is longer than what is read
+    let text = g.write().unwrap();
+    assert!(text.len() > TEXT_MOST);
+    assert_eq!(Game::read(&text), Err(refused(12)));
     let mut short = vec![0; CONTROLLER_MOST - 1];
     let r = g.solve_into(&mut [0; SCRATCH_MOST], &mut short, &mut vec![0; ENVIRONMENT_MOST]);
     assert_eq!(r, Err(refused(9)));
-    // one word of scratch under 2 × inputs + outputs gets 8; that many pass, are zero afterwards, and no word past them is
+    // one word of scratch under 2 × (2 × inputs + outputs) gets 8; that many pass, are zero afterwards, and no word past them is
     assert_eq!(g.scratch_words(), SCRATCH_MOST);
     let mut scratch = [7; SCRATCH_MOST + 1];
-    let (mut controller, mut environment, mut map) = (vec![0; CONTROLLER_MOST], vec![0; ENVIRONMENT_MOST], [0; 64]);
+    let (mut controller, mut environment, mut map) = (vec![0; CONTROLLER_MOST], vec![0; ENVIRONMENT_MOST], [0; SET_WORDS * 128]);
     assert_eq!(g.solve_into(&mut scratch[..SCRATCH_MOST - 1], &mut controller, &mut environment), Err(refused(8)));
     assert_eq!(g.won_map_into(&mut scratch[..SCRATCH_MOST - 1], &mut map), Err(refused(8)));
     assert_eq!(scratch, [7; SCRATCH_MOST + 1]);
@@ -372,10 +375,10 @@ fn scratch_of_every_small_size() {
                 graph(&[0], &rows)
             };
             let g = made(turning(inputs), turning(outputs), &[requirement(&[&[0]], &[&[0]])]);
-            let n = 2 * inputs + outputs;
+            let n = SET_WORDS * (2 * inputs + outputs);
             assert_eq!(g.scratch_words(), n);
             let mut scratch = vec![7; n + 3];
-            let (mut controller, mut environment, mut map) = (vec![0; 100], vec![0; 100], [0; 10]);
+            let (mut controller, mut environment, mut map) = (vec![0; 100], vec![0; 100], [0; 20]);
             assert_eq!(g.solve_into(&mut scratch[..n - 1], &mut controller, &mut environment), Err(refused(8)));
             assert_eq!(g.won_map_into(&mut scratch[..n - 1], &mut map), Err(refused(8)));
             assert!(scratch.iter().all(|&x| x == 7));

@@ -255,7 +255,7 @@ fn games_at_random() {
                 let got = game.explain(InState(i), OutState(o)).unwrap();
                 assert_eq!(got, fit[0], "game {turn}, input {i}, output {o}");
                 assert_eq!(got.is_won(), model.won[i][o]);
-                assert_eq!(got.is_won(), map[i] >> o & 1 == 1);
+                assert_eq!(got.is_won(), map[i].has(o));
                 given[place(got)] += 1;
                 several += usize::from(fit.len() > 1);
             }
@@ -268,19 +268,19 @@ fn games_at_random() {
 #[test]
 fn refusals_in_order() {
     let game = eight();
-    let words = 2 * 4 + 5;
+    let words = SET_WORDS * (2 * 4 + 5);
     let refused = |number| Err(Error { number, place: 0 });
-    let mut scratch = [7; 16];
+    let mut scratch = [7; 29];
     let mut no_initial = game;
-    no_initial.output.initial = 0;
+    no_initial.output.initial = Set::from_bits(0);
     assert_eq!(no_initial.explain_into(&mut [], InState(4), OutState(5)), refused(3));
     assert_eq!(game.explain_into(&mut scratch[..words - 1], InState(4), OutState(0)), refused(25));
     assert_eq!(game.explain_into(&mut scratch[..words - 1], InState(0), OutState(5)), refused(25));
     assert_eq!(game.explain_into(&mut scratch, InState(usize::MAX), OutState(0)), refused(25));
     assert_eq!(game.explain_into(&mut scratch[..words - 1], InState(3), OutState(4)), refused(8));
-    assert_eq!(scratch, [7; 16]);
+    assert_eq!(scratch, [7; 29]);
     assert_eq!(game.explain_into(&mut scratch, InState(3), OutState(4)), Ok(ByWayOut(InState(2))));
-    assert_eq!(scratch[..words], [0; 13]);
+    assert_eq!(scratch[..words], [0; 26]);
     assert_eq!(scratch[words..], [7; 3]);
 }
 

@@ -13,16 +13,16 @@ impl Draw {
     }
 
     // Up to `size` of n states.
-    fn states(&mut self, n: usize, size: usize) -> u64 {
-        (0..self.below(size + 1)).fold(0, |x, _| x | 1 << self.below(n))
+    fn states(&mut self, n: usize, size: usize) -> Set {
+        (0..self.below(size + 1)).fold(Set::default(), |x, _| x | Set::of(self.below(n)))
     }
 
     // From `least` moves on a state; with 0 there are dead ends.
     fn any(&mut self, n: usize, least: usize, degree: usize) -> Graph {
-        let mut g = Graph { states: n, initial: 1, ..Graph::default() };
+        let mut g = Graph { states: n, initial: Set::of(0), ..Graph::default() };
         for s in 0..n {
             for _ in 0..least + self.below(degree + 1) {
-                g.moves[s] |= 1 << self.below(n);
+                g.moves[s] |= Set::of(self.below(n));
             }
         }
         g
@@ -34,27 +34,27 @@ impl Draw {
         for k in (1..n).rev() {
             order.swap(k, self.below(k + 1));
         }
-        let mut g = Graph { states: n, initial: 1, ..Graph::default() };
+        let mut g = Graph { states: n, initial: Set::of(0), ..Graph::default() };
         for k in 0..n {
-            g.moves[order[k]] |= 1 << order[(k + 1) % n];
+            g.moves[order[k]] |= Set::of(order[(k + 1) % n]);
         }
         for _ in 0..more {
-            g.moves[self.below(n)] |= 1 << self.below(n);
+            g.moves[self.below(n)] |= Set::of(self.below(n));
         }
         g
     }
 
     // Moves to higher states alone, and to the state itself where `stay`.
     fn forward(&mut self, n: usize, degree: usize, stay: bool) -> Graph {
-        let mut g = Graph { states: n, initial: 1, ..Graph::default() };
+        let mut g = Graph { states: n, initial: Set::of(0), ..Graph::default() };
         for s in 0..n {
             for _ in 0..self.below(degree + 1) {
                 if s + 1 < n {
-                    g.moves[s] |= 1 << (s + 1 + self.below(n - s - 1));
+                    g.moves[s] |= Set::of(s + 1 + self.below(n - s - 1));
                 }
             }
             if stay && self.below(2) > 0 {
-                g.moves[s] |= 1 << s;
+                g.moves[s] |= Set::of(s);
             }
         }
         g
@@ -62,14 +62,14 @@ impl Draw {
 
     // Rings of lengths that divide n, next to each other, with moves from one to a later one: components with periods of their own.
     fn rings(&mut self, n: usize) -> Graph {
-        let mut g = Graph { states: n, initial: 1, ..Graph::default() };
+        let mut g = Graph { states: n, initial: Set::of(0), ..Graph::default() };
         let mut from = 0;
         while from < n {
             let length = 1 + self.below((n - from).min(6));
             for k in 0..length {
-                g.moves[from + k] |= 1 << (from + (k + 1) % length);
+                g.moves[from + k] |= Set::of(from + (k + 1) % length);
                 if from + length < n && self.below(3) == 0 {
-                    g.moves[from + k] |= 1 << (from + length + self.below(n - from - length));
+                    g.moves[from + k] |= Set::of(from + length + self.below(n - from - length));
                 }
             }
             from += length;
@@ -110,12 +110,13 @@ impl Draw {
 fn compared(g: &Game) -> u32 {
     let n = g.input.states;
     let mut scratch = vec![u64::MAX; JOINED_SCRATCH + 3];
-    let mut map = vec![5; n + 2];
+    let mut map = vec![5; SET_WORDS * n + 2];
     g.joined_map_into(&mut scratch, &mut map).unwrap();
-    assert_eq!(map[..n], g.won_map().unwrap()[..], "{g:?}");
-    assert_eq!(map[n..], [5, 5]);
+    let words: Vec<u64> = g.won_map().unwrap().iter().flat_map(|x| [x.low, x.high]).collect();
+    assert_eq!(map[..SET_WORDS * n], words, "{g:?}");
+    assert_eq!(map[SET_WORDS * n..], [5, 5]);
     assert!(scratch[..JOINED_SCRATCH].iter().all(|&w| w == 0) && scratch[JOINED_SCRATCH..] == [u64::MAX; 3]);
-    map[..n].iter().map(|w| w.count_ones()).sum()
+    map[..SET_WORDS * n].iter().map(|w| w.count_ones()).sum()
 }
 
 // Compares games and sees that of all their positions some are won and some are not.
@@ -139,8 +140,8 @@ fn fork(first: &[usize]) -> Game {
 
 #[test]
 fn cases_6_and_7() {
-    assert_eq!(fork(&[1, 2]).joined_map().unwrap(), [0b000, 0b001, 0b011, 0b101]);
-    assert_eq!(fork(&[0, 1, 2]).joined_map().unwrap(), [0b001, 0b001, 0b011, 0b101]);
+    assert_eq!(fork(&[1, 2]).joined_map().unwrap(), [0b000, 0b001, 0b011, 0b101].map(Set::from_bits));
+    assert_eq!(fork(&[0, 1, 2]).joined_map().unwrap(), [0b001, 0b001, 0b011, 0b101].map(Set::from_bits));
 }
 
 #[test]
@@ -174,18 +175,18 @@ fn rings_of_all_lengths() {
 fn equal_rings_are_not_one_component() {
     // Two rings of two in step: the requirement is judged on both phases, which are components of their own, and both are won or lost alike.
     let ring = || graph(&[0], &[&[1], &[0]]);
-    assert_eq!(made(ring(), ring(), &[requirement(&[&[0]], &[&[1]])]).joined_map().unwrap(), [3, 3]);
-    assert_eq!(made(ring(), ring(), &[requirement(&[&[0]], &[&[]])]).joined_map().unwrap(), [0, 0]);
+    assert_eq!(made(ring(), ring(), &[requirement(&[&[0]], &[&[1]])]).joined_map().unwrap(), [3, 3].map(Set::from_bits));
+    assert_eq!(made(ring(), ring(), &[requirement(&[&[0]], &[&[]])]).joined_map().unwrap(), [0, 0].map(Set::from_bits));
 }
 
 #[test]
 fn dead_ends_on_both_sides() {
     // Input 1 is stuck, output 1 is stuck: (0, 0) moves on, (1, any) is won, (0, 1) is lost.
     let g = made(graph(&[0], &[&[0, 1], &[]]), graph(&[0], &[&[0, 1], &[]]), &[]);
-    assert_eq!(g.joined_map().unwrap(), [1, 3]);
+    assert_eq!(g.joined_map().unwrap(), [1, 3].map(Set::from_bits));
     // A lone position that is no play's end is judged by its replies alone: from (0, 0) the play must enter (1, 0), where a requirement fails.
     let g = made(graph(&[0], &[&[1], &[1]]), graph(&[0], &[&[0]]), &[requirement(&[], &[&[]])]);
-    assert_eq!(g.joined_map().unwrap(), [0, 0]);
+    assert_eq!(g.joined_map().unwrap(), [0, 0].map(Set::from_bits));
 }
 
 #[test]
@@ -195,16 +196,16 @@ fn refusals() {
     let mut many = wide(33, 1);
     many.k = 9;
     let mut wider = many;
-    wider.output.states = 65;
+    wider.output.states = 129;
     let long = JOINED_SCRATCH;
     for (number, g, words, rows) in [
-        (24, wide(33, 1), long, 33),
-        (24, wide(1, 33), long, 1),
-        (24, wide(64, 64), 0, 0),
+        (24, wide(33, 1), long, 66),
+        (24, wide(1, 33), long, 2),
+        (24, wide(128, 128), 0, 0),
         (5, many, 0, 0),
         (1, wider, 0, 0),
-        (8, fine, long - 1, 4),
-        (8, fine, long, 3),
+        (8, fine, long - 1, 8),
+        (8, fine, long, 7),
         (8, fine, 0, 0),
     ] {
         let mut scratch = vec![9; words];

@@ -26,7 +26,7 @@ fn pump() -> Kit {
 }
 
 // Words of scratch of that kit, and lengths of its tables: five guarantees, four assumptions.
-const SCRATCH: usize = 2 * 4 + 6;
+const SCRATCH: usize = SET_WORDS * (2 * 4 + 6);
 const CONTROLLER: usize = 4 + 6 * 5 * 4;
 const ENVIRONMENT: usize = 1 + 4 * 4 * 6;
 const KIT: usize = 4 + 6 * 5 * 4 * 4;
@@ -34,7 +34,7 @@ const KIT: usize = 4 + 6 * 5 * 4 * 4;
 // The same kit with a requirement that nothing meets: parked, the new drive cannot stop.
 fn hopeless() -> Kit {
     let mut kit = pump();
-    kit.requirements[0].guarantees[0] = OutSet(1 << 5);
+    kit.requirements[0].guarantees[0] = OutSet(Set::from_bits(1 << 5));
     kit
 }
 
@@ -52,7 +52,7 @@ fn graph(d: &Drive) -> Graph {
     let mut g = Graph { states: d.modes, initial: d.initial, ..Graph::default() };
     for m in 0..d.modes {
         for u in 0..d.commands {
-            g.moves[m] |= next(d, m, u).map_or(0, |to| 1 << to);
+            g.moves[m] |= next(d, m, u).map_or(Set::default(), Set::of);
         }
     }
     g
@@ -78,9 +78,9 @@ fn kit_table(kit: &Kit, controller: &[u16]) -> Vec<u16> {
                     table.push(match row {
                         NONE => NONE,
                         row => {
-                            let to = Some(row as usize % 64);
+                            let to = Some(row as usize % 128);
                             let lowest = (0..kit.new.commands).find(|&v| next(&kit.new, o, v) == to).expect("the controller's move");
-                            lowest as u16 + 16 * (row / 64)
+                            lowest as u16 + 16 * (row / 128)
                         }
                     });
                 }
@@ -97,7 +97,7 @@ type At = (usize, usize, usize);
 fn first(table: &[u16], i: usize) -> At {
     let start = table[i];
     assert_ne!(start, NONE, "a start for old mode {i}");
-    (i, start as usize % 64, start as usize / 64)
+    (i, start as usize % 128, start as usize / 128)
 }
 
 // The turn that the kit's table makes of an old command that is allowed. Every answer is a command that the new drive allows.
@@ -111,9 +111,10 @@ fn turn(kit: &Kit, table: &[u16], (i, o, c): At, u: usize) -> At {
 }
 
 // Whether the requirements in use are met where these are the modes that recur.
-fn met(kit: &Kit, old: u64, new: u64) -> bool {
+fn met(kit: &Kit, old: Set, new: Set) -> bool {
+    let none = Set::default();
     kit.requirements[..kit.k].iter().all(|q| {
-        !q.assumptions[..q.assumed].iter().all(|a| a.0 & old != 0) || q.guarantees[..q.guaranteed].iter().all(|g| g.0 & new != 0)
+        !q.assumptions[..q.assumed].iter().all(|a| a.0 & old != none) || q.guarantees[..q.guaranteed].iter().all(|g| g.0 & new != none)
     })
 }
 
@@ -121,13 +122,13 @@ fn met(kit: &Kit, old: u64, new: u64) -> bool {
 fn loops_met(kit: &Kit, run: &[At]) -> usize {
     let mut loops = 0;
     for (n, here) in run.iter().enumerate() {
-        let (mut old, mut new) = (0u64, 0u64);
+        let (mut old, mut new) = (Set::default(), Set::default());
         for there in &run[n + 1..] {
-            old |= 1 << there.0;
-            new |= 1 << there.1;
+            old |= Set::of(there.0);
+            new |= Set::of(there.1);
             if there == here {
                 loops += 1;
-                assert!(met(kit, old, new), "a loop through old modes {old:b} and new modes {new:b}: {kit:?}");
+                assert!(met(kit, old, new), "a loop through old modes {old:?} and new modes {new:?}: {kit:?}");
             }
         }
     }
@@ -136,7 +137,7 @@ fn loops_met(kit: &Kit, run: &[At]) -> usize {
 
 // Whether no closed loop that the panel can bring about goes through every assumption of a requirement and keeps off one of its guarantees.
 fn every_loop_met(kit: &Kit, table: &[u16]) -> bool {
-    let mut reached: Vec<At> = (0..kit.old.modes).filter(|i| kit.old.initial >> i & 1 != 0).map(|i| first(table, i)).collect();
+    let mut reached: Vec<At> = (0..kit.old.modes).filter(|&i| kit.old.initial.has(i)).map(|i| first(table, i)).collect();
     let mut moves: Vec<Vec<usize>> = Vec::new();
     while let Some(&at) = reached.get(moves.len()) {
         let mut row = Vec::new();
@@ -156,7 +157,7 @@ fn every_loop_met(kit: &Kit, table: &[u16]) -> bool {
             let (mut there, mut ways) = (vec![false; reached.len()], vec![n]);
             while let Some(n) = ways.pop() {
                 for &m in &moves[n] {
-                    if g.0 >> reached[m].1 & 1 == 0 && !there[m] {
+                    if !g.0.has(reached[m].1) && !there[m] {
                         there[m] = true;
                         ways.push(m);
                     }
@@ -167,7 +168,7 @@ fn every_loop_met(kit: &Kit, table: &[u16]) -> bool {
         let from: Vec<Vec<bool>> = all.clone().map(come_to).collect();
         all.clone().any(|n| {
             let round = |m: usize| from[n][m] && from[m][n];
-            round(n) && q.assumptions[..q.assumed].iter().all(|a| all.clone().any(|m| round(m) && a.0 >> reached[m].0 & 1 != 0))
+            round(n) && q.assumptions[..q.assumed].iter().all(|a| all.clone().any(|m| round(m) && a.0.has(reached[m].0)))
         })
     };
     !kit.requirements[..kit.k].iter().any(|q| q.guarantees[..q.guaranteed].iter().any(|g| broken(q, g)))
@@ -191,14 +192,14 @@ impl Draw {
         }
     }
 
-    fn states(&mut self, n: usize) -> u64 {
-        self.below(1 << n) as u64
+    fn states(&mut self, n: usize) -> Set {
+        Set::from_bits(self.below(1 << n) as u128)
     }
 
     // 1 to 6 modes and 1 to 4 commands, of which about half are barred; in each mode some command is allowed, and some mode is initial.
     fn drive(&mut self) -> Drive {
         let (modes, commands) = (1 + self.below(6), 1 + self.below(4));
-        let mut d = Drive { modes, initial: self.states(modes) | 1 << self.below(modes), commands, ..Drive::default() };
+        let mut d = Drive { modes, initial: self.states(modes) | Set::of(self.below(modes)), commands, ..Drive::default() };
         for m in 0..modes {
             for u in 0..commands {
                 if self.below(2) > 0 {
@@ -253,7 +254,7 @@ impl Rooms {
 #[test]
 fn drives() {
     let d = pump().old;
-    assert_eq!((d.modes, d.initial, d.commands), (4, 1, 4));
+    assert_eq!((d.modes, d.initial, d.commands), (4, Set::of(0), 4));
     assert_eq!(d.next[..20], [0, 1, B, 3, B, B, B, B, B, B, B, B, B, B, B, B, 0, 1, 2, B]);
     assert!(d.next[64..].iter().all(|&x| x == B));
 }
@@ -335,7 +336,7 @@ fn drives_that_latch() {
     // the lowest move where the new drive is stuck, the counter as it was
     for (i, lowest) in [0, 0, 1, 3].into_iter().enumerate() {
         for h in 0..4 {
-            assert_eq!(r.environment[1 + (i * 4 + h) * 6 + 5], lowest + 64 * h as u16);
+            assert_eq!(r.environment[1 + (i * 4 + h) * 6 + 5], lowest + 128 * h as u16);
         }
     }
     kit.old.next[16 * 3..16 * 4].fill(BARRED);
@@ -355,19 +356,19 @@ type Change = fn(&mut Kit);
 fn faults() -> Vec<(u8, Change)> {
     vec![
         (1, |k| k.old.modes = 0),
-        (1, |k| k.new.modes = 65),
+        (1, |k| k.new.modes = 129),
         (17, |k| k.new.commands = 0),
         (17, |k| k.old.commands = 17),
         (18, |k| k.old.next[16 * 2] = 4),
         (18, |k| k.new.next[16 * 5 + 4] = 254),
         (18, |k| k.old.next[4] = 0),
-        (18, |k| k.new.next[16 * 63 + 15] = 0),
-        (2, |k| k.old.initial |= 1 << 4),
-        (3, |k| k.new.initial = 0),
+        (18, |k| k.new.next[16 * 127 + 15] = 0),
+        (2, |k| k.old.initial |= Set::of(4)),
+        (3, |k| k.new.initial = Set::from_bits(0)),
         (5, |k| k.k = 9),
         (6, |k| k.requirements[7].guaranteed = 5),
-        (7, |k| k.requirements[0].guarantees[0] = OutSet(1 << 6)),
-        (7, |k| k.requirements[1].assumptions[1] = InSet(1)),
+        (7, |k| k.requirements[0].guarantees[0] = OutSet(Set::from_bits(1 << 6))),
+        (7, |k| k.requirements[1].assumptions[1] = InSet(Set::from_bits(1))),
         (7, |k| k.requirements[5].assumed = 1),
     ]
 }
@@ -437,11 +438,11 @@ fn faulty_kits_at_random() {
         for _ in 0..draw.below(4) {
             let d = if draw.below(2) == 0 { &mut kit.old } else { &mut kit.new };
             match draw.below(8) {
-                0 => d.modes = [0, d.modes + 1, 64, 65][draw.below(4)],
+                0 => d.modes = [0, d.modes + 1, 128, 129][draw.below(4)],
                 1 => d.commands = [0, d.commands + 1, 16, 17][draw.below(4)],
                 2 => d.next[draw.below(96)] = draw.below(8) as u8,
-                3 => d.next[draw.below(1_024)] = [0, 64, 254, 255][draw.below(4)],
-                4 => d.initial = [0, 1 << draw.below(64)][draw.below(2)],
+                3 => d.next[draw.below(2_048)] = [0, 128, 254, 255][draw.below(4)],
+                4 => d.initial = [Set::default(), Set::of(draw.below(128))][draw.below(2)],
                 5 => d.next[16 * draw.below(6)..][..4].fill(BARRED),
                 6 => kit.k = draw.below(10),
                 _ => kit.requirements[draw.below(8)].assumed = draw.below(6),
@@ -449,11 +450,11 @@ fn faulty_kits_at_random() {
         }
         let both = [kit.old, kit.new];
         let unfit = |d: &Drive| {
-            (0..64).any(|m| {
+            (0..128).any(|m| {
                 (0..16).any(|u| next(d, m, u).is_some_and(|to| m >= d.modes || u >= d.commands || to >= d.modes))
             })
         };
-        let wanted = if both.iter().any(|d| !(1..=64).contains(&d.modes)) {
+        let wanted = if both.iter().any(|d| !(1..=128).contains(&d.modes)) {
             Err(refused(1))
         } else if both.iter().any(|d| !(1..=16).contains(&d.commands)) {
             Err(refused(17))
@@ -504,9 +505,9 @@ fn kits_at_random() {
         assert_eq!(said, (Winner::System, table.len()));
         assert_eq!(r.room[..table.len()], table);
         assert!(r.room[table.len()..].iter().all(|&x| x == 11));
-        let begin = (0..).filter(|i| kit.old.initial >> i & 1 != 0).nth(draw.below(kit.old.initial.count_ones() as usize)).unwrap();
+        let begin = kit.old.initial.states().nth(draw.below(kit.old.initial.count())).unwrap();
         let mut run = vec![first(&table, begin)];
-        assert!(kit.new.initial >> run[0].1 & 1 != 0 && run[0].2 < counters(&kit));
+        assert!(kit.new.initial.has(run[0].1) && run[0].2 < counters(&kit));
         for n in 0..2_000 {
             let at = run[n];
             let u = draw.command(&kit.old, at.0);
@@ -521,10 +522,10 @@ fn kits_at_random() {
 #[test]
 fn the_largest_kit() {
     // command u leads from mode m to mode 16 m + u, counted round: two commands lead anywhere
-    let rows: Vec<Vec<u8>> = (0..64).map(|m| (0..16).map(|u| ((16 * m + u) % 64) as u8).collect()).collect();
+    let rows: Vec<Vec<u8>> = (0..128).map(|m| (0..16).map(|u| ((16 * m + u) % 128) as u8).collect()).collect();
     let rows: Vec<&[u8]> = rows.iter().map(|row| &row[..]).collect();
     let d = drive(&[0], &rows);
-    let q = requirement(&[&[0], &[1], &[2], &[3]], &[&[60], &[61], &[62], &[63]]);
+    let q = requirement(&[&[0], &[1], &[2], &[3]], &[&[124], &[125], &[126], &[127]]);
     let kit = made_kit(d, d, &[q; 8]);
     let v = kit.solve().unwrap();
     assert_eq!((v.winner, v.table.len()), (Winner::System, KIT_MOST));

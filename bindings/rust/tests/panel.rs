@@ -36,8 +36,8 @@ fn entries(g: &Game) -> usize {
     1 + g.input.states * counters(g) * g.output.states
 }
 
-fn has(set: u64, state: usize) -> bool {
-    state < 64 && set >> state & 1 != 0
+fn has(set: Set, state: usize) -> bool {
+    set.has(state)
 }
 
 // The number of a test that fails, of two in this order.
@@ -52,7 +52,7 @@ fn panel_move(g: &Game, table: &[u16], from: Option<Position>) -> Result<PanelMo
         return Err(refused(16));
     }
     let entry = table[from.map_or(0, row)];
-    let (input, counter) = (entry as usize % 64, entry as usize / 64);
+    let (input, counter) = (entry as usize % 128, entry as usize / 128);
     let allowed = from.map_or(g.input.initial, |p| g.input.moves[p.input.0]);
     if entry == NONE || counter >= counters(g) || !has(allowed, input) {
         return Err(refused(15));
@@ -126,7 +126,7 @@ fn a_stuck_output_has_no_reply() {
 fn refusals_in_order() {
     let g = early();
     let table = g.solve().unwrap().table;
-    let (here, gone, wrong) = (at(1, 1, 0), at(1, 3, 0), OutState(64));
+    let (here, gone, wrong) = (at(1, 1, 0), at(1, 3, 0), OutState(128));
     let none = vec![NONE; table.len()];
     let all = |g: &Game, table: &[u16], p: Position, first: OutState, next: OutState| {
         [
@@ -149,19 +149,19 @@ fn refusals_in_order() {
         assert_eq!(all(&g, short, here, first, next), [Err(refused(16)); 4]);
         assert_eq!(all(&g, short, here, wrong, wrong), [Err(refused(16)); 4]);
     }
-    for lacking in [gone, at(4, 1, 0), at(1, 1, 2), at(usize::MAX, usize::MAX, usize::MAX), at(64, 1, 0), at(1, 64, 0)] {
+    for lacking in [gone, at(4, 1, 0), at(1, 1, 2), at(usize::MAX, usize::MAX, usize::MAX), at(128, 1, 0), at(1, 128, 0)] {
         assert_eq!(all(&g, &table, lacking, first, next), [ok, ok, Err(refused(16)), Err(refused(16))]);
         assert_eq!(all(&g, &none, lacking, wrong, wrong), [15, 14, 16, 16].map(|n| Err(refused(n))));
     }
     // 1 to 7 before all of them
     for (number, change) in [
         (1, (|g| g.input.states = 0) as fn(&mut Game)),
-        (1, |g| g.output.states = 65),
-        (2, |g| g.input.moves[0] = 1 << 4),
-        (3, |g| g.output.initial = 0),
+        (1, |g| g.output.states = 129),
+        (2, |g| g.input.moves[0] = Set::from_bits(1 << 4)),
+        (3, |g| g.output.initial = Set::from_bits(0)),
         (5, |g| g.k = 9),
         (6, |g| g.requirements[7].guaranteed = 5),
-        (7, |g| g.requirements[0].assumptions[0] = InSet(1 << 4)),
+        (7, |g| g.requirements[0].assumptions[0] = InSet(Set::from_bits(1 << 4))),
     ] {
         let mut faulty = g;
         change(&mut faulty);
@@ -178,7 +178,7 @@ fn entries_that_count_as_none() {
     let table = g.solve().unwrap().table;
     let here = at(1, 1, 0);
     let row = 1 + counters(&g) * g.output.states + 1;
-    for entry in [1, 4, 63, 64 * counters(&g) as u16, 65_534, NONE] {
+    for entry in [1, 4, 127, 128 * counters(&g) as u16, 65_534, NONE] {
         let mut other = table.clone();
         other[0] = entry;
         assert_eq!(g.panel_first(&other), Err(refused(15)), "{entry}");
@@ -200,21 +200,21 @@ impl Draw {
         (self.0 >> 33) as usize % n
     }
 
-    fn of(&mut self, set: u64) -> Option<usize> {
-        let n = (set != 0).then(|| self.below(set.count_ones() as usize))?;
-        (0..64).filter(|&s| has(set, s)).nth(n)
+    fn of(&mut self, set: Set) -> Option<usize> {
+        let n = (set != Set::default()).then(|| self.below(set.count()))?;
+        set.states().nth(n)
     }
 
-    fn set(&mut self, states: usize) -> u64 {
-        self.below(1 << states) as u64
+    fn set(&mut self, states: usize) -> Set {
+        Set::from_bits(self.below(1 << states) as u128)
     }
 
     // 1 to 6 states; one in ten has no move.
     fn graph(&mut self) -> Graph {
         let states = 1 + self.below(6);
-        let mut g = Graph { states, initial: self.set(states) | 1 << self.below(states), ..Graph::default() };
+        let mut g = Graph { states, initial: self.set(states) | Set::of(self.below(states)), ..Graph::default() };
         for row in &mut g.moves[..states] {
-            *row = if self.below(10) == 0 { 0 } else { self.set(states) & self.set(states) | 1 << self.below(states) };
+            *row = if self.below(10) == 0 { Set::default() } else { self.set(states) & self.set(states) | Set::of(self.below(states)) };
         }
         g
     }
@@ -240,8 +240,8 @@ impl Draw {
         let entry = |k| match (self.below(10), self.of(allowed(k))) {
             (0, _) => self.below(65_536) as u16,
             (1, _) | (_, None) => NONE,
-            (2, Some(input)) => (input + 64 * self.below(counters + 1)) as u16,
-            (_, Some(input)) => (input + 64 * self.below(counters)) as u16,
+            (2, Some(input)) => (input + 128 * self.below(counters + 1)) as u16,
+            (_, Some(input)) => (input + 128 * self.below(counters)) as u16,
         };
         (0..entries(g)).map(entry).collect()
     }

@@ -45,11 +45,11 @@ fn pump() -> Game {
     )
 }
 
-// All 64 states, every move there.
+// All 128 states, every move there.
 fn full() -> Game {
-    let all: Vec<usize> = (0..64).collect();
-    let rows = vec![&all[..]; 64];
-    made(graph(&all, &rows), graph(&all, &rows), &[requirement(&[&[63]], &[&[63], &[40]])])
+    let all: Vec<usize> = (0..128).collect();
+    let rows = vec![&all[..]; 128];
+    made(graph(&all, &rows), graph(&all, &rows), &[requirement(&[&[127]], &[&[127], &[40]])])
 }
 
 fn refused(number: u8) -> Error {
@@ -93,7 +93,7 @@ fn each_reply_at_each_step() {
         // none, a counter out of range, an output that is no move or at the start not initial
         let entry = ENTRIES[n];
         let first = ENTRIES.iter().position(|&e| e == entry).unwrap();
-        for bad in [NONE, 64, if n == 0 { 1 } else { 65 }, 2, 63, 32_768 + n as u16] {
+        for bad in [NONE, 128, if n == 0 { 1 } else { 129 }, 2, 127, 32_768 + n as u16] {
             let table = changed(TABLE, entry, bad);
             assert_eq!(g.compare(&table, InRecording(&INS), OutRecording(&OUTS)), Ok(Fault { step: first, number: 15 }), "entry {bad}");
             assert_eq!(g.compare(&table, InRecording(&INS[..first]), OutRecording(&OUTS[..first])), Ok(Agree), "entry {bad} is not come to");
@@ -143,7 +143,7 @@ fn what_goes_before_what() {
     let mut g = g;
     let table = changed(TABLE, 3, NONE);
     assert_eq!(g.compare(&table, InRecording(&INS), OutRecording(&OUTS)), Ok(Fault { step: 1, number: 15 }));
-    g.input.moves[0] = 1;
+    g.input.moves[0] = Set::from_bits(1);
     assert_eq!(g.compare(&table, InRecording(&INS), OutRecording(&OUTS)), Ok(Fault { step: 1, number: 14 }));
 }
 
@@ -151,11 +151,11 @@ fn what_goes_before_what() {
 fn bytes_that_are_no_states_of_the_largest_graphs() {
     let g = Game { k: 0, requirements: Default::default(), ..full() };
     // the output is the input's number
-    let table: Vec<u16> = (0..64 + 64 * 64).map(|k| k % 64).collect();
-    let run: Vec<u8> = (0..130).map(|n| ((n * 37 + 63) % 64) as u8).collect();
+    let table: Vec<u16> = (0..128 + 128 * 128).map(|k| k % 128).collect();
+    let run: Vec<u8> = (0..258).map(|n| ((n * 37 + 127) % 128) as u8).collect();
     assert_eq!(g.compare(&table, InRecording(&run), OutRecording(&run)), Ok(Agree));
-    for n in [0, 1, 64, 129] {
-        for byte in 64..=255 {
+    for n in [0, 1, 128, 257] {
+        for byte in 128..=255 {
             let mut other = run.clone();
             other[n] = byte;
             assert_eq!(g.compare(&table, InRecording(&other), OutRecording(&run)), Ok(Fault { step: n, number: 14 }), "input {byte}");
@@ -174,12 +174,12 @@ fn refusals() {
         faulty.push((number, g));
     };
     add(1, |g| g.input.states = 0);
-    add(1, |g| g.output.states = 65);
-    add(2, |g| g.output.initial = 4);
-    add(3, |g| g.input.initial = 0);
+    add(1, |g| g.output.states = 129);
+    add(2, |g| g.output.initial = Set::from_bits(4));
+    add(3, |g| g.input.initial = Set::from_bits(0));
     add(5, |g| g.k = 9);
     add(6, |g| g.requirements[7].guaranteed = 5);
-    add(7, |g| g.requirements[0].assumptions[0] = InSet(4));
+    add(7, |g| g.requirements[0].assumptions[0] = InSet(Set::from_bits(4)));
     add(1, |g| *g = Game::default());
     let wrong = [255; 3];
     for (number, g) in faulty {
@@ -199,7 +199,7 @@ fn refusals() {
     }
     // a drive that latches is none: the row that has it go on is at fault
     let mut latched = g;
-    latched.output.moves[1] = 0;
+    latched.output.moves[1] = Set::from_bits(0);
     assert_eq!(latched.compare(&TABLE, InRecording(&INS), OutRecording(&OUTS)), Ok(Fault { step: 2, number: 15 }));
     // a panel's table, another game's
     assert_eq!(g.compare(&[0; 5], InRecording(&INS), OutRecording(&OUTS)), Err(refused(16)));
@@ -221,8 +221,8 @@ fn place(g: &Game, at: Option<At>, input: usize) -> usize {
     }
 }
 
-fn has(set: u64, state: usize) -> bool {
-    state < 64 && set >> state & 1 != 0
+fn has(set: Set, state: usize) -> bool {
+    set.has(state)
 }
 
 // What a controller's table makes of an input, by its definition.
@@ -231,7 +231,7 @@ fn turn(g: &Game, table: &[u16], at: Option<At>, input: usize) -> Result<At, u8>
         return Err(14);
     }
     let entry = table[place(g, at, input)];
-    let (output, counter) = (entry as usize % 64, entry as usize / 64);
+    let (output, counter) = (entry as usize % 128, entry as usize / 128);
     let to = at.map_or(g.output.initial, |(_, o, _)| g.output.moves[o]);
     if entry == NONE || counter >= counters(g) || !has(to, output) {
         return Err(15);
@@ -271,17 +271,17 @@ impl Draw {
         (self.0 >> 33) as usize % n
     }
 
-    fn of(&mut self, set: u64) -> usize {
-        let n = self.below(set.count_ones() as usize);
-        (0..64).filter(|&s| has(set, s)).nth(n).unwrap()
+    fn of(&mut self, set: Set) -> usize {
+        let n = self.below(set.count());
+        set.states().nth(n).unwrap()
     }
 
     // 1 to 6 states, of each move about half, and at least one.
     fn graph(&mut self) -> Graph {
         let states = 1 + self.below(6);
-        let mut g = Graph { states, initial: (self.below(1 << states) | 1 << self.below(states)) as u64, ..Graph::default() };
+        let mut g = Graph { states, initial: Set::from_bits((self.below(1 << states) | 1 << self.below(states)) as u128), ..Graph::default() };
         for row in &mut g.moves[..states] {
-            *row = (self.below(1 << states) | 1 << self.below(states)) as u64;
+            *row = Set::from_bits((self.below(1 << states) | 1 << self.below(states)) as u128);
         }
         g
     }
@@ -293,7 +293,7 @@ impl Draw {
         for q in &mut g.requirements[..g.k] {
             q.guaranteed = self.below(4);
             for set in &mut q.guarantees[..q.guaranteed] {
-                *set = OutSet(self.below(1 << output.states) as u64);
+                *set = OutSet(Set::from_bits(self.below(1 << output.states) as u128));
             }
         }
         g
@@ -312,7 +312,7 @@ impl Draw {
             table.push(match self.below(30) {
                 0 => self.below(65_536) as u16,
                 1 => NONE,
-                _ => (self.of(to) + 64 * self.below(counters)) as u16,
+                _ => (self.of(to) + 128 * self.below(counters)) as u16,
             });
         }
         table
@@ -337,7 +337,7 @@ impl Draw {
     }
 
     fn byte(&mut self) -> u8 {
-        [self.below(64), self.below(256), 64, 255][self.below(4)] as u8
+        [self.below(128), self.below(256), 128, 255][self.below(4)] as u8
     }
 
     // Something wrong with step n of the run, or of that length.
@@ -352,8 +352,8 @@ impl Draw {
             5 => run.outputs.truncate(n),
             6 => run.inputs.push(self.below(g.input.states) as u8),
             7 => run.outputs.push(self.below(states) as u8),
-            8 => table[run.places[n]] = [NONE, 64 * counters as u16, states as u16, self.below(65_536) as u16][self.below(4)],
-            _ => table[run.places[n]] = (self.below(states) + 64 * self.below(counters)) as u16,
+            8 => table[run.places[n]] = [NONE, 128 * counters as u16, states as u16, self.below(65_536) as u16][self.below(4)],
+            _ => table[run.places[n]] = (self.below(states) + 128 * self.below(counters)) as u16,
         }
     }
 }
@@ -464,7 +464,7 @@ fn a_long_recording() {
     let g = pump();
     let table = g.solve().unwrap().table;
     // service is never left: it is not picked
-    let picked = Game { input: Graph { moves: g.input.moves.map(|row| row & 7), ..g.input }, ..g };
+    let picked = Game { input: Graph { moves: g.input.moves.map(|row| row & Set::from_bits(7)), ..g.input }, ..g };
     let steps = 300_000;
     let mut run = Draw(9).run(&picked, &table, steps);
     assert_eq!(run.inputs.len(), steps);

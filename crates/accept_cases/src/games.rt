@@ -6,19 +6,20 @@ use game::OutSet;
 use game::Requirement;
 use sets::Set;
 ghost use Prim.Native.Nat.{_<_};
+ghost use Rattle.sets.specs.Words.{capacity};
 
-// The set that a word holds.
+// The set that a word holds, of states below 64.
 fn set(x: u64) -> Set {
-    Set { low: x }
+    Set { low: x, high: 0 }
 }
 
 // Every state moves to state 0, which is the initial one.
 fn graph(states: usize) -> Graph {
     let mut moves = [0u64; sets::ROW_WORDS];
     let mut s = 0;
-    while s < 64 {
+    while s < sets::CAPACITY {
         if s < states {
-            moves[s] = 1;
+            moves[2 * s] = 1;
         }
         s += 1;
     }
@@ -64,20 +65,42 @@ pub fn out_initial(mut g: Game, x: u64) -> Game {
     g
 }
 
+// State 0 and states from 64 on: those of a high word.
+fn with_high(x: u64) -> Set {
+    Set { low: 1, high: x }
+}
+
+pub fn out_initial_high(mut g: Game, x: u64) -> Game {
+    let mut h = g.output;
+    h.initial = with_high(x);
+    g.output = h;
+    g
+}
+
 pub fn in_row(mut g: Game, s: usize, x: u64) -> Game
-    requires { ⌜ s < 64 ⌝ }
+    requires { ⌜ s < capacity ⌝ }
 {
     let mut h = g.input;
-    h.moves[s] = x;
+    h.moves[2 * s] = x;
     g.input = h;
     g
 }
 
 pub fn out_row(mut g: Game, s: usize, x: u64) -> Game
-    requires { ⌜ s < 64 ⌝ }
+    requires { ⌜ s < capacity ⌝ }
 {
     let mut h = g.output;
-    h.moves[s] = x;
+    h.moves[2 * s] = x;
+    g.output = h;
+    g
+}
+
+// The high word of the moves from s.
+pub fn out_row_high(mut g: Game, s: usize, x: u64) -> Game
+    requires { ⌜ s < capacity ⌝ }
+{
+    let mut h = g.output;
+    h.moves[2 * s + 1] = x;
     g.output = h;
     g
 }

@@ -5,7 +5,9 @@ use games::in_initial;
 use games::in_row;
 use games::lengths;
 use games::out_initial;
+use games::out_initial_high;
 use games::out_row;
+use games::out_row_high;
 use games::plain;
 use games::used;
 use show::show;
@@ -17,8 +19,10 @@ mod show; // show.rt: the line of a case
 fn counts() {
     show(b"count 1 in both", plain(1, 1));
     show(b"count 64 in both", plain(64, 64));
-    show(b"count 65 in input", plain(65, 2));
-    show(b"count 65 in output", plain(2, 65));
+    show(b"count 65 in both", plain(65, 65));
+    show(b"count 128 in both", plain(128, 128));
+    show(b"count 129 in input", plain(129, 2));
+    show(b"count 129 in output", plain(2, 129));
     show(b"count 0 in input", plain(0, 2));
     show(b"count 0 in output", plain(2, 0));
 }
@@ -32,6 +36,18 @@ fn initials() {
         b"state 63 of 2 initial in output",
         out_initial(g, 0x8000_0000_0000_0001),
     );
+    show(
+        b"state 64 of 65 initial in output",
+        out_initial_high(plain(65, 65), 1),
+    );
+    show(
+        b"state 65 of 65 initial in output",
+        out_initial_high(plain(65, 65), 2),
+    );
+    show(
+        b"state 127 of 2 initial in output",
+        out_initial_high(g, 0x8000_0000_0000_0000),
+    );
     show(b"no initial state in input", in_initial(g, 0));
     show(b"no initial state in output", out_initial(g, 0));
 }
@@ -43,12 +59,28 @@ fn rows() {
     show(b"move past the count in output", out_row(g, 0, 4));
     show(b"row past the count in use in input", in_row(g, 2, 1));
     show(b"row 63 past the count in use in output", out_row(g, 63, 1));
+    show(
+        b"row 127 past the count in use in output",
+        out_row(g, 127, 1),
+    );
+    show(
+        b"move to state 127 of 128 in output",
+        out_row_high(plain(128, 128), 127, 0x8000_0000_0000_0000),
+    );
+    show(
+        b"move to state 127 of 127 in output",
+        out_row_high(plain(127, 127), 126, 0x8000_0000_0000_0000),
+    );
 }
 
 fn dead_ends() {
     let g = plain(64, 64);
     show(b"state 0 without a move in input", in_row(g, 0, 0));
     show(b"state 63 without a move in output", out_row(g, 63, 0));
+    show(
+        b"state 127 without a move in output",
+        out_row(plain(128, 128), 127, 0),
+    );
     show(b"row past the count without a move", plain(63, 63));
 }
 

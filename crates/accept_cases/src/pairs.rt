@@ -11,10 +11,10 @@ use crate::show::show;
 
 pub fn graphs() {
     let g = plain(2, 2);
-    show(b"1 in output and 2 in input", in_row(plain(2, 65), 0, 4));
+    show(b"1 in output and 2 in input", in_row(plain(2, 129), 0, 4));
     show(
         b"1 in input, no move in output",
-        out_row(plain(65, 2), 1, 0),
+        out_row(plain(129, 2), 1, 0),
     );
     show(
         b"2 in output and 3 in input",

@@ -15,7 +15,7 @@ ghost use Rattle.layout.specs.Rows.{Fits};
 ghost use Rattle.aiming.specs.Course.{Moving, Stayed, Aimed, Stretched};
 
 // The rows of the states of c where no set is to be visited: the preferred move inside c; the counter stays.
-pub fn stay(moves: &[u64; 64], room: &mut [u16], z: Layout, c: Set, over: Set)
+pub fn stay(moves: &[u64; sets::ROW_WORDS], room: &mut [u16], z: Layout, c: Set, over: Set)
     requires { ⌜ Fits z (length (now room)) × Moving (setsIn (now moves)) (z .states) (bitsOf c) ⌝ }
     ensures { λ r. ⌜ Stayed (setsIn (now (moves .entry))) z (bitsOf c) (bitsOf over) (now (room .entry)) (now (room .exit)) ⌝ }
 {
@@ -39,7 +39,7 @@ pub fn stay(moves: &[u64; 64], room: &mut [u16], z: Layout, c: Set, over: Set)
 // The rows of the states of c for the counters whose goal is a, the set x: the move inside c with the shortest way there. The counter goes on where
 // the move lands in x.
 pub fn aim(
-    moves: &[u64; 64],
+    moves: &[u64; sets::ROW_WORDS],
     room: &mut [u16],
     z: Layout,
     c: Set,
@@ -65,7 +65,7 @@ pub fn aim(
 
 // The same for the goals of q among the sets of t, one after the other.
 pub fn aim_some(
-    moves: &[u64; 64],
+    moves: &[u64; sets::ROW_WORDS],
     room: &mut [u16],
     z: Layout,
     c: Set,

@@ -42,9 +42,9 @@ pub two-digits : (v : ℕ) → v < 100 → length (decimal v) ≤ 2
 unfolding tens
 two-digits v h = digits-count 1 v h
 
-pub four-digits : (v : ℕ) → v < 10000 → length (decimal v) ≤ 4
+pub three-digits : (v : ℕ) → v < 1000 → length (decimal v) ≤ 3
 unfolding tens
-four-digits v h = digits-count 3 v h
+three-digits v h = digits-count 2 v h
 
 pub six-digits : (v : ℕ) → v < 1000000 → length (decimal v) ≤ 6
 unfolding tens
@@ -81,26 +81,27 @@ unfolding winsLine line bracket items gapText opening
 wins-pieces b = simp (append-assoc, append-nil)
 
 pub start-text : (i e : ℕ)
-    → opening 5 ++ ((decimal i ++ 32 ∷ []) ++ ((decimal (e % 64) ++ 41 ∷ []) ++ 10 ∷ [])) ≡ line (word 5 ∷ decimal i ∷ decimal (e % 64) ∷ [])
+    → opening 5 ++ ((decimal i ++ 32 ∷ []) ++ ((decimal (e % 128) ++ 41 ∷ []) ++ 10 ∷ [])) ≡ line (word 5 ∷ decimal i ∷ decimal (e % 128) ∷ [])
 unfolding line bracket items gapText opening
 start-text i e = simp (append-assoc, append-nil)
 
-pub start-pieces : (i e : ℕ) → (e ≡ 65535 → ⊥) → opening 5 ++ ((decimal i ++ 32 ∷ []) ++ ((decimal (e % 64) ++ 41 ∷ []) ++ 10 ∷ [])) ≡ startLine i e
+pub start-pieces : (i e : ℕ) → (e ≡ 65535 → ⊥) → opening 5 ++ ((decimal i ++ 32 ∷ []) ++ ((decimal (e % 128) ++ 41 ∷ []) ++ 10 ∷ [])) ≡ startLine i e
 unfolding startLine
 start-pieces i e h = start-text i e ∙ some-line e _ h
 
-pub environment-text : (e : ℕ) → opening 5 ++ ((decimal (e % 64) ++ 41 ∷ []) ++ 10 ∷ []) ≡ line (word 5 ∷ decimal (e % 64) ∷ [])
+pub environment-text : (e : ℕ) → opening 5 ++ ((decimal (e % 128) ++ 41 ∷ []) ++ 10 ∷ []) ≡ line (word 5 ∷ decimal (e % 128) ∷ [])
 unfolding line bracket items gapText opening
 environment-text e = simp (append-assoc, append-nil)
 
-pub environment-pieces : (e : ℕ) → (e ≡ 65535 → ⊥) → opening 5 ++ ((decimal (e % 64) ++ 41 ∷ []) ++ 10 ∷ []) ≡ environmentStart e
+pub environment-pieces : (e : ℕ) → (e ≡ 65535 → ⊥) → opening 5 ++ ((decimal (e % 128) ++ 41 ∷ []) ++ 10 ∷ []) ≡ environmentStart e
 unfolding environmentStart
 environment-pieces e h = environment-text e ∙ some-line e _ h
 
 pub row-pieces : (a g b e : ℕ)
     → opening 6
     ++ ((decimal a ++ 32 ∷ [])
-    ++ ((decimal g ++ 32 ∷ []) ++ ((decimal b ++ 32 ∷ []) ++ ((decimal (e % 64) ++ 32 ∷ []) ++ ((decimal (e / 64) ++ 41 ∷ []) ++ 10 ∷ []))))) ≡ rowLine a g b e
+    ++ ((decimal g ++ 32 ∷ []) ++ ((decimal b ++ 32 ∷ []) ++ ((decimal (e % 128) ++ 32 ∷ []) ++ ((decimal (e / 128) ++ 41 ∷ []) ++ 10 ∷ [])))))
+    ≡ rowLine a g b e
 unfolding rowLine line bracket items gapText opening
 row-pieces a g b e = simp (append-assoc, append-nil)
 
@@ -152,18 +153,18 @@ wins-short b =
 pub start-short : (i e : ℕ) → i < 18446744073709551616 → length (startLine i e) ≤ 160
 unfolding startLine
 start-short i e h =
-    let all = then-short (opened 5) (then-short (number i 32 h) (then-short (number (e % 64) 41 (omega arith)) ended)) .size in
+    let all = then-short (opened 5) (then-short (number i 32 h) (then-short (number (e % 128) 41 (omega arith)) ended)) .size in
     unless-short e 160 _ (omega (arith, all, ap length (start-text i e)))
 
 pub environment-short : (e : ℕ) → length (environmentStart e) ≤ 160
 unfolding environmentStart
 environment-short e =
-    let all = then-short (opened 5) (then-short (number (e % 64) 41 (omega arith)) ended) .size in
+    let all = then-short (opened 5) (then-short (number (e % 128) 41 (omega arith)) ended) .size in
     unless-short e 160 _ (omega (arith, all, ap length (environment-text e)))
 
 row-short : (a g b e : ℕ) → a < 18446744073709551616 → g < 18446744073709551616 → b < 18446744073709551616 → e < 65536 → length (rowLine a g b e) ≤ 160
 row-short a g b e p q s h =
-    let next = then-short (number (e % 64) 32 (omega arith)) (then-short (number (e / 64) 41 (omega arith)) ended) in
+    let next = then-short (number (e % 128) 32 (omega arith)) (then-short (number (e / 128) 41 (omega arith)) ended) in
     let all = then-short (opened 6) (then-short (number a 32 p) (then-short (number g 32 q) (then-short (number b 32 s) next))) .size in
     omega (arith, all, ap length (row-pieces a g b e))
 

@@ -31,15 +31,15 @@ winnerWord false = 9
 unfoldable pub winsLine : Bool → List ℕ
 winsLine b = line (word 4 ∷ word (winnerWord b) ∷ [])
 
--- "Entries are 16 bits: next state + 64 × next counter"
+-- "An entry becomes next state + 128 × next counter." (M-105)
 unfoldable pub startLine : ℕ → ℕ → List ℕ
-startLine i e = unlessNone e (line (word 5 ∷ decimal i ∷ decimal (e % 64) ∷ []))
+startLine i e = unlessNone e (line (word 5 ∷ decimal i ∷ decimal (e % 128) ∷ []))
 
 unfoldable pub environmentStart : ℕ → List ℕ
-environmentStart e = unlessNone e (line (word 5 ∷ decimal (e % 64) ∷ []))
+environmentStart e = unlessNone e (line (word 5 ∷ decimal (e % 128) ∷ []))
 
 unfoldable pub rowLine : ℕ → ℕ → ℕ → ℕ → List ℕ
-rowLine a g b e = line (word 6 ∷ decimal a ∷ decimal g ∷ decimal b ∷ decimal (e % 64) ∷ decimal (e / 64) ∷ [])
+rowLine a g b e = line (word 6 ∷ decimal a ∷ decimal g ∷ decimal b ∷ decimal (e % 128) ∷ decimal (e / 128) ∷ [])
 
 unfoldable pub stepLine : ℕ → ℕ → ℕ → ℕ → List ℕ
 stepLine c n r e = unlessNone e (rowLine (r / max 1 n / max 1 c) (r / max 1 n % max 1 c) (r % max 1 n) e)

@@ -58,7 +58,7 @@ pub fn put_start(buffer: &mut [u8], at: usize, input: usize, entry: u16) -> usiz
     let e = entry as usize;
     let a = put::put_opening(buffer, at, 5);
     let b = put::put_number_then(buffer, a, input, 32);
-    let c = put::put_number_then(buffer, b, e % 64, 41);
+    let c = put::put_number_then(buffer, b, e % 128, 41);
     put::put_byte(buffer, c, 10)
 }
 
@@ -72,7 +72,7 @@ pub fn put_environment_start(buffer: &mut [u8], at: usize, entry: u16) -> usize
     }
     let e = entry as usize;
     let a = put::put_opening(buffer, at, 5);
-    let b = put::put_number_then(buffer, a, e % 64, 41);
+    let b = put::put_number_then(buffer, a, e % 128, 41);
     put::put_byte(buffer, b, 10)
 }
 
@@ -86,8 +86,8 @@ fn put_row(buffer: &mut [u8], at: usize, a: usize, g: usize, b: usize, entry: u1
     let n = put::put_number_then(buffer, m, a, 32);
     let o = put::put_number_then(buffer, n, g, 32);
     let p = put::put_number_then(buffer, o, b, 32);
-    let q = put::put_number_then(buffer, p, e % 64, 32);
-    let r = put::put_number_then(buffer, q, e / 64, 41);
+    let q = put::put_number_then(buffer, p, e % 128, 32);
+    let r = put::put_number_then(buffer, q, e / 128, 41);
     put::put_byte(buffer, r, 10)
 }
 

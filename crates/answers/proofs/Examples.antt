@@ -35,6 +35,6 @@ pub another-length : controllerAnswer 2 2 1 (0 ∷ none ∷ 1 ∷ 1 ∷ 1 ∷ 1 
 unfolding controllerAnswer onlyIf controllerFits inRange
 another-length = refl
 
-pub out-of-range : environmentAnswer 65 0 0 (0 ∷ []) ≡ []
+pub out-of-range : environmentAnswer 129 0 0 (0 ∷ []) ≡ []
 unfolding environmentAnswer onlyIf environmentFits inRange
 out-of-range = refl

@@ -29,33 +29,33 @@ use Rattle.answers.specs.Print.{
 use Rattle.answer_lines.proofs.Lines.{puts-nothing}
 
 module _ (i o c : ℕ) where
-  pub range-inputs : 64 < i → false ≡ inRange i o c
+  pub range-inputs : 128 < i → false ≡ inRange i o c
   unfolding inRange
-  range-inputs h = and-stop (leb o 64 && leb c 32) (lt-leb i 64 h)
+  range-inputs h = and-stop (leb o 128 && leb c 32) (lt-leb i 128 h)
 
-  pub range-outputs : i ≤ 64 → 64 < o → false ≡ inRange i o c
+  pub range-outputs : i ≤ 128 → 128 < o → false ≡ inRange i o c
   unfolding inRange
-  range-outputs l h = and-next (le-leb i 64 l) (and-stop (leb c 32) (lt-leb o 64 h))
+  range-outputs l h = and-next (le-leb i 128 l) (and-stop (leb c 32) (lt-leb o 128 h))
 
-  pub range-sets : i ≤ 64 → o ≤ 64 → leb c 32 ≡ inRange i o c
+  pub range-sets : i ≤ 128 → o ≤ 128 → leb c 32 ≡ inRange i o c
   unfolding inRange
-  range-sets l h = and-next (le-leb i 64 l) (and-next (le-leb o 64 h) refl)
+  range-sets l h = and-next (le-leb i 128 l) (and-next (le-leb o 128 h) refl)
 
-  pub range-bounds : inRange i o c ≡ true → (i ≤ 64) × (o ≤ 64) × (c ≤ 32)
+  pub range-bounds : inRange i o c ≡ true → (i ≤ 128) × (o ≤ 128) × (c ≤ 32)
   unfolding inRange
   range-bounds h =
-      let rest = and-right (leb i 64) (leb o 64 && leb c 32) h in (
-        leb-true i 64 (and-left (leb i 64) (leb o 64 && leb c 32) h),
-        leb-true o 64 (and-left (leb o 64) (leb c 32) rest),
+      let rest = and-right (leb i 128) (leb o 128 && leb c 32) h in (
+        leb-true i 128 (and-left (leb i 128) (leb o 128 && leb c 32) h),
+        leb-true o 128 (and-left (leb o 128) (leb c 32) rest),
         leb-true c 32
-            (and-right (leb o 64) (leb c 32) rest),
+            (and-right (leb o 128) (leb c 32) rest),
       )
 
 -- a states, counters for c sets, b states
-pub rows-most : (a c m : ℕ) → a ≤ 64 → c ≤ 32 → m ≡ max 1 c → a * m ≤ 64 * 32
+pub rows-most : (a c m : ℕ) → a ≤ 128 → c ≤ 32 → m ≡ max 1 c → a * m ≤ 4096
 rows-most a c m h l e = let most : m ≤ 32 = omega arith in mul-le-mul h most
 
-pub entries-most : (a c m b : ℕ) → a ≤ 64 → c ≤ 32 → b ≤ 64 → m ≡ max 1 c → a * m * b ≤ 2048 * 64
+pub entries-most : (a c m b : ℕ) → a ≤ 128 → c ≤ 32 → b ≤ 128 → m ≡ max 1 c → a * m * b ≤ 524288
 entries-most a c m b h l k e = mul-le-mul (rows-most a c m h l e) k
 
 module _ (i o c n : ℕ) where
@@ -75,14 +75,14 @@ module _ (i o c n : ℕ) where
   unfolding environmentFits
   environment-fit m h e = and-next h (ap (λ (k : ℕ). eqb n (1 + i * k * o)) e)
 
-  pub controller-entries : controllerFits i o c n ≡ true → (i ≤ 64) × (n ≡ i + o * max 1 c * i) × (n ≤ 262144)
+  pub controller-entries : controllerFits i o c n ≡ true → (i ≤ 128) × (n ≡ i + o * max 1 c * i) × (n ≤ 1000000)
   unfolding controllerFits
   controller-entries h =
       let b = range-bounds i o c (and-left (inRange i o c) (eqb n (i + o * max 1 c * i)) h) in
       let e = eqb-true n (i + o * max 1 c * i) (and-right (inRange i o c) (eqb n (i + o * max 1 c * i)) h) in
       (b .0, e, omega (arith, e, b .0, entries-most o c (max 1 c) i (b .1) (b .2) (b .0) refl))
 
-  pub environment-entries : environmentFits i o c n ≡ true → (n ≡ 1 + i * max 1 c * o) × (n ≤ 262144)
+  pub environment-entries : environmentFits i o c n ≡ true → (n ≡ 1 + i * max 1 c * o) × (n ≤ 1000000)
   unfolding environmentFits
   environment-entries h =
       let b = range-bounds i o c (and-left (inRange i o c) (eqb n (1 + i * max 1 c * o)) h) in
@@ -93,7 +93,7 @@ module _ (i o c n : ℕ) where
   unfolding controllerFits
   controller-sets h = range-bounds i o c (and-left (inRange i o c) (eqb n (i + o * max 1 c * i)) h) .2
 
-  pub environment-sets : environmentFits i o c n ≡ true → (o ≤ 64) × (c ≤ 32)
+  pub environment-sets : environmentFits i o c n ≡ true → (o ≤ 128) × (c ≤ 32)
   unfolding environmentFits
   environment-sets h = let b = range-bounds i o c (and-left (inRange i o c) (eqb n (1 + i * max 1 c * o)) h) in (b .1, b .2)
 

@@ -69,7 +69,7 @@ steps-on k c n first es h P Q =
     ap (stepLine c n k) (same-default es (first + k) 0 none h) ∙ ap (λ (j : ℕ). stepLine c n j (getD es (first + j) none)) (sym here) in
     puts-as (steps-next k 0 c n first es ∙ ap (λ (j : ℕ). stepLines j 0 c n first es) (sym next)) (puts-then P (puts-as read Q))
 
-pub starts-short : (n i : ℕ) (es : List ℕ) → i + n ≤ 64 → length (startLines n i es) ≤ 160 * n
+pub starts-short : (n i : ℕ) (es : List ℕ) → i + n ≤ 128 → length (startLines n i es) ≤ 160 * n
 unfolding startLines
 starts-short zero i es h = omega arith
 starts-short (suc n) i es h =

@@ -1,4 +1,4 @@
--- A buffer of 1 MiB holds the print of 32,768 entries, a line having at most 28 bytes, and every line of a refusal.
+-- A buffer of 1 MiB holds the print of 32,768 entries, a line having at most 29 bytes, and every line of a refusal.
 use Prim.Native.Nat.{ℕ, zero, suc, _+_, _*_, _/_, _%_, _≤_, _<_, max}
 use native.Mathlib.Omega.{arith}
 use native.Mathlib.Nat.{div-le-self, mod-lt, le-trans, lt-of-le-of-lt}
@@ -27,7 +27,7 @@ use Rattle.answers.specs.Print.{
 }
 use Rattle.answer_lines.proofs.Lines.{
   two-digits,
-  four-digits,
+  three-digits,
   six-digits,
   unless-short,
   start-text,
@@ -55,43 +55,43 @@ step-opening : Short (opening 6) 6
 unfolding opening word words
 step-opening = record { size = omega arith }
 
-start-room : (i e : ℕ) → i < 100 → length (startLine i e) ≤ 28
+start-room : (i e : ℕ) → i < 1000 → length (startLine i e) ≤ 29
 unfolding startLine
 start-room i e h =
-    let all = then-short start-opening (then-short (number i 32 2 (two-digits i h))
-    (then-short (number (e % 64) 41 2 (two-digits (e % 64) (omega arith))) ended)) .size in
-    unless-short e 28 _ (omega (arith, all, ap length (start-text i e)))
+    let all = then-short start-opening (then-short (number i 32 3 (three-digits i h))
+    (then-short (number (e % 128) 41 3 (three-digits (e % 128) (omega arith))) ended)) .size in
+    unless-short e 29 _ (omega (arith, all, ap length (start-text i e)))
 
-environment-start-room : (e : ℕ) → length (environmentStart e) ≤ 28
+environment-start-room : (e : ℕ) → length (environmentStart e) ≤ 29
 unfolding environmentStart
 environment-start-room e =
-    let all = then-short start-opening (then-short (number (e % 64) 41 2 (two-digits (e % 64) (omega arith))) ended) .size in
-    unless-short e 28 _ (omega (arith, all, ap length (environment-text e)))
+    let all = then-short start-opening (then-short (number (e % 128) 41 3 (three-digits (e % 128) (omega arith))) ended) .size in
+    unless-short e 29 _ (omega (arith, all, ap length (environment-text e)))
 
-row-room : (a g b e : ℕ) → a < 1000000 → g < 100 → b < 100 → e < 65536 → length (rowLine a g b e) ≤ 28
+row-room : (a g b e : ℕ) → a < 1000000 → g < 100 → b < 1000 → e < 65536 → length (rowLine a g b e) ≤ 29
 row-room a g b e p q s h =
-    let next = then-short (number (e % 64) 32 2 (two-digits (e % 64) (omega arith)))
-    (then-short (number (e / 64) 41 4 (four-digits (e / 64) (omega arith))) ended) in
+    let next = then-short (number (e % 128) 32 3 (three-digits (e % 128) (omega arith)))
+    (then-short (number (e / 128) 41 3 (three-digits (e / 128) (omega arith))) ended) in
     let all =
     then-short step-opening
-    (then-short (number a 32 6 (six-digits a p)) (then-short (number g 32 2 (two-digits g q)) (then-short (number b 32 2 (two-digits b s)) next))) .size in
+    (then-short (number a 32 6 (six-digits a p)) (then-short (number g 32 2 (two-digits g q)) (then-short (number b 32 3 (three-digits b s)) next))) .size in
     omega (arith, all, ap length (row-pieces a g b e))
 
-step-room : (c n r e : ℕ) → c ≤ 32 → n ≤ 64 → r < 1000000 → e < 65536 → length (stepLine c n r e) ≤ 28
+step-room : (c n r e : ℕ) → c ≤ 32 → n ≤ 128 → r < 1000000 → e < 65536 → length (stepLine c n r e) ≤ 29
 unfolding stepLine
 step-room c n r e hc hn hr he =
     let few : max 1 c < 100 = omega arith in
-    let small : max 1 n < 100 = omega arith in
+    let small : max 1 n < 1000 = omega arith in
     let some : 0 < max 1 c = omega arith in
     let any : 0 < max 1 n = omega arith in
     let a = lt-of-le-of-lt (le-trans (div-le-self (r / max 1 n) (max 1 c)) (div-le-self r (max 1 n))) hr in
-    unless-short e 28 _ (row-room _ _ _ e a (lt-trans (mod-lt (r / max 1 n) some) few) (lt-trans (mod-lt r any) small) he)
+    unless-short e 29 _ (row-room _ _ _ e a (lt-trans (mod-lt (r / max 1 n) some) few) (lt-trans (mod-lt r any) small) he)
   where
     lt-trans : {x y z : ℕ} → x < y → y < z → x < z
     lt-trans p q = omega (arith, p, q)
 
 module _ (es : List ℕ) (entries : (j : ℕ) → getD es j none < 65536) where
-  starts-room : (n i : ℕ) → i + n ≤ 100 → length (startLines n i es) ≤ 28 * n
+  starts-room : (n i : ℕ) → i + n ≤ 1000 → length (startLines n i es) ≤ 29 * n
   unfolding startLines
   starts-room zero i h = omega arith
   starts-room (suc n) i h =
@@ -102,7 +102,7 @@ module _ (es : List ℕ) (entries : (j : ℕ) → getD es j none < 65536) where
         starts-room n (suc i) (omega arith),
       )
 
-  steps-room : (c n at k r : ℕ) → c ≤ 32 → n ≤ 64 → r + k ≤ 1000000 → length (stepLines k r c n at es) ≤ 28 * k
+  steps-room : (c n at k r : ℕ) → c ≤ 32 → n ≤ 128 → r + k ≤ 1000000 → length (stepLines k r c n at es) ≤ 29 * k
   unfolding stepLines
   steps-room c n at zero r hc hn h = omega arith
   steps-room c n at (suc k) r hc hn h =

@@ -29,9 +29,9 @@ controllerPrint i o c es = winsLine true ++ (startLines i 0 es ++ stepLines (o *
 unfoldable pub environmentPrint : ℕ → ℕ → ℕ → List ℕ → List ℕ
 environmentPrint i o c es = winsLine false ++ (environmentStart (getD es 0 none) ++ stepLines (i * max 1 c * o) 0 c o 1 es)
 
--- "1 to 64 states each"; "k requirements, 0 to 8. Each has 0 to 4 input sets and 0 to 4 output sets."
+-- "1 to 128 states each"; "k requirements, 0 to 8. Each has 0 to 4 input sets and 0 to 4 output sets."
 unfoldable pub inRange : ℕ → ℕ → ℕ → Bool
-inRange i o c = leb i 64 && (leb o 64 && leb c 32)
+inRange i o c = leb i 128 && (leb o 128 && leb c 32)
 
 -- "inputs + outputs × max(1, G) × inputs entries"
 unfoldable pub controllerFits : ℕ → ℕ → ℕ → ℕ → Bool

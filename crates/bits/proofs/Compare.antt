@@ -54,7 +54,7 @@ subset-elim : (w x y : ℕ) → x < 2 ^ w → subset w x y ≡ true → (s : ℕ
 unfolding subset implies
 subset-elim w x y h e s m = rw m at (all-elim w (implies x y) e s (has-lt w x s h m))
 
-subset-intro : (w x y : ℕ) → ((s : ℕ) → s < w → has x s ≡ true → has y s ≡ true) → subset w x y ≡ true
+pub subset-intro : (w x y : ℕ) → ((s : ℕ) → s < w → has x s ≡ true → has y s ≡ true) → subset w x y ≡ true
 unfolding subset implies
 subset-intro w x y h = all-intro w (implies x y) (λ s l. go s l (decide (has x s)))
   where

@@ -1,17 +1,17 @@
 -- Each case of the table has the file and the print that stand there, and is accepted: by computing.
 --
---   files, acceptances, prints, records     : the four facts that are computed, each of the whole table
---   proved                                  : the table, case by case
---   waits                                   : the right to wait of each case
---   eight-rows                              : case 8's rows by name
-use Prim.Native.Nat.{ℕ, suc, zero, _<_, _^_}
+--   files, acceptances, prints, shorts, records : the five facts that are computed, each of the whole table
+--   proved                                      : the table, case by case
+--   waits                                       : the right to wait of each case
+--   eight-rows                                  : case 8's rows by name
+use Prim.Native.Nat.{ℕ, suc, zero, _≤_, _<_, _^_}
 use mathlib.Core.Path.{_≡_, refl, sym, _∙_, ap, subst⁻¹}
 use mathlib.Core.Bool.{Bool, true, _&&_}
 use mathlib.Core.Logic.{inl, inr}
 use mathlib.Core.List.{List, [], _∷_, _++_, map, List·Memᴰ, List·Memᴰ·not-nil, List·Memᴰ·cases-cons}
-use lib.Dec.{eqb, ltb}
+use lib.Dec.{eqb, ltb, leb}
 use lib.ListN.{length, getD}
-use borrow.Author.Tests.{eqb-true, ltb-true}
+use borrow.Author.Tests.{eqb-true, ltb-true, leb-true}
 use Rattle.finite.proofs.Truth.{and-left, and-right}
 use Rattle.finite.proofs.Bounded.{all-elim}
 use Rattle.finite.proofs.Lists.{allOf-elim}
@@ -20,7 +20,7 @@ use Rattle.finite.specs.Lists.{allOf, anyOf}
 use Rattle.finite.specs.Tabulate.{tabulate, tabulateFrom}
 use Rattle.bits.specs.Member.{has, pack, within}
 use Rattle.sets.specs.declared.Set.{Set}
-use Rattle.sets.specs.Words.{rowWords, bitsOf, setOf, setsIn, wordsOf, WordsFit}
+use Rattle.sets.specs.Words.{rowWords, value, bitsOf, setOf, setsIn, wordsOf, WordsFit}
 use Rattle.graphs.specs.Graph.{edge, begins, stuck}
 use Rattle.graphs.specs.Rows.{rel, rowsOf}
 use Rattle.graphs.specs.Closure.{nearby, joins, via, reaches}
@@ -121,18 +121,18 @@ unfolding lineBytes bytes padded setOf wordsOf emptyRequirement graph ifThen gam
 made c = c
 
 text : Game → List ℕ
-unfolding one bitsOf setsIn plain has words word gapText items bracket line members decimal digits setText cells setsText headerLine stateLine stateLines
+unfolding one value bitsOf setsIn plain has words word gapText items bracket line members decimal digits setText cells setsText headerLine stateLine stateLines
     requirementLine requirementLines gameText
 text g = gameText g
 
 answer : Game → Acceptance
-unfolding all bitsOf setsIn within limit countFits rowFits statesFit hasInitial fewSets inSetFits outSetFits inUse requirementFits fewSetsAt
+unfolding all value bitsOf setsIn within limit countFits rowFits statesFit hasInitial fewSets inSetFits outSetFits inUse requirementFits fewSetsAt
     requirementFitsAt countsFit statesInCount initialsExist fewRequirements lengthsFit setsFit tests firstFailing acceptance
 answer g = acceptance g
 
 -- the tables, with all that document 01's choices are computed by
 chosen : Game → List ℕ
-unfolding all any least leastFrom count one allOf anyOf tabulate tabulateFrom bitsOf setsIn has pack edge begins stuck rel rowsOf nearby joins via reaches
+unfolding all any least leastFrom count one allOf anyOf tabulate tabulateFrom value bitsOf setsIn has pack edge begins stuck rel rowsOf nearby joins via reaches
     joined number nontrivial leaves meetsAt widens layer near approach shortest prefer toward due served accepting safe homeFor settles answers replies rule
     regionRows region opens verdict goalAt around inside ahead goal hasGoal target arrive tour setsOf guarantees assumptions home homeward settled
     controllerRow controllerStart lost wayOut gate outward escapes pressing pushing opposing environmentRow refused environmentStart entry controllerCounters
@@ -156,6 +156,11 @@ prints : map (λ (c : Case). gamePrint (c .game)) table ≡ map (λ (c : Case). 
 unfolding made print table
 prints = refl
 
+-- a file may be as long as each of them
+shorts : allOf (λ (c : Case). leb (length (c .file)) 40960) table ≡ true
+unfolding made allOf table
+shorts = refl
+
 -- whether the lists of a game have the lengths of arrays
 fours : Requirement → Bool
 fours q = eqb (length (q .assumptions)) 4 && eqb (length (q .guarantees)) 4
@@ -170,7 +175,7 @@ narrow : ℕ → Bool
 narrow w = ltb w (2 ^ 64)
 
 narrowSet : Set → Bool
-narrowSet x = narrow (x .low)
+narrowSet x = narrow (x .low) && narrow (x .high)
 
 narrowSets : Requirement → Bool
 narrowSets q = allOf (λ (x : InSet). narrowSet (x .0)) (q .assumptions) && allOf (λ (x : OutSet). narrowSet (x .0)) (q .guarantees)
@@ -196,7 +201,9 @@ each p d h (a ∷ l) q (suc i) = each p d h l (and-right (p a) (allOf p l) q) i
 
 fits : (x : Set) → narrowSet x ≡ true → WordsFit x
 unfolding narrow narrowSet
-fits x h = ltb-true (x .low) (2 ^ 64) h
+fits x h =
+    let v = both {a = narrow (x .low)} {b = narrow (x .high)} h in
+    (ltb-true (x .low) (2 ^ 64) (v .0), ltb-true (x .high) (2 ^ 64) (v .1))
 
 row-fits : (l : List ℕ) → allOf narrow l ≡ true → (i : ℕ) → getD l i 0 < 2 ^ 64
 unfolding narrow
@@ -268,13 +275,16 @@ proved c m =
     let arrays = are-arrays (c .game) (allOf-elim (λ (d : Case). lengths (d .game) && narrowWords (d .game)) table records c m) in
     let file = at (λ (d : Case). gameText (d .game)) (λ (d : Case). d .file) table files c m in
     let accepted = at (λ (d : Case). acceptance (d .game)) (λ (d : Case). Accepted) table acceptances c m in
+    let short : length (gameText (c .game)) ≤ 40960 =
+    subst⁻¹ (λ (s : List ℕ). length s ≤ 40960) file
+    (leb-true (length (c .file)) 40960 (allOf-elim (λ (d : Case). leb (length (d .file)) 40960) table shorts c m)) in
     let print = at (λ (d : Case). gamePrint (d .game)) (λ (d : Case). d .print) table prints c m in
     record {
       arrays = arrays;
       file = file;
       accepted = accepted;
       print = print;
-      reads = λ r R. ap readingPrint (one-text-holds .read-back (c .game) r accepted arrays (subst⁻¹ (λ (s : List ℕ). Reads s r) file R)) ∙ print;
+      reads = λ r R. ap readingPrint (one-text-holds .read-back (c .game) r accepted arrays short (subst⁻¹ (λ (s : List ℕ). Reads s r) file R)) ∙ print;
     }
 
 -- "Shown over all accepted games", "here with dead ends" (M-110): so of each case.

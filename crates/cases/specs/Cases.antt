@@ -38,7 +38,7 @@ pub record Case : Type 0 where
 unfoldable pub padded : {A : Type 0} → ℕ → A → List A → List A
 padded n z l = l ++ replicate (n - length l) z
 
--- "A graph is a state count, a set of initial states, and 64 rows of moves"; a set is given by its number
+-- "A graph is a state count, a set of initial states, and 64 rows of moves", 128 by M-105; a set is given by its number
 unfoldable pub graph : ℕ → List ℕ → Graph
 graph i rows = record { states = length rows; initial = setOf i; moves = wordsOf (padded capacity 0 rows) }
 

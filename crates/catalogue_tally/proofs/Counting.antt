@@ -32,11 +32,11 @@ use Rattle.catalogue_tally.specs.Figures.{
 
 -- of one outcome
 module _ {o : Outcome} {w p : ℕ} where
-  pub modest-system : o ≡ System w p → Modest o → (w ≤ 4096) × (p ≤ 4096)
+  pub modest-system : o ≡ System w p → Modest o → (w ≤ 16384) × (p ≤ 16384)
   unfolding wonOf positionsOf
   modest-system e m = (omega (arith, ap wonOf e, m .won), omega (arith, ap positionsOf e, m .positions))
 
-  pub modest-environment : o ≡ Environment w p → Modest o → (w ≤ 4096) × (p ≤ 4096)
+  pub modest-environment : o ≡ Environment w p → Modest o → (w ≤ 16384) × (p ≤ 16384)
   unfolding wonOf positionsOf
   modest-environment e m = (omega (arith, ap wonOf e, m .won), omega (arith, ap positionsOf e, m .positions))
 

@@ -91,8 +91,8 @@ added t (Refused n) =
     }
 
 pub record Modest (o : Outcome) : Type 0 where
-  pub won : wonOf o ≤ 4096
-  pub positions : positionsOf o ≤ 4096
+  pub won : wonOf o ≤ 16384
+  pub positions : positionsOf o ≤ 16384
 
 pub record Roomy (t : Tally) : Type 0 where
   pub system : t .system < 4294967296
@@ -103,5 +103,5 @@ pub record Roomy (t : Tally) : Type 0 where
   pub positions : t .positions < 4294967296
 
 pub record Within (os : List Outcome) (t : Tally) : Type 0 where
-  pub won : t .won ≤ 4096 * length os
-  pub positions : t .positions ≤ 4096 * length os
+  pub won : t .won ≤ 16384 * length os
+  pub positions : t .positions ≤ 16384 * length os

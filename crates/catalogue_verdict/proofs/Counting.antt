@@ -10,7 +10,7 @@ use lib.ListN.{length, getD}
 use Rattle.finite.specs.Bounded.{one, count}
 use Rattle.finite.proofs.Bounded.{count-le}
 use Rattle.bits.specs.Member.{has}
-use Rattle.sets.specs.Words.{setsIn, setCount, wordsFor}
+use Rattle.sets.specs.Words.{rowWords, setsIn, setCount, wordsFor}
 use Rattle.sets.proofs.Rows.{words-held}
 use lib.Dec.{leb}
 use borrow.Author.Tests.{le-leb}
@@ -64,19 +64,19 @@ module _ (l : List ℕ) (m : ℕ) where
   unfolding marks
   marks-next i e q = omega (arith, ap (λ (j : ℕ). marks l m j) (add-one i))
 
--- no game asks for more than 192 words of scratch
-most-scratch : (g : Game) → acceptance g ≡ Accepted → scratchLength g ≤ 192
+-- no game asks for more than 768 words of scratch
+most-scratch : (g : Game) → acceptance g ≡ Accepted → scratchLength g ≤ 768
 most-scratch g a = omega (arith, inputs-most g a, outputs-most g a)
 
-pub map-long : (g : Game) (m : List ℕ) → acceptance g ≡ Accepted → length m ≡ 64 → g .input .states ≤ setCount m
+pub map-long : (g : Game) (m : List ℕ) → acceptance g ≡ Accepted → length m ≡ rowWords → g .input .states ≤ setCount m
 map-long g m a q = words-held m (g .input .states) (omega (arith, q, inputs-most g a))
 
 -- the map is made, so what it marks is what is won
-module _ {g : Game} {s s′ m m′ : List ℕ} {r : Mapped} (a : acceptance g ≡ Accepted) (M : MapMade g s s′ m m′ r) (p : length s ≡ 192)
-    (q : length m ≡ 64) where
-  map-fits : mapFits g 192 64 ≡ true
+module _ {g : Game} {s s′ m m′ : List ℕ} {r : Mapped} (a : acceptance g ≡ Accepted) (M : MapMade g s s′ m m′ r) (p : length s ≡ 768)
+    (q : length m ≡ rowWords) where
+  map-fits : mapFits g 768 rowWords ≡ true
   unfolding mapFits
-  map-fits = and-intro (le-leb (scratchLength g) 192 (most-scratch g a)) (le-leb (wordsFor (g .input .states)) 64 (omega (arith, inputs-most g a)))
+  map-fits = and-intro (le-leb (scratchLength g) 768 (most-scratch g a)) (le-leb (wordsFor (g .input .states)) rowWords (omega (arith, inputs-most g a)))
 
   map-done : r ≡ Done
   unfolding mapAnswer mapRoom
@@ -86,10 +86,10 @@ module _ {g : Game} {s s′ m m′ : List ℕ} {r : Mapped} (a : acceptance g �
   map-census e = record { map = setsIn m′; won = M .won map-done; sum = e }
 
 -- the solver's answer for the rooms of the solve program
-module _ {g : Game} {s s′ c c′ e e′ : List ℕ} {v : Verdict} (a : acceptance g ≡ Accepted) (S : Solved g s s′ c c′ e e′ v) (p : length s ≡ 192)
+module _ {g : Game} {s s′ c c′ e e′ : List ℕ} {v : Verdict} (a : acceptance g ≡ Accepted) (S : Solved g s s′ c c′ e e′ v) (p : length s ≡ 768)
     (q : length c ≡ 32768) (h : length e ≡ 32768) where
   answered : v ≡ verdictAnswer g (scratchLength g) 32768 32768
-  answered = S .answer ∙ (λ i. verdictAnswer g (p i) (q i) (h i)) ∙ more-scratch g 192 32768 32768 (most-scratch g a)
+  answered = S .answer ∙ (λ i. verdictAnswer g (p i) (q i) (h i)) ∙ more-scratch g 768 32768 32768 (most-scratch g a)
 
   comes-as : (o : Outcome) (u : Verdict) → v ≡ u → Comes g u o → Comes g (verdictAnswer g (scratchLength g) 32768 32768) o
   comes-as o u k C = subst (λ (x : Verdict). Comes g x o) (sym k ∙ answered) C
@@ -98,7 +98,7 @@ module _ {g : Game} {s s′ c c′ e e′ : List ℕ} {v : Verdict} (a : accepta
   unfolding Comes wonOf positionsOf
   comes-refused {n} k = (comes-as _ (NotSolved n) k refl, record { won = omega arith; positions = omega arith })
 
-  module _ {w : ℕ} (C : Census g w) (b : w ≤ 4096) where
+  module _ {w : ℕ} (C : Census g w) (b : w ≤ 16384) where
     pub comes-system : {n : ℕ} → v ≡ System n → Comes g (verdictAnswer g (scratchLength g) 32768 32768) (SystemGame w (g .input .states * g .output .states))
         × Modest (SystemGame w (g .input .states * g .output .states))
     unfolding Comes wonOf positionsOf positions

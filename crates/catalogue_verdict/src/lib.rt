@@ -37,7 +37,7 @@ fn row_count(x: Set, m: usize) -> usize
 // How many positions a map of n inputs and m outputs marks.
 fn map_count(map: &[u64], n: usize, m: usize) -> usize
     requires { ⌜ (n ≤ setCount (now map)) × (n ≤ capacity) × (m ≤ capacity) ⌝ }
-    ensures { λ r. ⌜ (r ≡ marks (setsIn (now (map .entry))) m n) × (r ≤ 4096) ⌝ }
+    ensures { λ r. ⌜ (r ≡ marks (setsIn (now (map .entry))) m n) × (r ≤ 16384) ⌝ }
 {
     let mut c: usize = 0;
     let mut i: usize = 0;
@@ -52,10 +52,10 @@ fn map_count(map: &[u64], n: usize, m: usize) -> usize
 // How many positions of an accepted game are won.
 fn won_count(g: Game) -> usize
     requires { ⌜ acceptance g ≡ Accepted ⌝ }
-    ensures { λ r. ⌜ Census g r × (r ≤ 4096) ⌝ }
+    ensures { λ r. ⌜ Census g r × (r ≤ 16384) ⌝ }
 {
-    let mut scratch = [0u64; 192];
-    let mut map = [0u64; 64];
+    let mut scratch = [0u64; 768];
+    let mut map = [0u64; sets::ROW_WORDS];
     map::won_map(g, &mut scratch, &mut map);
     map_count(&map, g.input.states, g.output.states)
 }
@@ -65,7 +65,7 @@ fn solve(g: Game, controller: &mut [u16; 32768], panel: &mut [u16; 32768]) -> Ou
     requires { ⌜ acceptance g ≡ Accepted ⌝ }
     ensures { λ r. ⌜ Comes g (verdictAnswer g (scratchLength g) 32768 32768) r × Modest r ⌝ }
 {
-    let mut scratch = [0u64; 192];
+    let mut scratch = [0u64; 768];
     let v = solver::solve_into(g, &mut scratch, controller, panel);
     match v {
         Verdict::Refused(n) => Outcome::Refused(n),

@@ -32,7 +32,7 @@ use Rattle.layout.specs.declared.Layout.{Layout}
 use Rattle.controller_rows.specs.declared.Size.{Size}
 use Rattle.controller_rows.specs.Each.{Each}
 
--- "Entries are 16 bits: next state + 64 × next counter; none is 65,535."
+-- "Entries are 16 bits: next state + 64 × next counter; none is 65,535.", 128 × by M-105
 unfoldable pub first : ℕ → ℕ
 first p = elim (ltb p capacity) [ true ↦ entry (gives 0 p) | false ↦ entry none ]
 

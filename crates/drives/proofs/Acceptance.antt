@@ -17,6 +17,7 @@ use Rattle.finite.specs.Bounded.{all}
 use Rattle.finite.proofs.Truth.{and-left, and-right, or-left, or-cases}
 use Rattle.finite.proofs.Bounded.{all-elim}
 use Rattle.finite.proofs.Loops.{and-stop, and-next}
+use Rattle.sets.specs.Words.{capacity}
 use Rattle.game.specs.declared.Acceptance.{Acceptance}
 use Rattle.game.specs.declared.Acceptance.the-variants.{Accepted, Refused}
 use Rattle.game.specs.Acceptance.{acceptance, numberOf}
@@ -63,7 +64,7 @@ module _ (k : Kit) where
 small : (d : Drive) → modesFit d ≡ true → commandsFit d ≡ true → Small d
 unfolding modesFit commandsFit
 small d a b = record {
-  modes = leb-true (d .modes) 64 (and-right (leb 1 (d .modes)) (leb (d .modes) 64) a);
+  modes = leb-true (d .modes) capacity (and-right (leb 1 (d .modes)) (leb (d .modes) capacity) a);
   commands = leb-true (d .commands) 16 (and-right (leb 1 (d .commands)) (leb (d .commands) 16) b);
 }
 
@@ -97,7 +98,7 @@ pub drive-named : (d : Drive) → Small d → entriesFit d ≡ true → (m u : �
 unfolding entriesFit entryFits
 drive-named d S e m u a b n =
     let f = all-elim 16 (entryFits (d .next) (d .modes) (d .commands) m)
-    (all-elim 64 (λ k. all 16 (entryFits (d .next) (d .modes) (d .commands) k)) e m (omega (arith, S .modes))) u (omega (arith, S .commands)) in
+    (all-elim capacity (λ k. all 16 (entryFits (d .next) (d .modes) (d .commands) k)) e m (omega (arith, S .modes))) u (omega (arith, S .commands)) in
     elim (or-cases (eqb (nextMode d m u) 255) (ltb m (d .modes) && (ltb u (d .commands) && ltb (nextMode d m u) (d .modes))) f) [
       | inl h ↦ absurd (n (eqb-true (nextMode d m u) 255 h))
       | inr h ↦ ltb-true (nextMode d m u) (d .modes)

@@ -1,7 +1,7 @@
 -- Acceptance of a kit: 1, then 17 and 18, then the numbers of its game.
 --
 -- of a drive d:
---   modesFit d          == d has 1 to 64 modes
+--   modesFit d          == d has 1 to 128 modes
 --   commandsFit d       == d has 1 to 16 commands
 --   entryFits n M C m u == the place of mode m and command u in the table n is barred, or within the counts M and C and names a mode
 --   entriesFit d        == every place fits
@@ -26,7 +26,7 @@ use Rattle.drives.specs.declared.Drive.{Drive}
 use Rattle.drives.specs.declared.Kit.{Kit}
 use Rattle.drives.specs.Drive.{nextIn, gameFrom}
 
--- fails: "1 a count not 1 to 64"
+-- fails: "1 a count not 1 to 64", to 128 by M-105
 unfoldable pub modesFit : Drive → Bool
 modesFit d = leb 1 (d .modes) && leb (d .modes) capacity
 

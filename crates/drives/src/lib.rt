@@ -15,7 +15,7 @@ pub struct Drive {
     pub modes: usize,
     pub initial: Set,
     pub commands: usize,
-    pub next: [u8; 1024],
+    pub next: [u8; 2048],
 }
 
 // The panel gives the old drive's commands. Of the eight places for requirements k are in use.
@@ -35,7 +35,7 @@ fn wide(x: u8) -> usize
 }
 
 // The mode that command u leads to from mode m, 255 where it is barred.
-pub fn next_mode(next: &[u8; 1024], m: usize, u: usize) -> usize
+pub fn next_mode(next: &[u8; 2048], m: usize, u: usize) -> usize
     requires { ⌜ (m < capacity) × (u < 16) ⌝ }
     ensures { λ r. ⌜ r ≡ nextIn (now (next .entry)) m u ⌝ }
 {
@@ -43,7 +43,7 @@ pub fn next_mode(next: &[u8; 1024], m: usize, u: usize) -> usize
 }
 
 // The modes that some command leads to from mode m.
-fn moves_from(next: &[u8; 1024], modes: usize, commands: usize, m: usize) -> Set
+fn moves_from(next: &[u8; 2048], modes: usize, commands: usize, m: usize) -> Set
     requires { ⌜ (modes ≤ capacity) × (commands ≤ 16) × (m < capacity) ⌝ }
     ensures { λ r. ⌜ bitsOf r ≡ pack modes (madeBy (now (next .entry)) commands m) ⌝ }
 {
@@ -64,7 +64,7 @@ fn graph_of(d: Drive) -> Graph
     requires { ⌜ Small d ⌝ }
     ensures { λ r. ⌜ r ≡ graphFrom d ⌝ }
 {
-    let mut moves = [0u64; 64];
+    let mut moves = [0u64; sets::ROW_WORDS];
     let mut m: usize = 0;
     while m < sets::CAPACITY {
         let x = moves_from(&d.next, d.modes, d.commands, m);

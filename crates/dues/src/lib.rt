@@ -2,13 +2,13 @@
 ghost use mathlib.Core.Path.{_≡_};
 ghost use mathlib.Core.Bool.{not, _&&_, _||_};
 ghost use Prim.Native.Nat.{ℕ, _≤_, _<_};
-ghost use lib.ListN.{length};
+ghost use lib.ListN.{set};
 ghost use Rattle.finite.specs.Bounded.{all};
 ghost use Rattle.bits.specs.Member.{has};
 ghost use Rattle.sets.specs.Words.{capacity, bitsOf, setsIn, setCount};
 ghost use Rattle.scratch.specs.Scratch.{scratchSets};
 ghost use Rattle.scratch.specs.Stored.{outArea};
-ghost use Rattle.dues.specs.Dues.{inMeets, outMeets, Few, Marked, Serves, admits};
+ghost use Rattle.dues.specs.Dues.{inMeets, outMeets, Few, serverOf, serverList, Whole, Marked, Serves, admits};
 use game::Game;
 use game::InSet;
 use game::OutSet;
@@ -16,8 +16,37 @@ use game::OutState;
 use game::Requirement;
 
 // For each requirement the outputs whose component serves it. One set for each, so that an input's component is compared with all outputs at once.
+// No array may have over eight words (M-103), and eight sets have sixteen: those of the first four requirements, then of the others. Without the list,
+// each input would have all outputs' components searched anew for each requirement.
 pub struct Servers {
-    pub outputs: [OutSet; 8],
+    pub first: [OutSet; 4],
+    pub second: [OutSet; 4],
+}
+
+// The set of requirement r.
+fn server(t: Servers, r: usize) -> OutSet
+    requires { ⌜ r < 8 ⌝ }
+    ensures { λ x. ⌜ x ≡ serverOf t r ⌝ }
+{
+    if r < 4 {
+        return t.first[r];
+    }
+    t.second[r - 4]
+}
+
+// The list with another set for requirement r.
+fn with_server(t: Servers, r: usize, x: OutSet) -> Servers
+    requires { ⌜ (r < 8) × Whole t ⌝ }
+    ensures { λ u. ⌜ Whole u × (serverList u ≡ set (serverList t) r x) ⌝ }
+{
+    let mut first = t.first;
+    let mut second = t.second;
+    if r < 4 {
+        first[r] = x;
+        return Servers { first, second };
+    }
+    second[r - 4] = x;
+    Servers { first, second }
 }
 
 // Whether every assumption in use meets the set c.
@@ -56,31 +85,35 @@ fn all_guaranteed(q: Requirement, c: OutSet) -> bool
 
 // Puts output d into the set of each requirement that its component c serves.
 fn mark(g: Game, c: OutSet, d: OutState, t: Servers) -> Servers
-    requires { ⌜ Few g × (d .0 < capacity) × (length (t .outputs) ≡ 8) ⌝ }
-    ensures { λ r. ⌜ Marked g (bitsOf (c .0)) (d .0) (g .k) (t .outputs) (r .outputs) ⌝ }
+    requires { ⌜ Few g × (d .0 < capacity) × Whole t ⌝ }
+    ensures { λ r. ⌜ Whole r × Marked g (bitsOf (c .0)) (d .0) (g .k) (serverList t) (serverList r) ⌝ }
 {
     let n = g.k;
-    let mut outputs = t.outputs;
+    let mut u = t;
     let mut r: usize = 0;
     while r < n {
         let q = g.requirements[r];
-        let x = outputs[r];
-        outputs[r] = OutSet(sets::insert_if(x.0, d.0, all_guaranteed(q, c)));
+        let x = server(u, r);
+        let y = sets::insert_if(x.0, d.0, all_guaranteed(q, c));
+        u = with_server(u, r, OutSet(y));
         r += 1;
     }
-    Servers { outputs }
+    u
 }
 
 // The outputs whose components serve each requirement, from scratch that holds the outputs' closure. Each component is worked out once.
 pub fn served(g: Game, s: &[u64]) -> Servers
     requires { ⌜ Few g × (g .input .states ≤ capacity) × (g .output .states ≤ capacity)
         × (scratchSets (g .input .states) (g .output .states) ≤ setCount (now s)) ⌝ }
-    ensures { λ r. ⌜ Serves g (outArea (setsIn (now (s .entry))) (g .input .states)) (g .output .states) (r .outputs) ⌝ }
+    ensures { λ r. ⌜ Serves g (outArea (setsIn (now (s .entry))) (g .input .states)) (g .output .states) (serverList r) ⌝ }
 {
     let n = g.input.states;
     let m = g.output.states;
     let none = OutSet(sets::empty());
-    let mut t = Servers { outputs: [none; 8] };
+    let mut t = Servers {
+        first: [none; 4],
+        second: [none; 4],
+    };
     let mut d: usize = 0;
     while d < m {
         let c = scratch::out_component(s, n, m, OutState(d));
@@ -105,14 +138,14 @@ fn admitted(q: Requirement, a: InSet, y: OutSet, x: OutSet) -> OutSet
 // The outputs of x whose components serve every requirement that is due in the set a of inputs.
 pub fn accepted(g: Game, t: Servers, a: InSet, x: OutSet) -> OutSet
     requires { ⌜ Few g ⌝ }
-    ensures { λ r. ⌜ ((d : ℕ) → has (bitsOf (r .0)) d ≡ (has (bitsOf (x .0)) d && all (g .k) (admits g (bitsOf (a .0)) (t .outputs) d))) ⌝ }
+    ensures { λ r. ⌜ ((d : ℕ) → has (bitsOf (r .0)) d ≡ (has (bitsOf (x .0)) d && all (g .k) (admits g (bitsOf (a .0)) (serverList t) d))) ⌝ }
 {
     let n = g.k;
     let mut y = x;
     let mut r: usize = 0;
     while r < n {
         let q = g.requirements[r];
-        y = admitted(q, a, t.outputs[r], y);
+        y = admitted(q, a, server(t, r), y);
         r += 1;
     }
     y

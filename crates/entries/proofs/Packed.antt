@@ -54,7 +54,7 @@ module _ (e counter state : ℕ) (h : answer e ≡ gives counter state) where
   unfolding answer isNone stateIn
   state-of = go (eqb e 65535) h
     where
-      go : (b : Bool) → elim b as (λ x. Answer) [ true ↦ none | false ↦ gives (e / 64) (e % 64) ] ≡ gives counter state → e % 64 ≡ state
+      go : (b : Bool) → elim b as (λ x. Answer) [ true ↦ none | false ↦ gives (e / entryStep) (e % entryStep) ] ≡ gives counter state → e % entryStep ≡ state
       go true k = clash refl (ap isNone k)
       go false k = ap stateIn k
 
@@ -62,6 +62,6 @@ module _ (e counter state : ℕ) (h : answer e ≡ gives counter state) where
   unfolding answer isNone counterIn
   counter-of = go (eqb e 65535) h
     where
-      go : (b : Bool) → elim b as (λ x. Answer) [ true ↦ none | false ↦ gives (e / 64) (e % 64) ] ≡ gives counter state → e / 64 ≡ counter
+      go : (b : Bool) → elim b as (λ x. Answer) [ true ↦ none | false ↦ gives (e / entryStep) (e % entryStep) ] ≡ gives counter state → e / entryStep ≡ counter
       go true k = clash refl (ap isNone k)
       go false k = ap counterIn k

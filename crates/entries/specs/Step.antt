@@ -2,7 +2,8 @@
 --
 --   entryStep  == how far the entry of a state and a counter lies from that of the state and the next counter
 use Prim.Native.Nat.{ℕ}
+use Rattle.theory.specs.Entries.{stride}
 
--- "next state + 64 × next counter"
+-- "next state + 128 × next counter" (M-105)
 abbrev pub entryStep : ℕ
-entryStep = 64
+entryStep = stride

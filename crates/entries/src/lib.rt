@@ -10,26 +10,26 @@ ghost use Rattle.counters.specs.Counters.{mostCounters};
 pub const NONE: u16 = 65535;
 
 // How far the entry of a state and a counter lies from that of the state and the next counter.
-pub const STEP: u16 = 64;
+pub const STEP: u16 = 128;
 
 // The entry of a state and a counter.
 pub fn pack(state: usize, counter: usize) -> u16
     requires { ⌜ (state < capacity) × (counter < mostCounters) ⌝ }
     ensures { λ r. ⌜ r ≡ entry (gives counter state) ⌝ }
 {
-    (state + 64 * counter) as u16
+    (state + 128 * counter) as u16
 }
 
 // The state of an entry that is not none.
 pub fn state(e: u16) -> usize
     ensures { λ r. ⌜ ((c s : ℕ) → answer e ≡ gives c s → r ≡ s) ⌝ }
 {
-    (e % 64) as usize
+    (e % 128) as usize
 }
 
 // The counter of an entry that is not none.
 pub fn counter(e: u16) -> usize
     ensures { λ r. ⌜ ((c s : ℕ) → answer e ≡ gives c s → r ≡ c) ⌝ }
 {
-    (e / 64) as usize
+    (e / 128) as usize
 }

@@ -38,7 +38,7 @@ struct Part {
 }
 
 // The members of c, all below n, with a move into the set `out`.
-fn exits(moves: &[u64; 64], n: usize, c: InSet, out: InSet) -> InSet
+fn exits(moves: &[u64; sets::ROW_WORDS], n: usize, c: InSet, out: InSet) -> InSet
     requires { ⌜ (n ≤ capacity) × (within (bitsOf (c .0)) n ≡ true) ⌝ }
     ensures { λ r. ⌜ bitsOf (r .0) ≡ pack n (exitsAt (setsIn (now (moves .entry))) (bitsOf (c .0)) (bitsOf (out .0))) ⌝ }
 {
@@ -55,7 +55,7 @@ fn exits(moves: &[u64; 64], n: usize, c: InSet, out: InSet) -> InSet
 
 // Output o, with these gates, comes to a group of others. Where their gates differ, the rows of the group are written and o begins another.
 fn join(
-    moves: &[u64; 64],
+    moves: &[u64; sets::ROW_WORDS],
     room: &mut [u16],
     z: Layout,
     c: InSet,
@@ -88,7 +88,7 @@ fn join(
 // The rows of a component with output o, whose moves are `replies`: at the gates they are written, and o comes to the group. They are left to a tour
 // where they are not won and there is no gate; where o has no move they need no walk.
 fn escape(
-    moves: &[u64; 64],
+    moves: &[u64; sets::ROW_WORDS],
     s: &[u64],
     z: Layout,
     inner: InSet,

@@ -3,7 +3,7 @@
 --   limit used j n         == n where place j is in use, that is below used; else 0
 --
 -- of a graph g:
---   countFits g            == g has 1 to 64 states
+--   countFits g            == g has 1 to 128 states
 --   rowFits g s            == row s has no state past the count, and none at all where s is past it
 --   statesFit g            == the initial states and all rows fit the count
 --   hasInitial g           == g has an initial state
@@ -80,7 +80,7 @@ requirementFitsAt g r = requirementFits g r (requirementAt g r)
 
 -- ---- the seven tests
 
--- fails: "1 a count not 1 to 64"
+-- fails: "1 a count not 1 to 64", to 128 by M-105: "Number 1 begins at 129"
 unfoldable pub countsFit : Game → Bool
 countsFit g = countFits (g .input) && countFits (g .output)
 

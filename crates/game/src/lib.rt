@@ -21,12 +21,12 @@ pub struct InSet(pub Set);
 #[repr(C)]
 pub struct OutSet(pub Set);
 
-// Row s of `moves` is the set of the states that state s moves to.
+// Row s of `moves`, two words, low states first, is the set of the states that state s moves to.
 #[repr(C)]
 pub struct Graph {
     pub states: usize,
     pub initial: Set,
-    pub moves: [u64; 64],
+    pub moves: [u64; sets::ROW_WORDS],
 }
 
 // If every assumption is visited, every guarantee is. Of the four places each, `assumed` and `guaranteed` are in use.

@@ -8,7 +8,7 @@ use mathlib.Core.Bool.{Bool, _&&_, not}
 use lib.Dec.{ltb}
 use Rattle.finite.specs.Bounded.{any}
 
--- "A graph is a state count, a set of initial states, and 64 rows of moves, one set of next states a row." A set is told by its members.
+-- "A graph is a state count, a set of initial states, and 64 rows of moves, one set of next states a row.", 128 rows by M-105. A set is told by its members.
 pub record Graph : Type 0 where
   pub states : ℕ
   pub initial : ℕ → Bool

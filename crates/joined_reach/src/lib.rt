@@ -45,7 +45,7 @@ fn word_of(x: Set) -> u64
 pub fn set_of(w: u64) -> Set
     ensures { λ r. ⌜ bitsOf r ≡ w ⌝ }
 {
-    Set { low: w }
+    Set { low: w, high: 0 }
 }
 
 // The inputs that i moves to.

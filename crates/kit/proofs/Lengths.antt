@@ -37,15 +37,15 @@ module _ (k : Kit) (a : kitAcceptance k ≡ Accepted) where
   few-counters = controller-few (gameFrom k) (accepted-fits (gameFrom k) (kit-fitting k a .game))
 
   module _ (m : ℕ) (e : m ≡ counters k) where
-    pub outputs-few : k .new .modes * m ≤ 2048
+    pub outputs-few : k .new .modes * m ≤ 4096
     outputs-few =
         let b : m ≤ 32 = omega (arith, few-counters) in
         mul-le-mul (both-small .1 .modes) b
 
-    pub rows-few : k .new .modes * m * k .old .modes ≤ 131072
+    pub rows-few : k .new .modes * m * k .old .modes ≤ 524288
     rows-few = mul-le-mul outputs-few (both-small .0 .modes)
 
-    pub entries-few : k .new .modes * m * k .old .modes * k .old .commands ≤ 2097152
+    pub entries-few : k .new .modes * m * k .old .modes * k .old .commands ≤ 8388608
     entries-few = mul-le-mul rows-few (both-small .0 .commands)
 
     pub table-length : k .old .modes + k .new .modes * m * k .old .modes * k .old .commands ≡ kitLength k

@@ -93,8 +93,8 @@ block-last : (I U first i n : ℕ) → i < I → I + (first + I) * U ≤ n → I
 block-last I U first i n b h =
     omega (arith, block-next I U first i, mul-le-mul-right {m = first + (i + 1)} {n = first + I} U (omega arith))
 
-pub block-small : (U x : ℕ) → x ≤ 131072 → U ≤ 16 → x * U ≤ 2097152
-block-small U x a b = mul-le-mul {n₂ = 131072} {m₂ = 16} a b
+pub block-small : (U x : ℕ) → x ≤ 524288 → U ≤ 16 → x * U ≤ 8388608
+block-small U x a b = mul-le-mul {n₂ = 524288} {m₂ = 16} a b
 
 module _ (n : List ℕ) (I U first : ℕ) where
   pub mode-fits : (c r i m : ℕ) → CountFits n I U first c r → i < I → m ≡ r → ModeFits n U (I + first) i (I + (first + i) * U) c m

@@ -19,12 +19,13 @@ use borrow.Author.Tests.{eq-eqb}
 use Rattle.finite.specs.Tabulate.{tabulate}
 use Rattle.finite.proofs.Truth.{decide, clash}
 use Rattle.finite.proofs.Tabulate.{length-tabulate, getD-tabulate}
-use Rattle.theory.specs.Entries.{answer, controllerTable}
+use Rattle.sets.specs.Words.{capacity}
+use Rattle.theory.specs.Entries.{stride, answer, controllerTable}
 use Rattle.drives.specs.declared.Drive.{Drive}
 use Rattle.drives.specs.declared.Kit.{Kit}
 use Rattle.drives.specs.Drive.{nextIn, commandFor}
 use Rattle.kit_rows.specs.Rows.{counters, kitLength, commanded, kitRow, kitEntries, KitReady}
-use Rattle.kit_rows.specs.Writing.{lowestIn, Commands, translated, commandRow, Into, CountFits, CountAgrees, Outputs, Started}
+use Rattle.kit_rows.specs.Writing.{lowestIn, commandsOf, translated, commandRow, Into, CountFits, CountAgrees, Outputs, Started}
 use Rattle.kit_rows.proofs.Blocks.{Rounds, next-row, into-none, into-join, into-done}
 
 -- within a list, the value for places past its end is never seen
@@ -78,13 +79,14 @@ module _ (k : Kit) (T : List ℕ) (b : k .old .modes ≤ length T) where
         ∙ digits
 
 -- an entry of the controller's, said by a command
-said : (d : Drive) (to : List ℕ) (o e : ℕ) → Commands (d .next) (d .commands) o 64 to → translated to e ≡ commanded d o (answer e)
-unfolding translated answer commanded commandFor lowestIn
-said d to o e C = go (decide (eqb e 65535))
+said : (d : Drive) (o e : ℕ) → translated (commandsOf (d .next) (d .commands) o) e ≡ commanded d o (answer e)
+unfolding translated answer commanded commandFor lowestIn commandsOf
+said d o e = go (decide (eqb e 65535))
   where
-    go : (eqb e 65535 ≡ true) ⊎ (eqb e 65535 ≡ false) → translated to e ≡ commanded d o (answer e)
+    go : (eqb e 65535 ≡ true) ⊎ (eqb e 65535 ≡ false) → translated (commandsOf (d .next) (d .commands) o) e ≡ commanded d o (answer e)
     go (inl q) = rw (q, translated, answer) refl
-    go (inr q) = rw (q, translated, answer) (ap (λ (x : ℕ). x + 16 * (e / 64)) (C .each (e % 64) (mod-lt e (omega arith))))
+    go (inr q) = rw (q, translated, answer) (ap (λ (x : ℕ). x + 16 * (e / stride))
+        (getD-tabulate (lowestIn (d .next) (d .commands) o) capacity (e % stride) 0 (mod-lt e (omega arith))))
 
 module _ (k : Kit) (T : List ℕ) (M n : ℕ) (R : KitReady k M (length T) n) where
   pub modes-in : k .old .modes ≤ length T
@@ -103,13 +105,16 @@ module _ (k : Kit) (T : List ℕ) (M n : ℕ) (R : KitReady k M (length T) n) wh
   read-below o c i u lo lc li lu ne =
       omega (arith, R .controller, digits-lt (digits-lt lo lc) (R .named i u li lu ne))
 
+  -- the commands of the new drive at output o
+  abbrev commandsTo : ℕ → List ℕ
+  commandsTo o = commandsOf (k .new .next) (k .new .commands) o
+
   -- a row as it is worked out
-  row-commands : (o c i u : ℕ) (to : List ℕ) → Commands (k .new .next) (k .new .commands) o 64 to → o < k .new .modes → c < counters k
-      → i < k .old .modes → u < k .old .commands
-      → commandRow (k .old .next) to T (k .old .modes + (o * counters k + c) * k .old .modes) i u ≡ kitRow k
+  row-commands : (o c i u : ℕ) → o < k .new .modes → c < counters k → i < k .old .modes → u < k .old .commands
+      → commandRow (k .old .next) (commandsTo o) T (k .old .modes + (o * counters k + c) * k .old .modes) i u ≡ kitRow k
       (controllerTable (k .old .modes) (counters k) T) o c i u
   unfolding commandRow kitRow controllerTable
-  row-commands o c i u to C lo lc li lu = go (decide (eqb (nextIn (k .old .next) i u) 255))
+  row-commands o c i u lo lc li lu = go (decide (eqb (nextIn (k .old .next) i u) 255))
     where
       below : nextIn (k .old .next) i u ≢ 255 → k .old .modes + ((o * counters k + c) * k .old .modes + nextIn (k .old .next) i u) < length T
       below ne =
@@ -120,16 +125,16 @@ module _ (k : Kit) (T : List ℕ) (M n : ℕ) (R : KitReady k M (length T) n) wh
           )
 
       go : (eqb (nextIn (k .old .next) i u) 255 ≡ true) ⊎ (eqb (nextIn (k .old .next) i u) 255 ≡ false)
-          → commandRow (k .old .next) to T (k .old .modes + (o * counters k + c) * k .old .modes) i u
+          → commandRow (k .old .next) (commandsTo o) T (k .old .modes + (o * counters k + c) * k .old .modes) i u
           ≡ kitRow k (controllerTable (k .old .modes) (counters k) T) o c i u
       go (inl q) = rw (q, commandRow, kitRow) refl
       go (inr q) =
           let at : ℕ = k .old .modes + ((o * counters k + c) * k .old .modes + nextIn (k .old .next) i u) in
           rw (q, commandRow, kitRow)
-          (ap (translated to)
+          (ap (translated (commandsTo o))
           (ap (λ (x : ℕ). getD T x 0) (add-assoc (k .old .modes) ((o * counters k + c) * k .old .modes) (nextIn (k .old .next) i u))
           ∙ inside T at 0 65535 (below (λ h. clash (eq-eqb (nextIn (k .old .next) i u) 255 h) q)))
-          ∙ said (k .new) to o (getD T at 65535) C)
+          ∙ said (k .new) o (getD T at 65535))
 
   module _ (o : ℕ) (lo : o < k .new .modes) where
     -- the blocks of one output lie below all of them
@@ -145,14 +150,14 @@ module _ (k : Kit) (T : List ℕ) (M n : ℕ) (R : KitReady k M (length T) n) wh
     block-end c b =
         rw (next-row (o * M + c) (k .old .modes)) (blocks-below (o * M + c + 1) (omega arith))
 
-    pub counters-small : (c : ℕ) → c < M → o * M + c < 2048
+    pub counters-small : (c : ℕ) → c < M → o * M + c < 4096
     counters-small c b =
-        omega (arith, digits-lt lo b, mul-le-mul {n₂ = 64} {m₂ = 32} (R .new .modes) (R .few))
+        omega (arith, digits-lt lo b, mul-le-mul {n₂ = capacity} {m₂ = 32} (R .new .modes) (R .few))
 
-    pub first-small : (c : ℕ) → c < M → (o * M + c) * k .old .modes + k .old .modes ≤ 131072
+    pub first-small : (c : ℕ) → c < M → (o * M + c) * k .old .modes + k .old .modes ≤ 524288
     first-small c b =
         rw (next-row (o * M + c) (k .old .modes))
-        (mul-le-mul {n₂ = 2048} {m₂ = 64} (omega (arith, counters-small c b)) (R .old .modes))
+        (mul-le-mul {n₂ = 4096} {m₂ = capacity} (omega (arith, counters-small c b)) (R .old .modes))
 
     pub count-fits : (c r : ℕ) → c < M → r ≡ n → CountFits (k .old .next) (k .old .modes) (k .old .commands) ((o * M + c) * k .old .modes) (length T) r
     count-fits c r b e = record {
@@ -163,25 +168,25 @@ module _ (k : Kit) (T : List ℕ) (M n : ℕ) (R : KitReady k M (length T) n) wh
       room = omega (arith, block-end c b, R .room);
     }
 
-    module _ (to : List ℕ) (C : Commands (k .new .next) (k .new .commands) o 64 to) where
-      count-agrees : (c : ℕ) → c < M → CountAgrees (kitEntries k T) (k .old .next) (k .old .modes) (k .old .commands) to T ((o * M + c) * k .old .modes)
-      count-agrees c b = record {
-        below = omega (arith, block-end c b, entries-long k T modes-in);
-        entry = λ i u li lu.
-            subst (λ (x : ℕ). commandRow (k .old .next) to T (k .old .modes + (o * x + c) * k .old .modes) i u
-            ≡ getD (kitEntries k T) (k .old .modes + (((o * x + c) * k .old .modes + i) * k .old .commands + u)) 0) (sym (R .counters))
-            (row-commands o c i u to C lo (omega (arith, R .counters)) li lu ∙ sym (row-in k T modes-in o c i u lo (omega (arith, R .counters)) li lu 0));
-      }
+    count-agrees : (c : ℕ) → c < M
+        → CountAgrees (kitEntries k T) (k .old .next) (k .old .modes) (k .old .commands) (commandsTo o) T ((o * M + c) * k .old .modes)
+    count-agrees c b = record {
+      below = omega (arith, block-end c b, entries-long k T modes-in);
+      entry = λ i u li lu.
+          subst (λ (x : ℕ). commandRow (k .old .next) (commandsTo o) T (k .old .modes + (o * x + c) * k .old .modes) i u
+          ≡ getD (kitEntries k T) (k .old .modes + (((o * x + c) * k .old .modes + i) * k .old .commands + u)) 0) (sym (R .counters))
+          (row-commands o c i u lo (omega (arith, R .counters)) li lu ∙ sym (row-in k T modes-in o c i u lo (omega (arith, R .counters)) li lu 0));
+    }
 
-      pub outputs-one : {l m : List ℕ} → Rounds (k .old) M o to T M l m → Outputs k T o (o + 1) l m
-      outputs-one {l} {m} D = record {
-        into =
-            subst (λ (y : ℕ). Into (kitEntries k T) l m (k .old .modes + o * counters k * k .old .modes * k .old .commands)
-            (k .old .modes + y * k .old .modes * k .old .commands)) (next-row o (counters k))
-            (subst (λ (x : ℕ). Into (kitEntries k T) l m (k .old .modes + o * x * k .old .modes * k .old .commands)
-            (k .old .modes + (o * x + x) * k .old .modes * k .old .commands)) (R .counters)
-            (D .fills (kitEntries k T) (omega (arith, blocks-below (o * M) (omega arith), entries-long k T modes-in)) count-agrees));
-      }
+    pub outputs-one : {l m : List ℕ} → Rounds (k .old) M o (commandsTo o) T M l m → Outputs k T o (o + 1) l m
+    outputs-one {l} {m} D = record {
+      into =
+          subst (λ (y : ℕ). Into (kitEntries k T) l m (k .old .modes + o * counters k * k .old .modes * k .old .commands)
+          (k .old .modes + y * k .old .modes * k .old .commands)) (next-row o (counters k))
+          (subst (λ (x : ℕ). Into (kitEntries k T) l m (k .old .modes + o * x * k .old .modes * k .old .commands)
+          (k .old .modes + (o * x + x) * k .old .modes * k .old .commands)) (R .counters)
+          (D .fills (kitEntries k T) (omega (arith, blocks-below (o * M) (omega arith), entries-long k T modes-in)) count-agrees));
+    }
 
   -- all outputs
 

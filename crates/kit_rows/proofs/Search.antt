@@ -1,8 +1,7 @@
 -- The lowest commands, and the rows that are told from them.
 --
 --   lowest-start, lowest-past, lowest-here, lowest-none : the search stops at the first command that leads there, or at the end
---   lowest-small                : a byte holds it
---   commands-*                  : the modes, one after the other
+--   lowest-small                : there are at most as many commands
 --   translated-*, row-*         : an entry by cases
 use Prim.Native.Nat.{ℕ, _+_, _*_, _/_, _%_, _≤_, _<_}
 use mathlib.Core.Path.{_≡_, refl, sym, _∙_, ap}
@@ -10,17 +9,20 @@ use mathlib.Core.Bool.{false}
 use mathlib.Core.List.{List}
 use mathlib.Core.Logic.{_≢_}
 use native.Mathlib.Omega.{arith}
-use native.Mathlib.Decide.{ℕ-discrete, decLt}
+use native.Mathlib.Decide.{decLt}
+use native.Mathlib.Nat.{mod-lt}
 use lib.Dec.{eqb}
-use lib.ListN.{length, getD, set, length-set}
-use lib.Seq.{getD-set-same, getD-set-other}
+use lib.ListN.{getD}
 use borrow.Author.Tests.{eq-eqb, ne-eqb}
 use Rattle.finite.specs.Bounded.{least}
 use Rattle.finite.proofs.Bounded.{least-le, least-unique, least-any, any-false}
 use Rattle.finite.proofs.Loops.{any-start, any-turn, any-end}
 use Rattle.finite.proofs.Truth.{clash}
+use Rattle.finite.proofs.Tabulate.{getD-tabulate}
+use Rattle.sets.specs.Words.{capacity}
+use Rattle.theory.specs.Entries.{stride}
 use Rattle.drives.specs.Drive.{nextIn, madeBy}
-use Rattle.kit_rows.specs.Writing.{lowestIn, Commands, translated, commandRow}
+use Rattle.kit_rows.specs.Writing.{lowestIn, commandsOf, translated, commandRow}
 
 module _ (n : List ℕ) (o t : ℕ) where
   pub lowest-start : madeBy n 0 o t ≡ false
@@ -49,27 +51,15 @@ module _ (n : List ℕ) (c o t : ℕ) where
       go (yes l) = clash (least-any c (λ v. eqb (nextIn n o v) t) l) (any-end c u (λ v. eqb (nextIn n o v) t) a b f)
       go (no l) = omega (arith, least-le c (λ v. eqb (nextIn n o v) t))
 
-module _ (n : List ℕ) (c o : ℕ) where
-  pub commands-none : (to : List ℕ) → length to ≡ 64 → Commands n c o 0 to
-  commands-none to e = record { long = e; each = λ t b. absurd (omega arith) }
-
-  pub commands-next : (t : ℕ) {v : ℕ} {to : List ℕ} → t < 64 → Commands n c o t to → v ≡ lowestIn n c o t → Commands n c o (t + 1) (set to t v)
-  commands-next t {v} {to} b D e = record { long = length-set to t v ∙ D .long; each = λ s l. go s l (ℕ-discrete s t) }
-    where
-      go : (s : ℕ) → s < t + 1 → Dec (s ≡ t) → getD (set to t v) s 0 ≡ lowestIn n c o s
-      go s l (yes q) = rw q (getD-set-same to t v 0 (omega (arith, D .long)) ∙ e)
-      go s l (no q) = getD-set-other to t s v 0 q ∙ D .each s (omega arith)
-
-  pub commands-end : (t : ℕ) {to : List ℕ} → 64 ≤ t → Commands n c o t to → Commands n c o 64 to
-  commands-end t b D = record { long = D .long; each = λ s l. D .each s (omega arith) }
-
 pub translated-none : (to : List ℕ) (e : ℕ) → e ≡ 65535 → 65535 ≡ translated to e
 unfolding translated
 translated-none to e q = rw (eq-eqb e 65535 q, translated) refl
 
-pub translated-some : (to : List ℕ) (e : ℕ) {v : ℕ} → e ≢ 65535 → v ≡ getD to (e % 64) 0 → v + 16 * (e / 64) ≡ translated to e
-unfolding translated
-translated-some to e q d = rw (ne-eqb e 65535 q, translated) (ap (λ (x : ℕ). x + 16 * (e / 64)) d)
+pub translated-some : (n : List ℕ) (c o e : ℕ) {v : ℕ} → e ≢ 65535 → v ≡ lowestIn n c o (e % stride) → v + 16 * (e / stride) ≡ translated (commandsOf n c o) e
+unfolding translated commandsOf
+translated-some n c o e q d =
+    rw (ne-eqb e 65535 q, translated)
+    (ap (λ (x : ℕ). x + 16 * (e / stride)) (d ∙ sym (getD-tabulate (lowestIn n c o) capacity (e % stride) 0 (mod-lt e (omega arith)))))
 
 module _ (n to T : List ℕ) (base i u : ℕ) where
   pub row-barred : {j : ℕ} → j ≡ nextIn n i u → j ≡ 255 → 65535 ≡ commandRow n to T base i u

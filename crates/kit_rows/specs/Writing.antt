@@ -2,7 +2,7 @@
 -- old modes, U that of old commands.
 --
 --   lowestIn n c o t             == the lowest of the first c commands that leads from o to t, c where none does
---   Commands n c o k to          == to has that of each mode t < k
+--   commandsOf n c o             == that of each mode
 --   translated to e              == what the entry e says by a mode, said by a command of to
 --   commandRow n to T base i u   == the row of old mode i and old command u, where the controller's rows of its output and counter begin at base
 --   ReadsIn n base i u c         == what that row reads is one of c entries
@@ -27,6 +27,9 @@ use mathlib.Core.Logic.{_≢_}
 use lib.Dec.{eqb}
 use lib.ListN.{length, getD}
 use Rattle.finite.specs.Bounded.{least}
+use Rattle.finite.specs.Tabulate.{tabulate}
+use Rattle.sets.specs.Words.{capacity}
+use Rattle.theory.specs.Entries.{stride}
 use Rattle.filling.specs.Grows.{Right, Grows}
 use Rattle.drives.specs.declared.Kit.{Kit}
 use Rattle.drives.specs.Drive.{nextIn}
@@ -35,12 +38,11 @@ use Rattle.kit_rows.specs.Rows.{counters, kitEntries}
 unfoldable pub lowestIn : List ℕ → ℕ → ℕ → ℕ → ℕ
 lowestIn n c o t = least c (λ u. eqb (nextIn n o u) t)
 
-pub record Commands (n : List ℕ) (c o k : ℕ) (to : List ℕ) : Type 0 where
-  pub long : length to ≡ 64
-  pub each : (t : ℕ) → t < k → getD to t 0 ≡ lowestIn n c o t
+unfoldable pub commandsOf : List ℕ → ℕ → ℕ → List ℕ
+commandsOf n c o = tabulate capacity (lowestIn n c o)
 
 unfoldable pub translated : List ℕ → ℕ → ℕ
-translated to e = elim (eqb e 65535) [ true ↦ 65535 | false ↦ getD to (e % 64) 0 + 16 * (e / 64) ]
+translated to e = elim (eqb e 65535) [ true ↦ 65535 | false ↦ getD to (e % stride) 0 + 16 * (e / stride) ]
 
 unfoldable pub commandRow : (n to T : List ℕ) (base i u : ℕ) → ℕ
 commandRow n to T base i u =
@@ -55,7 +57,7 @@ pub record Into (E l m : List ℕ) (a b : ℕ) : Type 0 where
   pub right : (k : ℕ) → a ≤ k → k < b → Right E m k
 
 pub record ModeFits (n : List ℕ) (U base i at c r : ℕ) : Type 0 where
-  pub mode : i < 64
+  pub mode : i < capacity
   pub few : U ≤ 16
   pub reads : (u : ℕ) → u < U → ReadsIn n base i u c
   pub room : at + U ≤ r
@@ -69,9 +71,9 @@ pub record Moded (n : List ℕ) (U : ℕ) (to T : List ℕ) (base i at done : �
   pub fills : (E : List ℕ) → ModeAgrees E n U to T base i at → Into E l m at (at + done)
 
 pub record CountFits (n : List ℕ) (I U first c r : ℕ) : Type 0 where
-  pub modes : I ≤ 64
+  pub modes : I ≤ capacity
   pub few : U ≤ 16
-  pub small : first + I ≤ 131072
+  pub small : first + I ≤ 524288
   pub reads : (i u : ℕ) → i < I → u < U → ReadsIn n (I + first) i u c
   pub room : I + (first + I) * U ≤ r
 

@@ -6,18 +6,20 @@ ghost use mathlib.Core.Path.{_≡_};
 ghost use mathlib.Core.List.{_++_};
 ghost use Prim.Native.Nat.{_+_, _<_, _≤_};
 ghost use lib.ListN.{length, drop};
+ghost use Rattle.sets.specs.Words.{capacity};
 ghost use Rattle.kit_rows.specs.Rows.{kitLength, kitEntries, KitReady};
-ghost use Rattle.kit_rows.specs.Writing.{lowestIn, Commands, translated as translatedOf, commandRow, ReadsIn, ModeFits};
+ghost use Rattle.kit_rows.specs.Writing.{lowestIn, commandsOf, translated as translatedOf, commandRow, ReadsIn, ModeFits};
 ghost use Rattle.kit_rows.specs.Writing.{Moded, CountFits, Counted, Outputs, Started};
 
-// For each mode the lowest command of the new drive that leads there from one output, the count of commands where none does.
-struct Lowest {
-    pub to: [u8; 64],
+// The new drive at one output: the mode that it is in, and how many commands it has.
+struct Origin {
+    pub mode: usize,
+    pub commands: usize,
 }
 
 // The lowest command that leads from o to t, the count of commands where none does.
-fn lowest_command(next: &[u8; 1024], commands: usize, o: usize, t: usize) -> usize
-    requires { ⌜ (commands ≤ 16) × (o < 64) ⌝ }
+fn lowest_command(next: &[u8; 2048], commands: usize, o: usize, t: usize) -> usize
+    requires { ⌜ (commands ≤ 16) × (o < capacity) ⌝ }
     ensures { λ r. ⌜ r ≡ lowestIn (now (next .entry)) commands o t ⌝ }
 {
     let mut u: usize = 0;
@@ -30,91 +32,86 @@ fn lowest_command(next: &[u8; 1024], commands: usize, o: usize, t: usize) -> usi
     commands
 }
 
-// These commands of output o, searched once, as its rows ask for them again and again. A mode past the drive's has none.
-fn lowest_commands(next: &[u8; 1024], commands: usize, o: usize) -> Lowest
-    requires { ⌜ (commands ≤ 16) × (o < 64) ⌝ }
-    ensures { λ r. ⌜ Commands (now (next .entry)) commands o 64 (r .to) ⌝ }
-{
-    let mut to = [0u8; 64];
-    let mut t: usize = 0;
-    while t < 64 {
-        to[t] = lowest_command(next, commands, o, t) as u8;
-        t += 1;
-    }
-    Lowest { to }
-}
-
-// A command that was kept in a byte.
-fn wide(x: u8) -> u16
-    ensures { λ r. ⌜ (r ≡ x) × (r < 256) ⌝ }
-{
-    x as u16
-}
-
-// The entry that says by a command what the controller's entry e says by a mode.
-fn translated(to: &[u8; 64], e: u16) -> u16
-    ensures { λ r. ⌜ r ≡ translatedOf (now (to .entry)) e ⌝ }
+// The entry that says by a command of the new drive what the controller's entry e says by a mode. The command is searched anew for each row: a list
+// of the commands for all modes would be an array of over eight words (M-103).
+fn translated(new: &[u8; 2048], from: Origin, e: u16) -> u16
+    requires { ⌜ (from .commands ≤ 16) × (from .mode < capacity) ⌝ }
+    ensures { λ r. ⌜ r ≡ translatedOf (commandsOf (now (new .entry)) (from .commands) (from .mode)) e ⌝ }
 {
     if e == 65535 {
         return 65535;
     }
-    wide(to[(e % 64) as usize]) + 16 * (e / 64)
+    let u = lowest_command(new, from.commands, from.mode, (e % 128) as usize);
+    u as u16 + 16 * (e / 128)
 }
 
 // The row of old mode i and old command u, where the controller's rows of its output and counter begin at base: none where the command is barred.
-fn row(next: &[u8; 1024], to: &[u8; 64], controller: &[u16], base: usize, i: usize, u: usize) -> u16
-    requires { ⌜ (i < 64) × (u < 16) × ReadsIn (now next) base i u (length (now controller)) ⌝ }
-    ensures { λ r. ⌜ r ≡ commandRow (now (next .entry)) (now (to .entry)) (now (controller .entry)) base i u ⌝ }
+fn row(
+    next: &[u8; 2048],
+    new: &[u8; 2048],
+    from: Origin,
+    controller: &[u16],
+    base: usize,
+    i: usize,
+    u: usize,
+) -> u16
+    requires { ⌜ (from .commands ≤ 16) × (from .mode < capacity) × (i < capacity) × (u < 16) × ReadsIn (now next) base i u (length (now controller)) ⌝ }
+    ensures { λ r. ⌜ r ≡ commandRow (now (next .entry)) (commandsOf (now (new .entry)) (from .commands) (from .mode)) (now (controller .entry)) base i u ⌝ }
 {
     let j = drives::next_mode(next, i, u);
     if j == 255 {
         return 65535;
     }
-    translated(to, controller[base + j])
+    translated(new, from, controller[base + j])
 }
 
 // The rows of old mode i, at the places from `at` on.
 fn mode_rows(
-    next: &[u8; 1024],
+    next: &[u8; 2048],
     commands: usize,
-    to: &[u8; 64],
+    new: &[u8; 2048],
+    from: Origin,
     controller: &[u16],
     base: usize,
     i: usize,
     room: &mut [u16],
     at: usize,
 )
-    requires { ⌜ ModeFits (now next) commands base i at (length (now controller)) (length (now room)) ⌝ }
-    ensures { λ r. ⌜ Moded (now (next .entry)) commands (now (to .entry)) (now (controller .entry)) base i at commands (now (room .entry))
-        (now (room .exit)) ⌝ }
+    requires { ⌜ (from .commands ≤ 16) × (from .mode < capacity)
+        × ModeFits (now next) commands base i at (length (now controller)) (length (now room)) ⌝ }
+    ensures { λ r. ⌜ Moded (now (next .entry)) commands (commandsOf (now (new .entry)) (from .commands) (from .mode)) (now (controller .entry)) base i at
+        commands (now (room .entry)) (now (room .exit)) ⌝ }
 {
     let mut u: usize = 0;
     while u < commands {
-        room[at + u] = row(next, to, controller, base, i, u);
+        room[at + u] = row(next, new, from, controller, base, i, u);
         u += 1;
     }
 }
 
 // The rows of one output and one counter: a block for each old mode, from block number `first` on.
 fn counter_rows(
-    next: &[u8; 1024],
+    next: &[u8; 2048],
     modes: usize,
     commands: usize,
-    to: &[u8; 64],
+    new: &[u8; 2048],
+    from: Origin,
     controller: &[u16],
     first: usize,
     room: &mut [u16],
 )
-    requires { ⌜ CountFits (now next) modes commands first (length (now controller)) (length (now room)) ⌝ }
-    ensures { λ r. ⌜ Counted (now (next .entry)) modes commands (now (to .entry)) (now (controller .entry)) first modes (now (room .entry))
-        (now (room .exit)) ⌝ }
+    requires { ⌜ (from .commands ≤ 16) × (from .mode < capacity)
+        × CountFits (now next) modes commands first (length (now controller)) (length (now room)) ⌝ }
+    ensures { λ r. ⌜ Counted (now (next .entry)) modes commands (commandsOf (now (new .entry)) (from .commands) (from .mode)) (now (controller .entry)) first
+        modes (now (room .entry)) (now (room .exit)) ⌝ }
 {
     let mut i: usize = 0;
     while i < modes {
         mode_rows(
             next,
             commands,
-            to,
+            new,
+            from,
             controller,
             modes + first,
             i,
@@ -132,15 +129,18 @@ fn output_rows(k: Kit, counters: usize, o: usize, controller: &[u16], room: &mut
 {
     let old = k.old;
     let new = k.new;
-    let found = lowest_commands(&new.next, new.commands, o);
-    let to = found.to;
+    let from = Origin {
+        mode: o,
+        commands: new.commands,
+    };
     let mut c: usize = 0;
     while c < counters {
         counter_rows(
             &old.next,
             old.modes,
             old.commands,
-            &to,
+            &new.next,
+            from,
             controller,
             (o * counters + c) * old.modes,
             room,

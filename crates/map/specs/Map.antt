@@ -44,7 +44,7 @@ abbrev pub numberOf : Mapped → ℕ
 numberOf Done = 0
 numberOf (NotMapped n) = n
 
--- "The won map writes one 64-bit set of outputs for each input; later words of its room stay unchanged"; "changes no lent memory"
+-- "The won map writes one 64-bit set of outputs for each input", of two words by M-105; "later words of its room stay unchanged"; "changes no lent memory"
 unfoldable pub MapAfter : Game → Mapped → List ℕ → List ℕ → Type 0
 MapAfter g Done m m′ = MapFilled g m m′
 MapAfter g (NotMapped n) m m′ = m′ ≡ m

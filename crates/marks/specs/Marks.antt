@@ -13,7 +13,7 @@ use Rattle.game.specs.declared.Game.{Game}
 use Rattle.play.specs.Play.{separatedOf}
 use Rattle.theory.specs.Region.{region}
 
--- "The won map writes one 64-bit set of outputs for each input"
+-- "The won map writes one 64-bit set of outputs for each input", of two words by M-105
 unfoldable pub mapRow : Game → ℕ → ℕ
 mapRow g i = pack (g .output .states) (region (separatedOf g) i)
 

@@ -43,7 +43,7 @@ fn plain(room: &mut [u16], s: &[u64], z: Size, c: InSet, o: OutState, moves: Out
 }
 
 // The same for every output, with its moves.
-pub fn plains(room: &mut [u16], s: &[u64], z: Size, c: InSet, moves: &[u64; 64])
+pub fn plains(room: &mut [u16], s: &[u64], z: Size, c: InSet, moves: &[u64; sets::ROW_WORDS])
     requires { ⌜ Table z (length (now room)) × (scratchSets (z .inputs) (z .outputs) ≤ setCount (now s)) ⌝ }
     ensures { λ r. ⌜ Plains z (setsIn (now (s .entry))) (bitsOf (c .0)) (setsIn (now (moves .entry))) (z .outputs) (now (room .entry)) (now (room .exit)) ⌝ }
 {

@@ -37,32 +37,32 @@ module _ (M : ℕ) (ok : ℕ → Bool) (e : ℕ) where
   unfolding picks answer
   pick-none h = rw (eq-eqb e 65535 h, answer, picks)
 
-  some : (e ≡ 65535 → ⊥) → gives (e / 64) (e % 64) ≡ answer e
+  some : (e ≡ 65535 → ⊥) → gives (e / 128) (e % 128) ≡ answer e
   unfolding answer
   some h = rw (ne-eqb e 65535 h, answer)
 
   unfoldable there : Picked
-  there = To (record { input = record { 0 = e % 64 }; counter = e / 64 })
+  there = To (record { input = record { 0 = e % 128 }; counter = e / 128 })
 
-  pub pick-counter : (e ≡ 65535 → ⊥) → M ≤ e / 64 → Refused 15 ≡ picks M ok (answer e)
+  pub pick-counter : (e ≡ 65535 → ⊥) → M ≤ e / 128 → Refused 15 ≡ picks M ok (answer e)
   unfolding picks there
-  pick-counter h b = granted-refused 15 there (and-false-left (ok (e % 64)) (le-ltb (e / 64) M b)) ∙ ap (picks M ok) (some h)
+  pick-counter h b = granted-refused 15 there (and-false-left (ok (e % 128)) (le-ltb (e / 128) M b)) ∙ ap (picks M ok) (some h)
 
-  pub pick-input : (e ≡ 65535 → ⊥) → ok (e % 64) ≡ false → Refused 15 ≡ picks M ok (answer e)
+  pub pick-input : (e ≡ 65535 → ⊥) → ok (e % 128) ≡ false → Refused 15 ≡ picks M ok (answer e)
   unfolding picks there
-  pick-input h f = granted-refused 15 there (and-false-right (ltb (e / 64) M) f) ∙ ap (picks M ok) (some h)
+  pick-input h f = granted-refused 15 there (and-false-right (ltb (e / 128) M) f) ∙ ap (picks M ok) (some h)
 
-  pub pick-to : (e ≡ 65535 → ⊥) → e / 64 < M → ok (e % 64) ≡ true
-      → To (record { input = record { 0 = e % 64 }; counter = e / 64 }) ≡ picks M ok (answer e)
+  pub pick-to : (e ≡ 65535 → ⊥) → e / 128 < M → ok (e % 128) ≡ true
+      → To (record { input = record { 0 = e % 128 }; counter = e / 128 }) ≡ picks M ok (answer e)
   unfolding picks there
-  pick-to h b f = granted-held 15 there (and-intro (lt-ltb (e / 64) M b) f) ∙ ap (picks M ok) (some h)
+  pick-to h b f = granted-held 15 there (and-intro (lt-ltb (e / 128) M b) f) ∙ ap (picks M ok) (some h)
 
-  pub picks-as : picks M (λ s. ok (e % 64)) (answer e) ≡ picks M ok (answer e)
+  pub picks-as : picks M (λ s. ok (e % 128)) (answer e) ≡ picks M ok (answer e)
   unfolding picks answer
   picks-as = go (eqb e 65535)
     where
-      go : (b : Bool) → picks M (λ s. ok (e % 64)) (elim b as (λ x. Answer) [ true ↦ none | false ↦ gives (e / 64) (e % 64) ])
-          ≡ picks M ok (elim b as (λ x. Answer) [ true ↦ none | false ↦ gives (e / 64) (e % 64) ])
+      go : (b : Bool) → picks M (λ s. ok (e % 128)) (elim b as (λ x. Answer) [ true ↦ none | false ↦ gives (e / 128) (e % 128) ])
+          ≡ picks M ok (elim b as (λ x. Answer) [ true ↦ none | false ↦ gives (e / 128) (e % 128) ])
       go true = refl
       go false = refl
 

@@ -20,9 +20,9 @@ unfoldable pub granted : Bool → ℕ → Picked → Picked
 granted true n a = a
 granted false n a = Refused n
 
--- "Entries are 16 bits: next state + 64 × next counter"
+-- "Entries are 16 bits: next state + 128 × next counter"
 abbrev pub named : ℕ → InState
-named e = record { 0 = e % 64 }
+named e = record { 0 = e % 128 }
 
 -- as for a controller's table: "15 the row is none, or names a counter out of range or an output that is no move (at the start, not initial)"
 unfoldable pub picks : ℕ → (ℕ → Bool) → Answer → Picked

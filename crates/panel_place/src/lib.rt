@@ -49,7 +49,7 @@ pub fn replies_with(g: Game, o: OutState, p: OutState) -> bool
 pub fn named(entry: u16) -> InState
     ensures { λ r. ⌜ r ≡ namedInput entry ⌝ }
 {
-    InState((entry % 64) as usize)
+    InState((entry % 128) as usize)
 }
 
 // The move that an entry names, given whether its input is allowed.
@@ -59,7 +59,7 @@ pub fn pick(counters: usize, entry: u16, allowed: bool) -> Picked
     if entry == 65535 {
         return Picked::Refused(15);
     }
-    let counter = (entry / 64) as usize;
+    let counter = (entry / 128) as usize;
     if counter >= counters {
         return Picked::Refused(15);
     }

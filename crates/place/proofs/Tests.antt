@@ -32,25 +32,25 @@ module _ (M : ℕ) (ok : ℕ → Bool) (i : InState) (e : ℕ) where
   unfolding arrives answer
   arrive-none h = rw (eq-eqb e 65535 h, answer, arrives)
 
-  some : (e ≡ 65535 → ⊥) → gives (e / 64) (e % 64) ≡ answer e
+  some : (e ≡ 65535 → ⊥) → gives (e / 128) (e % 128) ≡ answer e
   unfolding answer
   some h = rw (ne-eqb e 65535 h, answer)
 
   unfoldable there : Played
-  there = At (record { input = i; output = record { 0 = e % 64 }; counter = e / 64 })
+  there = At (record { input = i; output = record { 0 = e % 128 }; counter = e / 128 })
 
-  pub arrive-counter : (e ≡ 65535 → ⊥) → M ≤ e / 64 → Refused 15 ≡ arrives M ok i (answer e)
+  pub arrive-counter : (e ≡ 65535 → ⊥) → M ≤ e / 128 → Refused 15 ≡ arrives M ok i (answer e)
   unfolding arrives there
-  arrive-counter h b = refused 15 there (and-false-left (ok (e % 64)) (le-ltb (e / 64) M b)) ∙ ap (arrives M ok i) (some h)
+  arrive-counter h b = refused 15 there (and-false-left (ok (e % 128)) (le-ltb (e / 128) M b)) ∙ ap (arrives M ok i) (some h)
 
-  pub arrive-output : (e ≡ 65535 → ⊥) → e / 64 < M → ok (e % 64) ≡ false → Refused 15 ≡ arrives M ok i (answer e)
+  pub arrive-output : (e ≡ 65535 → ⊥) → e / 128 < M → ok (e % 128) ≡ false → Refused 15 ≡ arrives M ok i (answer e)
   unfolding arrives there
-  arrive-output h b f = refused 15 there (and-false-right (ltb (e / 64) M) f) ∙ ap (arrives M ok i) (some h)
+  arrive-output h b f = refused 15 there (and-false-right (ltb (e / 128) M) f) ∙ ap (arrives M ok i) (some h)
 
-  pub arrive-at : (e ≡ 65535 → ⊥) → e / 64 < M → ok (e % 64) ≡ true
-      → At (record { input = i; output = record { 0 = e % 64 }; counter = e / 64 }) ≡ arrives M ok i (answer e)
+  pub arrive-at : (e ≡ 65535 → ⊥) → e / 128 < M → ok (e % 128) ≡ true
+      → At (record { input = i; output = record { 0 = e % 128 }; counter = e / 128 }) ≡ arrives M ok i (answer e)
   unfolding arrives there
-  arrive-at h b f = held 15 there (and-intro (lt-ltb (e / 64) M b) f) ∙ ap (arrives M ok i) (some h)
+  arrive-at h b f = held 15 there (and-intro (lt-ltb (e / 128) M b) f) ∙ ap (arrives M ok i) (some h)
 
 -- ---- a position
 

@@ -94,8 +94,8 @@ pub fn arrive(counters: usize, allowed: OutSet, input: InState, entry: u16) -> P
     if entry == 65535 {
         return Played::Refused(15);
     }
-    let counter = (entry / 64) as usize;
-    let state = (entry % 64) as usize;
+    let counter = (entry / 128) as usize;
+    let state = (entry % 128) as usize;
     if counter >= counters {
         return Played::Refused(15);
     }

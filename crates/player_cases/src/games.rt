@@ -6,17 +6,17 @@ use game::OutSet;
 use game::Requirement;
 use sets::Set;
 
-// The set that a word holds.
+// The set that a word holds, of states below 64.
 fn set_of(x: u64) -> Set {
-    Set { low: x }
+    Set { low: x, high: 0 }
 }
 
 // A graph of three states with initial state 0.
 fn graph(a: u64, b: u64, c: u64) -> Graph {
-    let mut moves = [0u64; 64];
+    let mut moves = [0u64; sets::ROW_WORDS];
     moves[0] = a;
-    moves[1] = b;
-    moves[2] = c;
+    moves[2] = b;
+    moves[4] = c;
     Graph {
         states: 3,
         initial: set_of(1),
@@ -62,8 +62,8 @@ pub fn eight() -> Game {
 // The input graph with the fault of refusal code n, 1 to 3.
 fn graph_fault(mut h: Graph, n: usize) -> Graph {
     match n {
-        1 => h.states = 65,
-        2 => h.moves[2] = 8,
+        1 => h.states = 129,
+        2 => h.moves[4] = 8,
         3 => h.initial = set_of(0),
         _ => (),
     }
@@ -104,7 +104,7 @@ pub fn faults(n: usize) -> Game {
 // The game with no move from input 1.
 pub fn stuck_input(mut g: Game) -> Game {
     let mut h = g.input;
-    h.moves[1] = 0;
+    h.moves[2] = 0;
     g.input = h;
     g
 }
@@ -112,7 +112,7 @@ pub fn stuck_input(mut g: Game) -> Game {
 // The game with no move from output 1.
 pub fn stuck_output(mut g: Game) -> Game {
     let mut h = g.output;
-    h.moves[1] = 0;
+    h.moves[2] = 0;
     g.output = h;
     g
 }

@@ -57,15 +57,15 @@ fn beginnings() {
     begins_whole(b"begin with the initial input", 0);
     begins_whole(b"begin with another input", 1);
     begins_whole(b"begin with input 3 of 3", 3);
-    begins_whole(b"begin with input 64", 64);
+    begins_whole(b"begin with input 128", 128);
     begins_whole(b"begin with the largest number", 0xffff_ffff_ffff_ffff);
 }
 
 fn starts() {
     begins(b"start of none", 30, 0, NONE, 0);
-    begins(b"start with the last counter", 30, 0, 128, 0);
-    begins(b"start with a counter out of range", 30, 0, 192, 0);
-    begins(b"start with the largest counter", 30, 0, 65472, 0);
+    begins(b"start with the last counter", 30, 0, 256, 0);
+    begins(b"start with a counter out of range", 30, 0, 384, 0);
+    begins(b"start with the largest counter", 30, 0, 65408, 0);
     begins(b"start with an output that is not initial", 30, 0, 1, 0);
     begins(b"start with output 3 of 3", 30, 0, 3, 0);
     begins(b"damage that is not read", 30, 4, NONE, 0);
@@ -99,7 +99,7 @@ fn moves() {
     steps_whole(b"step from input 1", position(1, 1, 2), 1);
     steps_whole(b"step to an input that is no move", position(0, 0, 0), 0);
     steps_whole(b"step to input 3 of 3", position(0, 0, 0), 3);
-    steps_whole(b"step to input 64", position(0, 0, 0), 64);
+    steps_whole(b"step to input 128", position(0, 0, 0), 128);
     steps_whole(
         b"step to the largest number",
         position(0, 0, 0),
@@ -111,8 +111,8 @@ fn positions() {
     steps_whole(b"input 3 of 3 in the position", position(3, 0, 0), 1);
     steps_whole(b"output 3 of 3 in the position", position(0, 3, 0), 1);
     steps_whole(b"counter 3 of 3 in the position", position(0, 0, 3), 1);
-    steps_whole(b"input 64 in the position", position(64, 0, 0), 1);
-    steps_whole(b"output 64 in the position", position(0, 64, 0), 1);
+    steps_whole(b"input 128 in the position", position(128, 0, 0), 1);
+    steps_whole(b"output 128 in the position", position(0, 128, 0), 1);
     steps_whole(
         b"largest counter in the position",
         position(0, 0, 0xffff_ffff_ffff_ffff),
@@ -127,7 +127,7 @@ fn rows() {
         b"row with the last counter",
         30,
         4,
-        129,
+        257,
         position(0, 0, 0),
         1,
     );
@@ -135,7 +135,7 @@ fn rows() {
         b"row with a counter out of range",
         30,
         4,
-        193,
+        385,
         position(0, 0, 0),
         1,
     );
@@ -148,7 +148,7 @@ fn rows() {
         1,
     );
     steps(b"row with output 3 of 3", 30, 4, 3, position(0, 0, 0), 1);
-    steps(b"row with output 63", 30, 4, 63, position(0, 0, 0), 1);
+    steps(b"row with output 127", 30, 4, 127, position(0, 0, 0), 1);
     steps(
         b"row of none for another input",
         30,
@@ -255,7 +255,7 @@ fn runs_on(name: &[u8], k: usize, entry: u16, next: usize, steps: usize)
 
 // The damage lies in the row that is read third: output 1, counter 0 and input 1, entry 13.
 fn damages() {
-    runs_on(b"third row whole", 13, 64, 1, 2);
+    runs_on(b"third row whole", 13, 128, 1, 2);
     runs_on(b"third row of none", 13, NONE, 1, 2);
     runs_on(b"third row with a counter out of range", 13, 192, 1, 2);
     runs_on(b"third row with an output that is no move", 13, 65, 1, 2);

@@ -5,7 +5,7 @@ ghost use lib.ListN.{length};
 
 pub const NONE: u16 = 65535;
 
-// Starts, then rows by output, counter and input. An entry is next output + 64 × next counter.
+// Starts, then rows by output, counter and input. An entry is next output + 128 × next counter.
 pub const EIGHT: [u16; 30] = [
     0,
     NONE,
@@ -13,21 +13,21 @@ pub const EIGHT: [u16; 30] = [
     1,
     1,
     2,
-    65,
     129,
-    66,
-    129,
-    1,
+    257,
     130,
+    257,
+    1,
+    258,
     0,
-    64,
+    128,
     0,
-    64,
-    64,
-    64,
     128,
-    64,
     128,
+    128,
+    256,
+    128,
+    256,
     NONE,
     NONE,
     2,

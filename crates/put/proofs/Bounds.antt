@@ -1,4 +1,4 @@
--- No text of a game is longer than a file may be.
+-- How long the text of a game is at most. A file may be shorter than that: the text of a large game is written, and not read back.
 use Prim.Native.Nat.{ℕ, zero, suc, _+_, _*_, _-_, _/_, _%_, _≤_, _<_, _^_}
 use native.Mathlib.Omega.{arith}
 use mathlib.Core.Bool.{Bool, true, false}
@@ -41,13 +41,21 @@ use Rattle.shape.proofs.WordTable.{word-short}
 use Rattle.put.specs.Put.{Few, Writable}
 use Rattle.put.proofs.Pieces.{set-open, setRest, sets-open, setsRest, header-length, state-length, requirement-length, game-length, requirement-past}
 
-decimal-short : (v : ℕ) → v < 100 → length (decimal v) ≤ 2
-decimal-short v h =
+decimal-two : (v : ℕ) → v < 100 → length (decimal v) ≤ 2
+decimal-two v h =
     by-cases (ltb v 10)
     (λ b. omega (arith, ap length (decimal-one v (ltb-true v 10 b))))
     (λ b.
     let l = ltb-false v 10 b in
     omega (arith, ap length (decimal-step v l), length-append (decimal (v / 10)) ((48 + v % 10) ∷ []), ap length (decimal-one (v / 10) (omega arith))))
+
+decimal-short : (v : ℕ) → v < 1000 → length (decimal v) ≤ 3
+decimal-short v h =
+    by-cases (ltb v 10)
+    (λ b. omega (arith, ap length (decimal-one v (ltb-true v 10 b))))
+    (λ b.
+    let l = ltb-false v 10 b in
+    omega (arith, ap length (decimal-step v l), length-append (decimal (v / 10)) ((48 + v % 10) ∷ []), decimal-two (v / 10) (omega arith)))
 
 gap-short : (gap : Bool) → length (gapText gap) ≤ 1
 unfolding gapText
@@ -58,7 +66,7 @@ item-short : (gap : Bool) (w : List ℕ) (ws : List (List ℕ)) → length (item
 unfolding items
 item-short gap w ws = omega (arith, length-append (gapText gap) (w ++ items true ws), length-append w (items true ws), gap-short gap)
 
-members-short : (n lo x : ℕ) (gap : Bool) → lo + n ≤ 100 → length (items gap (map decimal (members n lo x))) ≤ 3 * n
+members-short : (n lo x : ℕ) (gap : Bool) → lo + n ≤ 1000 → length (items gap (map decimal (members n lo x))) ≤ 4 * n
 unfolding members items
 members-short zero lo x gap h = omega arith
 members-short (suc n) lo x gap h =
@@ -73,7 +81,7 @@ members-short (suc n) lo x gap h =
     )))
     (λ b. rw (members-skip n lo x b) (omega (arith, members-short n (suc lo) x gap (omega arith))))
 
-set-short : (x : ℕ) → length (setText x) ≤ 194
+set-short : (x : ℕ) → length (setText x) ≤ 514
 unfolding setRest
 set-short x =
     omega (
@@ -83,13 +91,13 @@ set-short x =
       members-short capacity 0 x false (omega arith),
     )
 
-cells-short : (n j : ℕ) (ws : List ℕ) (gap : Bool) → length (items gap (map setText (cells n j ws))) ≤ 195 * n
+cells-short : (n j : ℕ) (ws : List ℕ) (gap : Bool) → length (items gap (map setText (cells n j ws))) ≤ 515 * n
 unfolding cells items
 cells-short zero j ws gap = omega arith
 cells-short (suc n) j ws gap =
     omega (arith, item-short gap (setText (getD ws j 0)) (map setText (cells n (suc j) ws)), set-short (getD ws j 0), cells-short n (suc j) ws true)
 
-sets-short : (n : ℕ) (ws : List ℕ) → n ≤ 4 → length (setsText n ws) ≤ 782
+sets-short : (n : ℕ) (ws : List ℕ) → n ≤ 4 → length (setsText n ws) ≤ 2062
 unfolding setsRest
 sets-short n ws h =
     let all : n - 0 ≡ n = omega arith in
@@ -98,15 +106,15 @@ sets-short n ws h =
 opening-short : (w : ℕ) → length (opening w) ≤ 13
 opening-short w = omega (arith, opening-length w, word-short w)
 
-number-short : (v b : ℕ) → v < 100 → length (decimal v ++ b ∷ []) ≤ 3
+number-short : (v b : ℕ) → v < 1000 → length (decimal v ++ b ∷ []) ≤ 4
 number-short v b h = omega (arith, length-append (decimal v) (b ∷ []), decimal-short v h)
 
-one-short : (b : Bool) → one b < 100
+one-short : (b : Bool) → one b < 1000
 unfolding one
 one-short true = omega arith
 one-short false = omega arith
 
-states-short : (w n s : ℕ) (h : PlainGraph) → s + n ≤ capacity → length (stateLines w n s h) ≤ 215 * n
+states-short : (w n s : ℕ) (h : PlainGraph) → s + n ≤ capacity → length (stateLines w n s h) ≤ 537 * n
 unfolding stateLines
 states-short w zero s h l = omega arith
 states-short w (suc n) s h l =
@@ -123,7 +131,7 @@ states-short w (suc n) s h l =
       states-short w n (suc s) h (omega arith),
     )
 
-requirement-short : (q : Requirement) → Few q → length (requirementLine q) ≤ 1580
+requirement-short : (q : Requirement) → Few q → length (requirementLine q) ≤ 4140
 requirement-short q F =
     omega (
       arith,
@@ -134,7 +142,7 @@ requirement-short q F =
     )
 
 requirements-short : (n r : ℕ) (qs : List Requirement) → ((i : ℕ) → r ≤ i → i < r + n → Few (getD qs i noRequirement))
-    → length (requirementLines n r qs) ≤ 1580 * n
+    → length (requirementLines n r qs) ≤ 4140 * n
 unfolding requirementLines
 requirements-short zero r qs F = omega arith
 requirements-short (suc n) r qs F =
@@ -146,7 +154,7 @@ requirements-short (suc n) r qs F =
       requirements-short n (suc r) qs (λ i p q. F i (omega arith) (omega arith)),
     )
 
-pub game-short : (g : Game) → Writable g → length (gameText g) ≤ 40960
+pub game-short : (g : Game) → Writable g → length (gameText g) ≤ 170618
 game-short g W =
     let i : g .input .states ≤ capacity = W .inputs in
     let o : g .output .states ≤ capacity = W .outputs in

@@ -6,7 +6,7 @@ ghost use Rattle.sets.specs.Words.{bitsOf, setsIn, setCount};
 ghost use Rattle.graphs.specs.Component.{joined};
 ghost use Rattle.play.specs.Play.{graphOf, separatedOf};
 ghost use Rattle.scratch.specs.Stored.{storedRow};
-ghost use Rattle.dues.specs.Dues.{Serving};
+ghost use Rattle.dues.specs.Dues.{serverList, Serving};
 ghost use Rattle.ranks.specs.Fill.{RowReady, EarlierReady, reach, NextAt, Filling, PastKept};
 use dues::Servers;
 use game::Game;
@@ -17,7 +17,7 @@ use scratch::Nontrivial;
 
 // The region's row of input i, a being its component, where the rows of the inputs that reach fewer states stand.
 fn stored_row(g: Game, t: Servers, s: &[u64], x: Nontrivial, a: InSet, i: InState) -> OutSet
-    requires { ⌜ RowReady g (now s) x (i .0) × Serving g (t .outputs)
+    requires { ⌜ RowReady g (now s) x (i .0) × Serving g (serverList t)
         × (bitsOf (a .0) ≡ pack (g .input .states) (joined (graphOf (g .input)) (i .0))) ⌝ }
     ensures { λ r. ⌜ bitsOf (r .0) ≡ storedRow (separatedOf g) (i .0) ⌝ }
 {
@@ -34,7 +34,7 @@ fn stored_row(g: Game, t: Servers, s: &[u64], x: Nontrivial, a: InSet, i: InStat
 
 // The same, taken from the first input of the component where that has been worked out.
 fn row_for(g: Game, t: Servers, s: &[u64], x: Nontrivial, i: InState) -> OutSet
-    requires { ⌜ RowReady g (now s) x (i .0) × EarlierReady g (now s) (i .0) × Serving g (t .outputs) ⌝ }
+    requires { ⌜ RowReady g (now s) x (i .0) × EarlierReady g (now s) (i .0) × Serving g (serverList t) ⌝ }
     ensures { λ r. ⌜ bitsOf (r .0) ≡ storedRow (separatedOf g) (i .0) ⌝ }
 {
     let n = g.input.states;
@@ -48,7 +48,7 @@ fn row_for(g: Game, t: Servers, s: &[u64], x: Nontrivial, i: InState) -> OutSet
 
 // Writes the row of input i, where the rows of the inputs that come before it stand.
 fn place(g: Game, t: Servers, s: &mut [u64], x: Nontrivial, i: InState)
-    requires { ⌜ Filling g x (now s) (reach (setsIn (now s)) (i .0)) (i .0) × Serving g (t .outputs) × (i .0 < g .input .states) ⌝ }
+    requires { ⌜ Filling g x (now s) (reach (setsIn (now s)) (i .0)) (i .0) × Serving g (serverList t) × (i .0 < g .input .states) ⌝ }
     ensures { λ _. ⌜ Filling g x (now (s .exit)) (reach (setsIn (now (s .entry))) (i .0)) (i .0 + 1) × PastKept g (now (s .entry)) (now (s .exit)) ⌝ }
 {
     let n = g.input.states;
@@ -73,7 +73,7 @@ fn next_at(s: &[u64], n: usize, k: usize, i: usize) -> usize
 
 // Writes the rows of the inputs that reach k states.
 pub fn fill_rank(g: Game, t: Servers, s: &mut [u64], x: Nontrivial, k: usize)
-    requires { ⌜ Filling g x (now s) k 0 × Serving g (t .outputs) ⌝ }
+    requires { ⌜ Filling g x (now s) k 0 × Serving g (serverList t) ⌝ }
     ensures { λ _. ⌜ Filling g x (now (s .exit)) (k + 1) 0 × PastKept g (now (s .entry)) (now (s .exit)) ⌝ }
 {
     let n = g.input.states;

@@ -5,7 +5,7 @@ ghost use Rattle.sets.specs.Words.{bitsOf};
 ghost use Rattle.game.specs.Fits.{Fits};
 ghost use Rattle.scratch.specs.Scratch.{scratchLength};
 ghost use Rattle.scratch.specs.Stored.{Ready};
-ghost use Rattle.dues.specs.Dues.{Serving};
+ghost use Rattle.dues.specs.Dues.{serverList, Serving};
 ghost use Rattle.ranks.specs.Fill.{Filling, PastKept};
 ghost use Rattle.region.specs.Fill.{Prepared};
 use dues::Servers;
@@ -14,7 +14,7 @@ use scratch::Nontrivial;
 
 // Writes all rows, those of the inputs that reach fewer states first.
 fn fill(g: Game, t: Servers, s: &mut [u64], x: Nontrivial)
-    requires { ⌜ Filling g x (now s) 1 0 × Serving g (t .outputs) ⌝ }
+    requires { ⌜ Filling g x (now s) 1 0 × Serving g (serverList t) ⌝ }
     ensures { λ _. ⌜ Ready g (now (s .exit)) (bitsOf (x .inputs .0)) × PastKept g (now (s .entry)) (now (s .exit)) ⌝ }
 {
     let mut k: usize = 1;

@@ -50,7 +50,7 @@ pub fn write_move(room: &mut [u16], z: Layout, s: usize, p: usize, w: Stamp)
 
 // One round: every state of `left` with a move into `reached` gets its rows. The answer is the set of these states.
 fn settle(
-    rows: &[u64; 64],
+    rows: &[u64; sets::ROW_WORDS],
     room: &mut [u16],
     z: Layout,
     inside: Set,
@@ -79,7 +79,7 @@ fn settle(
 // The rows of the states of `own` with a way inside a set to the target: the move with the shortest way. All states inside that are not of `own` are
 // of the target.
 pub fn walk(
-    rows: &[u64; 64],
+    rows: &[u64; sets::ROW_WORDS],
     room: &mut [u16],
     z: Layout,
     inside: Set,
@@ -118,7 +118,14 @@ fn counter_stays(z: Layout, over: Set) -> Stamp
 }
 
 // The rows of the states of `own`, for the columns of `over`: the lowest move into the target; the counter stays. Each has such a move.
-pub fn enter(rows: &[u64; 64], room: &mut [u16], z: Layout, own: Set, target: Set, over: Set)
+pub fn enter(
+    rows: &[u64; sets::ROW_WORDS],
+    room: &mut [u16],
+    z: Layout,
+    own: Set,
+    target: Set,
+    over: Set,
+)
     requires { ⌜ Fits z (length (now room)) × Entering (setsIn (now rows)) (z .states) (bitsOf own) (bitsOf target) ⌝ }
     ensures { λ r. ⌜ Enters (setsIn (now (rows .entry))) z (bitsOf own) (bitsOf target) (bitsOf over) (now (room .entry)) (now (room .exit)) ⌝ }
 {
@@ -134,7 +141,14 @@ pub fn enter(rows: &[u64; 64], room: &mut [u16], z: Layout, own: Set, target: Se
 
 // The rows of the states inside a set that are not of the target and have a way there, for the columns of `over`: the move with the shortest way; the
 // counter stays.
-pub fn approach(rows: &[u64; 64], room: &mut [u16], z: Layout, inside: Set, target: Set, over: Set)
+pub fn approach(
+    rows: &[u64; sets::ROW_WORDS],
+    room: &mut [u16],
+    z: Layout,
+    inside: Set,
+    target: Set,
+    over: Set,
+)
     requires { ⌜ Fits z (length (now room)) × (within (bitsOf target) (z .states) ≡ true) ⌝ }
     ensures { λ r. ⌜ Approaches (setsIn (now (rows .entry))) z (bitsOf inside) (bitsOf target) (bitsOf over) (now (room .entry)) (now (room .exit)) ⌝ }
 {

@@ -75,7 +75,7 @@ bracket ws = 40 ∷ (items false ws ++ 41 ∷ [])
 unfoldable pub line : List (List ℕ) → List ℕ
 line ws = bracket ws ++ 10 ∷ []
 
--- "Moves and sets hold strictly rising numbers 0 to 63."
+-- "Moves and sets hold strictly rising numbers 0 to 63."; "Numbers in files run to 127, counts to 128." (M-105)
 unfoldable pub members : ℕ → ℕ → ℕ → List ℕ
 members zero lo x = []
 members (suc n) lo x = elim (has x lo) [ true ↦ lo ∷ members n (suc lo) x | false ↦ members n (suc lo) x ]
@@ -151,7 +151,7 @@ gameText g =
     ++ (stateLines 2 (g .output .states) 0 (plain (g .output))
     ++ requirementLines (g .k) 0 (g .requirements)))
 
--- "with I and O 1 to 64"; "Rows past the count are empty."
+-- "with I and O 1 to 64", to 128 by M-105; "Rows past the count are empty."
 pub record ShapedPlain (h : PlainGraph) : Type 0 where
   pub some : 1 ≤ h .states
   pub most : h .states ≤ capacity

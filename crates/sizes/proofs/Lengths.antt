@@ -27,10 +27,10 @@ environment-length g m e =
 
 -- so every sum and product fits a word
 module _ (g : Game) (a : acceptance g ≡ Accepted) where
-  pub inputs-most : g .input .states ≤ 64
+  pub inputs-most : g .input .states ≤ 128
   inputs-most = accepted-fits g a .input .most
 
-  pub outputs-most : g .output .states ≤ 64
+  pub outputs-most : g .output .states ≤ 128
   outputs-most = accepted-fits g a .output .most
 
 module _ (g : Game) (a : acceptance g ≡ Accepted) (m : ℕ) where
@@ -40,14 +40,14 @@ module _ (g : Game) (a : acceptance g ≡ Accepted) (m : ℕ) where
   environment-most : m ≡ environmentCounters (separatedOf g) → m ≤ 32
   environment-most e = omega (arith, environment-few g (accepted-fits g a))
 
-  pub controller-rows : m ≡ controllerCounters (separatedOf g) → g .output .states * m ≤ 2048
+  pub controller-rows : m ≡ controllerCounters (separatedOf g) → g .output .states * m ≤ 4096
   controller-rows e = mul-le-mul (outputs-most g a) (controller-most e)
 
-  pub controller-entries : m ≡ controllerCounters (separatedOf g) → g .output .states * m * g .input .states ≤ 131072
+  pub controller-entries : m ≡ controllerCounters (separatedOf g) → g .output .states * m * g .input .states ≤ 524288
   controller-entries e = mul-le-mul (controller-rows e) (inputs-most g a)
 
-  pub environment-rows : m ≡ environmentCounters (separatedOf g) → g .input .states * m ≤ 2048
+  pub environment-rows : m ≡ environmentCounters (separatedOf g) → g .input .states * m ≤ 4096
   environment-rows e = mul-le-mul (inputs-most g a) (environment-most e)
 
-  pub environment-entries : m ≡ environmentCounters (separatedOf g) → g .input .states * m * g .output .states ≤ 131072
+  pub environment-entries : m ≡ environmentCounters (separatedOf g) → g .input .states * m * g .output .states ≤ 524288
   environment-entries e = mul-le-mul (environment-rows e) (outputs-most g a)

@@ -37,9 +37,9 @@ use Rattle.prints.specs.Prints.{tablePrint, gamePrint, answerPrint, readingPrin
 use Rattle.solve.specs.Printed.{Made, Printed}
 
 -- the dimensions of an accepted game are in range
-range : (i o c : ℕ) → i ≤ 64 → o ≤ 64 → max 1 c ≤ 32 → inRange i o c ≡ true
+range : (i o c : ℕ) → i ≤ 128 → o ≤ 128 → max 1 c ≤ 32 → inRange i o c ≡ true
 unfolding inRange
-range i o c p q h = and-intro (le-leb i 64 p) (and-intro (le-leb o 64 q) (le-leb c 32 (omega (arith, h))))
+range i o c p q h = and-intro (le-leb i 128 p) (and-intro (le-leb o 128 q) (le-leb c 32 (omega (arith, h))))
 
 module _ (g : Game) (a : acceptance g ≡ Accepted) where
   controller-printed : controllerAnswer (g .input .states) (g .output .states) (length (guarantees (separatedOf g))) (controllerEntries (separatedOf g)) ≡
@@ -120,9 +120,9 @@ module _ {g : Game} {s s′ : List ℕ} {n : ℕ} {b b′ : Bool} {x y p : ℕ �
   part-short k c e H h l = short-of (verdictAnswer g k c e) (told-answer g k c e) H h l
 
   -- of the lengths that the program lends
-  module _ {k c e : ℕ} (u : 192 ≤ k) (v : c ≡ 32768) (w : e ≡ 32768) (H : Handed g (verdictAnswer g k c e) s s′ n b b′ x y p t)
+  module _ {k c e : ℕ} (u : 768 ≤ k) (v : c ≡ 32768) (w : e ≡ 32768) (H : Handed g (verdictAnswer g k c e) s s′ n b b′ x y p t)
       {d : List ℕ} {r : ℕ} {f : List ℕ} where
-    -- no game asks for more than 192 words of scratch
+    -- no game asks for more than 768 words of scratch
     printed-as : acceptance g ≡ Accepted → Made d (tablePrint g (verdictAnswer g k c e)) r f → Made d (gamePrint g) r f
     unfolding gamePrint
     printed-as a M =

@@ -81,7 +81,7 @@ fn solve(buffer: &mut [u8], g: Game) -> usize
     requires { ⌜ acceptance g ≡ Accepted ⌝ }
     ensures { λ r. ⌜ Made (now (buffer .entry)) (gamePrint g) r (now (buffer .exit)) ⌝ }
 {
-    let mut scratch = [0u64; 192];
+    let mut scratch = [0u64; 768];
     let mut refusal: u8 = 0;
     let mut system = false;
     let mut controller = empty_room();

@@ -1,6 +1,7 @@
 // Prints how many sweeps the closure of some graphs takes, and holds every graph of up to 3 states to "in no graph more sweeps than states".
 use game::Graph;
 use libc::STDOUT_FILENO;
+use sets::Set;
 ghost use mathlib.Core.Path.{_≡_};
 ghost use Prim.Native.Nat.{_≤_, _<_};
 ghost use Rattle.sets.specs.Words.{capacity};
@@ -14,36 +15,43 @@ enum Shape {
     FallingChain,
     // Each state moves to the next, the last to the first.
     Cycle,
-    // State s moves to s + 27, going round at 64.
+    // State s moves to s + 27, going round at the count.
     Strides,
-    // A cycle of the first 32 states, a cycle of the others, and a move from the one to the other.
+    // A cycle of the first half of the states, a cycle of the others, and a move from the one to the other.
     TwoCycles,
-    // Each state moves to all of 64.
+    // Each state moves to all of them.
     Full,
 }
 
+// The set of one state.
+fn one(s: usize) -> Set
+    requires { ⌜ s < capacity ⌝ }
+{
+    sets::insert(sets::empty(), s)
+}
+
 // Row s of a graph of n states.
-fn row(shape: Shape, n: usize, s: usize) -> u64
+fn row(shape: Shape, n: usize, s: usize) -> Set
     requires { ⌜ (s < n) × (n ≤ capacity) ⌝ }
 {
     match shape {
-        Shape::Loops => 1u64 << s,
-        Shape::Chain => if s + 1 < n {
-            1u64 << (s + 1)
+        Shape::Loops => one(s),
+        Shape::Chain => if s + 1 < n { one(s + 1) } else { one(s) },
+        Shape::FallingChain => if s > 0 { one(s - 1) } else { one(0) },
+        Shape::Cycle => if s + 1 < n { one(s + 1) } else { one(0) },
+        Shape::Strides => if s + 27 < n {
+            one(s + 27)
         } else {
-            1u64 << s
+            one(s + 27 - n)
         },
-        Shape::FallingChain => if s > 0 { 1u64 << (s - 1) } else { 1 },
-        Shape::Cycle => if s + 1 < n { 1u64 << (s + 1) } else { 1 },
-        Shape::Strides => 1u64 << ((s + 27) % 64),
-        Shape::TwoCycles => if s == 31 {
-            0x1_0000_0001
-        } else if s == 63 {
-            0x1_0000_0000
+        Shape::TwoCycles => if s + 1 == n / 2 {
+            sets::insert(one(0), n / 2)
+        } else if s + 1 == n {
+            one(n / 2)
         } else {
-            1u64 << ((s + 1) % 64)
+            one(s + 1)
         },
-        Shape::Full => 0xffff_ffff_ffff_ffff,
+        Shape::Full => sets::below(n),
     }
 }
 
@@ -51,10 +59,11 @@ fn graph(shape: Shape, n: usize) -> Graph
     requires { ⌜ n ≤ capacity ⌝ }
     ensures { λ r. ⌜ r .states ≡ n ⌝ }
 {
-    let mut moves = [0u64; 64];
+    let mut moves = [0u64; sets::ROW_WORDS];
     let mut s = 0;
     while s < n {
-        moves[s] = row(shape, n, s);
+        let x = row(shape, n, s);
+        sets::put_of(&mut moves, s, x);
         s += 1;
     }
     Graph {
@@ -68,7 +77,7 @@ fn graph(shape: Shape, n: usize) -> Graph
 fn report(name: &[u8], shape: Shape, n: usize)
     requires { ⌜ n ≤ capacity ⌝ }
 {
-    let mut rows = [0u64; 64];
+    let mut rows = [0u64; sets::ROW_WORDS];
     let sweeps = closure::close(graph(shape, n), &mut rows);
     io::write_all(STDOUT_FILENO, name);
     io::print_decimal(STDOUT_FILENO, sweeps as u64);
@@ -80,11 +89,11 @@ fn coded(n: usize, base: u64, code: u64) -> Graph
     requires { ⌜ (n ≤ capacity) × (1 ≤ base) ⌝ }
     ensures { λ r. ⌜ r .states ≡ n ⌝ }
 {
-    let mut moves = [0u64; 64];
+    let mut moves = [0u64; sets::ROW_WORDS];
     let mut rest = code;
     let mut s = 0;
     while s < n {
-        moves[s] = rest % base;
+        moves[2 * s] = rest % base;
         rest /= base;
         s += 1;
     }
@@ -99,7 +108,7 @@ fn coded(n: usize, base: u64, code: u64) -> Graph
 fn bounded(n: usize, base: u64, code: u64) -> bool
     requires { ⌜ (n ≤ capacity) × (1 ≤ base) ⌝ }
 {
-    let mut rows = [0u64; 64];
+    let mut rows = [0u64; sets::ROW_WORDS];
     closure::close(coded(n, base, code), &mut rows) <= n
 }
 
@@ -140,6 +149,13 @@ fn main() {
     report(b"a cycle of 64 in strides: ", Shape::Strides, 64);
     report(b"two cycles of 32, joined: ", Shape::TwoCycles, 64);
     report(b"64 states, each to all: ", Shape::Full, 64);
+    report(b"128 states, each to itself: ", Shape::Loops, 128);
+    report(b"a chain of 128: ", Shape::Chain, 128);
+    report(b"a falling chain of 128: ", Shape::FallingChain, 128);
+    report(b"a cycle of 128: ", Shape::Cycle, 128);
+    report(b"a cycle of 128 in strides: ", Shape::Strides, 128);
+    report(b"two cycles of 64, joined: ", Shape::TwoCycles, 128);
+    report(b"128 states, each to all: ", Shape::Full, 128);
     report_all(b"graphs of 1 state: ", 1, 2, 2);
     report_all(b"graphs of 2 states: ", 2, 4, 16);
     report_all(b"graphs of 3 states: ", 3, 8, 512);

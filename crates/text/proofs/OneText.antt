@@ -34,13 +34,11 @@ use Rattle.shape.specs.Shape.{gameFormat}
 use Rattle.shape.proofs.Graphs.{empty-shaped}
 use Rattle.shape.proofs.Shape.{game-sound, game-complete, game-live}
 use Rattle.put.proofs.Pieces.{in-word, out-word}
-use Rattle.put.proofs.Bounds.{game-short}
 use Rattle.text.specs.Read.{Reads, refused, misshapen, judged}
 use Rattle.text.specs.OneText.{Arrays, IsText, OneText}
 use Rattle.text.specs.declared.Answer.{Answer}
 use Rattle.text.specs.declared.Answer.the-variants.{Read, Misshapen, Refused as NotRead}
 use Rattle.text.specs.declared.Reading.{Reading}
-use Rattle.text.proofs.Writer.{accepted-writable}
 use Rattle.text.proofs.Reader.{text-of, judged-refused, judged-accepted}
 
 -- two games within the shape's limits with one text are one game
@@ -64,7 +62,7 @@ graph-shaped g F l rows start =
             (λ b. ap (λ (x : ℕ). within x capacity) (past s (ltb-false s (g .states) b)) ∙ zero-within capacity);
         unused = past;
       };
-      words = λ i. record { states = g .states; initial = set-is (g .initial) start i; moves = words-sets (g .moves) l rows i };
+      words = λ i. record { states = g .states; initial = set-is (g .initial) (start .0) i; moves = words-sets (g .moves) l rows i };
     }
   where
     past : (s : ℕ) → g .states ≤ s → getD (setsIn (g .moves)) s 0 ≡ 0
@@ -100,14 +98,14 @@ record Fit (q : Requirement) : Type 0 where
 
 in-all : (xs : List InSet) → ((j : ℕ) → WordsFit (getD xs j noInput .0)) → inSets (inWords xs) ≡ xs
 in-all [] h = refl
-in-all (x ∷ xs) h = λ i. record { 0 = set-is (x .0) (h 0) i } ∷ in-all xs (λ j. h (suc j)) i
+in-all (x ∷ xs) h = λ i. record { 0 = set-is (x .0) (h 0 .0) i } ∷ in-all xs (λ j. h (suc j)) i
 
 out-all : (xs : List OutSet) → ((j : ℕ) → WordsFit (getD xs j noOutput .0)) → outSets (outWords xs) ≡ xs
 out-all [] h = refl
-out-all (x ∷ xs) h = λ i. record { 0 = set-is (x .0) (h 0) i } ∷ out-all xs (λ j. h (suc j)) i
+out-all (x ∷ xs) h = λ i. record { 0 = set-is (x .0) (h 0 .0) i } ∷ out-all xs (λ j. h (suc j)) i
 
 no-set : (x : Set) → WordsFit x → bitsOf x ≡ 0 → x ≡ noStates
-no-set x w h = sym (set-is x w) ∙ ap setOf h ∙ no-states
+no-set x w h = sym (set-is x (w .0)) ∙ ap setOf h ∙ no-states
 
 requirement-shaped : (q : Requirement) (a b : ℕ) → a ≤ capacity → b ≤ capacity → RequirementFits q a b → Fit q → ShapedRequirement q
 requirement-shaped q a b la lb F W =
@@ -181,9 +179,10 @@ accepted-shaped g h A =
     past : (r : ℕ) → 8 ≤ r → getD (g .requirements) r emptyRequirement ≡ emptyRequirement
     past r l = let m = A .requirements in List·getD-eq-default (g .requirements) emptyRequirement (omega arith)
 
--- the text of an accepted game is read as that game
-read-written : (g : Game) (r : Reading) → acceptance g ≡ Accepted → Arrays g → Reads (gameText g) r → r ≡ record { game = g; answer = Read }
-read-written g r h A R = R .text (game-short g (accepted-writable g h)) g (accepted-shaped g h A) refl ∙ judged-accepted g h
+-- the text of an accepted game that a file can hold is read as that game
+read-written : (g : Game) (r : Reading) → acceptance g ≡ Accepted → Arrays g → length (gameText g) ≤ 40960 → Reads (gameText g) r
+    → r ≡ record { game = g; answer = Read }
+read-written g r h A l R = R .text l g (accepted-shaped g h A) refl ∙ judged-accepted g h
 
 -- what is read as a game is that game's text, byte for byte
 judged-read : (s : List ℕ) (g : Game) (r : Reading) (a : Acceptance) → acceptance g ≡ a → Shaped g → s ≡ gameText g → r ≡ judged g → r .answer ≡ Read
@@ -221,6 +220,7 @@ pub one-text-holds : OneText
 one-text-holds = record {
   one-game = one-game;
   read-back = read-written;
+  too-long = λ g r h l R. R .long l;
   only-texts = written-read;
   one-text = λ s t q r Q R e f g. written-read s q Q e .text ∙ ap gameText g ∙ sym (written-read t r R f .text);
 }

@@ -29,6 +29,7 @@ use Rattle.arena.specs.Table.{Answer, none, gives}
 use Rattle.theory.specs.Region.{answers, region, opens}
 use Rattle.theory.specs.Choice.{controllerRow, controllerStart, environmentRow, environmentStart, refused}
 use Rattle.theory.specs.Entries.{
+  stride,
   entry,
   answer,
   controllerCounters,
@@ -44,17 +45,17 @@ use Rattle.theory.proofs.Controller.{Follows}
 use Rattle.theory.proofs.EnvironmentRow.{pushed}
 use Rattle.theory.proofs.Environment.{Presses}
 
--- What acceptance gives: 64 states a graph, and counters such that no entry is none's.
+-- What acceptance gives: at most `stride` states a graph, and counters such that no entry is none's.
 pub record Sized (S : Separated) : Type 0 where
-  pub inputs : S .input .states ≤ 64
-  pub outputs : S .output .states ≤ 64
-  pub controller : controllerCounters S ≤ 1023
-  pub environment : environmentCounters S ≤ 1023
+  pub inputs : S .input .states ≤ stride
+  pub outputs : S .output .states ≤ stride
+  pub controller : controllerCounters S ≤ 511
+  pub environment : environmentCounters S ≤ 511
 
 -- an answer that its entry can hold
 pub data Small : Answer → Type 0 where
   small-none : Small none
-  small-gives : (counter state : ℕ) → counter < 1023 → state < 64 → Small (gives counter state)
+  small-gives : (counter state : ℕ) → counter < 511 → state < stride → Small (gives counter state)
 
 -- "none is 65,535", and no other entry is
 pub entry-below : (a : Answer) → Small a → (a ≡ none) ⊎ (entry a < 65535)
@@ -66,10 +67,10 @@ answer-entry : (a : Answer) → Small a → answer (entry a) ≡ a
 unfolding answer entry
 answer-entry none small-none = refl
 answer-entry (gives c s) (small-gives counter state a b) =
-    rw (ne-eqb (state + 64 * counter) 65535 (omega arith), answer)
+    rw (ne-eqb (state + stride * counter) 65535 (omega arith), answer)
     (ap₂ gives
     (add-mul-div-left state counter (omega arith) ∙ ap (λ (k : ℕ). k + counter) (div-eq-of-lt b) ∙ zero-add counter)
-    (add-mul-mod-self-left state 64 counter ∙ mod-eq-of-lt b))
+    (add-mul-mod-self-left state stride counter ∙ mod-eq-of-lt b))
 
 -- the row of rows by a, b and c, and its place
 module _ (A B C a b c : ℕ) (la : a < A) (lb : b < B) (lc : c < C) where

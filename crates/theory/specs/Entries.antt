@@ -1,5 +1,6 @@
 -- Tables as lists of 16-bit entries, and back.
 --
+--   stride                        == how far apart the entries of one state for a counter and the next are
 --   entry a                       == the entry that stands for an answer
 --   answer e                      == the answer that an entry stands for
 --   controllerEntries S           == the controller's table, written out
@@ -26,13 +27,17 @@ use Rattle.theory.specs.Choice.{
   environmentStart,
 }
 
--- "Entries are 16 bits: next state + 64 × next counter; none is 65,535."
+-- "An entry becomes next state + 128 × next counter." (M-105)
+abbrev pub stride : ℕ
+stride = 128
+
+-- "Entries are 16 bits: next state + 64 × next counter; none is 65,535.", 128 × by M-105
 unfoldable pub entry : Answer → ℕ
 entry none = 65535
-entry (gives counter state) = state + 64 * counter
+entry (gives counter state) = state + stride * counter
 
 unfoldable pub answer : ℕ → Answer
-answer e = elim (eqb e 65535) [ true ↦ none | false ↦ gives (e / 64) (e % 64) ]
+answer e = elim (eqb e 65535) [ true ↦ none | false ↦ gives (e / stride) (e % stride) ]
 
 -- "the controller's counter g runs below max(1, G)"
 unfoldable pub controllerCounters : Separated → ℕ

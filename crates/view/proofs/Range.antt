@@ -10,6 +10,7 @@ use lib.ListN.{length, getD}
 use borrow.Author.Tests.{ltb-true, leb-true, lt-ltb, le-ltb, le-leb, lt-leb}
 use Rattle.finite.proofs.Truth.{and-left, and-right}
 use Rattle.finite.proofs.Loops.{and-stop, and-next}
+use Rattle.sets.specs.Words.{capacity}
 use Rattle.view.specs.Rows.{inRange, rowEntry}
 
 -- what is read inside a list does not depend on what is read past it
@@ -19,52 +20,52 @@ inside (x ∷ l) zero d e h = refl
 inside (x ∷ l) (suc k) d e h = inside l k d e (omega arith)
 
 module _ (I M o g j : ℕ) where
-  pub many-inputs : 64 < I → false ≡ inRange I M o g j
+  pub many-inputs : capacity < I → false ≡ inRange I M o g j
   unfolding inRange
-  many-inputs a = and-stop (leb M 32 && (ltb o 64 && (ltb g M && ltb j I))) (lt-leb I 64 a)
+  many-inputs a = and-stop (leb M 32 && (ltb o capacity && (ltb g M && ltb j I))) (lt-leb I capacity a)
 
-  pub many-counters : I ≤ 64 → 32 < M → false ≡ inRange I M o g j
+  pub many-counters : I ≤ capacity → 32 < M → false ≡ inRange I M o g j
   unfolding inRange
-  many-counters a b = and-next (le-leb I 64 a) (and-stop (ltb o 64 && (ltb g M && ltb j I)) (lt-leb M 32 b))
+  many-counters a b = and-next (le-leb I capacity a) (and-stop (ltb o capacity && (ltb g M && ltb j I)) (lt-leb M 32 b))
 
-  pub output-past : I ≤ 64 → M ≤ 32 → 64 ≤ o → false ≡ inRange I M o g j
+  pub output-past : I ≤ capacity → M ≤ 32 → capacity ≤ o → false ≡ inRange I M o g j
   unfolding inRange
-  output-past a b c = and-next (le-leb I 64 a) (and-next (le-leb M 32 b) (and-stop (ltb g M && ltb j I) (le-ltb o 64 c)))
+  output-past a b c = and-next (le-leb I capacity a) (and-next (le-leb M 32 b) (and-stop (ltb g M && ltb j I) (le-ltb o capacity c)))
 
-  pub counter-past : I ≤ 64 → M ≤ 32 → o < 64 → M ≤ g → false ≡ inRange I M o g j
+  pub counter-past : I ≤ capacity → M ≤ 32 → o < capacity → M ≤ g → false ≡ inRange I M o g j
   unfolding inRange
-  counter-past a b c d = and-next (le-leb I 64 a) (and-next (le-leb M 32 b) (and-next (lt-ltb o 64 c) (and-stop (ltb j I) (le-ltb g M d))))
+  counter-past a b c d = and-next (le-leb I capacity a) (and-next (le-leb M 32 b) (and-next (lt-ltb o capacity c) (and-stop (ltb j I) (le-ltb g M d))))
 
-  pub input-last : I ≤ 64 → M ≤ 32 → o < 64 → g < M → ltb j I ≡ inRange I M o g j
+  pub input-last : I ≤ capacity → M ≤ 32 → o < capacity → g < M → ltb j I ≡ inRange I M o g j
   unfolding inRange
-  input-last a b c d = and-next (le-leb I 64 a) (and-next (le-leb M 32 b) (and-next (lt-ltb o 64 c) (and-next (lt-ltb g M d) refl)))
+  input-last a b c d = and-next (le-leb I capacity a) (and-next (le-leb M 32 b) (and-next (lt-ltb o capacity c) (and-next (lt-ltb g M d) refl)))
 
-  pub in-range : I ≤ 64 → M ≤ 32 → o < 64 → g < M → j < I → inRange I M o g j ≡ true
+  pub in-range : I ≤ capacity → M ≤ 32 → o < capacity → g < M → j < I → inRange I M o g j ≡ true
   in-range a b c d e = sym (input-last a b c d) ∙ lt-ltb j I e
 
   -- what a row's place is made of
   pub record Bounds : Type 0 where
-    pub inputs : I ≤ 64
+    pub inputs : I ≤ capacity
     pub counters : M ≤ 32
-    pub output : o < 64
+    pub output : o < capacity
     pub counter : g < M
     pub input : j < I
-    pub block : o * M ≤ 2048
-    pub place : (o * M + g) * I ≤ 133120
+    pub block : o * M ≤ capacity * 32
+    pub place : (o * M + g) * I ≤ (capacity * 32 + 32) * capacity
 
   pub range-bounds : inRange I M o g j ≡ true → Bounds
   unfolding inRange
   range-bounds h =
-      let a = leb-true I 64 (and-left (leb I 64) (leb M 32 && (ltb o 64 && (ltb g M && ltb j I))) h) in
-      let p = and-right (leb I 64) (leb M 32 && (ltb o 64 && (ltb g M && ltb j I))) h in
-      let b = leb-true M 32 (and-left (leb M 32) (ltb o 64 && (ltb g M && ltb j I)) p) in
-      let q = and-right (leb M 32) (ltb o 64 && (ltb g M && ltb j I)) p in
-      let c = ltb-true o 64 (and-left (ltb o 64) (ltb g M && ltb j I) q) in
-      let r = and-right (ltb o 64) (ltb g M && ltb j I) q in
+      let a = leb-true I capacity (and-left (leb I capacity) (leb M 32 && (ltb o capacity && (ltb g M && ltb j I))) h) in
+      let p = and-right (leb I capacity) (leb M 32 && (ltb o capacity && (ltb g M && ltb j I))) h in
+      let b = leb-true M 32 (and-left (leb M 32) (ltb o capacity && (ltb g M && ltb j I)) p) in
+      let q = and-right (leb M 32) (ltb o capacity && (ltb g M && ltb j I)) p in
+      let c = ltb-true o capacity (and-left (ltb o capacity) (ltb g M && ltb j I) q) in
+      let r = and-right (ltb o capacity) (ltb g M && ltb j I) q in
       let d = ltb-true g M (and-left (ltb g M) (ltb j I) r) in
-      let u : o ≤ 64 = omega arith in
-      let f : o * M ≤ 64 * 32 = mul-le-mul u b in
-      let v : o * M + g ≤ 2080 = omega arith in
+      let u : o ≤ capacity = omega arith in
+      let f : o * M ≤ capacity * 32 = mul-le-mul u b in
+      let v : o * M + g ≤ capacity * 32 + 32 = omega arith in
       record {
         inputs = a;
         counters = b;
@@ -72,7 +73,7 @@ module _ (I M o g j : ℕ) where
         counter = d;
         input = ltb-true j I (and-right (ltb g M) (ltb j I) r);
         block = omega arith;
-        place = let k : (o * M + g) * I ≤ 2080 * 64 = mul-le-mul v a in omega arith;
+        place = let k : (o * M + g) * I ≤ (capacity * 32 + 32) * capacity = mul-le-mul v a in omega arith;
       }
 
   pub row-none : (l : List ℕ) → inRange I M o g j ≡ false → 65535 ≡ rowEntry l I M o g j

@@ -7,9 +7,10 @@ use mathlib.Core.Bool.{Bool, true, false, _&&_}
 use mathlib.Core.List.{List}
 use lib.Dec.{ltb, leb}
 use lib.ListN.{getD}
+use Rattle.sets.specs.Words.{capacity}
 
 unfoldable pub inRange : (I M o g j : ℕ) → Bool
-inRange I M o g j = leb I 64 && (leb M 32 && (ltb o 64 && (ltb g M && ltb j I)))
+inRange I M o g j = leb I capacity && (leb M 32 && (ltb o capacity && (ltb g M && ltb j I)))
 
 -- "one start entry an input, then rows by output, counter, input, the last running fastest"
 unfoldable pub rowEntry : List ℕ → (I M o g j : ℕ) → ℕ

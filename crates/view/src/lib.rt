@@ -35,13 +35,13 @@ pub struct RowIndex {
 pub fn in_range(inputs: usize, counters: usize, at: RowIndex) -> bool
     ensures { λ r. ⌜ r ≡ isRow inputs counters (at .output .0) (at .counter) (at .input .0) ⌝ }
 {
-    if inputs > 64 {
+    if inputs > sets::CAPACITY {
         return false;
     }
     if counters > 32 {
         return false;
     }
-    if at.output.0 >= 64 {
+    if at.output.0 >= sets::CAPACITY {
         return false;
     }
     if at.counter >= counters {

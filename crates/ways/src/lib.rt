@@ -20,7 +20,7 @@ pub fn prefer(s: usize, set: Set) -> usize
 }
 
 // The moves of s, which is one of `left`, inside a set that land in `reached`.
-pub fn choices(rows: &[u64; 64], inside: Set, left: Set, reached: Set, s: usize) -> Set
+pub fn choices(rows: &[u64; sets::ROW_WORDS], inside: Set, left: Set, reached: Set, s: usize) -> Set
     requires { ⌜ (s < capacity) × (has (bitsOf left) s ≡ true) ⌝ }
     ensures { λ r. ⌜ bitsOf r ≡ choicesOf (setsIn (now (rows .entry))) (bitsOf inside) (bitsOf left) (bitsOf reached) s ⌝ }
 {

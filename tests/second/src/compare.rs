@@ -20,6 +20,7 @@ pub struct Options {
     pub program: PathBuf,
     pub games: usize,
     pub large: usize,
+    pub wide: usize,
     pub damaged: usize,
     pub seed: u64,
 }
@@ -79,10 +80,28 @@ pub fn run(options: &Options) -> Result<bool, String> {
 /// The large ones first, so that no thread ends with a long one alone.
 fn jobs(options: &Options) -> Vec<Job> {
     let large = (0..options.large).map(|n| (if n % 5 < 3 { Family::Large } else { Family::Rooms }, n as u64));
+    let wide = (0..options.wide).map(|n| (Family::Wide, n as u64));
     let slots: Vec<Family> = SMALL.iter().flat_map(|&(family, share)| vec![family; share]).collect();
     let small = (0..options.games).map(|n| (slots[n % slots.len()], n as u64));
     let damaged = (0..options.damaged).map(|n| (if n % 10 < 9 { Family::Damaged } else { Family::Faulty }, n as u64));
-    large.chain(small).chain(damaged).collect()
+    wide.chain(large).chain(small).chain(damaged).collect()
+}
+
+/// The prints of the program for games of at most 64 states a graph, a line a
+/// family: how many there are, and a number that another print would change.
+/// Games within these limits print what they printed when they were all.
+pub fn digest(options: &Options) -> Result<bool, String> {
+    let mut sums: BTreeMap<usize, (usize, u64)> = BTreeMap::new();
+    for (family, index) in jobs(options).into_iter().filter(|job| !matches!(job.0, Family::Damaged | Family::Wide)) {
+        let print = answer_of(&options.program, &text_of(options.seed, family, index))?;
+        let (count, sum) = sums.entry(family as usize).or_insert((0, 0xcbf2_9ce4_8422_2325));
+        *count += 1;
+        *sum = print.bytes().fold(*sum, |sum, byte| (sum ^ u64::from(byte)).wrapping_mul(0x100_0000_01b3));
+    }
+    for (family, (count, sum)) in sums {
+        println!("{:?} {count} {sum:016x}", FAMILIES[family]);
+    }
+    Ok(true)
 }
 
 fn compare_all(options: &Options, jobs: &[Job]) -> Report {

@@ -42,7 +42,7 @@ impl Game {
     pub fn refusal(&self) -> Option<usize> {
         let graphs = [&self.inputs, &self.outputs];
         let conditions = [
-            (1, graphs.iter().any(|graph| !(1..=64).contains(&graph.len()))),
+            (1, graphs.iter().any(|graph| !(1..=128).contains(&graph.len()))),
             (2, graphs.iter().any(|graph| moves_past_count(graph))),
             (3, graphs.iter().any(|graph| !graph.iter().any(|state| state.initial))),
             (5, self.requirements.len() > 8),

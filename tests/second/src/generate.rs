@@ -39,6 +39,8 @@ pub enum Family {
     Rooms,
     /// Texts that may have no shape.
     Damaged,
+    /// 65 to 128 states in one graph at least.
+    Wide,
 }
 
 /// The families of small accepted games, each as often as its share of twenty.
@@ -55,7 +57,7 @@ pub const SMALL: [(Family, usize); 9] = [
 ];
 
 /// Every family in the order of the report.
-pub const FAMILIES: [Family; 13] = [
+pub const FAMILIES: [Family; 14] = [
     Family::Tree,
     Family::Chain,
     Family::Lone,
@@ -69,6 +71,7 @@ pub const FAMILIES: [Family; 13] = [
     Family::Large,
     Family::Rooms,
     Family::Damaged,
+    Family::Wide,
 ];
 
 /// The text of one family member.
@@ -93,6 +96,7 @@ pub fn game(family: Family, draw: &mut Draw) -> Game {
         Family::Edge => balanced(draw, edge),
         Family::Large => balanced(draw, large),
         Family::Rooms => rooms(draw),
+        Family::Wide => wide(draw),
         Family::Faulty | Family::Damaged => faulty(draw),
     }
 }
@@ -324,6 +328,27 @@ fn large(draw: &mut Draw) -> Game {
         (0..1 + draw.below(3)).map(|_| plain_requirement(64, 64, draw)).collect()
     };
     Game { inputs, outputs, requirements }
+}
+
+/// 65 to 128 states in one graph at least. Some dense ones have texts over the
+/// longest that is read, and some have a set more than a room is sufficient for.
+fn wide(draw: &mut Draw) -> Game {
+    let large = |draw: &mut Draw| draw.pick(&[65, 66, 96, 127, 128]);
+    let (inputs, outputs) = match draw.below(3) {
+        0 => (large(draw), 1 + draw.below(64)),
+        1 => (1 + draw.below(64), large(draw)),
+        _ => (large(draw), large(draw)),
+    };
+    let most = |spare: usize, draw: &mut Draw| ((ROOM - spare) / (inputs * outputs)).min(7) + usize::from(draw.chance(10));
+    let (g, h) = (most(inputs, draw), most(1, draw));
+    let requirements = listed_sets(g, h, outputs, inputs, draw);
+    let graph = |count: usize, draw: &mut Draw| match draw.chance(10) {
+        true => Shape::Dense.graph(count, draw),
+        false => draw.pick(&[Shape::Tree, Shape::Chain, Shape::Lone, Shape::Period, Shape::Sparse]).graph(count, draw),
+    };
+    let inputs = graph(inputs, draw);
+    let outputs = graph(outputs, draw);
+    latched(Game { inputs, outputs, requirements }, draw.pick(&LATCHING), draw)
 }
 
 /// Inputs, outputs, and the sets that are too many for the controller's and

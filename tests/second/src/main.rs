@@ -14,8 +14,10 @@ second walks GAMEFILE PRINTFILE    does the printed table win, by walks alone?
 second compare PROGRAM [options]   compare with another solve program
     --games N     small accepted games, default 20000
     --large N     games of up to 64 states each, default 40
+    --wide N      games of 65 to 128 states in a graph, default 20
     --damaged N   damaged texts and faulty games, default 5000
     --seed S      the seed; from the clock unless given
+second digest PROGRAM [options]    a number for the prints of the games of up to 64 states, to hold two builds together
 second --help                      this text
 
 Exit status: 0 if it wins or nothing differs, 1 if not, 2 for a wrong command.
@@ -29,6 +31,7 @@ fn main() -> ExitCode {
         ["won"] => won(),
         ["walks", game, print] => check(game, print),
         ["compare", program, options @ ..] => options_of(program, options).and_then(|options| compare::run(&options)),
+        ["digest", program, options @ ..] => options_of(program, options).and_then(|options| compare::digest(&options)),
         ["--help" | "-h" | "help"] => {
             print!("{HELP}");
             Ok(true)
@@ -86,7 +89,7 @@ fn check(game: &str, print: &str) -> Result<bool, String> {
 }
 
 fn options_of(program: &str, words: &[&str]) -> Result<Options, String> {
-    let mut options = Options { program: program.into(), games: 20_000, large: 40, damaged: 5_000, seed: clock_seed() };
+    let mut options = Options { program: program.into(), games: 20_000, large: 40, wide: 20, damaged: 5_000, seed: clock_seed() };
     for pair in words.chunks(2) {
         let &[name, value] = pair else {
             return Err(format!("{} needs a number", pair[0]));
@@ -95,6 +98,7 @@ fn options_of(program: &str, words: &[&str]) -> Result<Options, String> {
         match name {
             "--games" => options.games = number as usize,
             "--large" => options.large = number as usize,
+            "--wide" => options.wide = number as usize,
             "--damaged" => options.damaged = number as usize,
             "--seed" => options.seed = number,
             _ => return Err(format!("no such option: {name}")),

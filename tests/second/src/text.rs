@@ -31,9 +31,9 @@ pub fn read(text: &[u8]) -> Result<Game, Refusal> {
 impl Reader<'_> {
     fn game(&mut self) -> Result<Game, Stop> {
         self.word("(game ")?;
-        let inputs = self.number(1..=64)?;
+        let inputs = self.number(1..=128)?;
         self.word(" ")?;
-        let outputs = self.number(1..=64)?;
+        let outputs = self.number(1..=128)?;
         self.word(" ")?;
         let requirements = self.number(0..=8)?;
         self.word(")\n")?;
@@ -84,15 +84,15 @@ impl Reader<'_> {
         Ok(sets)
     }
 
-    /// Strictly rising numbers 0 to 63: after 63 only the closing fits.
+    /// Strictly rising numbers 0 to 127: after 127 only the closing fits.
     fn set(&mut self) -> Result<Set, Stop> {
         self.word("(")?;
         let mut set = Vec::new();
         let mut lowest = 0;
         while !self.sees(b')') {
-            self.if_true(lowest <= 63)?;
+            self.if_true(lowest <= 127)?;
             self.blank_unless(set.is_empty())?;
-            let number = self.number(lowest..=63)?;
+            let number = self.number(lowest..=127)?;
             set.push(number);
             lowest = number + 1;
         }
@@ -151,9 +151,9 @@ impl Reader<'_> {
     }
 }
 
-/// Is this front all of the number, or the first of its two digits?
+/// Is this front all of the number, or the first of its digits?
 fn begins(front: usize, number: usize) -> bool {
-    number == front || (front > 0 && number / 10 == front)
+    number == front || (front > 0 && (number / 10 == front || number / 100 == front))
 }
 
 /// The text of a game. The game need not be accepted, but has to have a shape.

@@ -95,11 +95,11 @@ fn case_8_gives_these_rows() {
 
 /// Case 9, as far as a print goes.
 #[test]
-fn case_9_has_64_states_or_65() {
+fn case_9_has_128_states_or_129() {
     let graph = |count: usize| vec![State { initial: true, moves: vec![0] }; count];
     let game = |count: usize| Game { inputs: graph(count), outputs: graph(1), requirements: vec![] };
-    assert!(matches!(solve(&game(64)), Answer::System(_)));
-    assert_eq!(solve(&game(65)), Answer::Refused(Refusal::Number(1)));
+    assert!(matches!(solve(&game(128)), Answer::System(_)));
+    assert_eq!(solve(&game(129)), Answer::Refused(Refusal::Number(1)));
 }
 
 #[test]

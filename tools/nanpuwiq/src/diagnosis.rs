@@ -35,7 +35,7 @@ pub fn line_column(text: &[u8], place: usize) -> (usize, usize) {
 pub fn of_text(text: &[u8], error: Error) -> Finding {
     let (place, told) = match error.number {
         11 => (Some(error.place), misshapen(text, error.place)),
-        12 => (None, "the file has over 40,960 bytes: no game's text is that long".to_string()),
+        12 => (None, "the file has over 40,960 bytes: no longer text is read".to_string()),
         2 => located(text, past_count),
         3 => located(text, no_initial),
         7 => located(text, set_past_count),

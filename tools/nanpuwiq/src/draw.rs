@@ -7,7 +7,7 @@ use crate::names::Names;
 use crate::requirements::{self, assumptions, guarantees};
 use crate::standard;
 use crate::subcommand::Subcommand;
-use nanpuwiq::{Error, Game, Graph, InState, OutState, Requirement};
+use nanpuwiq::{Error, Game, Graph, InState, OutState, Requirement, Set};
 use std::fmt::Write;
 
 pub const SUBCOMMAND: Subcommand = Subcommand {
@@ -57,7 +57,7 @@ struct Picture<'a> {
     game: &'a Game,
     names: &'a Names,
     position: Option<(InState, OutState)>,
-    won: Vec<u64>,
+    won: Vec<Set>,
 }
 
 /// A state as it is drawn.
@@ -130,13 +130,13 @@ impl Picture<'_> {
 /// One graph: its components as clusters, then its moves.
 fn side(prefix: &str, title: &str, graph: &Graph, node: impl Fn(usize) -> Node) -> String {
     let mut text = format!("    subgraph cluster_{prefix} {{\n        label=\"{title}\";\n");
-    let mut drawn = 0u64;
+    let mut drawn = Set::default();
     for first in 0..graph.states {
         if has(drawn, first) {
             continue;
         }
         let states = component(graph, first);
-        drawn |= states;
+        drawn = drawn | states;
         let _ = writeln!(text, "        subgraph cluster_{prefix}_{first} {{\n            label=\"component {first}\";\n            style=dashed;");
         for state in members(states) {
             let _ = writeln!(text, "            {prefix}{state} [{}];", attributes(state, &node(state)));

@@ -89,9 +89,9 @@ fn summary(file: &GameFile, winner: Winner, entries: usize) -> Result<String, Fa
         first_outputs.join(" or ")
     );
     let map = game.won_map().map_err(|error| Failure::Refused(format!("{name}: {error}")))?;
-    let won: u32 = map.iter().map(|row| row.count_ones()).sum();
+    let won: usize = map.iter().map(|row| row.count()).sum();
     let _ =
-        writeln!(told, "{} of {} are won.", grouped(won as usize), count(inputs * outputs, "position", "positions"));
+        writeln!(told, "{} of {} are won.", grouped(won), count(inputs * outputs, "position", "positions"));
     told.push_str(match winner {
         Winner::System => "An adapter exists: the old panel can run the new drive.\n",
         Winner::Environment => "No adapter exists: the panel can be used so that every controller fails.\n",

@@ -1,39 +1,39 @@
 //! Sets of states and what a graph's states reach, for pictures and hints.
-use nanpuwiq::Graph;
+use nanpuwiq::{Graph, Set};
 
 /// The states of a set, rising.
-pub fn members(set: u64) -> impl Iterator<Item = usize> {
-    (0..64).filter(move |s| has(set, *s))
+pub fn members(set: Set) -> impl Iterator<Item = usize> {
+    set.states()
 }
 
-pub fn has(set: u64, state: usize) -> bool {
-    state < 64 && set >> state & 1 == 1
+pub fn has(set: Set, state: usize) -> bool {
+    set.has(state)
 }
 
 /// The states that one move leads to.
-pub fn moves(graph: &Graph, state: usize) -> u64 {
-    graph.moves.get(state).copied().unwrap_or(0)
+pub fn moves(graph: &Graph, state: usize) -> Set {
+    graph.moves.get(state).copied().unwrap_or_default()
 }
 
 /// The states that one move or more lead to.
-pub fn reached(graph: &Graph, state: usize) -> u64 {
-    let mut reached = 0;
+pub fn reached(graph: &Graph, state: usize) -> Set {
+    let mut reached = Set::default();
     let mut next = moves(graph, state);
-    while next & !reached != 0 {
-        reached |= next;
-        next = members(reached).fold(0, |set, s| set | moves(graph, s));
+    while next | reached != reached {
+        reached = reached | next;
+        next = members(reached).fold(Set::default(), |set, s| set | moves(graph, s));
     }
     reached
 }
 
 /// The component of a state: those that it reaches and that reach it, and itself.
-pub fn component(graph: &Graph, state: usize) -> u64 {
+pub fn component(graph: &Graph, state: usize) -> Set {
     let together = members(reached(graph, state)).filter(|s| has(reached(graph, *s), state));
-    together.fold(1 << (state % 64), |set, s| set | 1 << s)
+    together.fold(Set::of(state), |set, s| set | Set::of(s))
 }
 
 /// Whether a play can come to the set again and again from this state on.
-pub fn can_recur(graph: &Graph, state: usize, set: u64) -> bool {
-    let ahead = reached(graph, state) | 1 << (state % 64);
+pub fn can_recur(graph: &Graph, state: usize, set: Set) -> bool {
+    let ahead = reached(graph, state) | Set::of(state);
     members(ahead & set).any(|s| has(reached(graph, s), s))
 }

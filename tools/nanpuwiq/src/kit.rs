@@ -6,7 +6,7 @@ use crate::kit_file::{self, KitFile};
 use crate::sizes;
 use crate::standard;
 use crate::subcommand::Subcommand;
-use nanpuwiq::{Error, Game, Graph, Verdict, Winner, BARRED, COMMANDS, NONE};
+use nanpuwiq::{Error, Game, Graph, Set, Verdict, Winner, BARRED, COMMANDS, NONE};
 use std::fmt::Write;
 
 pub const SUBCOMMAND: Subcommand = Subcommand {
@@ -66,7 +66,7 @@ fn game(kit: &KitFile) -> Result<Game, Error> {
     let graph = |drive: &nanpuwiq::Drive| {
         let mut graph = Graph { states: drive.modes, initial: drive.initial, ..Graph::default() };
         for (row, next) in graph.moves.iter_mut().zip(drive.next.chunks(COMMANDS)) {
-            *row = next.iter().filter(|to| **to != BARRED).fold(0, |set, to| set | 1 << (to % 64));
+            *row = next.iter().filter(|to| **to != BARRED).fold(Set::default(), |set, to| set | Set::of(usize::from(*to)));
         }
         graph
     };

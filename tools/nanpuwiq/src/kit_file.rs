@@ -181,7 +181,7 @@ impl<'a> Reader<'a> {
         row.iter()
             .map(|form| match form.word() {
                 Some("-") => Ok(BARRED),
-                // there are 64 modes at most
+                // there are 128 modes at most
                 _ => self.mode(form, modes).map(|mode| mode as u8),
             })
             .collect()

@@ -6,7 +6,7 @@ use crate::graphs::members;
 use crate::names::Names;
 use crate::standard;
 use crate::subcommand::Subcommand;
-use nanpuwiq::{Error, Game, InState, OutState};
+use nanpuwiq::{Error, Game, InState, OutState, Set};
 
 pub const SUBCOMMAND: Subcommand = Subcommand {
     name: "map",
@@ -37,8 +37,8 @@ fn run(arguments: Arguments) -> Result<Status, Failure> {
 }
 
 /// A line for each input.
-fn text(game: &Game, names: &Names, map: &[u64]) -> String {
-    let line = |(input, row): (usize, &u64)| {
+fn text(game: &Game, names: &Names, map: &[Set]) -> String {
+    let line = |(input, row): (usize, &Set)| {
         let won: Vec<String> = members(*row).map(|output| names.output(OutState(output))).collect();
         let words = if won.is_empty() { "none".to_string() } else { won.join(" ") };
         format!("old {}: won with new {words}\n", names.input(InState(input)))

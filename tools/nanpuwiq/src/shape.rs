@@ -29,7 +29,7 @@ pub struct Shape {
 }
 
 /// States and numbers in sets are below this.
-const STATES: usize = 64;
+const STATES: usize = 128;
 const REQUIREMENTS: usize = 8;
 const SETS: usize = 4;
 

@@ -19,7 +19,7 @@ put-number-then-requires : tie.Need-put-number-then-requires
 put-number-then-requires c κs =
     let at-put-opening = c .before .before .before in
     let at-start = at-put-opening .before .before .before .before in
-    omega (arith, at-put-opening .put-opening .ensures .next, opening-short 5, number-short (at-start .args .entry % 64) 41 (omega arith))
+    omega (arith, at-put-opening .put-opening .ensures .next, opening-short 5, number-short (at-start .args .entry % 128) 41 (omega arith))
 
 put-byte-requires : tie.Need-put-byte-requires
 put-byte-requires c κs =
@@ -32,7 +32,7 @@ put-byte-requires c κs =
       at-put-number-then .put-number-then .ensures .next,
       opening-short 5,
       number-short
-          (at-start .args .entry % 64) 41 (omega arith),
+          (at-start .args .entry % 128) 41 (omega arith),
     )
 
 same-length : tie.Need-same-length

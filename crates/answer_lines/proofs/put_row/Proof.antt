@@ -68,7 +68,7 @@ put-number-then-requires-4 c κs =
       number-short (at-start .args .g) 32 (at-start .fits .g .fits),
       number-short (at-start .args .b) 32
           (at-start .fits .b .fits),
-      number-short (at-start .args .entry % 64) 32 (omega arith),
+      number-short (at-start .args .entry % 128) 32 (omega arith),
     )
 
 put-number-then-requires-5 : tie.Need-put-number-then-requires-5
@@ -92,8 +92,8 @@ put-number-then-requires-5 c κs =
           (at-start .args .g) 32 (at-start .fits .g .fits),
       number-short (at-start .args .b) 32 (at-start .fits .b .fits),
       number-short
-          (at-start .args .entry % 64) 32 (omega arith),
-      number-short (at-start .args .entry / 64) 41 (omega (arith, at-start .fits .entry .fits)),
+          (at-start .args .entry % 128) 32 (omega arith),
+      number-short (at-start .args .entry / 128) 41 (omega (arith, at-start .fits .entry .fits)),
     )
 
 put-byte-requires : tie.Need-put-byte-requires
@@ -119,8 +119,8 @@ put-byte-requires c κs =
       number-short (at-start .args .g) 32 (at-start .fits .g .fits),
       number-short (at-start .args .b) 32
           (at-start .fits .b .fits),
-      number-short (at-start .args .entry % 64) 32 (omega arith),
-      number-short (at-start .args .entry / 64) 41
+      number-short (at-start .args .entry % 128) 32 (omega arith),
+      number-short (at-start .args .entry / 128) 41
           (omega (arith, at-start .fits .entry .fits)),
     )
 

@@ -33,7 +33,7 @@ put-number-then-requires-2 c κs =
       opening-short 5,
       number-short
           (at-start .args .input) 32 (at-start .fits .input .fits),
-      number-short (at-start .args .entry % 64) 41 (omega arith),
+      number-short (at-start .args .entry % 128) 41 (omega arith),
     )
 
 put-byte-requires : tie.Need-put-byte-requires
@@ -49,7 +49,7 @@ put-byte-requires c κs =
       at-put-number-then2 .put-number-then2 .ensures .next,
       opening-short 5,
       number-short (at-start .args .input) 32 (at-start .fits .input .fits),
-      number-short (at-start .args .entry % 64) 41 (omega arith),
+      number-short (at-start .args .entry % 128) 41 (omega arith),
     )
 
 same-length : tie.Need-same-length

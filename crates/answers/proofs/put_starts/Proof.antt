@@ -10,7 +10,7 @@ use Rattle.answers.proofs.put_starts.Statement.{statement}
 use Rattle.answers.proofs.put_starts.Tie as tie
 
 abbrev Inv-loop : tie.InvT-loop
-Inv-loop buffer₀ at n table to₀ i₀ buffer to i = Puts buffer₀ at (startLines i 0 table) to buffer × (i ≤ n) × (at ≤ 160) × (n ≤ 64) × (n ≤ length table)
+Inv-loop buffer₀ at n table to₀ i₀ buffer to i = Puts buffer₀ at (startLines i 0 table) to buffer × (i ≤ n) × (at ≤ 160) × (n ≤ 128) × (n ≤ length table)
 
 abbrev μ-loop : tie.MeasureT-loop
 μ-loop buffer₀ at n table to₀ i₀ buffer to i = n - i

@@ -1,5 +1,5 @@
 -- `put_steps` meets its contract. The invariant: the rows so far are written, 160 bytes each at most.
-use Prim.Native.Nat.{_+_, _*_, _-_, _≤_, _^_}
+use Prim.Native.Nat.{_+_, _*_, _-_, _≤_}
 use lib.ListN.{length, getD}
 use mathlib.Core.Path.{_≡_, refl}
 use native.Mathlib.Omega.{arith}
@@ -13,8 +13,8 @@ use Rattle.answers.proofs.put_steps.Tie as tie
 
 abbrev Inv-loop : tie.InvT-loop
 Inv-loop buffer₀ at sets last first table n to₀ k₀ buffer to k =
-    Puts buffer₀ at (stepLines k 0 sets last first table) to buffer × (to ≤ 160 * (65 + k)) × (k ≤ n) × (n ≡ length table - first) × (first ≤ length table)
-    × (length table ≤ 2 ^ 18)
+    Puts buffer₀ at (stepLines k 0 sets last first table) to buffer × (to ≤ 160 * (129 + k)) × (k ≤ n) × (n ≡ length table - first) × (first ≤ length table)
+    × (length table ≤ 1000000)
 
 abbrev μ-loop : tie.MeasureT-loop
 μ-loop buffer₀ at sets last first table n to₀ k₀ buffer to k = n - k

@@ -4,7 +4,7 @@ use mathlib.Core.Path.{_≡_, refl, _∙_, ap}
 use mathlib.Core.List.{_++_}
 use native.Mathlib.Omega.{arith}
 use lib.ListN.{length, drop, replicate}
-use Rattle.sets.specs.Words.{capacity, wordsOf}
+use Rattle.sets.specs.Words.{capacity, rowWords, wordsOf}
 use Rattle.sets.proofs.Rows.{words-none}
 use Rattle.graphs.specs.Rows.{rowsOf}
 use Rattle.graphs.proofs.Front.{rows-none}
@@ -15,7 +15,7 @@ use Rattle.drives.proofs.graph_of.Tie as tie
 
 abbrev Inv-loop : tie.InvT-loop
 Inv-loop d moves₀ m₀ moves m =
-    (m ≤ capacity) × (length moves ≡ 64) × (moves ≡ wordsOf (rowsOf m (d .modes) (madeBy (d .next) (d .commands)) ++ drop m (replicate capacity 0)))
+    (m ≤ capacity) × (length moves ≡ rowWords) × (moves ≡ wordsOf (rowsOf m (d .modes) (madeBy (d .next) (d .commands)) ++ drop m (replicate capacity 0)))
 
 abbrev μ-loop : tie.MeasureT-loop
 μ-loop d moves₀ m₀ moves m = capacity - m

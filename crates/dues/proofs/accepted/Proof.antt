@@ -5,17 +5,18 @@ use mathlib.Core.Bool.{_&&_}
 use Rattle.finite.specs.Bounded.{all}
 use Rattle.bits.specs.Member.{has}
 use Rattle.sets.specs.Words.{bitsOf}
-use Rattle.dues.specs.Dues.{dueIn, serversAt, admits}
-use Rattle.dues.proofs.Steps.{accepted-start, accepted-next, accepted-end}
+use Rattle.dues.specs.Dues.{dueIn, serverList, admits}
+use Rattle.dues.proofs.Halves.{accepted-by}
+use Rattle.dues.proofs.Steps.{accepted-start, accepted-end}
 use native.Mathlib.Omega.{arith}
 use Rattle.dues.proofs.accepted.Statement.{statement}
 use Rattle.dues.proofs.accepted.Tie as tie
 
 abbrev Inv-loop : tie.InvT-loop
-Inv-loop a g t n y₀ r₀ y r = (r ≤ n) × ((d : ℕ) → has (bitsOf (y .0)) d ≡ (has (bitsOf (y₀ .0)) d && all r (admits g (bitsOf (a .0)) (t .outputs) d)))
+Inv-loop t a g n y₀ r₀ y r = (r ≤ n) × ((d : ℕ) → has (bitsOf (y .0)) d ≡ (has (bitsOf (y₀ .0)) d && all r (admits g (bitsOf (a .0)) (serverList t) d)))
 
 abbrev μ-loop : tie.MeasureT-loop
-μ-loop a g t n y₀ r₀ y r = n - r
+μ-loop t a g n y₀ r₀ y r = n - r
 
 loop-holds : tie.Need-loop-holds Inv-loop μ-loop
 loop-holds c = (omega arith, accepted-start _ _ _ _)
@@ -26,11 +27,8 @@ mul-q c = omega arith
 element-copy-out-q : tie.Need-element-copy-out-q Inv-loop μ-loop
 element-copy-out-q c = omega (arith, c .before .before .pre .requirements)
 
-mul-admitted : tie.Need-mul-admitted Inv-loop μ-loop
-mul-admitted c = omega arith
-
-element-copy-out-admitted : tie.Need-element-copy-out-admitted Inv-loop μ-loop
-element-copy-out-admitted c = omega (arith, c .before .before .before .pre .requirements)
+server-requires : tie.Need-server-requires Inv-loop μ-loop
+server-requires c κs = omega (arith, c .before .before .before .pre .requirements)
 
 admitted-requires : tie.Need-admitted-requires Inv-loop μ-loop
 admitted-requires c κs =
@@ -45,10 +43,13 @@ loop-less : tie.Need-loop-less Inv-loop μ-loop
 loop-less c = omega arith
 
 loop-again : tie.Need-loop-again Inv-loop μ-loop
-unfolding dueIn serversAt
+unfolding dueIn
 loop-again c =
     let b = c .before .before .before .before in
-    (omega arith, accepted-next _ _ _ _ (b .loop .r) _ _ (b .loop .inv .1) (c .admitted .ensures))
+    let F = b .before .pre in (
+      omega arith,
+      accepted-by _ _ _ _ (b .loop .r) _ _ _ (omega (arith, F .requirements)) (c .before .server .ensures) (b .loop .inv .1) (c .admitted .ensures),
+    )
 
 returns : tie.Need-returns Inv-loop μ-loop
 returns c = accepted-end _ _ _ _ (c .before .loop .r) _ _ (omega arith) (omega arith) (c .before .loop .inv .1)
@@ -62,8 +63,7 @@ accepted-spec =
     loop-holds
     mul-q
     element-copy-out-q
-    mul-admitted
-    element-copy-out-admitted
+    server-requires
     admitted-requires
     add-r
     loop-less

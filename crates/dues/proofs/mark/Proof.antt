@@ -1,49 +1,44 @@
 -- `mark`. Invariant: the sets of the requirements below r are done.
 use Prim.Native.Nat.{_-_, _≤_}
-use mathlib.Core.Path.{_≡_, refl, _∙_}
-use lib.ListN.{length}
 use Rattle.sets.specs.Words.{bitsOf}
-use Rattle.dues.specs.Dues.{servedIn, serversAt, Marked}
-use Rattle.dues.proofs.Steps.{marked-start, marked-next, marked-end}
+use Rattle.dues.specs.Dues.{servedIn, serverList, Whole, Marked}
+use Rattle.dues.proofs.Halves.{marked-put}
+use Rattle.dues.proofs.Steps.{marked-start, marked-end}
 use native.Mathlib.Omega.{arith}
 use Rattle.dues.proofs.mark.Statement.{statement}
 use Rattle.dues.proofs.mark.Tie as tie
 
 abbrev Inv-loop : tie.InvT-loop
-Inv-loop c d g n outputs₀ r₀ outputs r = (r ≤ n) × Marked g (bitsOf (c .0)) (d .0) r outputs₀ outputs
+Inv-loop c d g n u₀ r₀ u r = (r ≤ n) × Whole u × Marked g (bitsOf (c .0)) (d .0) r (serverList u₀) (serverList u)
 
 abbrev μ-loop : tie.MeasureT-loop
-μ-loop c d g n outputs₀ r₀ outputs r = n - r
+μ-loop c d g n u₀ r₀ u r = n - r
 
 loop-holds : tie.Need-loop-holds Inv-loop μ-loop
-loop-holds c = (omega arith, marked-start _ _ _ _)
+loop-holds c = (omega arith, c .pre .2, marked-start _ _ _ _)
 
 mul-q : tie.Need-mul-q Inv-loop μ-loop
 mul-q c = omega arith
 
 element-copy-out-q : tie.Need-element-copy-out-q Inv-loop μ-loop
-element-copy-out-q c = omega (arith, c .before .before .before .pre .0 .requirements)
+element-copy-out-q c = omega (arith, c .before .before .pre .0 .requirements)
 
-mul-x : tie.Need-mul-x Inv-loop μ-loop
-mul-x c = omega arith
-
-array-copy-out-x : tie.Need-array-copy-out-x Inv-loop μ-loop
-array-copy-out-x c = omega (arith, c .before .before .before .before .pre .0 .requirements)
+server-requires : tie.Need-server-requires Inv-loop μ-loop
+server-requires c κs = omega (arith, c .before .before .before .pre .0 .requirements)
 
 all-guaranteed-requires : tie.Need-all-guaranteed-requires Inv-loop μ-loop
 all-guaranteed-requires c κs =
     let b = c .before .before .before in
-    let F = b .before .before .pre .0 in
+    let F = b .before .pre .0 in
     F .guaranteed (b .loop .r) (omega (arith, F .requirements))
 
 insert-if-requires : tie.Need-insert-if-requires Inv-loop μ-loop
 insert-if-requires c κs = omega arith
 
-mul-outputs : tie.Need-mul-outputs Inv-loop μ-loop
-mul-outputs c = omega arith
-
-array-set-from-outputs : tie.Need-array-set-from-outputs Inv-loop μ-loop
-array-set-from-outputs c = omega (arith, c .before .before .before .before .before .before .before .pre .0 .requirements)
+with-server-requires : tie.Need-with-server-requires Inv-loop μ-loop
+with-server-requires c κs =
+    let b = c .before .before .before .before .before in
+    (omega (arith, b .before .pre .0 .requirements), b .loop .inv .1)
 
 add-r : tie.Need-add-r Inv-loop μ-loop
 add-r c = omega arith
@@ -52,17 +47,21 @@ loop-less : tie.Need-loop-less Inv-loop μ-loop
 loop-less c = omega arith
 
 loop-again : tie.Need-loop-again Inv-loop μ-loop
-unfolding servedIn serversAt
+unfolding servedIn
 loop-again c =
-    let b = c .before .before .before .before .before in
-    let F = b .before .before .pre in (
+    let at-server = c .before .before .before in
+    let b = at-server .before .before .before in
+    let F = b .before .pre .0 in (
       omega arith,
-      marked-next _ _ _ _ (b .loop .r) _ _ _ (omega (arith, F .0 .requirements, F .2)) (b .loop .inv .1) (c .before .all-guaranteed .ensures)
-          (c .insert-if .ensures),
+      c .with-server .ensures .0,
+      marked-put _ _ _ _ (b .loop .u) _ (b .loop .r) _ _ _ (omega (arith, F .requirements)) (b .loop .inv .2) (at-server .server .ensures)
+          (c .before .before .all-guaranteed .ensures) (c .before .insert-if .ensures) (c .with-server .ensures .1),
     )
 
 returns : tie.Need-returns Inv-loop μ-loop
-returns c = marked-end _ _ _ _ (c .before .loop .r) _ _ (omega arith) (omega arith) (c .before .loop .inv .1)
+returns c =
+    let l = c .before .loop in
+    (l .inv .1, marked-end _ _ _ _ (l .r) _ _ (omega arith) (omega arith) (l .inv .2))
 
 pub mark-spec : {M : Type 1} → statement M
 mark-spec =
@@ -73,12 +72,10 @@ mark-spec =
     loop-holds
     mul-q
     element-copy-out-q
-    mul-x
-    array-copy-out-x
+    server-requires
     all-guaranteed-requires
     insert-if-requires
-    mul-outputs
-    array-set-from-outputs
+    with-server-requires
     add-r
     loop-less
     loop-again

@@ -1,10 +1,10 @@
 -- `served`. Invariant: the outputs below d are in the sets of the requirements that they serve.
 use Prim.Native.Nat.{_-_, _≤_}
-use mathlib.Core.Path.{_≡_, refl, _∙_}
-use lib.ListN.{length}
+use mathlib.Core.Path.{sym, subst}
 use Rattle.sets.specs.Words.{setsIn}
 use Rattle.scratch.specs.Stored.{outArea}
-use Rattle.dues.specs.Dues.{Serves}
+use Rattle.dues.specs.Dues.{serverList, Whole, Serves}
+use Rattle.dues.proofs.Halves.{servers-none}
 use Rattle.dues.proofs.Steps.{serves-start, serves-next, serves-end}
 use native.Mathlib.Omega.{arith}
 use borrow.Author.Needs.{needs}
@@ -12,7 +12,7 @@ use Rattle.dues.proofs.served.Statement.{statement}
 use Rattle.dues.proofs.served.Tie as tie
 
 abbrev Inv-loop : tie.InvT-loop
-Inv-loop g s n m t₀ d₀ t d = (d ≤ m) × (length (t .outputs) ≡ 8) × Serves g (outArea (setsIn s) n) d (t .outputs)
+Inv-loop g s n m t₀ d₀ t d = (d ≤ m) × Whole t × Serves g (outArea (setsIn s) n) d (serverList t)
 
 abbrev μ-loop : tie.MeasureT-loop
 μ-loop g s n m t₀ d₀ t d = m - d
@@ -21,7 +21,9 @@ empty-requires : tie.Need-empty-requires Inv-loop μ-loop
 empty-requires c κs = search needs
 
 loop-holds : tie.Need-loop-holds Inv-loop μ-loop
-loop-holds c = (omega arith, refl, serves-start _ _ 8 _ (c .empty .ensures .1) (c .before .before .pre .0 .requirements))
+loop-holds c =
+    let none = servers-none (record { 0 = c .empty .result }) in
+    (omega arith, none .0, subst (Serves _ _ 0) (sym (none .1)) (serves-start _ _ 8 _ (c .empty .ensures .1) (c .before .before .pre .0 .requirements)))
 
 out-component-requires : tie.Need-out-component-requires Inv-loop μ-loop
 out-component-requires c κs = omega arith
@@ -41,7 +43,7 @@ loop-again : tie.Need-loop-again Inv-loop μ-loop
 loop-again c =
     let b = c .before .before .before in
     let M = c .mark .ensures in
-    (omega arith, M .long ∙ b .loop .inv .1, serves-next _ _ (b .loop .d) _ _ _ (b .loop .inv .2) (c .before .out-component .ensures) M)
+    (omega arith, M .0, serves-next _ _ (b .loop .d) _ _ _ (b .loop .inv .2) (c .before .out-component .ensures) (M .1))
 
 returns : tie.Need-returns Inv-loop μ-loop
 returns c = serves-end _ _ (c .before .loop .d) _ _ (omega arith) (omega arith) (c .before .loop .inv .2)

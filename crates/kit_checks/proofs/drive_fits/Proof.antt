@@ -5,15 +5,16 @@ use mathlib.Core.Bool.{true}
 use native.Mathlib.Omega.{arith}
 use Rattle.finite.specs.Bounded.{all}
 use Rattle.finite.proofs.Loops.{all-start, all-turn, all-stop, all-end, failed, passed}
+use Rattle.sets.specs.Words.{capacity}
 use Rattle.drives.specs.Acceptance.{entryFits, entriesFit}
 use Rattle.kit_checks.proofs.drive_fits.Statement.{statement}
 use Rattle.kit_checks.proofs.drive_fits.Tie as tie
 
 abbrev Inv-loop : tie.InvT-loop
-Inv-loop d m₀ m = (m ≤ 64) × (all m (λ j. all 16 (entryFits (d .next) (d .modes) (d .commands) j)) ≡ true)
+Inv-loop d m₀ m = (m ≤ capacity) × (all m (λ j. all 16 (entryFits (d .next) (d .modes) (d .commands) j)) ≡ true)
 
 abbrev μ-loop : tie.MeasureT-loop
-μ-loop d m₀ m = 64 - m
+μ-loop d m₀ m = capacity - m
 
 loop-holds : tie.Need-loop-holds Inv-loop μ-loop
 loop-holds c = (omega arith, all-start _)
@@ -24,7 +25,7 @@ mode-fits-requires c κs = c .before .before .loop-test .taken
 returns : tie.Need-returns Inv-loop μ-loop
 unfolding entriesFit
 returns c =
-    all-stop 64 _ (λ j. all 16 (entryFits _ _ _ j)) (c .before .before .before .before .loop-test .taken)
+    all-stop capacity _ (λ j. all 16 (entryFits _ _ _ j)) (c .before .before .before .before .loop-test .taken)
     (failed (c .before .mode-fits .ensures) (c .if1 .taken))
 
 add-m : tie.Need-add-m Inv-loop μ-loop

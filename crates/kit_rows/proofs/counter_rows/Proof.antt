@@ -2,42 +2,44 @@
 use Prim.Native.Nat.{_≤_, _-_, _+_, _*_}
 use mathlib.Core.Path.{refl}
 use native.Mathlib.Omega.{arith}
-use Rattle.kit_rows.specs.Writing.{Counted}
+use Rattle.kit_rows.specs.Writing.{commandsOf, Counted}
 use Rattle.kit_rows.proofs.Blocks.{block-small, mode-fits, counted-none, counted-next, counted-end}
 use Rattle.kit_rows.proofs.counter_rows.Statement.{statement}
 use Rattle.kit_rows.proofs.counter_rows.Tie as tie
 
 abbrev Inv-loop : tie.InvT-loop
-Inv-loop next modes commands to controller first room₀ i₀ room i = (i ≤ modes) × Counted next modes commands to controller first i room₀ room
+Inv-loop next modes commands new from controller first room₀ i₀ room i =
+    (i ≤ modes) × Counted next modes commands (commandsOf new (from .commands) (from .mode)) controller first i room₀ room
 
 abbrev μ-loop : tie.MeasureT-loop
-μ-loop next modes commands to controller first room₀ i₀ room i = modes - i
+μ-loop next modes commands new from controller first room₀ i₀ room i = modes - i
 
 loop-holds : tie.Need-loop-holds Inv-loop μ-loop
 loop-holds c = (omega arith, counted-none _ _ _ _ _ _ _)
 
 add-mode-rows : tie.Need-add-mode-rows Inv-loop μ-loop
-add-mode-rows c = omega (arith, c .before .before .before .before .pre .small)
+add-mode-rows c = omega (arith, c .before .before .before .before .pre .2 .small)
 
 add-mode-rows-2 : tie.Need-add-mode-rows-2 Inv-loop μ-loop
-add-mode-rows-2 c = omega (arith, c .before .before .before .before .before .pre .small)
+add-mode-rows-2 c = omega (arith, c .before .before .before .before .before .pre .2 .small)
 
 product : (c : tie.After-mode-rows-arg Inv-loop μ-loop)
     → (c .before .before .before .before .before .args .first + c .before .before .loop .i) * c .before .before .before .before .before .args .commands ≤
-    2097152
+    8388608
 product c =
     let p = c .before .before .before .before .before .pre in
-    block-small _ _ (omega (arith, p .small, c .before .loop-test .taken)) (p .few)
+    block-small _ _ (omega (arith, p .2 .small, c .before .loop-test .taken)) (p .2 .few)
 
 mul-mode-rows : tie.Need-mul-mode-rows Inv-loop μ-loop
 mul-mode-rows c = omega (arith, product c)
 
 add-mode-rows-3 : tie.Need-add-mode-rows-3 Inv-loop μ-loop
-add-mode-rows-3 c = omega (arith, product c, c .before .before .before .before .before .pre .modes)
+add-mode-rows-3 c = omega (arith, product c, c .before .before .before .before .before .pre .2 .modes)
 
 mode-rows-requires : tie.Need-mode-rows-requires Inv-loop μ-loop
 mode-rows-requires c κs =
-    mode-fits _ _ _ _ _ _ _ _ (c .before .before .before .before .before .pre) (c .before .loop-test .taken) (c .before .before .loop .inv .1 .long)
+    let p = c .before .before .before .before .before .pre in
+    (p .0, p .1, mode-fits _ _ _ _ _ _ _ _ (p .2) (c .before .loop-test .taken) (c .before .before .loop .inv .1 .long))
 
 add-i : tie.Need-add-i Inv-loop μ-loop
 add-i c = omega arith

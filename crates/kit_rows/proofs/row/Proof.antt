@@ -16,7 +16,7 @@ returns c = row-barred _ _ _ _ _ _ (c .before .next-mode .ensures) (c .if1 .take
 
 place : (c : tie.Else1) → c .before .before .before .args .base + c .before .next-mode .result < length (c .before .before .before .args .controller .now)
 place c =
-    omega (arith, c .before .before .before .pre .2 .below (λ h. c .if1 .left (c .before .next-mode .ensures ∙ h)), c .before .next-mode .ensures)
+    omega (arith, c .before .before .before .pre .4 .below (λ h. c .if1 .left (c .before .next-mode .ensures ∙ h)), c .before .next-mode .ensures)
 
 add-translated : tie.Need-add-translated
 add-translated c = omega (arith, place c)

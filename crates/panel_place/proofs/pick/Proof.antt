@@ -27,7 +27,7 @@ named-requires c κs = search needs
 returns-4 : tie.Need-returns-4
 returns-4 c =
     let b = c .before .before .before in
-    ap (λ (i : InState). To (record { input = i; counter = c .before .before .before .before .args .entry / 64 })) (c .named .ensures)
+    ap (λ (i : InState). To (record { input = i; counter = c .before .before .before .before .args .entry / 128 })) (c .named .ensures)
     ∙ pick-to _ _ _ (b .if1 .left) (c .before .before .if2 .left) (passed refl (c .before .if3 .left))
 
 pub pick-spec : {M : Type 1} → statement M

@@ -1,19 +1,37 @@
 -- `row_of` meets its contract.
-use borrow.Author.Needs.{needs}
 use mathlib.Core.Path.{refl}
-use Rattle.sets.specs.Words.{bitsOf, setsIn, setCount}
+use Rattle.sets.specs.Words.{bitsOf}
+use Rattle.sets.proofs.Rows.{rows-at}
+use borrow.Author.Needs.{needs}
 use Rattle.sets.proofs.row_of.Statement.{statement}
 use Rattle.sets.proofs.row_of.Tie as tie
 
 mul-t3 : tie.Need-mul-t3
 mul-t3 c = search needs
 
-element-copy-out-t6 : tie.Need-element-copy-out-t6
-element-copy-out-t6 c = search needs
+mul-t4 : tie.Need-mul-t4
+mul-t4 c = search needs
+
+element-copy-out-t7 : tie.Need-element-copy-out-t7
+element-copy-out-t7 c = search needs
+
+mul-t8 : tie.Need-mul-t8
+mul-t8 c = search needs
+
+add-t9 : tie.Need-add-t9
+add-t9 c = search needs
+
+mul-t10 : tie.Need-mul-t10
+mul-t10 c = search needs
+
+element-copy-out-t13 : tie.Need-element-copy-out-t13
+element-copy-out-t13 c = search needs
 
 returns : tie.Need-returns
-unfolding bitsOf setsIn
-returns c = (refl, refl)
+unfolding bitsOf
+returns c = (refl, rows-at _ _)
 
 pub row-of-spec : {M : Type 1} → statement M
-row-of-spec = tie.close (tie.spec mul-t3 element-copy-out-t6 returns)
+row-of-spec =
+    tie.close
+    (tie.spec mul-t3 mul-t4 element-copy-out-t7 mul-t8 add-t9 mul-t10 element-copy-out-t13 returns)

@@ -19,6 +19,9 @@ rem-moves c = omega arith
 mul-moves : tie.Need-mul-moves Inv-loop μ-loop
 mul-moves c = omega arith
 
+mul-moves-2 : tie.Need-mul-moves-2 Inv-loop μ-loop
+mul-moves-2 c = omega arith
+
 array-write-moves : tie.Need-array-write-moves Inv-loop μ-loop
 array-write-moves c = omega arith
 
@@ -49,6 +52,7 @@ coded-spec =
     loop-holds
     rem-moves
     mul-moves
+    mul-moves-2
     array-write-moves
     div-rest
     add-s

@@ -2,14 +2,14 @@
 use super::rows::{labelled, numbers, plain};
 use super::Controller;
 use crate::kit_file::{DriveFile, KitFile};
-use nanpuwiq::{InState, OutState};
+use nanpuwiq::{InState, OutState, Set};
 
 const COMMENT: (&str, &str) = ("/*", "*/");
 
 /// The C file of a controller.
 pub fn controller(c: &Controller) -> String {
     let (inputs, outputs, counters) = (c.inputs(), c.outputs(), c.counters());
-    let moves: Vec<String> = c.game.input.moves.iter().take(inputs).map(|row| word(*row)).collect();
+    let moves: Vec<String> = c.game.input.moves.iter().take(inputs).map(|row| words(*row)).collect();
     let rows = labelled(&numbers(c.rows()), inputs, COMMENT, |row| {
         format!("output {}, counter {}", c.names.output(OutState(row / counters)), row % counters)
     });
@@ -17,7 +17,7 @@ pub fn controller(c: &Controller) -> String {
         .replace("@VERSION", nanpuwiq::VERSION)
         .replace("@FILE", &c.file)
         .replace("@NAMES", &controller_names(c))
-        .replace("@INITIAL", &word(c.game.input.initial))
+        .replace("@INITIAL", &words(c.game.input.initial))
         .replace("@MOVES", &plain(&moves))
         .replace("@STARTS", &plain(&numbers(c.starts())))
         .replace("@ROWS", &rows);
@@ -41,8 +41,8 @@ fn constants(side: &str, states: &[(usize, String)]) -> String {
     }
 }
 
-fn word(set: u64) -> String {
-    format!("UINT64_C({set:#x})")
+fn words(set: Set) -> String {
+    format!("{{UINT64_C({:#x}), UINT64_C({:#x})}}", set.low, set.high)
 }
 
 /// The C file of a kit's table.
@@ -103,12 +103,12 @@ typedef struct {
 int @_begin(@_place *at, unsigned input);
 int @_step(@_place *at, unsigned input);
 
-/* Bit j: input j is initial; of row i: the old drive may go from input i to input j. */
-static const uint64_t @_initial = @INITIAL;
-static const uint64_t @_moves[@_inputs] = {
+/* Bit j % 64 of word j / 64: input j is initial; of row i: the old drive may go from input i to input j. */
+static const uint64_t @_initial[2] = @INITIAL;
+static const uint64_t @_moves[@_inputs][2] = {
 @MOVES};
 
-/* An entry is output + 64 * counter, or 65535 for none. */
+/* An entry is output + 128 * counter, or 65535 for none. */
 static const uint16_t @_starts[@_inputs] = {
 @STARTS};
 
@@ -121,14 +121,14 @@ static int @_take(@_place *at, unsigned input, uint16_t entry)
     if (entry == 65535)
         return 15;
     at->input = (uint8_t)input;
-    at->output = (uint8_t)(entry % 64);
-    at->counter = (uint8_t)(entry / 64);
+    at->output = (uint8_t)(entry % 128);
+    at->counter = (uint8_t)(entry / 128);
     return 0;
 }
 
 int @_begin(@_place *at, unsigned input)
 {
-    if (input >= @_inputs || !(@_initial >> input & 1))
+    if (input >= @_inputs || !(@_initial[input / 64] >> input % 64 & 1))
         return 14;
     return @_take(at, input, @_starts[input]);
 }
@@ -137,7 +137,7 @@ int @_step(@_place *at, unsigned input)
 {
     if (at->input >= @_inputs || at->output >= @_outputs || at->counter >= @_counters)
         return 16;
-    if (input >= @_inputs || !(@_moves[at->input] >> input & 1))
+    if (input >= @_inputs || !(@_moves[at->input][input / 64] >> input % 64 & 1))
         return 14;
     return @_take(at, input, @_rows[((unsigned)at->output * @_counters + at->counter) * @_inputs + input]);
 }
@@ -171,7 +171,7 @@ static const uint8_t @_old_next[@_old_modes * @_old_commands] = {
 static const uint8_t @_new_next[@_new_modes * @_new_commands] = {
 @NEWNEXT};
 
-/* For each old mode new mode + 64 * counter, or 65535 for none. */
+/* For each old mode new mode + 128 * counter, or 65535 for none. */
 static const uint16_t @_starts[@_old_modes] = {
 @STARTS};
 
@@ -184,8 +184,8 @@ int @_begin(@_place *at, unsigned mode)
     if (mode >= @_old_modes || @_starts[mode] == 65535)
         return 14;
     at->old_mode = (uint8_t)mode;
-    at->new_mode = (uint8_t)(@_starts[mode] % 64);
-    at->counter = (uint8_t)(@_starts[mode] / 64);
+    at->new_mode = (uint8_t)(@_starts[mode] % 128);
+    at->counter = (uint8_t)(@_starts[mode] / 128);
     return 0;
 }
 

@@ -5,7 +5,7 @@ use super::rows::{labelled, numbers, plain};
 use super::Controller;
 use crate::graphs::has;
 use crate::kit_file::{DriveFile, KitFile};
-use nanpuwiq::{InState, OutState};
+use nanpuwiq::{InState, OutState, Set};
 
 const COMMENT: (&str, &str) = ("(*", "*)");
 
@@ -31,7 +31,7 @@ pub fn controller(c: &Controller) -> String {
     text.replace("@OUTPUTS", &c.outputs().to_string()).replace("@COUNTERS", &counters.to_string()).replace('@', c.name)
 }
 
-fn truths(set: u64, states: usize) -> Vec<String> {
+fn truths(set: Set, states: usize) -> Vec<String> {
     (0..states).map(|s| if has(set, s) { "TRUE" } else { "FALSE" }.to_string()).collect()
 }
 
@@ -114,7 +114,7 @@ VAR CONSTANT
 @INITIAL    ];
     InputMoves : ARRAY [0..@LASTMOVE] OF BOOL := [
 @MOVES    ];
-    (* an entry is output + 64 * counter, or 65535 for none *)
+    (* an entry is output + 128 * counter, or 65535 for none *)
     Starts : ARRAY [0..@LASTSTART] OF UINT := [
 @STARTS    ];
     (* rows by output, counter, input, the last fastest *)
@@ -146,8 +146,8 @@ IF Code = 0 THEN
         Code := 15;
     ELSE
         Held := OldState;
-        NewState := Entry MOD 64;
-        Count := Entry / 64;
+        NewState := Entry MOD 128;
+        Count := Entry / 128;
     END_IF;
 END_IF;
 END_FUNCTION_BLOCK
@@ -189,7 +189,7 @@ VAR CONSTANT
 @OLDNEXT    ];
     NewNext : ARRAY [0..@LASTNEW] OF UINT := [
 @NEWNEXT    ];
-    (* for each old mode new mode + 64 * counter, or 65535 for none *)
+    (* for each old mode new mode + 128 * counter, or 65535 for none *)
     Starts : ARRAY [0..@LASTSTART] OF UINT := [
 @STARTS    ];
     (* rows by new mode, counter, old mode, old command, the last fastest: new command + 16 * counter, or 65535 for none *)
@@ -206,8 +206,8 @@ IF First THEN
     ELSE
         Entry := UINT_TO_UDINT(Starts[OldMode]);
         Held := OldMode;
-        NewMode := Entry MOD 64;
-        Count := Entry / 64;
+        NewMode := Entry MOD 128;
+        Count := Entry / 128;
     END_IF;
 ELSIF Held >= OldModes THEN
     Code := 16;

@@ -2,7 +2,7 @@
 use crate::graphs::{members, moves};
 use crate::names::Names;
 use crate::panel;
-use nanpuwiq::{Error, Game, InState, OutState, Position, Winner};
+use nanpuwiq::{Error, Game, InState, OutState, Position, Set, Winner};
 
 /// A game with its winner's table, and the won map.
 pub struct Match {
@@ -10,7 +10,7 @@ pub struct Match {
     pub names: Names,
     pub winner: Winner,
     pub table: Vec<u16>,
-    pub won: Vec<u64>,
+    pub won: Vec<Set>,
 }
 
 /// What a person may pick: an input where they are the panel, an output where they are the new drive.

@@ -6,16 +6,19 @@ use Rattle.accept_cases.proofs.games.graph.Statement.{statement}
 use Rattle.accept_cases.proofs.games.graph.Tie as tie
 
 abbrev Inv-loop : tie.InvT-loop
-Inv-loop states moves₀ s₀ moves s = s ≤ 64
+Inv-loop states moves₀ s₀ moves s = s ≤ 128
 
 abbrev μ-loop : tie.MeasureT-loop
-μ-loop states moves₀ s₀ moves s = 64 - s
+μ-loop states moves₀ s₀ moves s = 128 - s
 
 loop-holds : tie.Need-loop-holds Inv-loop μ-loop
 loop-holds c = omega arith
 
 mul-moves : tie.Need-mul-moves Inv-loop μ-loop
 mul-moves c = omega arith
+
+mul-moves-2 : tie.Need-mul-moves-2 Inv-loop μ-loop
+mul-moves-2 c = omega arith
 
 array-write-moves : tie.Need-array-write-moves Inv-loop μ-loop
 array-write-moves c = omega arith
@@ -37,4 +40,4 @@ returns c = search needs
 
 pub graph-spec : {M : Type 1} → statement M
 graph-spec =
-    tie.close (tie.spec Inv-loop μ-loop loop-holds mul-moves array-write-moves add-s loop-less loop-again set-requires returns)
+    tie.close (tie.spec Inv-loop μ-loop loop-holds mul-moves mul-moves-2 array-write-moves add-s loop-less loop-again set-requires returns)

@@ -1,0 +1,169 @@
+-- Sets of two words of 64 bits: each law is that of Words at its two words.
+use Prim.Native.Nat.{ℕ, _+_, _-_, _^_, _≤_, _<_}
+use mathlib.Core.Path.{_≡_, refl, sym, _∙_, ap, ap₂}
+use mathlib.Core.Bool.{Bool, true, false, not, _&&_, _||_}
+use mathlib.Core.List.{List, [], _∷_}
+use mathlib.Core.Logic.{_≢_}
+use native.Mathlib.Nat.{zero-mul}
+use native.Mathlib.Omega.{arith}
+use native.Mathlib.Decide.{ℕ-discrete, decLt}
+use lib.Dec.{eqb, ltb}
+use lib.Bits.{bitOr}
+use borrow.Author.Tests.{eqb-true, eqb-false, eq-eqb, ne-eqb, lt-ltb, le-ltb}
+use Rattle.finite.specs.Bounded.{least, count}
+use Rattle.finite.proofs.Bounded.{least-le, least-below}
+use Rattle.bits.proofs.Compare.{nonzero-below}
+use Rattle.finite.proofs.Truth.{or-false-left, or-false-right, and-intro, and-left, and-right, same-test, not-true, not-false}
+use Rattle.bits.specs.Member.{has, within, subset, meets}
+use Rattle.bits.proofs.Membership.{has-zero, has-or, has-below, has-past, ext}
+use Rattle.sets.specs.Words.{value}
+use Rattle.sets.proofs.Values.{Words, has-first, has-later, value-lt, has-words, empty-words, within-first, within-later, within-not}
+use Rattle.sets.proofs.Values.{least-first, least-later, count-words, subset-words, meets-words}
+
+-- the high word alone
+single : (y : ℕ) → value 64 (y ∷ []) ≡ y
+unfolding value
+single y = omega arith
+
+pub pair-zero : {x y : ℕ} → x ≡ 0 → y ≡ 0 → value 64 (x ∷ y ∷ []) ≡ 0
+unfolding value
+pair-zero e f = rw (e, f) refl
+
+-- a bit of two sets moved by 64
+shift-eqb : (t s : ℕ) → eqb (64 + t) (64 + s) ≡ eqb t s
+shift-eqb t s = elim (ℕ-discrete t s) [
+  | yes e ↦ eq-eqb (64 + t) (64 + s) (omega arith) ∙ sym (eq-eqb t s e)
+  | no n ↦ ne-eqb (64 + t) (64 + s) (λ e. n (omega arith)) ∙ sym (ne-eqb t s n)
+]
+
+pub below-moved : (t n : ℕ) → 64 ≤ n → ltb t (n - 64) ≡ ltb (64 + t) n
+below-moved t n h = elim (decLt t (n - 64)) [
+  | yes l ↦ lt-ltb t (n - 64) l ∙ sym (lt-ltb (64 + t) n (omega arith))
+  | no l ↦ le-ltb t (n - 64) (omega arith) ∙ sym (le-ltb (64 + t) n (omega arith))
+]
+
+or-empty : (x y : ℕ) → eqb (bitOr x y) 0 ≡ (eqb x 0 && eqb y 0)
+or-empty x y = same-test (eqb (bitOr x y) 0) (eqb x 0 && eqb y 0) to back
+  where
+    to : eqb (bitOr x y) 0 ≡ true → (eqb x 0 && eqb y 0) ≡ true
+    to e =
+        let none : (s : ℕ) → (has x s || has y s) ≡ false = λ s. sym (has-or x y s) ∙ ap (λ (n : ℕ). has n s) (eqb-true (bitOr x y) 0 e) ∙ has-zero s in
+        and-intro (eq-eqb x 0 (ext x 0 (λ s. or-false-left (has x s) (has y s) (none s) ∙ sym (has-zero s))))
+        (eq-eqb y 0 (ext y 0 (λ s. or-false-right (has x s) (has y s) (none s) ∙ sym (has-zero s))))
+
+    back : (eqb x 0 && eqb y 0) ≡ true → eqb (bitOr x y) 0 ≡ true
+    back e = rw (eqb-true x 0 (and-left (eqb x 0) (eqb y 0) e), eqb-true y 0 (and-right (eqb x 0) (eqb y 0) e)) refl
+
+module _ (x y : ℕ) (h : x < 2 ^ 64) where
+  pub pair-low : (s : ℕ) → s < 64 → has (value 64 (x ∷ y ∷ [])) s ≡ has x s
+  pair-low s l = has-first 64 x (y ∷ []) s l
+
+  pub pair-high : (s : ℕ) → has (value 64 (x ∷ y ∷ [])) (64 + s) ≡ has y s
+  pair-high s = has-later 64 x (y ∷ []) s h ∙ ap (λ (n : ℕ). has n s) (single y)
+
+  pub pair-from : (s : ℕ) → 64 ≤ s → has (value 64 (x ∷ y ∷ [])) s ≡ has y (s - 64)
+  pair-from s l = let e : s ≡ 64 + (s - 64) = omega arith in ap (has (value 64 (x ∷ y ∷ []))) e ∙ pair-high (s - 64)
+
+  -- a set told by its two words
+  pub pair-is : (p : ℕ → Bool) → ((t : ℕ) → t < 64 → has x t ≡ p t) → ((t : ℕ) → has y t ≡ p (64 + t)) → (t : ℕ) → has (value 64 (x ∷ y ∷ [])) t ≡ p t
+  pair-is p f g = has-words 64 x (y ∷ []) p h f (λ t. ap (λ (n : ℕ). has n t) (single y) ∙ g t)
+
+  pub pair-empty : eqb (bitOr x y) 0 ≡ eqb (value 64 (x ∷ y ∷ [])) 0
+  pair-empty = or-empty x y ∙ sym (empty-words 64 x (y ∷ []) h ∙ ap (λ (n : ℕ). eqb x 0 && eqb n 0) (single y))
+
+  pub pair-lowest-low : x ≢ 0 → least 64 (has x) ≡ least 128 (has (value 64 (x ∷ y ∷ [])))
+  pair-lowest-low n = sym (least-first 64 64 x (y ∷ []) h n)
+
+  pub pair-lowest-high : x ≡ 0 → 64 + least 64 (has y) ≡ least 128 (has (value 64 (x ∷ y ∷ [])))
+  pair-lowest-high z = ap (λ (n : ℕ). 64 + least 64 (has n)) (sym (single y)) ∙ sym (least-later 64 64 x (y ∷ []) h z)
+
+  pub pair-count : count 128 (has (value 64 (x ∷ y ∷ []))) ≡ count 64 (has x) + count 64 (has y)
+  pair-count = count-words 64 64 x (y ∷ []) h ∙ ap (λ (n : ℕ). count 64 (has x) + count 64 (has n)) (single y)
+
+  pub pair-lt : y < 2 ^ 64 → value 64 (x ∷ y ∷ []) < 2 ^ 128
+  pair-lt g = value-lt 64 (x ∷ y ∷ []) (Words.more h (Words.more g Words.none))
+
+  pub pair-within-high : (n : ℕ) → 64 ≤ n → within y (n - 64) ≡ within (value 64 (x ∷ y ∷ [])) n
+  pair-within-high n l =
+      let e : 64 + (n - 64) ≡ n = omega arith in
+      ap (λ (k : ℕ). within k (n - 64)) (sym (single y)) ∙ sym (within-later 64 (n - 64) x (y ∷ []) h) ∙ ap (within (value 64 (x ∷ y ∷ []))) e
+
+  pub pair-within-low : (n : ℕ) → n < 64 → y ≡ 0 → within x n ≡ within (value 64 (x ∷ y ∷ [])) n
+  pair-within-low n l z = sym (within-first 64 n x (y ∷ []) h (omega arith) (single y ∙ z))
+
+  pub pair-within-not : (n : ℕ) → n < 64 → y ≢ 0 → false ≡ within (value 64 (x ∷ y ∷ [])) n
+  pair-within-not n l ne = sym (within-not 64 n x (y ∷ []) h (omega arith) (λ z. ne (sym (single y) ∙ z)))
+
+  -- a member more in either word
+  pub insert-low : (r s : ℕ) → r < 2 ^ 64 → s < 64 → ((t : ℕ) → has r t ≡ (has x t || eqb t s))
+      → (t : ℕ) → has (value 64 (r ∷ y ∷ [])) t ≡ (has (value 64 (x ∷ y ∷ [])) t || eqb t s)
+  insert-low r s g l f =
+      has-words 64 r (y ∷ []) (λ t. has (value 64 (x ∷ y ∷ [])) t || eqb t s) g (λ t b. f t ∙ rw (pair-low t b) refl)
+      (λ t. ap (λ (n : ℕ). has n t) (single y) ∙ rw (pair-high t, ne-eqb (64 + t) s (λ e. omega arith)) (keep (has y t)))
+    where
+      keep : (b : Bool) → b ≡ (b || false)
+      keep true = refl
+      keep false = refl
+
+  pub insert-high : (r s : ℕ) → 64 ≤ s → ((t : ℕ) → has r t ≡ (has y t || eqb t (s - 64)))
+      → (t : ℕ) → has (value 64 (x ∷ r ∷ [])) t ≡ (has (value 64 (x ∷ y ∷ [])) t || eqb t s)
+  insert-high r s l f =
+      has-words 64 x (r ∷ []) (λ t. has (value 64 (x ∷ y ∷ [])) t || eqb t s) h
+      (λ t b. rw (pair-low t b, ne-eqb t s (λ e. omega arith)) (keep (has x t)))
+      (λ t. ap (λ (n : ℕ). has n t) (single r) ∙ f t ∙ rw (pair-high t) (ap (λ (b : Bool). has y t || b) (moved t)))
+    where
+      keep : (b : Bool) → b ≡ (b || false)
+      keep true = refl
+      keep false = refl
+
+      moved : (t : ℕ) → eqb t (s - 64) ≡ eqb (64 + t) s
+      moved t = let e : 64 + (s - 64) ≡ s = omega arith in sym (shift-eqb t (s - 64)) ∙ ap (eqb (64 + t)) e
+
+  -- a member less in the first word that has one
+  pub strip-low : (r : ℕ) → r < 2 ^ 64 → x ≢ 0 → ((t : ℕ) → has r t ≡ (has x t && not (eqb t (least 64 (has x)))))
+      → (t : ℕ) → has (value 64 (r ∷ y ∷ [])) t ≡ (has (value 64 (x ∷ y ∷ [])) t && not (eqb t (least 128 (has (value 64 (x ∷ y ∷ []))))))
+  strip-low r g n f =
+      rw (sym (pair-lowest-low n))
+      (has-words 64 r (y ∷ []) (λ t. has (value 64 (x ∷ y ∷ [])) t && not (eqb t (least 64 (has x)))) g (λ t b. f t ∙ rw (pair-low t b) refl)
+      (λ t. ap (λ (n : ℕ). has n t) (single y)
+      ∙ rw (pair-high t, ne-eqb (64 + t) (least 64 (has x)) (λ e. omega (arith, least-le 64 (has x), small))) (keep (has y t))))
+    where
+      keep : (b : Bool) → b ≡ (b && true)
+      keep true = refl
+      keep false = refl
+
+      small : least 64 (has x) < 64
+      small = let m = nonzero-below 64 x h n in least-below 64 (has x) (m .0) (m .1) (m .2)
+
+  pub strip-high : (r : ℕ) → x ≡ 0 → ((t : ℕ) → has r t ≡ (has y t && not (eqb t (least 64 (has y)))))
+      → (t : ℕ) → has (value 64 (0 ∷ r ∷ [])) t ≡ (has (value 64 (x ∷ y ∷ [])) t && not (eqb t (least 128 (has (value 64 (x ∷ y ∷ []))))))
+  strip-high r z f =
+      rw (sym (pair-lowest-high z))
+      (has-words 64 0 (r ∷ []) (λ t. has (value 64 (x ∷ y ∷ [])) t && not (eqb t (64 + least 64 (has y)))) (omega arith)
+      (λ t b. rw (pair-low t b, z, has-zero) refl)
+      (λ t. ap (λ (n : ℕ). has n t) (single r) ∙ f t ∙ rw (pair-high t, shift-eqb) refl))
+
+module _ (a b x y : ℕ) (h : a < 2 ^ 64) (g : x < 2 ^ 64) where
+  pub pair-subset : subset 128 (value 64 (a ∷ b ∷ [])) (value 64 (x ∷ y ∷ [])) ≡ (subset 64 a x && subset 64 b y)
+  pair-subset = subset-words 64 64 a x (b ∷ []) (y ∷ []) h g ∙ ap₂ (λ (m n : ℕ). subset 64 a x && subset 64 m n) (single b) (single y)
+
+  pub pair-meets : meets 128 (value 64 (a ∷ b ∷ [])) (value 64 (x ∷ y ∷ [])) ≡ (meets 64 a x || meets 64 b y)
+  pair-meets = meets-words 64 64 a x (b ∷ []) (y ∷ []) h g ∙ ap₂ (λ (m n : ℕ). meets 64 a x || meets 64 m n) (single b) (single y)
+
+  pub same-high : a ≡ x → eqb b y ≡ eqb (value 64 (a ∷ b ∷ [])) (value 64 (x ∷ y ∷ []))
+  same-high e = same-test (eqb b y) (eqb (value 64 (a ∷ b ∷ [])) (value 64 (x ∷ y ∷ []))) to back
+    where
+      to : eqb b y ≡ true → eqb (value 64 (a ∷ b ∷ [])) (value 64 (x ∷ y ∷ [])) ≡ true
+      to q = eq-eqb (value 64 (a ∷ b ∷ [])) (value 64 (x ∷ y ∷ [])) (ap₂ (λ (m n : ℕ). value 64 (m ∷ n ∷ [])) e (eqb-true b y q))
+
+      back : eqb (value 64 (a ∷ b ∷ [])) (value 64 (x ∷ y ∷ [])) ≡ true → eqb b y ≡ true
+      back q =
+          let z = eqb-true (value 64 (a ∷ b ∷ [])) (value 64 (x ∷ y ∷ [])) q in
+          eq-eqb b y (ext b y (λ s. sym (pair-high a b h s) ∙ ap (λ (n : ℕ). has n (64 + s)) z ∙ pair-high x y g s))
+
+  pub same-low : a ≢ x → false ≡ eqb (value 64 (a ∷ b ∷ [])) (value 64 (x ∷ y ∷ []))
+  same-low ne = sym (ne-eqb (value 64 (a ∷ b ∷ [])) (value 64 (x ∷ y ∷ [])) (λ z. ne (ext a x (λ s. go z s (decLt s 64)))))
+    where
+      go : value 64 (a ∷ b ∷ []) ≡ value 64 (x ∷ y ∷ []) → (s : ℕ) → Dec (s < 64) → has a s ≡ has x s
+      go z s (yes l) = sym (pair-low a b h s l) ∙ ap (λ (n : ℕ). has n s) z ∙ pair-low x y g s l
+      go z s (no l) = has-past 64 a s h (omega arith) ∙ sym (has-past 64 x s g (omega arith))
