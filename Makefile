@@ -19,7 +19,7 @@ PROGRAMS = $(TARGET)/bin/solve $(TARGET)/bin/catalogue
 LIBRARY = $(TARGET)/staticlib/libnanpuwiq.a
 COMMAND = tools/nanpuwiq/target/release/nanpuwiq
 HEADERS = include/nanpuwiq.h include/nanpuwiq_words.h
-EXAMPLES = $(wildcard examples/*.game examples/*.names examples/*.kit examples/*.print examples/*.c)
+EXAMPLES = $(wildcard examples/*.game examples/*.names examples/*.kit examples/*.print examples/*.table examples/*.text examples/*.c)
 ARCHIVE = nanpuwiq-$(VERSION)-x86_64-linux
 
 # The folder that the pkg-config file names.

@@ -3,7 +3,7 @@
  * Numbers. A code is 0, or the number of a refusal: nanpuwiq_words.h has the list of them with a sentence each, nanpuwiq_words(code) gives the sentence.
  * The lowest number whose condition holds is given; the reader tries 12, 11, then 1 to 7; the player, of a controller's table or against a panel's,
  * 1 to 7, 16, 14, 15; the comparison of recordings 1 to 7, 16, then 14, 15 step by step; a kit 1, 17, 18, then 2 to 10; the map on the joined
- * positions 1 to 7, 24, 8.
+ * positions 1 to 7, 24, 8; the checker of tables 1 to 7, 19, 20, 8.
  *
  * Every value of every parameter has an answer, and on a refusal every buffer holds what it held before. What each entry promises is proved
  * in crates/nanpuwiq (specs/Calls.antt) and crates/results (specs/Results.antt), on the following, which C cannot check and a caller keeps to:
@@ -34,6 +34,8 @@ extern "C" {
 #define NANPUWIQ_NONE 65535         /* the entry of a table that is none */
 #define NANPUWIQ_TABLE_MOST 524416  /* entries of the longest controller's table; the longest panel's has 524289 */
 #define NANPUWIQ_TEXT_MOST 40960    /* bytes of the longest text that is read; a large game's may be longer */
+#define NANPUWIQ_WALK_ROOM 24576    /* entries of the room that the checker's walk is lent */
+#define NANPUWIQ_CHECKED_PLACES 4096  /* inputs * outputs * values of the counter at most, of a table that is checked */
 #define NANPUWIQ_COMMANDS 16        /* commands of a drive at most */
 #define NANPUWIQ_BARRED 255         /* the next mode where a command is barred */
 #define NANPUWIQ_KIT_MOST 8388736   /* entries of the longest kit's table */
@@ -129,6 +131,23 @@ enum {
     NANPUWIQ_BY_WAY_OUT = 6,    /* lost: a move out of the input's component enters `first`, which is lost with this output */
     NANPUWIQ_UNSERVED = 7,      /* lost: requirement `first` is due there, and the output's component, a stayable one, misses its output set `second` */
     NANPUWIQ_PUSHED_ON = 8      /* lost: the output's component is not stayable */
+};
+
+/* What the checker finds in a table. What a finding does not name is 0. */
+typedef struct {
+    uint8_t code;
+    uint8_t finding;          /* one of the findings below */
+    nanpuwiq_in_state input;  /* of the bad start, or the next input of the bad row */
+    size_t walk;              /* how many entries of the room the walk has */
+    size_t begins;            /* the number of the configuration at which the closing round begins, from 0 */
+    size_t requirement;       /* that the round breaks, from 0 */
+} nanpuwiq_checked;
+
+enum {
+    NANPUWIQ_WINS = 0,        /* the table wins; on a refusal too the finding is 0 */
+    NANPUWIQ_BAD_START = 1,   /* the start of the initial input `input` names no initial output, or no value of the counter */
+    NANPUWIQ_BAD_ROW = 2,     /* after the walk the row for the next input `input`, a move, names no output move, or no value of the counter */
+    NANPUWIQ_BAD_ROUND = 3    /* the walk closes a round, which begins at `begins` and breaks `requirement`; its first configuration is the last again */
 };
 
 /* The reader's answer. Place is 0 but for code 11; the game is all zero on a refusal. */
@@ -235,6 +254,12 @@ uint8_t nanpuwiq_joined_map(nanpuwiq_game game, uint64_t *scratch, size_t scratc
  * What it names holds with won and lost as the won map has them; the grounds 1 to 3 are given exactly where the position is won.
  * Code 0, 1 to 7, 25 a position outside the game, or 8. On 0 scratch's first nanpuwiq_scratch_words(game) words are zero and the rest is as it was. */
 nanpuwiq_explained nanpuwiq_explain(nanpuwiq_game game, uint64_t *scratch, size_t scratch_words, nanpuwiq_in_state input, nanpuwiq_out_state output);
+
+/* Whether a controller's table, from anywhere, wins, as nanpuwiq_solve's do; else one thing that shows that it does not, which one is free.
+ * The walk fills the front of the room: it begins in a first configuration, and a turn of the table leads from each configuration to the next. Each is
+ * written as its place in the order of rows: (output * max(1, G) + counter) * inputs + input, G guarantees in all. The rest of the room is as it was.
+ * Code 0, 1 to 7, 19, 20 or 8. */
+nanpuwiq_checked nanpuwiq_check(nanpuwiq_game game, const uint16_t *table, size_t entries, uint16_t *room, size_t room_entries);
 
 /* Names the side that wins and fills the front of its buffer with a table that wins for it; no table of any finite size wins for the other.
  * The rest of that buffer and all of the other stay as they were; scratch's first nanpuwiq_scratch_words(game) words are zero and the rest is as it was.

@@ -209,6 +209,61 @@ static nanpuwiq_explained explain(nanpuwiq_game g, uint64_t *scratch, size_t wor
     return nanpuwiq_explain(g, scratch, words, (nanpuwiq_in_state){i}, (nanpuwiq_out_state){o});
 }
 
+static void checked(const char *what, nanpuwiq_checked got, uint8_t code, uint8_t finding, size_t input, size_t walk, size_t begins, size_t requirement)
+{
+    same(what, got.code, code);
+    same(what, got.finding, finding);
+    same(what, got.input.number, input);
+    same(what, got.walk, walk);
+    same(what, got.begins, begins);
+    same(what, got.requirement, requirement);
+}
+
+/* The flush story: the table that an earlier solver passed goes to economy, 1, and stays there. */
+static void checking(void)
+{
+    static uint16_t room[NANPUWIQ_WALK_ROOM + 1];
+    uint16_t table[] = {0, NANPUWIQ_NONE, 1, 1, 1, 1, NANPUWIQ_NONE, NANPUWIQ_NONE};
+    nanpuwiq_game g = {.input = {2, 1, {3, 1}}, .output = {3, 1, {6, 2, 1}}, .k = 1};
+    g.requirements[0] = (nanpuwiq_requirement){.assumptions = {{2}}, .assumed = 1, .guarantees = {{4}}, .guaranteed = 1};
+    for (size_t k = 0; k <= NANPUWIQ_WALK_ROOM; k++) room[k] = 7;
+    checked("check, table short", nanpuwiq_check(g, table, 7, room, 0), 19, 0, 0, 0, 0, 0);
+    checked("check, room short", nanpuwiq_check(g, table, 8, room, NANPUWIQ_WALK_ROOM - 1), 8, 0, 0, 0, 0, 0);
+    nanpuwiq_game none = g;
+    none.output.initial = 0;
+    checked("check, no initial output", nanpuwiq_check(none, table, 7, room, 0), 3, 0, 0, 0, 0, 0);
+    same("check refused: entry 0", room[0], 7);
+    table[0] = 1;
+    checked("a bad start", nanpuwiq_check(g, table, 8, room, NANPUWIQ_WALK_ROOM), 0, NANPUWIQ_BAD_START, 0, 0, 0, 0);
+    same("a bad start: entry 0", room[0], 7);
+    table[0] = 0;
+    nanpuwiq_checked found = nanpuwiq_check(g, table, 8, room, NANPUWIQ_WALK_ROOM + 1);
+    checked("a bad round", found, 0, NANPUWIQ_BAD_ROUND, 0, found.walk, found.begins, 0);
+    same("a bad round: its first configuration", room[0], 0);
+    same("a bad round: it closes", room[found.walk - 1], room[found.begins]);
+    same("a bad round: one turn at least", found.begins + 1 < found.walk, 1);
+    for (size_t k = found.begins; k < found.walk; k++) same("a bad round: economy", room[k] / 2, 1);
+    same("a bad round: the entry after it", room[found.walk], 7);
+    table[4] = 2;
+    found = nanpuwiq_check(g, table, 8, room, NANPUWIQ_WALK_ROOM + 1);
+    checked("a bad row", found, 0, NANPUWIQ_BAD_ROW, 0, found.walk, 0, 0);
+    same("a bad row: economy", room[found.walk - 1] / 2, 1);
+    uint64_t scratch[NANPUWIQ_SCRATCH_MOST];
+    uint16_t panel[32];
+    same("flush is won", nanpuwiq_solve(g, scratch, NANPUWIQ_SCRATCH_MOST, table, 8, panel, 32).system, 1);
+    room[0] = 7;
+    checked("ours", nanpuwiq_check(g, table, 8, room, NANPUWIQ_WALK_ROOM), 0, NANPUWIQ_WINS, 0, 0, 0, 0);
+    same("ours: entry 0", room[0], 7);
+    nanpuwiq_game large = {.input = {64, 1, {0}}, .output = {64, 1, {0}}, .k = 1};
+    for (size_t k = 0; k < 64; k++) large.input.moves[k] = large.output.moves[k] = 1;
+    large.requirements[0] = (nanpuwiq_requirement){.guarantees = {{1}, {1}}, .guaranteed = 2};
+    static uint16_t entries[64 + 64 * 64 * 2];
+    checked("check, 8,192 places", nanpuwiq_check(large, entries, 64 + 64 * 64 * 2, room, 0), 20, 0, 0, 0, 0, 0);
+    large.requirements[0].guaranteed = 1;
+    large.requirements[0].guarantees[1].states = 0;
+    checked("check, 4,096 places", nanpuwiq_check(large, entries, 64 + 64 * 64, room, NANPUWIQ_WALK_ROOM), 0, NANPUWIQ_WINS, 0, 0, 0, 0);
+}
+
 static void explaining(void)
 {
     nanpuwiq_game g = eight();
@@ -1178,6 +1233,7 @@ int main(void)
     solving();
     scratch_of_the_largest();
     explaining();
+    checking();
     texts();
     playing();
     advancing();

@@ -219,6 +219,52 @@ def mapped(check, command):
         check.same("33 states, the solver's map", command.run("map", "m.game").stderr, b"")
 
 
+def checked(check, command):
+    """Tables of ours win; the one that an earlier solver passed is turned down with its round in words; prints that are none are refused."""
+    examples = pathlib.Path(FLUSH).parent
+    for game in sorted(examples.glob("*.game")):
+        answer = game.with_suffix(".print").read_text()
+        got = command.run("check", str(game), str(game.with_suffix(".print")))
+        wins = answer.startswith("(wins system)")
+        check.same("check, " + game.name, got.returncode, 0 if wins else 2)
+        check.holds("check in words, " + game.name, (b"The table wins" in got.stdout) if wins else b":1: expected (wins system)" in got.stderr, got)
+    passed = str(examples / "flush_passed_before.table")
+    told = (examples / "flush_turned_down.text").read_text()
+    got = command.run("check", FLUSH, passed)
+    check.same("the flush story", (got.stdout.decode(), got.returncode), (told, 1))
+    ours = pathlib.Path(FLUSH).with_suffix(".print").read_text()
+    lines = ours.splitlines(keepends=True)
+    turned = command.run("check", FLUSH, command.file("t", "".join([lines[0]] + lines[:0:-1])))
+    check.same("lines in another order", turned.returncode, 0)
+    for name, text, words in [
+        ("no start", ours.replace("(start 0 0)\n", ""), "the panel may begin in 0 pump, and its start names no initial output"),
+        ("a start that is not initial", ours.replace("(start 0 0)", "(start 0 2)"), "the panel may begin in 0 pump"),
+        ("no row", ours.replace("(step 2 0 0 0 0)\n", ""), "Now the panel may go to 0 pump, and the row names no move of the new drive or no counter."),
+        ("a counter out of range", ours.replace("(step 2 0 0 0 0)", "(step 2 0 0 0 1)"), "Now the panel may go to 0 pump"),
+        ("a state past the width", ours.replace("(step 2 0 0 0 0)", "(step 2 0 0 63 0)"), "leads to a row that is no reply"),
+    ]:
+        got = command.run("check", FLUSH, command.file("t", text))
+        check.holds(name, got.returncode == 1 and words in got.stdout.decode() and got.stderr == b"", got)
+    for name, text, words in [
+        ("empty", "", "t:1: expected (wins system)"),
+        ("no print", "hello\n", "t:1: expected (wins system)"),
+        ("a line of another form", ours + "(step 0 0)\n", "t:7: expected (start INPUT OUTPUT)"),
+        ("no line's end", ours[:-1], "t:6: expected (start INPUT OUTPUT)"),
+        ("a leading zero", ours.replace("(start 0 0)", "(start 0 00)"), "t:2: expected (start INPUT OUTPUT)"),
+        ("a row that is not there", ours + "(step 3 0 0 0 0)\n", "t:7: a start or a row that the game does not have"),
+        ("a line twice", ours + "(start 0 0)\n", "t:7: a second line for one start or row"),
+        ("no entry", ours.replace("(start 0 0)", "(start 0 64)"), "t:2: an output and a counter that no entry can hold"),
+        ("far too long", ours + "(start 0 0)\n" * 30000, "over 262144 bytes"),
+    ]:
+        got = command.run("check", FLUSH, command.file("t", text))
+        check.holds("refused: " + name, got.returncode == 2 and got.stdout == b"" and words in got.stderr.decode(), got)
+    got = command.run("check", command.file("l.game", counted(64, 64, 0, 2)), command.file("t", "(wins system)\n"))
+    check.holds("over 4,096 places", got.returncode == 2 and b"l.game: refused 20: " in got.stderr, got)
+    for words in (["check"], ["check", FLUSH], ["check", FLUSH, passed, passed]):
+        check.same("used wrongly: %s" % words, command.run(*words).returncode, 2)
+    check.same("no such table", command.run("check", FLUSH, "nowhere").returncode, 3)
+
+
 def named(check, command):
     """Files of names."""
     command.file("n.game", EXAMPLE)
@@ -399,6 +445,7 @@ def main():
         solved(check, command, os.path.abspath(sys.argv[2]), seed)
         explained(check, command)
         mapped(check, command)
+        checked(check, command)
         drawn(check, command)
         named(check, command)
         kits(check, command)

@@ -43,6 +43,16 @@ pub struct ExplainResult {
 }
 
 #[repr(C)]
+pub struct CheckResult {
+    pub code: u8,
+    pub finding: u8,
+    pub input: InState,
+    pub walk: usize,
+    pub begins: usize,
+    pub requirement: usize,
+}
+
+#[repr(C)]
 pub struct CompareResult {
     pub code: u8,
     pub agree: bool,
@@ -67,6 +77,7 @@ extern "C" {
     fn nanpuwiq_won_map(game: Game, scratch: *mut u64, scratch_words: usize, map: *mut u64, map_words: usize) -> u8;
     fn nanpuwiq_joined_map(game: Game, scratch: *mut u64, scratch_words: usize, map: *mut u64, map_words: usize) -> u8;
     fn nanpuwiq_explain(game: Game, scratch: *mut u64, scratch_words: usize, input: InState, output: OutState) -> ExplainResult;
+    fn nanpuwiq_check(game: Game, table: *const u16, entries: usize, room: *mut u16, room_entries: usize) -> CheckResult;
     fn nanpuwiq_solve(
         game: Game,
         scratch: *mut u64,
@@ -117,6 +128,10 @@ pub fn joined_map(game: Game, scratch: &mut [u64], map: &mut [u64]) -> u8 {
 
 pub fn explain(game: Game, scratch: &mut [u64], input: InState, output: OutState) -> ExplainResult {
     unsafe { nanpuwiq_explain(game, scratch.as_mut_ptr(), scratch.len(), input, output) }
+}
+
+pub fn check(game: Game, table: &[u16], room: &mut [u16]) -> CheckResult {
+    unsafe { nanpuwiq_check(game, table.as_ptr(), table.len(), room.as_mut_ptr(), room.len()) }
 }
 
 pub fn solve(game: Game, scratch: &mut [u64], controller: &mut [u16], panel: &mut [u16]) -> SolveResult {

@@ -9,6 +9,9 @@
 use std::fmt;
 
 mod entries;
+mod print;
+
+pub use print::{PrintError, PrintFault};
 
 /// The version of this crate, which is the header's NANPUWIQ_VERSION.
 pub const VERSION: &str = env!("CARGO_PKG_VERSION");
@@ -32,6 +35,11 @@ pub const NONE: u16 = 65_535;
 pub const CONTROLLER_MOST: usize = STATES + STATES * REQUIREMENTS * SETS * STATES;
 /// Entries of the longest environment's table.
 pub const ENVIRONMENT_MOST: usize = 1 + STATES * REQUIREMENTS * SETS * STATES;
+
+/// Entries of the room that the checker's walk is lent.
+pub const WALK_ROOM: usize = 24_576;
+/// Places of a table that is checked at most: inputs × outputs × values of the counter.
+pub const CHECKED_PLACES: usize = 4_096;
 
 /// Commands of a drive at most.
 pub const COMMANDS: usize = 16;
@@ -191,7 +199,7 @@ pub struct PanelMove {
     pub counter: usize,
 }
 
-/// A refusal: its number, 1 to 18, 24 or 25, and for 11 how far the bytes could be a game's text (else 0).
+/// A refusal: its number, 1 to 20, 24 or 25, and for 11 how far the bytes could be a game's text (else 0).
 #[derive(Clone, Copy, Debug, PartialEq, Eq)]
 pub struct Error {
     pub number: u8,
@@ -261,6 +269,31 @@ impl fmt::Display for Ground {
                 write!(f, "lost: requirement {requirement} is due, and the outputs here never visit its output set {set}")
             }
             Ground::PushedOn => write!(f, "lost: the output cannot stay where it is, and wherever it goes is lost"),
+        }
+    }
+}
+
+/// What the checker says of a controller's table. A walk stands at the front of the room, each configuration as its place in the order of rows
+/// (`Game::position`); it begins in a first configuration, and each next one is made from the one before by a turn of the table.
+#[derive(Clone, Copy, Debug, PartialEq, Eq)]
+pub enum Checked {
+    /// The table wins.
+    Wins,
+    /// The start of this initial input names no initial output, or no value of the counter.
+    BadStart(InState),
+    /// After a walk of so many configurations the row for this next input, a move, names no move of the output, or no value of the counter.
+    BadRow { walk: usize, next: InState },
+    /// A walk of so many configurations closes a round, which begins at number `begins`, from 0, and breaks this requirement, from 0: the last
+    /// configuration is the one at `begins` again.
+    BadRound { walk: usize, begins: usize, requirement: usize },
+}
+
+impl Checked {
+    /// How many configurations the walk has.
+    pub fn walk(self) -> usize {
+        match self {
+            Checked::Wins | Checked::BadStart(_) => 0,
+            Checked::BadRow { walk, .. } | Checked::BadRound { walk, .. } => walk,
         }
     }
 }
@@ -470,6 +503,42 @@ impl Game {
     /// What made a position won or lost.
     pub fn explain(&self, input: InState, output: OutState) -> Result<Ground, Error> {
         self.explain_into(&mut [0; SCRATCH_MOST], input, output)
+    }
+
+    /// Whether a controller's table, from anywhere, wins; else what shows that it does not: 1 to 7, 19 a table of another length, 20 more than
+    /// `CHECKED_PLACES` places, 8 a room under `WALK_ROOM` entries. The walk fills the front of the room; the rest is as it was.
+    pub fn check_into(&self, table: &[u16], room: &mut [u16]) -> Result<Checked, Error> {
+        let r = entries::check(*self, table, room);
+        refusal(r.code)?;
+        Ok(match r.finding {
+            0 => Checked::Wins,
+            1 => Checked::BadStart(r.input),
+            2 => Checked::BadRow { walk: r.walk, next: r.input },
+            _ => Checked::BadRound { walk: r.walk, begins: r.begins, requirement: r.requirement },
+        })
+    }
+
+    /// The same, with the walk's positions.
+    pub fn check(&self, table: &[u16]) -> Result<(Checked, Vec<Position>), Error> {
+        let mut room = vec![0; WALK_ROOM];
+        let checked = self.check_into(table, &mut room)?;
+        let walk = room.iter().take(checked.walk()).map(|place| self.position(*place)).collect();
+        Ok((checked, walk))
+    }
+
+    /// The configuration with this place in the order of rows: (output × counters + counter) × inputs + input.
+    pub fn position(&self, place: u16) -> Position {
+        let (place, inputs, counters) = (usize::from(place), self.input.states.max(1), self.controller_counters());
+        Position {
+            input: InState(place % inputs),
+            output: OutState(place / inputs / counters),
+            counter: place / inputs % counters,
+        }
+    }
+
+    /// Values of the controller's counter: one for each output set, one at least.
+    fn controller_counters(&self) -> usize {
+        self.requirements.iter().fold(0, |n: usize, q| n.saturating_add(q.guaranteed)).max(1)
     }
 
     /// The side that wins, and how many entries of its buffer are filled with its table: 1 to 7, 8, 9, 10.

@@ -3,6 +3,7 @@
 --   MapCalled g s s′ m m′ r            == the map's call answers r and leaves scratch s as s′ and the map m as m′
 --   JoinedCalled g s s′ m m′ r         == the same of the map on the joined positions
 --   ExplainCalled g s s′ i o r          == the call that explains (i, o) answers r and leaves scratch s as s′
+--   CheckCalled g l w w′ r             == the checker answers r to the table l and leaves the room w as w′
 --   SolveCalled g s s′ c c′ e e′ r     == the solver answers r and leaves scratch s as s′, the controller's buffer c as c′ and the environment's e as e′
 --   KitCalled k s s′ c c′ e e′ t t′ r  == the same of a kit, whose room t is left as t′
 --   ReadCalled s r                     == the reader answers r to the bytes s
@@ -18,6 +19,8 @@ use Rattle.game.specs.Numbers.{firstOf}
 use Rattle.map.specs.Map.{mapAnswer, mapTests, MapMade}
 use Rattle.joined.specs.Joined.{joinedAnswer, joinedTests, JoinedMade}
 use Rattle.explain.specs.Explain.{explainAnswer, Explained}
+use Rattle.checker.specs.declared.Checked.{Checked}
+use Rattle.checker.specs.Check.{Checks}
 use Rattle.solver.specs.Promise.{verdictAnswer, Solved}
 use Rattle.drives.specs.declared.Kit.{Kit}
 use Rattle.kit.specs.Promise.{kitAnswer, KitSolved}
@@ -26,9 +29,10 @@ use Rattle.text.specs.Read.{Reads}
 use Rattle.text.specs.Write.{writeAnswer, writeBuffer}
 use Rattle.results.specs.declared.SolveResult.{SolveResult}
 use Rattle.results.specs.declared.ExplainResult.{ExplainResult}
+use Rattle.results.specs.declared.CheckResult.{CheckResult}
 use Rattle.results.specs.declared.ReadResult.{ReadResult}
 use Rattle.results.specs.declared.WriteResult.{WriteResult}
-use Rattle.results.specs.Results.{solveResult, explainResult, readResult, writeResult}
+use Rattle.results.specs.Results.{solveResult, explainResult, checkResult, readResult, writeResult}
 
 -- `made` says what both buffers hold, and carries demand 2
 pub record MapCalled (g : Game) (s s′ m m′ : List ℕ) (r : ℕ) : Type 0 where
@@ -44,6 +48,12 @@ pub record JoinedCalled (g : Game) (s s′ m m′ : List ℕ) (r : ℕ) : Type 0
 pub record ExplainCalled (g : Game) (s s′ : List ℕ) (i : InState) (o : OutState) (r : ExplainResult) : Type 0 where
   pub answer : r ≡ explainResult (explainAnswer g (length s) i o)
   pub explained : Explained g s s′ i o (explainAnswer g (length s) i o)
+
+-- `checks` says what the room holds and what the answer shows; which finding is handed back is free
+pub record CheckCalled (g : Game) (l w w′ : List ℕ) (r : CheckResult) : Type 0 where
+  pub found : Checked
+  pub checks : Checks g l w w′ found
+  pub answer : r ≡ checkResult found
 
 -- `solved` says what all three buffers hold, and carries demand 3
 pub record SolveCalled (g : Game) (s s′ c c′ e e′ : List ℕ) (r : SolveResult) : Type 0 where

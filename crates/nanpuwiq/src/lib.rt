@@ -7,7 +7,7 @@ ghost use Rattle.recorder.specs.Recorded.{compared};
 ghost use Rattle.panel_player.specs.Panel.{panelFirst, panelBegin, panelNext, panelStep};
 ghost use Rattle.results.specs.Results.{compareResult, panelMoved, nowhere};
 ghost use Rattle.drives.specs.Acceptance.{kitTests};
-ghost use Rattle.nanpuwiq.specs.Calls.{MapCalled, JoinedCalled, SolveCalled, KitCalled, ReadCalled, WriteCalled, ExplainCalled};
+ghost use Rattle.nanpuwiq.specs.Calls.{MapCalled, JoinedCalled, SolveCalled, KitCalled, ReadCalled, WriteCalled, ExplainCalled, CheckCalled};
 use drives::Kit;
 use game::Game;
 use game::InState;
@@ -16,6 +16,7 @@ use place::Position;
 use player::Moved;
 use recorder::InRecording;
 use recorder::OutRecording;
+use results::CheckResult;
 use results::CompareResult;
 use results::ExplainResult;
 use results::PanelMoved;
@@ -72,6 +73,14 @@ pub extern "C" fn nanpuwiq_solve(
         (now (panel .exit)) r ⌝ }
 {
     results::solve_result(solver::solve_into(g, scratch, controller, panel))
+}
+
+// Whether a controller's table wins; else what shows that it does not, with the walk at the front of the room.
+#[no_mangle]
+pub extern "C" fn nanpuwiq_check(g: Game, table: &[u16], room: &mut [u16]) -> CheckResult
+    ensures { λ r. ⌜ CheckCalled g (now (table .entry)) (now (room .entry)) (now (room .exit)) r ⌝ }
+{
+    results::check_result(checker::check(g, table, room))
 }
 
 // Whether the kit is accepted.

@@ -2,6 +2,7 @@
 --
 --   solveResult v      == the solver's answer: code, whether the system wins, how many entries are filled
 --   explainResult a    == what made a position won or lost: code, the ground's number, what it names
+--   checkResult a      == what the checker finds: code, the finding's number, what it names
 --   readResult x       == the reader's answer: code, the place of 11, the game
 --   writeResult a      == the writer's answer: code, how many bytes are filled
 --   compareResult c    == the recorder's answer: code, whether the recordings agree, whether one has ended, the step
@@ -12,6 +13,8 @@ use Rattle.solver.specs.declared.Verdict.{Verdict}
 use Rattle.solver.specs.declared.Verdict.the-variants as verdict·
 use Rattle.ground_search.specs.declared.Explanation.{Explanation}
 use Rattle.ground_search.specs.declared.Explanation.the-variants as explanation·
+use Rattle.checker.specs.declared.Checked.{Checked}
+use Rattle.checker.specs.declared.Checked.the-variants as checked·
 use Rattle.text.specs.declared.Reading.{Reading}
 use Rattle.text.specs.declared.Answer.{Answer}
 use Rattle.text.specs.declared.Answer.the-variants as answer·
@@ -26,6 +29,7 @@ use Rattle.panel_place.specs.declared.Picked.the-variants as picked·
 use Rattle.results.specs.declared.PanelMoved.{PanelMoved}
 use Rattle.results.specs.declared.SolveResult.{SolveResult}
 use Rattle.results.specs.declared.ExplainResult.{ExplainResult}
+use Rattle.results.specs.declared.CheckResult.{CheckResult}
 use Rattle.results.specs.declared.CompareResult.{CompareResult}
 use Rattle.results.specs.declared.ReadResult.{ReadResult}
 use Rattle.results.specs.declared.WriteResult.{WriteResult}
@@ -46,6 +50,14 @@ explainResult (explanation·.ByWayOut j) = record { code = 0; ground = 6; first 
 explainResult (explanation·.Unserved k n) = record { code = 0; ground = 7; first = k; second = n }
 explainResult explanation·.PushedOn = record { code = 0; ground = 8; first = 0; second = 0 }
 explainResult (explanation·.Refused n) = record { code = n; ground = 0; first = 0; second = 0 }
+
+-- the findings are numbered in the order in which the checker looks for them; what one does not name is 0
+unfoldable pub checkResult : Checked → CheckResult
+checkResult checked·.Accepted = record { code = 0; finding = 0; input = record { 0 = 0 }; walk = 0; begins = 0; requirement = 0 }
+checkResult (checked·.BadStart i) = record { code = 0; finding = 1; input = i; walk = 0; begins = 0; requirement = 0 }
+checkResult (checked·.BadRow n j) = record { code = 0; finding = 2; input = j; walk = n; begins = 0; requirement = 0 }
+checkResult (checked·.BadRound n b q) = record { code = 0; finding = 3; input = record { 0 = 0 }; walk = n; begins = b; requirement = q }
+checkResult (checked·.Refused n) = record { code = n; finding = 0; input = record { 0 = 0 }; walk = 0; begins = 0; requirement = 0 }
 
 unfoldable pub readBy : Answer → Game → ReadResult
 readBy answer·.Read g = record { code = 0; place = 0; game = g }

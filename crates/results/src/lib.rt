@@ -3,8 +3,9 @@ ghost use mathlib.Core.Path.{_≡_};
 ghost use Rattle.player.specs.Player.{movedOf};
 ghost use Rattle.game.specs.Acceptance.{numberOf as acceptNumber};
 ghost use Rattle.map.specs.Map.{numberOf as mapNumber};
-ghost use Rattle.results.specs.Results.{solveResult, readResult, writeResult, compareResult, panelMoved, nowhere, explainResult};
+ghost use Rattle.results.specs.Results.{solveResult, readResult, writeResult, compareResult, panelMoved, nowhere, explainResult, checkResult};
 ghost use Rattle.joined.specs.Joined.{numberOf as joinedNumber};
+use checker::Checked;
 use game::Acceptance;
 use game::Game;
 use game::InState;
@@ -37,6 +38,19 @@ pub struct ExplainResult {
     pub ground: u8,
     pub first: usize,
     pub second: usize,
+}
+
+// What the checker finds in a table: the code; 0 for a table that wins, 1 for a bad start, 2 for a bad row, 3 for a bad round; the input of the start, or the
+// row's next input; how many entries of the room the walk has; where its closing round begins; the requirement that the round breaks. What an answer
+// does not name is 0.
+#[repr(C)]
+pub struct CheckResult {
+    pub code: u8,
+    pub finding: u8,
+    pub input: InState,
+    pub walk: usize,
+    pub begins: usize,
+    pub requirement: usize,
 }
 
 // The reader's answer: the code; for code 11 the place; the game, which is the empty one on a refusal.
@@ -177,6 +191,53 @@ pub fn explain_result(a: Explanation) -> ExplainResult
             ground: 0,
             first: 0,
             second: 0,
+        },
+    }
+}
+
+pub fn check_result(a: Checked) -> CheckResult
+    ensures { λ r. ⌜ r ≡ checkResult a ⌝ }
+{
+    match a {
+        Checked::Accepted => CheckResult {
+            code: 0,
+            finding: 0,
+            input: InState(0),
+            walk: 0,
+            begins: 0,
+            requirement: 0,
+        },
+        Checked::BadStart(i) => CheckResult {
+            code: 0,
+            finding: 1,
+            input: i,
+            walk: 0,
+            begins: 0,
+            requirement: 0,
+        },
+        Checked::BadRow(n, j) => CheckResult {
+            code: 0,
+            finding: 2,
+            input: j,
+            walk: n,
+            begins: 0,
+            requirement: 0,
+        },
+        Checked::BadRound(n, b, q) => CheckResult {
+            code: 0,
+            finding: 3,
+            input: InState(0),
+            walk: n,
+            begins: b,
+            requirement: q,
+        },
+        Checked::Refused(n) => CheckResult {
+            code: n,
+            finding: 0,
+            input: InState(0),
+            walk: 0,
+            begins: 0,
+            requirement: 0,
         },
     }
 }

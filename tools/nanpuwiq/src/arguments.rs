@@ -74,6 +74,15 @@ impl Arguments {
         self.file_if_any()?.ok_or_else(|| self.wrong("which file?"))
     }
 
+    /// The two files of a subcommand that takes two.
+    pub fn two_files(&self) -> Result<(&OsStr, &OsStr), Failure> {
+        match &self.files[..] {
+            [first, second] => Ok((first, second)),
+            [] | [_] => Err(self.wrong("which files?")),
+            _ => Err(self.wrong("more than two files")),
+        }
+    }
+
     /// The file, where it may be left out.
     pub fn file_if_any(&self) -> Result<Option<&OsStr>, Failure> {
         match &self.files[..] {

@@ -8,6 +8,7 @@
 
 mod answer;
 mod arguments;
+mod check;
 mod diagnosis;
 mod draw;
 mod explain;

@@ -1,7 +1,7 @@
 //! What a subcommand is: its name, its options, its help and what runs it. Each has a file of its own; a new one also gets a line in `ALL`.
 use crate::arguments::Arguments;
 use crate::failure::{Failure, Status};
-use crate::{draw, explain, export, kit, map, play, solve};
+use crate::{check, draw, explain, export, kit, map, play, solve};
 
 pub struct Subcommand {
     pub name: &'static str,
@@ -17,11 +17,12 @@ pub struct Subcommand {
 }
 
 /// All subcommands, in the order in which they are told of.
-pub const ALL: [&Subcommand; 7] = [
+pub const ALL: [&Subcommand; 8] = [
     &solve::SUBCOMMAND,
     &play::SUBCOMMAND,
     &explain::SUBCOMMAND,
     &map::SUBCOMMAND,
+    &check::SUBCOMMAND,
     &draw::SUBCOMMAND,
     &export::SUBCOMMAND,
     &kit::SUBCOMMAND,

@@ -1,0 +1,3 @@
+-- Laws for the checker.
+pub mod Made
+pub mod Shown

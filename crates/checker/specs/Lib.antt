@@ -1,0 +1,3 @@
+-- What the checker promises, and what its steps do.
+pub mod Check
+pub mod Steps

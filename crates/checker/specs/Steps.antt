@@ -1,0 +1,39 @@
+-- What the checker's steps do.
+--
+--   RoundFits, RoundWritten    == a round written behind the way to its first place
+--   Found g l w w′ r           == the answer r to a table of an accepted game, the room w being left as w′
+use Prim.Native.Nat.{ℕ, _≤_, _<_}
+use mathlib.Core.Path.{_≡_}
+use mathlib.Core.List.{List}
+use lib.ListN.{length, getD}
+use Rattle.game.specs.declared.Game.{Game}
+use Rattle.checker_search.specs.Queues.{at, Copied, Finders}
+use Rattle.checker_reach.specs.Reach.{Stem}
+use Rattle.checker.specs.declared.Checked.{Checked}
+use Rattle.checker.specs.Check.{numberOf, walkLength, Told}
+
+pub record RoundFits (queue from : List ℕ) (n : ℕ) (walk : List ℕ) (c : ℕ) (room : List ℕ) : Type 0 where
+  pub few : n ≤ 4096
+  pub finders : (k : ℕ) → k < n → Finders k from
+  pub there : (k : ℕ) × (k < n) × (at queue k ≡ at walk 0)
+  pub walk-long : length walk ≡ 24576
+  pub turns : 1 < c
+  pub short : c ≤ 20481
+  pub room-long : 24576 ≤ length room
+
+pub record RoundWritten (queue from : List ℕ) (n : ℕ) (walk : List ℕ) (c : ℕ) (room room′ : List ℕ) (m : ℕ) : Type 0 where
+  pub place : ℕ
+  pub found : place < n
+  pub short : m ≤ 4096
+  pub same : at queue place ≡ at walk 0
+  pub way : List ℕ
+  pub stem : Stem queue from place room way m
+  pub round : Copied walk 1 c way m room′
+
+pub record Found (g : Game) (l w w′ : List ℕ) (r : Checked) : Type 0 where
+  pub number : numberOf r ≡ 0
+  pub told : Told g l w′ r
+  pub fits : walkLength r ≤ length w
+  pub long : length w′ ≡ length w
+  pub rest : (k : ℕ) → walkLength r ≤ k → getD w′ k 0 ≡ getD w k 0
+  pub whole : walkLength r ≡ 0 → w′ ≡ w

@@ -1,0 +1,2 @@
+-- Laws for the order.
+pub mod Bounds

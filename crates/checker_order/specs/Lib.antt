@@ -1,0 +1,2 @@
+-- What the order in which places are tried promises.
+pub mod Picks

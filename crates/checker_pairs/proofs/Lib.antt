@@ -1,0 +1,4 @@
+-- Laws of the pairs.
+pub mod Keeping
+pub mod Emptying
+pub mod Serving

@@ -1,0 +1,2 @@
+-- Requirements and guarantees, one after the other.
+pub mod Pairs

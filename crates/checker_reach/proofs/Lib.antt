@@ -1,0 +1,3 @@
+-- Laws of what a table reaches.
+pub mod Opening
+pub mod Gaps

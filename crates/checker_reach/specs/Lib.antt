@@ -1,0 +1,2 @@
+-- What a table reaches.
+pub mod Reach

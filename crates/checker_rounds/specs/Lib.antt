@@ -1,0 +1,2 @@
+-- Attempts at rounds.
+pub mod Rounds

@@ -1,0 +1,2 @@
+-- Laws of tables as places.
+pub mod Leads

@@ -1,0 +1,2 @@
+-- A table as places.
+pub mod Rows

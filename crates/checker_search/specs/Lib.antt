@@ -1,0 +1,3 @@
+-- Searches over places, told of lists.
+pub mod Turns
+pub mod Queues

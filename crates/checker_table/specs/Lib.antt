@@ -1,0 +1,1 @@
+-- What the checker's searches show of a table.
