@@ -224,13 +224,13 @@ static void checking(void)
 {
     static uint16_t room[NANPUWIQ_WALK_ROOM + 1];
     uint16_t table[] = {0, NANPUWIQ_NONE, 1, 1, 1, 1, NANPUWIQ_NONE, NANPUWIQ_NONE};
-    nanpuwiq_game g = {.input = {2, 1, {3, 1}}, .output = {3, 1, {6, 2, 1}}, .k = 1};
-    g.requirements[0] = (nanpuwiq_requirement){.assumptions = {{2}}, .assumed = 1, .guarantees = {{4}}, .guaranteed = 1};
+    nanpuwiq_game g = {.input = {2, low(1), {3, 0, 1, 0}}, .output = {3, low(1), {6, 0, 2, 0, 1, 0}}, .k = 1};
+    g.requirements[0] = (nanpuwiq_requirement){.assumptions = {{low(2)}}, .assumed = 1, .guarantees = {{low(4)}}, .guaranteed = 1};
     for (size_t k = 0; k <= NANPUWIQ_WALK_ROOM; k++) room[k] = 7;
     checked("check, table short", nanpuwiq_check(g, table, 7, room, 0), 19, 0, 0, 0, 0, 0);
     checked("check, room short", nanpuwiq_check(g, table, 8, room, NANPUWIQ_WALK_ROOM - 1), 8, 0, 0, 0, 0, 0);
     nanpuwiq_game none = g;
-    none.output.initial = 0;
+    none.output.initial = low(0);
     checked("check, no initial output", nanpuwiq_check(none, table, 7, room, 0), 3, 0, 0, 0, 0, 0);
     same("check refused: entry 0", room[0], 7);
     table[0] = 1;
@@ -254,13 +254,13 @@ static void checking(void)
     room[0] = 7;
     checked("ours", nanpuwiq_check(g, table, 8, room, NANPUWIQ_WALK_ROOM), 0, NANPUWIQ_WINS, 0, 0, 0, 0);
     same("ours: entry 0", room[0], 7);
-    nanpuwiq_game large = {.input = {64, 1, {0}}, .output = {64, 1, {0}}, .k = 1};
-    for (size_t k = 0; k < 64; k++) large.input.moves[k] = large.output.moves[k] = 1;
-    large.requirements[0] = (nanpuwiq_requirement){.guarantees = {{1}, {1}}, .guaranteed = 2};
+    nanpuwiq_game large = {.input = {64, low(1), {0}}, .output = {64, low(1), {0}}, .k = 1};
+    for (size_t k = 0; k < 64; k++) large.input.moves[2 * k] = large.output.moves[2 * k] = 1;
+    large.requirements[0] = (nanpuwiq_requirement){.guarantees = {{low(1)}, {low(1)}}, .guaranteed = 2};
     static uint16_t entries[64 + 64 * 64 * 2];
     checked("check, 8,192 places", nanpuwiq_check(large, entries, 64 + 64 * 64 * 2, room, 0), 20, 0, 0, 0, 0, 0);
     large.requirements[0].guaranteed = 1;
-    large.requirements[0].guarantees[1].states = 0;
+    large.requirements[0].guarantees[1].states = low(0);
     checked("check, 4,096 places", nanpuwiq_check(large, entries, 64 + 64 * 64, room, NANPUWIQ_WALK_ROOM), 0, NANPUWIQ_WINS, 0, 0, 0, 0);
 }
 

@@ -15,6 +15,7 @@ import re
 import select
 import subprocess
 import sys
+import tempfile
 import time
 
 from checks import Checks
@@ -100,6 +101,60 @@ def other_words(check, command):
     check.holds("a drive that latches", "The new drive has no move any more" in stuck, stuck)
 
 
+def whys(said):
+    """The answers to why, in their order."""
+    return re.findall(r"^Why: (.*)\.$", said, re.M)
+
+
+def why_in_the_stories(check, command):
+    """Before anything is played, in a lost position, in a won one, and after undo."""
+    got = piped(command, EARLY, ["why", "standby", "why", "supply", "WHY", "supply", "why", "undo", "why"])
+    said = got.stdout.decode()
+    check.same("why, status", (got.returncode, got.stderr), (1, b""))
+    prime = "lost: the panel can go to 1 prime, and whatever the new drive answers from 0 standby is lost"
+    drain = "lost: the panel can go to 2 drain, and whatever the new drive answers from 2 supply is lost"
+    broken = "lost: while the old drive stays in 2 drain requirement 0 can be due, and while the new drive stays in 2 supply it is never in drain"
+    beginning = "> why\nNothing is played yet. The positions that you can begin with:\n    old 0 standby, new 0 standby, %s.\n> standby\n" % prime
+    check.holds("why before anything is played", beginning in said, said)
+    check.same("why in case 6", whys(said), [prime, drain, broken, drain])
+    check.holds("why is told of at the prompt", "or undo, hint, why, help, quit.\n" in said, said)
+    said = piped(command, FLUSH, ["why", "pump", "why", "flush", "undo", "why"]).stdout.decode()
+    home = "won: the new drive can stay among 0 pump, 2 flush, and there it can meet all that is due while the old drive stays among 0 pump, 1 flush"
+    check.holds("why before the flush story", "\n    old 0 pump, new 0 pump, %s.\n" % home in said, said)
+    check.same("why in the flush story", whys(said), [home, home])
+
+
+# The grounds of M-109 in their order: a game, the picks, and the words for the position that they lead to.
+GROUNDS = [
+    ("(game 2 1 0)(in 0 1 (1))(in 1 0 ())(out 0 1 (0))", "0 1", "won: the old drive has no move from 1, and who cannot move loses"),
+    ("(game 2 1 0)(in 0 1 (1))(in 1 0 ())(out 0 1 (0))", "0",
+     "won: the old drive does not come back to 0, and whatever it does next, the new drive has an answer that is won"),
+    ("(game 1 2 0)(in 0 1 (0))(out 0 1 (0 1))(out 1 0 (0))", "0",
+     "won: the new drive can stay among 0, 1, and there it can meet all that is due while the old drive stays in 0"),
+    ("(game 2 2 1)(in 0 1 (0 1))(in 1 0 ())(out 0 1 (1))(out 1 0 (1))(if ((0)) ((1)))", "0",
+     "won: the new drive can go on and then stay in 1, and there it can meet all that is due while the old drive stays in 0; "
+     "and wherever the old drive goes from there, the position is won with each of these"),
+    ("(game 1 1 0)(in 0 1 (0))(out 0 1 ())", "0", "lost: the new drive has no move from 0, and who cannot move loses"),
+    ("(game 3 2 1)(in 0 1 (1 2))(in 1 0 ())(in 2 0 (2))(out 0 1 (1))(out 1 0 (1))(if ((2)) ((0)))", "0",
+     "lost: the panel can go to 2, and whatever the new drive answers from 0 is lost"),
+    ("(game 4 2 1)(in 0 1 (1))(in 1 0 (0 2 3))(in 2 0 (2))(in 3 0 (3))(out 0 1 (0))(out 1 0 (1))(if ((3)) ((1)))", "0",
+     "lost: the panel can leave 0, 1 for 3, and there new 0 is lost"),
+    ("(game 2 4 3)(in 0 1 (1))(in 1 0 (0))(out 0 1 (1))(out 1 0 (0))(out 2 0 (2))(out 3 0 (3))(if ((0)) ((1)))(if ((0) (1)) ((0) (2 3)))(if () ((2)))", "0",
+     "lost: while the old drive stays among 0, 1 requirement 1 can be due, and while the new drive stays among 0, 1 it is never in 2 or 3"),
+    ("(game 1 2 1)(in 0 1 (0))(out 0 1 (1))(out 1 0 (1))(if ((0)) ((0)))", "0",
+     "lost: the new drive can neither stay in 0 nor come back to it, and wherever it goes is lost"),
+]
+
+
+def every_ground(check, command):
+    with tempfile.TemporaryDirectory() as folder:
+        game = pathlib.Path(folder, "ground.game")
+        for text, picks, words in GROUNDS:
+            game.write_text(text.replace(")(", ")\n(") + "\n")
+            said = piped(command, game, picks.split() + ["why"]).stdout.decode()
+            check.same("why, " + text, whys(said), [words])
+
+
 def on_a_terminal(check, command):
     shown, status = typed(command, EARLY, ["0\n", "2\n", "2\n", "2\n", "2\n", "quit\n"])
     check.same("terminal, case 6, status", status, 1)
@@ -163,6 +218,11 @@ def random_plays(check, command, rng):
             legal = game.moved("in", before[0], at[0]) and game.moved("out", before[1], at[1])
             check.holds("moves, " + name, legal, (before, at))
             before = at
+        told = whys(piped(command, name, picks + ["why"], "--names", "/dev/null").stdout.decode())
+        check.same("why, " + name, [words.split(":")[0] for words in told], ["won" if system else "lost"] if walk else [])
+        for words in told:
+            for next_ in re.findall(r"the panel can go to (\d+),", words):
+                check.holds("why, a move, " + name, game.moved("in", walk[-1][0], int(next_)), (walk[-1], words))
         for round_, judged in re.findall(r"is closed\.\n((?:    old .*\n)+)((?:Requirement .*\n)*)", said):
             seen = [tuple(map(int, at)) for at in re.findall(r"old (\d+), new (\d+),", round_)]
             check.holds("a closed round, " + name, len(seen) > 1 and seen[0] == seen[-1], seen)
@@ -181,6 +241,8 @@ def main():
     commits_too_early(check, command)
     flush_story(check, command)
     other_words(check, command)
+    why_in_the_stories(check, command)
+    every_ground(check, command)
     on_a_terminal(check, command)
     stories(check, command)
     random_plays(check, command, random.Random(1))

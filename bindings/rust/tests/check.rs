@@ -25,14 +25,17 @@ fn numbers_come_in_their_order_and_leave_the_room() {
     assert_eq!(number(&game, &[0, 0], WALK_ROOM - 1), Err(8));
     assert_eq!(number(&game, &[0], 0), Err(19));
     assert_eq!(number(&Game { k: 9, ..game }, &[0], 0), Err(5));
-    let ring: Vec<Vec<usize>> = (0..STATES).map(|s| vec![(s + 1) % STATES]).collect();
-    let rows: Vec<&[usize]> = ring.iter().map(|row| &row[..]).collect();
-    let graph = Graph::new(&[0], &rows).unwrap();
+    let ring = |n: usize| {
+        let moves: Vec<Vec<usize>> = (0..n).map(|s| vec![(s + 1) % n]).collect();
+        let rows: Vec<&[usize]> = moves.iter().map(|row| &row[..]).collect();
+        Graph::new(&[0], &rows).unwrap()
+    };
+    let (input, output) = (ring(STATES), ring(CHECKED_PLACES / STATES));
     let sets = Requirement::new(&[], &[&[0], &[1]]).unwrap();
-    let large = Game::new(graph, graph, &[sets]).unwrap();
+    let large = Game::new(input, output, &[sets]).unwrap();
     let table = vec![NONE; STATES + places(&large)];
     assert_eq!(number(&large, &table, 0), Err(20));
-    let at_the_limit = Game::new(graph, graph, &[Requirement::new(&[], &[&[0]]).unwrap()]).unwrap();
+    let at_the_limit = Game::new(input, output, &[Requirement::new(&[], &[&[0]]).unwrap()]).unwrap();
     assert_eq!(places(&at_the_limit), CHECKED_PLACES);
     assert_eq!(number(&at_the_limit, &at_the_limit.solve().unwrap().table, WALK_ROOM), Ok(Checked::Wins));
     assert_eq!(number(&at_the_limit, &vec![NONE; STATES + places(&at_the_limit)], WALK_ROOM), Ok(Checked::BadStart(InState(0))));

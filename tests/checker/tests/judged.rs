@@ -34,14 +34,10 @@ fn print(game: &Game, table: &[u16]) -> String {
     text
 }
 
-fn has(set: u64, state: usize) -> bool {
-    set >> state & 1 == 1
-}
-
 /// Follows what was handed back; panics where it is not true of the table.
 fn follow(game: &Game, table: &[u16], checked: Checked, walk: &[Position]) {
     if let Checked::BadStart(input) = checked {
-        assert!(has(game.input.initial, input.0));
+        assert!(game.input.initial.has(input.0));
         assert_eq!(game.begin(table, input).map_err(|e| e.number), Err(15));
         return;
     }
@@ -53,15 +49,15 @@ fn follow(game: &Game, table: &[u16], checked: Checked, walk: &[Position]) {
     }
     match checked {
         Checked::BadRow { next, .. } => {
-            assert!(has(game.input.moves[at.input.0], next.0));
+            assert!(game.input.moves[at.input.0].has(next.0));
             assert_eq!(game.step(table, &mut at, next).map_err(|e| e.number), Err(15));
         }
         Checked::BadRound { begins, requirement, .. } => {
             let round = &walk[begins..];
             assert!(round.len() > 1 && round[0] == round[round.len() - 1] && requirement < game.k);
             let q = game.requirements[requirement];
-            let due = q.assumptions[..q.assumed].iter().all(|set| round.iter().any(|at| has(set.0, at.input.0)));
-            let served = q.guarantees[..q.guaranteed].iter().all(|set| round.iter().any(|at| has(set.0, at.output.0)));
+            let due = q.assumptions[..q.assumed].iter().all(|set| round.iter().any(|at| set.0.has(at.input.0)));
+            let served = q.guarantees[..q.guaranteed].iter().all(|set| round.iter().any(|at| set.0.has(at.output.0)));
             assert!(due && !served, "the round does not break requirement {requirement}");
         }
         _ => unreachable!(),
@@ -91,7 +87,7 @@ fn judged(game: &Game, second: &second::game::Game, table: &[u16]) -> usize {
 /// A table with any legal reply in every row that has one, and any initial output: foreign to ours.
 fn any_table(game: &Game, draw: &mut Draw) -> Vec<u16> {
     let (inputs, counters) = (game.input.states, counters(game));
-    let members = |set: u64| (0..STATES).filter(|s| has(set, *s)).collect::<Vec<usize>>();
+    let members = |set: Set| set.states().collect::<Vec<usize>>();
     let first = members(game.output.initial);
     let mut table: Vec<u16> = (0..inputs).map(|_| draw.pick(&first) as u16).collect();
     for row in 0..places(game) {
@@ -104,7 +100,8 @@ fn any_table(game: &Game, draw: &mut Draw) -> Vec<u16> {
     table
 }
 
-/// The table with some entries changed: to none, to another state or counter, or to any entry. Starts keep counter 0, which prints have.
+/// The table with some entries changed: to none, to another output, with another counter or one past the last, or to any state. Starts keep counter 0, which
+/// prints have.
 fn damaged(game: &Game, table: &[u16], draw: &mut Draw) -> Vec<u16> {
     let mut table = table.to_vec();
     for _ in 0..1 + draw.below(4) {
@@ -112,7 +109,7 @@ fn damaged(game: &Game, table: &[u16], draw: &mut Draw) -> Vec<u16> {
         table[row] = match draw.below(4) {
             0 => NONE,
             1 => draw.below(game.output.states) as u16,
-            2 if row >= game.input.states => (draw.below(STATES) + STATES * draw.below(counters(game) + 1)) as u16,
+            2 if row >= game.input.states => (draw.below(game.output.states) + STATES * draw.below(counters(game) + 1)) as u16,
             _ => draw.below(STATES) as u16,
         };
     }
@@ -195,7 +192,7 @@ fn tables_at_the_limit_are_judged_as_by_walks() {
         if round % 2 == 0 {
             for row in 0..places(&game) {
                 let (output, counter) = (row / inputs / counters(&game), row / inputs % counters(&game));
-                if has(game.output.moves[output], output) && draw.chance(70) {
+                if game.output.moves[output].has(output) && draw.chance(70) {
                     table[inputs + row] = (output + STATES * counter) as u16;
                 }
             }

@@ -59,7 +59,7 @@ fn told(game: &Game, names: &Names, checked: Checked, walk: &[Position]) -> Stri
         Checked::BadRow { next, .. } => {
             let (at, mut text) = (walk[walk.len() - 1], String::from("The table does not win: it leads to a row that is no reply.\n"));
             lines(&mut text, names, walk);
-            let reply = match game.output.moves[at.output.0] {
+            let reply = match game.output.moves[at.output.0].count() {
                 0 => "the new drive has no move any more",
                 _ => "the row names no move of the new drive or no counter",
             };

@@ -136,7 +136,7 @@ fn side(prefix: &str, title: &str, graph: &Graph, node: impl Fn(usize) -> Node) 
             continue;
         }
         let states = component(graph, first);
-        drawn = drawn | states;
+        drawn |= states;
         let _ = writeln!(text, "        subgraph cluster_{prefix}_{first} {{\n            label=\"component {first}\";\n            style=dashed;");
         for state in members(states) {
             let _ = writeln!(text, "            {prefix}{state} [{}];", attributes(state, &node(state)));

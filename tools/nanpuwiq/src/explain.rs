@@ -90,8 +90,7 @@ fn summary(file: &GameFile, winner: Winner, entries: usize) -> Result<String, Fa
     );
     let map = game.won_map().map_err(|error| Failure::Refused(format!("{name}: {error}")))?;
     let won: usize = map.iter().map(|row| row.count()).sum();
-    let _ =
-        writeln!(told, "{} of {} are won.", grouped(won), count(inputs * outputs, "position", "positions"));
+    let _ = writeln!(told, "{} of {} are won.", grouped(won), count(inputs * outputs, "position", "positions"));
     told.push_str(match winner {
         Winner::System => "An adapter exists: the old panel can run the new drive.\n",
         Winner::Environment => "No adapter exists: the panel can be used so that every controller fails.\n",

@@ -20,7 +20,7 @@ pub fn reached(graph: &Graph, state: usize) -> Set {
     let mut reached = Set::default();
     let mut next = moves(graph, state);
     while next | reached != reached {
-        reached = reached | next;
+        reached |= next;
         next = members(reached).fold(Set::default(), |set, s| set | moves(graph, s));
     }
     reached

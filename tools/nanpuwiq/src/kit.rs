@@ -66,7 +66,8 @@ fn game(kit: &KitFile) -> Result<Game, Error> {
     let graph = |drive: &nanpuwiq::Drive| {
         let mut graph = Graph { states: drive.modes, initial: drive.initial, ..Graph::default() };
         for (row, next) in graph.moves.iter_mut().zip(drive.next.chunks(COMMANDS)) {
-            *row = next.iter().filter(|to| **to != BARRED).fold(Set::default(), |set, to| set | Set::of(usize::from(*to)));
+            *row =
+                next.iter().filter(|to| **to != BARRED).fold(Set::default(), |set, to| set | Set::of(usize::from(*to)));
         }
         graph
     };

@@ -2,6 +2,7 @@
 mod hint;
 mod screen;
 mod table;
+mod why;
 
 use crate::arguments::Arguments;
 use crate::failure::{Failure, Status};
@@ -27,6 +28,7 @@ nanpuwiq play [--names NAMES] FILE
 You take the side that loses: the new drive where no adapter exists, else the panel. Type the number or the name of your pick, or
   undo    take the last pick back
   hint    what each pick leaves open
+  why     what makes the position won or lost
   help    what can be typed
   quit    end; the end of the input ends it too
 When a configuration comes back, the round that is closed is shown with the requirements that it meets and breaks.
@@ -99,6 +101,7 @@ impl Play {
                 "quit" => return Ok(()),
                 "undo" => self.undo()?,
                 "hint" => self.told(&hint::words(&self.game, self.at())?)?,
+                "why" => self.told(&why::words(&self.game, self.at())?)?,
                 "" | "help" | "?" => self.told(self.screen.help())?,
                 word => self.pick(word)?,
             };

@@ -55,7 +55,7 @@ impl Screen {
     }
 
     pub fn help(&self) -> &'static str {
-        "Type the number or the name of your pick; or undo, hint, help, quit.\n"
+        "Type the number or the name of your pick; or undo, hint, why, help, quit.\n"
     }
 
     pub fn prompt(&self) -> &'static str {
