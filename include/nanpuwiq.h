@@ -30,6 +30,7 @@ extern "C" {
 #define NANPUWIQ_SETS 4             /* places for sets on each side of a requirement */
 #define NANPUWIQ_SCRATCH_MOST 768   /* words of scratch that the largest game asks for */
 #define NANPUWIQ_JOINED_SCRATCH 4096  /* words of scratch that the map on the joined positions asks for */
+#define NANPUWIQ_BARRED_SCRATCH 4096  /* words of scratch that the calls with bars ask for */
 #define NANPUWIQ_JOINED_STATES 32   /* states of a graph at most, for that map */
 #define NANPUWIQ_NONE 65535         /* the entry of a table that is none */
 #define NANPUWIQ_TABLE_MOST 524416  /* entries of the longest controller's table; the longest panel's has 524289 */
@@ -120,6 +121,12 @@ typedef struct {
     size_t first;    /* the number of the home, the next input, the state entered, or the requirement, from 0 */
     size_t second;   /* the output set, from 0 within its requirement */
 } nanpuwiq_explained;
+
+/* The verdict with bars: the code; whether the system wins, false on a refusal. */
+typedef struct {
+    uint8_t code;
+    bool system;
+} nanpuwiq_judged;
 
 /* The grounds, in the order in which they are tried. */
 enum {
@@ -254,6 +261,17 @@ uint8_t nanpuwiq_joined_map(nanpuwiq_game game, uint64_t *scratch, size_t scratc
  * What it names holds with won and lost as the won map has them; the grounds 1 to 3 are given exactly where the position is won.
  * Code 0, 1 to 7, 25 a position outside the game, or 8. On 0 scratch's first nanpuwiq_scratch_words(game) words are zero and the rest is as it was. */
 nanpuwiq_explained nanpuwiq_explain(nanpuwiq_game game, uint64_t *scratch, size_t scratch_words, nanpuwiq_in_state input, nanpuwiq_out_state output);
+
+/* The won map and the verdict of a game with bars, interlocks: some outputs are barred while the panel is at certain inputs, and the system may never make a
+ * barred pair, at the start or later. Words 2 * i and 2 * i + 1 of bars are the set of the outputs that are barred with input i. A position is marked exactly where it is
+ * not barred and won with barred replies excluded. Without a barred pair both are those of nanpuwiq_won_map and nanpuwiq_solve. No table is made, and the right to
+ * wait, homes and layouts are not claimed with bars.
+ * Code 0, 1 to 7, 29 a barred pair outside the graphs in any word lent, 28 other than one requirement with a barred pair, or 8: under two words an input of bars,
+ * under NANPUWIQ_BARRED_SCRATCH words of scratch, or under two words an input of the map. On 0 scratch's first NANPUWIQ_BARRED_SCRATCH words are zero and the rest is
+ * as it was. */
+uint8_t nanpuwiq_barred_map(nanpuwiq_game game, const uint64_t *bars, size_t bar_words, uint64_t *scratch, size_t scratch_words, uint64_t *map,
+                            size_t map_words);
+nanpuwiq_judged nanpuwiq_barred_verdict(nanpuwiq_game game, const uint64_t *bars, size_t bar_words, uint64_t *scratch, size_t scratch_words);
 
 /* Whether a controller's table, from anywhere, wins, as nanpuwiq_solve's do; else one thing that shows that it does not, which one is free.
  * The walk fills the front of the room: it begins in a first configuration, and a turn of the table leads from each configuration to the next. Each is

@@ -22,5 +22,8 @@ NANPUWIQ_WORDS(18, "a next mode that is neither barred nor a mode of the drive, 
 NANPUWIQ_WORDS(19, "a table that is checked and has not the controller's length")
 NANPUWIQ_WORDS(20, "inputs * outputs * values of the counter over 4,096")
 NANPUWIQ_WORDS(24, "a count over 32")
+NANPUWIQ_WORDS(25, "a position outside the game")
 NANPUWIQ_WORDS(26, "a file that can't be opened or read, or a name over 255 bytes or with a byte 0")
 NANPUWIQ_WORDS(27, "a list of over 1,000 names")
+NANPUWIQ_WORDS(28, "other than one requirement with a barred pair")
+NANPUWIQ_WORDS(29, "a barred pair outside the graphs, in any word that is lent")

@@ -109,6 +109,56 @@ static void map_of_the_joined_positions(void)
     same("joined map: the word after it", scratch[NANPUWIQ_JOINED_SCRATCH], UINT64_MAX);
 }
 
+/* Output 1 is barred with input 0: the system goes to it with input 1, where the requirement asks for it. */
+static void bars_beside_a_game(void)
+{
+    nanpuwiq_game g = example(), none = example(), wrong = example();
+    static uint64_t scratch[NANPUWIQ_BARRED_SCRATCH + 1];
+    const size_t long_enough = NANPUWIQ_BARRED_SCRATCH;
+    const uint64_t bars[4] = {2, 0, 0, 0}, open[4] = {0, 0, 0, 0}, outside[4] = {0, 1, 0, 0}, past[5] = {0, 0, 0, 0, 1}, all[4] = {3, 0, 0, 0};
+    uint64_t words[5] = {7, 7, 7, 7, 7};
+    memset(&none.requirements, 0, sizeof none.requirements);
+    none.k = 0;
+    wrong.k = 9;
+    memset(scratch, 255, sizeof scratch);
+    same("barred map, 9 requirements", nanpuwiq_barred_map(wrong, outside, 4, scratch, 0, words, 0), 5);
+    same("barred map, a pair outside, k = 0", nanpuwiq_barred_map(none, outside, 2, scratch, 0, words, 0), 29);
+    same("barred map, half a set past the inputs", nanpuwiq_barred_map(g, past, 5, scratch, 0, words, 0), 29);
+    same("barred map, k = 0", nanpuwiq_barred_map(none, bars, 1, scratch, 0, words, 0), 28);
+    same("barred map, bars short", nanpuwiq_barred_map(g, bars, 3, scratch, long_enough, words, 5), 8);
+    same("barred map, scratch short", nanpuwiq_barred_map(g, bars, 4, scratch, long_enough - 1, words, 5), 8);
+    same("barred map, map short", nanpuwiq_barred_map(g, bars, 4, scratch, long_enough, words, 3), 8);
+    same("barred map refused: word 0", words[0], 7);
+    same("barred verdict, 9 requirements", nanpuwiq_barred_verdict(wrong, outside, 4, scratch, 0).code, 5);
+    same("barred verdict, a pair outside, k = 0", nanpuwiq_barred_verdict(none, outside, 2, scratch, 0).code, 29);
+    same("barred verdict, k = 0", nanpuwiq_barred_verdict(none, bars, 1, scratch, 0).code, 28);
+    same("barred verdict, bars short", nanpuwiq_barred_verdict(g, bars, 3, scratch, long_enough).code, 8);
+    same("barred verdict, scratch short", nanpuwiq_barred_verdict(g, bars, 4, scratch, long_enough - 1).code, 8);
+    same("bars refused: scratch", scratch[0], UINT64_MAX);
+    same("barred map", nanpuwiq_barred_map(g, bars, 4, scratch, long_enough + 1, words, 5), 0);
+    same("barred map: word 0", words[0], 1);
+    same("barred map: word 1", words[1], 0);
+    same("barred map: word 2", words[2], 3);
+    same("barred map: word 3", words[3], 0);
+    same("barred map: word 4", words[4], 7);
+    same("barred map: scratch 0", scratch[0], 0);
+    same("barred map: the last word", scratch[long_enough - 1], 0);
+    same("barred map: the word after it", scratch[long_enough], UINT64_MAX);
+    memset(scratch, 255, sizeof scratch);
+    nanpuwiq_judged judged = nanpuwiq_barred_verdict(g, bars, 4, scratch, long_enough + 1);
+    same("barred verdict", judged.code, 0);
+    same("barred verdict: system", judged.system, true);
+    same("barred verdict: the last word", scratch[long_enough - 1], 0);
+    same("barred verdict: the word after it", scratch[long_enough], UINT64_MAX);
+    judged = nanpuwiq_barred_verdict(g, all, 4, scratch, long_enough);
+    same("all barred with the initial input", judged.code, 0);
+    same("all barred with the initial input: system", judged.system, false);
+    same("no bar, k = 0", nanpuwiq_barred_map(none, open, 4, scratch, long_enough, words, 4), 0);
+    same("no bar, k = 0: word 0", words[0], 3);
+    same("no bar, k = 0: word 2", words[2], 3);
+    same("no bar, k = 0: verdict", nanpuwiq_barred_verdict(none, open, 4, scratch, long_enough).system, true);
+}
+
 static void solving(void)
 {
     nanpuwiq_game g = example();
@@ -1230,6 +1280,7 @@ int main(void)
     acceptance();
     map();
     map_of_the_joined_positions();
+    bars_beside_a_game();
     solving();
     scratch_of_the_largest();
     explaining();

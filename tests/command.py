@@ -241,7 +241,7 @@ def checked(check, command):
         ("a start that is not initial", ours.replace("(start 0 0)", "(start 0 2)"), "the panel may begin in 0 pump"),
         ("no row", ours.replace("(step 2 0 0 0 0)\n", ""), "Now the panel may go to 0 pump, and the row names no move of the new drive or no counter."),
         ("a counter out of range", ours.replace("(step 2 0 0 0 0)", "(step 2 0 0 0 1)"), "Now the panel may go to 0 pump"),
-        ("a state past the width", ours.replace("(step 2 0 0 0 0)", "(step 2 0 0 63 0)"), "leads to a row that is no reply"),
+        ("a state past the width", ours.replace("(step 2 0 0 0 0)", "(step 2 0 0 127 0)"), "leads to a row that is no reply"),
     ]:
         got = command.run("check", FLUSH, command.file("t", text))
         check.holds(name, got.returncode == 1 and words in got.stdout.decode() and got.stderr == b"", got)
@@ -253,7 +253,7 @@ def checked(check, command):
         ("a leading zero", ours.replace("(start 0 0)", "(start 0 00)"), "t:2: expected (start INPUT OUTPUT)"),
         ("a row that is not there", ours + "(step 3 0 0 0 0)\n", "t:7: a start or a row that the game does not have"),
         ("a line twice", ours + "(start 0 0)\n", "t:7: a second line for one start or row"),
-        ("no entry", ours.replace("(start 0 0)", "(start 0 64)"), "t:2: an output and a counter that no entry can hold"),
+        ("no entry", ours.replace("(start 0 0)", "(start 0 128)"), "t:2: an output and a counter that no entry can hold"),
         ("far too long", ours + "(start 0 0)\n" * 30000, "over 262144 bytes"),
     ]:
         got = command.run("check", FLUSH, command.file("t", text))

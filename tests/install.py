@@ -37,6 +37,17 @@ def flags(folder):
     return run("pkg-config", "--define-variable=prefix=%s" % folder, "--cflags", "--libs", "nanpuwiq", env=search).stdout.split()
 
 
+# The story of examples/README.md: the game, the barred pairs, status and print.
+INTERLOCKS = [
+    ("service.game", "", 0, "an adapter exists\n0: 0 1 2\n1: 0 1 2\n2: 0 1 2\n"),
+    ("service.game", "2 0 2 1", 0, "an adapter exists\n0: 0 1 2\n1: 1 2\n2: 2\n"),
+    ("service_unannounced.game", "", 0, "an adapter exists\n0: 0 1 2\n1: 0 1 2\n"),
+    ("service_unannounced.game", "1 0 1 1", 1, "no adapter exists\n0:\n1:\n"),
+    ("service.game", "3 0", 2, ""),
+    ("too_early.game", "0 0", 2, ""),
+]
+
+
 def integrate(check, folder, where):
     """The example of the README, with nothing but what was installed."""
     examples = folder / "share/doc/nanpuwiq/examples"
@@ -50,6 +61,12 @@ def integrate(check, folder, where):
     check.same("no adapter", run(adapter, examples / "too_early.game", input="").returncode, 1)
     check.same("no file", run(adapter, where / "missing", input="").returncode, 3)
     check.same("bytes that are no game", run(adapter, examples / "pumps.kit", input="").returncode, 2)
+    interlock = where / "interlock"
+    built = run("gcc", *WARNINGS, examples / "interlock.c", *flags(folder), "-o", interlock)
+    check.same("the example with bars compiles", (built.returncode, built.stderr), (0, ""))
+    for name, words, status, said in INTERLOCKS:
+        got = run(interlock, examples / name, *words.split())
+        check.same("bars %s beside %s" % (words, name), (got.returncode, got.stdout), (status, said))
     with open(examples / "first.game", "rb") as game:
         got = subprocess.run([folder / "bin/solve"], stdin=game, capture_output=True)
     check.same("solve", got.stdout, (examples / "first.print").read_bytes())

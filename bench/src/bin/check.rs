@@ -6,32 +6,32 @@
 mod measure;
 
 use measure::best;
-use nanpuwiq::{Checked, Game, Graph, InSet, OutSet, Requirement, Winner, CHECKED_PLACES, NONE, STATES, WALK_ROOM};
+use nanpuwiq::{Checked, Game, Graph, InSet, OutSet, Requirement, Set, Winner, CHECKED_PLACES, NONE, STATES, WALK_ROOM};
 use std::hint::black_box;
 
-fn graph(n: usize, initial: u64, moves: impl Fn(usize) -> u64) -> Graph {
-    let mut g = Graph { states: n, initial, ..Graph::default() };
+fn graph(n: usize, initial: u128, moves: impl Fn(usize) -> u128) -> Graph {
+    let mut g = Graph { states: n, initial: Set::from_bits(initial), ..Graph::default() };
     for s in 0..n {
-        g.moves[s] = moves(s);
+        g.moves[s] = Set::from_bits(moves(s));
     }
     g
 }
 
 /// The set of all states below n.
-fn all(n: usize) -> u64 {
+fn all(n: usize) -> u128 {
     (0..n).fold(0, |x, s| x | 1 << s)
 }
 
 /// `sets` output sets in all, four a requirement; each requirement has the input sets given.
-fn requirements(sets: usize, assumptions: &[u64], guarantee: impl Fn(usize) -> u64) -> Vec<Requirement> {
+fn requirements(sets: usize, assumptions: &[u128], guarantee: impl Fn(usize) -> u128) -> Vec<Requirement> {
     let mut made = Vec::new();
     for first in (0..sets).step_by(4) {
         let mut q = Requirement { assumed: assumptions.len(), guaranteed: (sets - first).min(4), ..Requirement::default() };
         for (place, &x) in q.assumptions.iter_mut().zip(assumptions) {
-            *place = InSet(x);
+            *place = InSet(Set::from_bits(x));
         }
         for b in 0..q.guaranteed {
-            q.guarantees[b] = OutSet(guarantee(first + b));
+            q.guarantees[b] = OutSet(Set::from_bits(guarantee(first + b)));
         }
         made.push(q);
     }
@@ -65,23 +65,23 @@ impl Plain {
     fn wins(game: &Game, table: &[u16]) -> bool {
         let (inputs, counters) = (game.input.states, counters(game));
         let places = inputs * game.output.states * counters;
-        let place = |entry: u16, allowed: u64, input: usize| {
+        let place = |entry: u16, allowed: Set, input: usize| {
             let (state, counter) = (usize::from(entry) % STATES, usize::from(entry) / STATES);
-            let legal = entry != NONE && allowed >> state & 1 == 1 && counter < counters;
+            let legal = entry != NONE && allowed.has(state) && counter < counters;
             if legal { ((state * counters + counter) * inputs + input) as u16 } else { u16::MAX }
         };
         let rows = 0..places;
         let to = rows.map(|r| place(table[inputs + r], game.output.moves[r / inputs / counters], r % inputs)).collect();
         let mut plain = Plain { inputs, counters, to, reached: vec![false; places] };
         let mut open = Vec::new();
-        for i in (0..inputs).filter(|i| game.input.initial >> i & 1 == 1) {
+        for i in (0..inputs).filter(|i| game.input.initial.has(*i)) {
             match place(table[i], game.output.initial, i) {
                 u16::MAX => return false,
                 first => plain.find(first, &mut open),
             }
         }
         while let Some(at) = open.pop() {
-            let mut moves = game.input.moves[at % inputs];
+            let mut moves = game.input.moves[at % inputs].bits();
             while moves != 0 {
                 let next = plain.to[at / inputs * inputs + moves.trailing_zeros() as usize];
                 if next == u16::MAX {
@@ -103,13 +103,13 @@ impl Plain {
     }
 
     /// Tarjan's components of the reached places outside the set: does one with a turn inside visit every assumption?
-    fn breaks(&self, game: &Game, q: &Requirement, missed: u64) -> bool {
+    fn breaks(&self, game: &Game, q: &Requirement, missed: Set) -> bool {
         let (inputs, places) = (self.inputs, self.to.len());
-        let inside = |p: usize| self.reached[p] && missed >> (p / inputs / self.counters) & 1 == 0;
+        let inside = |p: usize| self.reached[p] && !missed.has(p / inputs / self.counters);
         let (mut number, mut low) = (vec![0u32; places], vec![0u32; places]);
         let mut closed = vec![false; places];
         let (mut count, mut parts) = (0, Vec::new());
-        let mut path: Vec<(usize, u64)> = Vec::new();
+        let mut path: Vec<(usize, u128)> = Vec::new();
         for root in 0..places {
             if !inside(root) || number[root] != 0 {
                 continue;
@@ -117,7 +117,7 @@ impl Plain {
             count += 1;
             (number[root], low[root]) = (count, count);
             parts.push(root);
-            path.push((root, game.input.moves[root % inputs]));
+            path.push((root, game.input.moves[root % inputs].bits()));
             while let Some((at, moves)) = path.pop() {
                 if moves != 0 {
                     path.push((at, moves & (moves - 1)));
@@ -129,7 +129,7 @@ impl Plain {
                         count += 1;
                         (number[next], low[next]) = (count, count);
                         parts.push(next);
-                        path.push((next, game.input.moves[next % inputs]));
+                        path.push((next, game.input.moves[next % inputs].bits()));
                     } else if !closed[next] {
                         low[at] = low[at].min(number[next]);
                     }
@@ -144,10 +144,10 @@ impl Plain {
                     let mut visited = 0;
                     for &p in &part {
                         closed[p] = true;
-                        visited |= 1u64 << (p % inputs);
+                        visited |= 1u128 << (p % inputs);
                     }
-                    let own = usize::from(self.to[at]) == at && game.input.moves[at % inputs] >> (at % inputs) & 1 == 1;
-                    if (part.len() > 1 || own) && q.assumptions[..q.assumed].iter().all(|set| set.0 & visited != 0) {
+                    let own = usize::from(self.to[at]) == at && game.input.moves[at % inputs].has(at % inputs);
+                    if (part.len() > 1 || own) && q.assumptions[..q.assumed].iter().all(|set| set.0.bits() & visited != 0) {
                         return true;
                     }
                 }
@@ -165,7 +165,7 @@ fn ours(tables: &mut Vec<Named>, name: &str, game: Game) {
     assert_eq!(verdict.winner, Winner::System, "{name}");
     let stopped = verdict.table.iter().map(|e| if *e == NONE { NONE } else { *e % STATES as u16 }).collect();
     let mut missing = verdict.table.clone();
-    let (first, next) = (usize::from(missing[0]) % STATES, game.input.moves[0].trailing_zeros() as usize);
+    let (first, next) = (usize::from(missing[0]) % STATES, game.input.moves[0].bits().trailing_zeros() as usize);
     missing[game.input.states + first * counters(&game) * game.input.states + next] = NONE;
     tables.push((format!("{name}, ours"), game, verdict.table));
     tables.push((format!("{name}, counter stopped"), game, stopped));

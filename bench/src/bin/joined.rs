@@ -6,7 +6,7 @@
 mod measure;
 
 use measure::best;
-use nanpuwiq::{Game, Graph, InSet, OutSet, Requirement, Set, JOINED_SCRATCH, JOINED_STATES, SCRATCH_MOST};
+use nanpuwiq::{Game, Graph, InSet, OutSet, Requirement, Set, JOINED_SCRATCH, JOINED_STATES, SCRATCH_MOST, SET_WORDS};
 use std::hint::black_box;
 
 const N: usize = JOINED_STATES;
@@ -73,7 +73,7 @@ fn main() {
     let forward = graph(N, |s| (s + 1..N).fold(Set::default(), |x, t| x | Set::of(t)));
     games.push(("all moves forward: lone positions".into(), game(&mut r, forward, forward)));
     println!("{:<36} {:>12} {:>12} {:>8}", "game, microseconds a map", "joined", "won map", "times");
-    let mut map = [0; N];
+    let mut map = [0; SET_WORDS * N];
     for (name, g) in &games {
         let mut scratch = vec![0; JOINED_SCRATCH];
         assert_eq!(g.joined_map().expect("a right game"), g.won_map().expect("a right game"));

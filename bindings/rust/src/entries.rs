@@ -35,6 +35,12 @@ pub struct PanelMoved {
 }
 
 #[repr(C)]
+pub struct JudgeResult {
+    pub code: u8,
+    pub system: bool,
+}
+
+#[repr(C)]
 pub struct ExplainResult {
     pub code: u8,
     pub ground: u8,
@@ -76,6 +82,16 @@ extern "C" {
     fn nanpuwiq_accept(game: Game) -> u8;
     fn nanpuwiq_won_map(game: Game, scratch: *mut u64, scratch_words: usize, map: *mut u64, map_words: usize) -> u8;
     fn nanpuwiq_joined_map(game: Game, scratch: *mut u64, scratch_words: usize, map: *mut u64, map_words: usize) -> u8;
+    fn nanpuwiq_barred_map(
+        game: Game,
+        bars: *const u64,
+        bar_words: usize,
+        scratch: *mut u64,
+        scratch_words: usize,
+        map: *mut u64,
+        map_words: usize,
+    ) -> u8;
+    fn nanpuwiq_barred_verdict(game: Game, bars: *const u64, bar_words: usize, scratch: *mut u64, scratch_words: usize) -> JudgeResult;
     fn nanpuwiq_explain(game: Game, scratch: *mut u64, scratch_words: usize, input: InState, output: OutState) -> ExplainResult;
     fn nanpuwiq_check(game: Game, table: *const u16, entries: usize, room: *mut u16, room_entries: usize) -> CheckResult;
     fn nanpuwiq_solve(
@@ -124,6 +140,14 @@ pub fn won_map(game: Game, scratch: &mut [u64], map: &mut [u64]) -> u8 {
 
 pub fn joined_map(game: Game, scratch: &mut [u64], map: &mut [u64]) -> u8 {
     unsafe { nanpuwiq_joined_map(game, scratch.as_mut_ptr(), scratch.len(), map.as_mut_ptr(), map.len()) }
+}
+
+pub fn barred_map(game: Game, bars: &[u64], scratch: &mut [u64], map: &mut [u64]) -> u8 {
+    unsafe { nanpuwiq_barred_map(game, bars.as_ptr(), bars.len(), scratch.as_mut_ptr(), scratch.len(), map.as_mut_ptr(), map.len()) }
+}
+
+pub fn barred_verdict(game: Game, bars: &[u64], scratch: &mut [u64]) -> JudgeResult {
+    unsafe { nanpuwiq_barred_verdict(game, bars.as_ptr(), bars.len(), scratch.as_mut_ptr(), scratch.len()) }
 }
 
 pub fn explain(game: Game, scratch: &mut [u64], input: InState, output: OutState) -> ExplainResult {

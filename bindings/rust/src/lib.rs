@@ -19,6 +19,9 @@ pub const VERSION: &str = env!("CARGO_PKG_VERSION");
 pub const STATES: usize = 128;
 /// Words of a set.
 pub const SET_WORDS: usize = 2;
+
+/// Words of scratch that the calls with bars ask for.
+pub const BARRED_SCRATCH: usize = 4096;
 /// Places for requirements.
 pub const REQUIREMENTS: usize = 8;
 /// Places for sets on each side of a requirement.
@@ -431,6 +434,32 @@ fn sets_in(words: &[u64]) -> Vec<Set> {
     words.chunks_exact(SET_WORDS).map(|x| Set { low: x[0], high: x[1] }).collect()
 }
 
+/// Barred pairs, for `Game::barred_map` and `Game::barred_verdict`: one set of outputs for each input, two words a set.
+#[derive(Clone, Debug, Default, PartialEq, Eq)]
+pub struct Bars(Vec<u64>);
+
+impl Bars {
+    /// Nothing is barred with these inputs.
+    pub fn none(inputs: usize) -> Bars {
+        Bars(vec![0; SET_WORDS * inputs])
+    }
+
+    /// These pairs are barred. A pair that no game has is 29.
+    pub fn new(inputs: usize, pairs: &[(InState, OutState)]) -> Result<Bars, Error> {
+        let mut bars = Bars::none(inputs);
+        for &(InState(i), OutState(o)) in pairs {
+            ensure(i < inputs && o < STATES, 29)?;
+            bars.0[SET_WORDS * i + o / 64] |= 1 << (o % 64);
+        }
+        Ok(bars)
+    }
+
+    /// Words of the caller's, as the library takes them.
+    pub fn from_words(words: Vec<u64>) -> Bars {
+        Bars(words)
+    }
+}
+
 /// Counts that no accepted game has give some number too.
 fn scratch_words(inputs: usize, outputs: usize) -> usize {
     inputs.saturating_mul(2).saturating_add(outputs).saturating_mul(SET_WORDS)
@@ -469,6 +498,30 @@ impl Game {
         let mut map = vec![0; SET_WORDS * self.input.states.min(STATES)];
         self.won_map_into(&mut [0; SCRATCH_MOST], &mut map)?;
         Ok(sets_in(&map))
+    }
+
+    /// The won map with bars in a buffer of the caller's: 1 to 7, 29, 28, 8. On a map the first `BARRED_SCRATCH` words of scratch are zero and the rest is as it was.
+    pub fn barred_map_into(&self, bars: &Bars, scratch: &mut [u64], map: &mut [u64]) -> Result<(), Error> {
+        refusal(entries::barred_map(*self, &bars.0, scratch, map))
+    }
+
+    /// The outputs that are won with each input, and not barred with it, where the system may never make a barred pair.
+    pub fn barred_map(&self, bars: &Bars) -> Result<Vec<Set>, Error> {
+        let mut map = vec![0; SET_WORDS * self.input.states.min(STATES)];
+        self.barred_map_into(bars, &mut vec![0; BARRED_SCRATCH], &mut map)?;
+        Ok(sets_in(&map))
+    }
+
+    /// Whether the system wins with bars, in scratch of the caller's: 1 to 7, 29, 28, 8.
+    pub fn barred_verdict_in(&self, bars: &Bars, scratch: &mut [u64]) -> Result<bool, Error> {
+        let r = entries::barred_verdict(*self, &bars.0, scratch);
+        refusal(r.code)?;
+        Ok(r.system)
+    }
+
+    /// Whether the system wins where it may never make a barred pair. No table is made.
+    pub fn barred_verdict(&self, bars: &Bars) -> Result<bool, Error> {
+        self.barred_verdict_in(bars, &mut vec![0; BARRED_SCRATCH])
     }
 
     /// The won map of the lecture room's solver in a buffer of the caller's, in a game of at most 32 states a graph: 1 to 7, 24, 8. On a map the first

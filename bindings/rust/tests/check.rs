@@ -25,8 +25,9 @@ fn numbers_come_in_their_order_and_leave_the_room() {
     assert_eq!(number(&game, &[0, 0], WALK_ROOM - 1), Err(8));
     assert_eq!(number(&game, &[0], 0), Err(19));
     assert_eq!(number(&Game { k: 9, ..game }, &[0], 0), Err(5));
+    // 128 inputs and 32 outputs with one counter are the most
     let ring = |n: usize| {
-        let moves: Vec<Vec<usize>> = (0..n).map(|s| vec![(s + 1) % n]).collect();
+        let moves: Vec<[usize; 1]> = (0..n).map(|s| [(s + 1) % n]).collect();
         let rows: Vec<&[usize]> = moves.iter().map(|row| &row[..]).collect();
         Graph::new(&[0], &rows).unwrap()
     };

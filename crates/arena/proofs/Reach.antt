@@ -30,7 +30,7 @@ module _ (First : Configuration → Type 0) (Turn : Configuration → Configurat
         | inr n ↦ reached-walk (reached-turn (r .reachable) (r .turn)) (before (r .rest) c n)
       ]
 
-  cycle-rest : (r : Cycle First Turn) (c : Configuration) → List·Memᴰ c (configurations First Turn r) → List·Memᴰ c (passed (r .rest))
+  pub cycle-rest : (r : Cycle First Turn) (c : Configuration) → List·Memᴰ c (configurations First Turn r) → List·Memᴰ c (passed (r .rest))
   unfolding configurations
   cycle-rest r c m =
       elim (List·Memᴰ·cases-cons m) [

@@ -58,7 +58,13 @@ pub fn open(
 }
 
 // The lowest next input of place c whose row is none; CAPACITY where there is none.
-fn none_after(inputs: usize, places: usize, moves: &[u64; sets::ROW_WORDS], to: &[u16; 4096], c: usize) -> usize
+fn none_after(
+    inputs: usize,
+    places: usize,
+    moves: &[u64; sets::ROW_WORDS],
+    to: &[u16; 4096],
+    c: usize,
+) -> usize
     requires { ⌜ Grid inputs places (now moves) (now to) × (c < places) ⌝ }
     ensures { λ r. ⌜ NoneAfter inputs (now (moves .entry)) (now (to .entry)) c r ⌝ }
 {

@@ -6,3 +6,4 @@ pub mod Tabulate
 pub mod Front
 pub mod Pigeonhole
 pub mod Loops
+pub mod Rounds

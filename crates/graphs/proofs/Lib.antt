@@ -1,6 +1,7 @@
 -- Laws of graphs and walks.
 pub mod Walk
 pub mod Measure
+pub mod Level
 pub mod Graph
 pub mod Rows
 pub mod Front

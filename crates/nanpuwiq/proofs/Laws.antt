@@ -8,6 +8,8 @@ use Rattle.game.specs.declared.OutState.{OutState}
 use Rattle.map.specs.declared.Mapped.{Mapped}
 use Rattle.joined.specs.declared.Mapped.{Mapped as JoinedMapped}
 use Rattle.joined.specs.Joined.{numberOf as joinedNumber, JoinedMade}
+use Rattle.interlock.specs.declared.Judged.{Judged}
+use Rattle.interlock.specs.Interlock.{BarredMap, BarredJudged}
 use Rattle.solver.specs.declared.Verdict.{Verdict}
 use Rattle.map.specs.Map.{numberOf, MapMade}
 use Rattle.ground_search.specs.declared.Explanation.{Explanation}
@@ -19,15 +21,22 @@ use Rattle.text.specs.declared.WriteAnswer.{WriteAnswer}
 use Rattle.text.specs.Write.{Writes}
 use Rattle.results.specs.declared.SolveResult.{SolveResult}
 use Rattle.results.specs.declared.ExplainResult.{ExplainResult}
+use Rattle.results.specs.declared.JudgeResult.{JudgeResult}
 use Rattle.results.specs.declared.WriteResult.{WriteResult}
-use Rattle.results.specs.Results.{solveResult, writeResult, explainResult}
-use Rattle.nanpuwiq.specs.Calls.{MapCalled, JoinedCalled, SolveCalled, KitCalled, WriteCalled, ExplainCalled}
+use Rattle.results.specs.Results.{solveResult, writeResult, explainResult, judgeResult}
+use Rattle.nanpuwiq.specs.Calls.{MapCalled, JoinedCalled, BarredCalled, JudgeCalled, SolveCalled, KitCalled, WriteCalled, ExplainCalled}
 
 pub map-called : {g : Game} {s s′ m m′ : List ℕ} {a : Mapped} {r : ℕ} → MapMade g s s′ m m′ a → r ≡ numberOf a → MapCalled g s s′ m m′ r
 map-called {g} {s} {s′} {m} {m′} f e = record { answer = e ∙ f .number; made = subst (MapMade g s s′ m m′) (f .answer) f }
 
 pub joined-called : {g : Game} {s s′ m m′ : List ℕ} {a : JoinedMapped} {r : ℕ} → JoinedMade g s s′ m m′ a → r ≡ joinedNumber a → JoinedCalled g s s′ m m′ r
 joined-called {g} {s} {s′} {m} {m′} f e = record { answer = e ∙ f .number; made = subst (JoinedMade g s s′ m m′) (f .answer) f }
+
+pub barred-called : {g : Game} {b s s′ m m′ : List ℕ} {a : Mapped} {r : ℕ} → BarredMap g b s s′ m m′ a → r ≡ numberOf a → BarredCalled g b s s′ m m′ r
+barred-called {g} {b} {s} {s′} {m} {m′} f e = record { answer = e ∙ f .number; made = subst (BarredMap g b s s′ m m′) (f .answer) f }
+
+pub judge-called : {g : Game} {b s s′ : List ℕ} {a : Judged} {r : JudgeResult} → BarredJudged g b s s′ a → r ≡ judgeResult a → JudgeCalled g b s s′ r
+judge-called {g} {b} {s} {s′} f e = record { answer = e ∙ ap judgeResult (f .answer); judged = subst (BarredJudged g b s s′) (f .answer) f }
 
 pub explain-called : {g : Game} {s s′ : List ℕ} {i : InState} {o : OutState} {a : Explanation} {r : ExplainResult} → Explained g s s′ i o a
     → r ≡ explainResult a → ExplainCalled g s s′ i o r

@@ -2,6 +2,8 @@
 --
 --   MapCalled g s s′ m m′ r            == the map's call answers r and leaves scratch s as s′ and the map m as m′
 --   JoinedCalled g s s′ m m′ r         == the same of the map on the joined positions
+--   BarredCalled g b s s′ m m′ r       == the same of the map with the bars b
+--   JudgeCalled g b s s′ r             == the verdict with the bars b is r, and scratch s is left as s′
 --   ExplainCalled g s s′ i o r          == the call that explains (i, o) answers r and leaves scratch s as s′
 --   CheckCalled g l w w′ r             == the checker answers r to the table l and leaves the room w as w′
 --   SolveCalled g s s′ c c′ e e′ r     == the solver answers r and leaves scratch s as s′, the controller's buffer c as c′ and the environment's e as e′
@@ -18,6 +20,8 @@ use Rattle.game.specs.declared.OutState.{OutState}
 use Rattle.game.specs.Numbers.{firstOf}
 use Rattle.map.specs.Map.{mapAnswer, mapTests, MapMade}
 use Rattle.joined.specs.Joined.{joinedAnswer, joinedTests, JoinedMade}
+use Rattle.interlock.specs.Bars.{systemWins}
+use Rattle.interlock.specs.Interlock.{mapAnswer as barredAnswer, mapTests as barredTests, BarredMap, verdictAnswer as judgedAnswer, BarredJudged}
 use Rattle.explain.specs.Explain.{explainAnswer, Explained}
 use Rattle.checker.specs.declared.Checked.{Checked}
 use Rattle.checker.specs.Check.{Checks}
@@ -30,9 +34,10 @@ use Rattle.text.specs.Write.{writeAnswer, writeBuffer}
 use Rattle.results.specs.declared.SolveResult.{SolveResult}
 use Rattle.results.specs.declared.ExplainResult.{ExplainResult}
 use Rattle.results.specs.declared.CheckResult.{CheckResult}
+use Rattle.results.specs.declared.JudgeResult.{JudgeResult}
 use Rattle.results.specs.declared.ReadResult.{ReadResult}
 use Rattle.results.specs.declared.WriteResult.{WriteResult}
-use Rattle.results.specs.Results.{solveResult, explainResult, checkResult, readResult, writeResult}
+use Rattle.results.specs.Results.{solveResult, explainResult, checkResult, judgeResult, readResult, writeResult}
 
 -- `made` says what both buffers hold, and carries demand 2
 pub record MapCalled (g : Game) (s s′ m m′ : List ℕ) (r : ℕ) : Type 0 where
@@ -43,6 +48,16 @@ pub record MapCalled (g : Game) (s s′ m m′ : List ℕ) (r : ℕ) : Type 0 wh
 pub record JoinedCalled (g : Game) (s s′ m m′ : List ℕ) (r : ℕ) : Type 0 where
   pub answer : r ≡ firstOf (joinedTests g (length s) (length m))
   pub made : JoinedMade g s s′ m m′ (joinedAnswer g (length s) (length m))
+
+-- `made` says what both buffers hold, and what is marked: what is not barred and won
+pub record BarredCalled (g : Game) (b s s′ m m′ : List ℕ) (r : ℕ) : Type 0 where
+  pub answer : r ≡ firstOf (barredTests g b (length s) (length m))
+  pub made : BarredMap g b s s′ m m′ (barredAnswer g b (length s) (length m))
+
+-- `judged` says what scratch holds, and who wins
+pub record JudgeCalled (g : Game) (b s s′ : List ℕ) (r : JudgeResult) : Type 0 where
+  pub answer : r ≡ judgeResult (judgedAnswer g b (length s) (systemWins g b))
+  pub judged : BarredJudged g b s s′ (judgedAnswer g b (length s) (systemWins g b))
 
 -- `explained` says what scratch holds, and that what the ground names holds
 pub record ExplainCalled (g : Game) (s s′ : List ℕ) (i : InState) (o : OutState) (r : ExplainResult) : Type 0 where

@@ -7,7 +7,7 @@ ghost use Rattle.recorder.specs.Recorded.{compared};
 ghost use Rattle.panel_player.specs.Panel.{panelFirst, panelBegin, panelNext, panelStep};
 ghost use Rattle.results.specs.Results.{compareResult, panelMoved, nowhere};
 ghost use Rattle.drives.specs.Acceptance.{kitTests};
-ghost use Rattle.nanpuwiq.specs.Calls.{MapCalled, JoinedCalled, SolveCalled, KitCalled, ReadCalled, WriteCalled, ExplainCalled, CheckCalled};
+ghost use Rattle.nanpuwiq.specs.Calls.{MapCalled, JoinedCalled, SolveCalled, KitCalled, ReadCalled, WriteCalled, ExplainCalled, CheckCalled, BarredCalled, JudgeCalled};
 use drives::Kit;
 use game::Game;
 use game::InState;
@@ -19,6 +19,7 @@ use recorder::OutRecording;
 use results::CheckResult;
 use results::CompareResult;
 use results::ExplainResult;
+use results::JudgeResult;
 use results::PanelMoved;
 use results::ReadResult;
 use results::SolveResult;
@@ -46,6 +47,27 @@ pub extern "C" fn nanpuwiq_joined_map(g: Game, scratch: &mut [u64], map: &mut [u
     ensures { λ r. ⌜ JoinedCalled g (now (scratch .entry)) (now (scratch .exit)) (now (map .entry)) (now (map .exit)) r ⌝ }
 {
     results::joined_code(joined::joined_map(g, scratch, map))
+}
+
+// Marks the won positions of a game with bars: some outputs are barred with certain inputs.
+#[no_mangle]
+pub extern "C" fn nanpuwiq_barred_map(
+    g: Game,
+    bars: &[u64],
+    scratch: &mut [u64],
+    map: &mut [u64],
+) -> u8
+    ensures { λ r. ⌜ BarredCalled g (now (bars .entry)) (now (scratch .entry)) (now (scratch .exit)) (now (map .entry)) (now (map .exit)) r ⌝ }
+{
+    results::map_code(interlock::barred_map(g, bars, scratch, map))
+}
+
+// Which side wins a game with bars.
+#[no_mangle]
+pub extern "C" fn nanpuwiq_barred_verdict(g: Game, bars: &[u64], scratch: &mut [u64]) -> JudgeResult
+    ensures { λ r. ⌜ JudgeCalled g (now (bars .entry)) (now (scratch .entry)) (now (scratch .exit)) r ⌝ }
+{
+    results::judge_result(interlock::barred_verdict(g, bars, scratch))
 }
 
 // What made the position of an input and an output won or lost.

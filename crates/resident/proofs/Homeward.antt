@@ -262,7 +262,8 @@ module _ (g : Game) (z : Size) (s : List ℕ) (inner : ℕ) (G : Given g z s inn
             H .resides j a (sub j (and-left (has x j) (eqb (lowerAt (setsIn s) (z .inputs) (w .state .0) j) homes) (both j h)))
 
         row : (o h j : ℕ) → o < y .states → has inside o ≡ true → has (bitsOf (w .component .0)) o ≡ false
-            → Leads (y .states) (kept (setsIn (g .output .moves)) inside) (has (bitsOf (w .component .0))) o → h < y .counters → j < y .width → has group j ≡ true
+            → Leads (y .states) (kept (setsIn (g .output .moves)) inside) (has (bitsOf (w .component .0))) o → h < y .counters → j < y .width
+            → has group j ≡ true
             → controllerRow (separatedOf g) o h j ≡ gives h (toward (y .states) (kept (setsIn (g .output .moves)) inside) (has (bitsOf (w .component .0))) o)
         row o h j lo k c v lh lj m =
             let b : o < separatedOf g .output .states = omega (arith, outputs-are g z y (G .sized) D) in

@@ -3,18 +3,23 @@
 --   solveResult v      == the solver's answer: code, whether the system wins, how many entries are filled
 --   explainResult a    == what made a position won or lost: code, the ground's number, what it names
 --   checkResult a      == what the checker finds: code, the finding's number, what it names
+--   judgedAs c w       == the verdict with bars, of the code c; w tells whether the system wins
+--   judgeResult a      == the verdict with bars: code, whether the system wins
 --   readResult x       == the reader's answer: code, the place of 11, the game
 --   writeResult a      == the writer's answer: code, how many bytes are filled
 --   compareResult c    == the recorder's answer: code, whether the recordings agree, whether one has ended, the step
 --   panelMoved a       == the panel's move: input and counter, both 0 beside a refusal, and the code
 --   nowhere            == the position of zeros, which stands beside a refusal to begin
-use mathlib.Core.Bool.{true, false}
+use Prim.Native.Nat.{ℕ}
+use mathlib.Core.Bool.{Bool, true, false}
 use Rattle.solver.specs.declared.Verdict.{Verdict}
 use Rattle.solver.specs.declared.Verdict.the-variants as verdict·
 use Rattle.ground_search.specs.declared.Explanation.{Explanation}
 use Rattle.ground_search.specs.declared.Explanation.the-variants as explanation·
 use Rattle.checker.specs.declared.Checked.{Checked}
 use Rattle.checker.specs.declared.Checked.the-variants as checked·
+use Rattle.interlock.specs.declared.Judged.{Judged}
+use Rattle.interlock.specs.declared.Judged.the-variants as judged·
 use Rattle.text.specs.declared.Reading.{Reading}
 use Rattle.text.specs.declared.Answer.{Answer}
 use Rattle.text.specs.declared.Answer.the-variants as answer·
@@ -30,6 +35,7 @@ use Rattle.results.specs.declared.PanelMoved.{PanelMoved}
 use Rattle.results.specs.declared.SolveResult.{SolveResult}
 use Rattle.results.specs.declared.ExplainResult.{ExplainResult}
 use Rattle.results.specs.declared.CheckResult.{CheckResult}
+use Rattle.results.specs.declared.JudgeResult.{JudgeResult}
 use Rattle.results.specs.declared.CompareResult.{CompareResult}
 use Rattle.results.specs.declared.ReadResult.{ReadResult}
 use Rattle.results.specs.declared.WriteResult.{WriteResult}
@@ -58,6 +64,14 @@ checkResult (checked·.BadStart i) = record { code = 0; finding = 1; input = i; 
 checkResult (checked·.BadRow n j) = record { code = 0; finding = 2; input = j; walk = n; begins = 0; requirement = 0 }
 checkResult (checked·.BadRound n b q) = record { code = 0; finding = 3; input = record { 0 = 0 }; walk = n; begins = b; requirement = q }
 checkResult (checked·.Refused n) = record { code = n; finding = 0; input = record { 0 = 0 }; walk = 0; begins = 0; requirement = 0 }
+
+abbrev pub judgedAs : ℕ → Bool → JudgeResult
+judgedAs c w = record { code = c; system = w }
+
+unfoldable pub judgeResult : Judged → JudgeResult
+judgeResult judged·.System = judgedAs 0 true
+judgeResult judged·.Environment = judgedAs 0 false
+judgeResult (judged·.Refused n) = judgedAs n false
 
 unfoldable pub readBy : Answer → Game → ReadResult
 readBy answer·.Read g = record { code = 0; place = 0; game = g }

@@ -3,7 +3,7 @@ ghost use mathlib.Core.Path.{_≡_};
 ghost use Rattle.player.specs.Player.{movedOf};
 ghost use Rattle.game.specs.Acceptance.{numberOf as acceptNumber};
 ghost use Rattle.map.specs.Map.{numberOf as mapNumber};
-ghost use Rattle.results.specs.Results.{solveResult, readResult, writeResult, compareResult, panelMoved, nowhere, explainResult, checkResult};
+ghost use Rattle.results.specs.Results.{solveResult, readResult, writeResult, compareResult, panelMoved, nowhere, explainResult, checkResult, judgedAs, judgeResult};
 ghost use Rattle.joined.specs.Joined.{numberOf as joinedNumber};
 use checker::Checked;
 use game::Acceptance;
@@ -11,6 +11,7 @@ use game::Game;
 use game::InState;
 use game::OutState;
 use ground_search::Explanation;
+use interlock::Judged;
 use map::Mapped;
 use panel_place::Picked;
 use place::Played;
@@ -51,6 +52,13 @@ pub struct CheckResult {
     pub walk: usize,
     pub begins: usize,
     pub requirement: usize,
+}
+
+// The verdict with bars: the code; whether the system wins, false on a refusal.
+#[repr(C)]
+pub struct JudgeResult {
+    pub code: u8,
+    pub system: bool,
 }
 
 // The reader's answer: the code; for code 11 the place; the game, which is the empty one on a refusal.
@@ -109,6 +117,23 @@ pub fn joined_code(a: joined::Mapped) -> u8
     match a {
         joined::Mapped::Done => 0,
         joined::Mapped::Refused(n) => n,
+    }
+}
+
+// The verdict with bars as a record.
+fn judged(code: u8, system: bool) -> JudgeResult
+    ensures { λ r. ⌜ r ≡ judgedAs code system ⌝ }
+{
+    JudgeResult { code, system }
+}
+
+pub fn judge_result(a: Judged) -> JudgeResult
+    ensures { λ r. ⌜ r ≡ judgeResult a ⌝ }
+{
+    match a {
+        Judged::System => judged(0, true),
+        Judged::Environment => judged(0, false),
+        Judged::Refused(n) => judged(n, false),
     }
 }
 

@@ -5,6 +5,7 @@
 --   alike, differ      : the test of `!same`, not taken and taken
 --   count-same         : as many sets in as many words
 --   sets-long          : what the words hold is in the list of sets
+--   sets-parts         : how many sets begin in the words
 --   words-none         : empty sets are words of 0
 --   words-put          : a set put among others
 --   sets-words         : what the words of sets hold
@@ -70,6 +71,12 @@ rows-length l zero h = omega arith
 rows-length [] (suc n) h = absurd (omega arith)
 rows-length (x ∷ []) (suc n) h = absurd (omega arith)
 rows-length (x ∷ y ∷ l) (suc n) h = omega (arith, rows-length l n (omega arith))
+
+pub sets-parts : (l : List ℕ) → length (setsIn l) ≡ length l / 2 + length l % 2
+unfolding setsIn
+sets-parts [] = refl
+sets-parts (x ∷ []) = refl
+sets-parts (x ∷ y ∷ l) = omega (arith, sets-parts l)
 
 pub sets-long : (l : List ℕ) → setCount l ≤ length (setsIn l)
 sets-long l = rows-length l (setCount l) (count-room l (setCount l) (omega arith))

@@ -175,7 +175,7 @@ module _ (S : Separated) where
 
   -- ---- the verdict
 
-  verdict-wins : verdict S ≡ true → SystemWins (arenaOf S)
+  pub verdict-wins : verdict S ≡ true → SystemWins (arenaOf S)
   unfolding arenaOf opens
   verdict-wins v = record { openings = λ i e. opening i (verdict-elim S v i e) }
     where

@@ -61,7 +61,8 @@ module _ (g : Game) (z : Size) (y : Layout) (Z : Sized g z) (D : ControllerLayou
           at-home (separatedOf g) o (w .state .0) j r a (few-outputs g z Z) h c;
     }
 
-    there : {l m : List ℕ} → FilledIn y (controllerEntries (separatedOf g)) (λ o c j. (has (bitsOf (w .component .0)) o ≡ true) × (has (bitsOf (w .inputs .0)) j ≡ true)) l m
+    there : {l m : List ℕ}
+        → FilledIn y (controllerEntries (separatedOf g)) (λ o c j. (has (bitsOf (w .component .0)) o ≡ true) × (has (bitsOf (w .inputs .0)) j ≡ true)) l m
         → Filled (separatedOf g) (There (separatedOf g) (w .state .0)) l m
     there F =
         let G = laid-filled g z y Z D F in record {
@@ -88,7 +89,8 @@ module _ (g : Game) (z : Size) (y : Layout) (Z : Sized g z) (D : ControllerLayou
           → Stretched (setsIn (g .output .moves)) y (bitsOf (w .component .0)) (bitsOf (w .inputs .0)) q t (t .count) m r → r′ ≡ r
           → FilledIn y (controllerEntries (separatedOf g)) (Headed y (bitsOf (w .component .0)) (bitsOf (w .inputs .0)) q 0 (k + t .count)) l r′
       unfolding home-course
-      home-further t k e sets F S d = rw d (headed-further y (setsIn (g .output .moves)) (bitsOf (w .component .0)) (bitsOf (w .inputs .0)) q (home-course q Q) t k e sets F S)
+      home-further t k e sets F S d =
+          rw d (headed-further y (setsIn (g .output .moves)) (bitsOf (w .component .0)) (bitsOf (w .inputs .0)) q (home-course q Q) t k e sets F S)
 
       -- all sets were passed
       pub home-filled : {l m : List ℕ} (k : ℕ) → k ≡ length (guarantees (separatedOf g))

@@ -14,8 +14,8 @@ fn the_first_line() {
     stops_after("", "x");
     stops_after("(game ", "0 1 0)");
     stops_after("(game ", "01 1 0)");
-    stops_after("(game 6", "5 1 0)");
-    stops_after("(game 7", "0 1 0)");
+    stops_after("(game 12", "9 1 0)");
+    stops_after("(game 13", "0 1 0)");
     stops_after("(game 1 ", " 1 0)");
     stops_after("(game 1 1 ", "9)");
     stops_after("(game 1 1 0", "0)");
@@ -35,7 +35,7 @@ fn the_lines_of_states() {
 #[test]
 fn the_numbers_of_a_set() {
     let head = "(game 1 1 0)\n(in 0 1 (";
-    stops_after(&format!("{head}6"), "4))");
+    stops_after(&format!("{head}12"), "8))");
     stops_after(&format!("{head}0"), "0))");
     // 3 still begins a number over 5, but is none itself.
     stops_after(&format!("{head}5 3"), "))");
@@ -43,9 +43,12 @@ fn the_numbers_of_a_set() {
     stops_after(&format!("{head}5 5"), "))");
     stops_after(&format!("{head}50 "), "4))");
     stops_after(&format!("{head}62 6"), "2))");
-    // Nothing comes after 63.
-    stops_after(&format!("{head}63"), " ");
-    stops_after(&format!("{head}7"), "0))");
+    // 1 begins 100 to 127.
+    stops_after(&format!("{head}50 1"), "))");
+    stops_after(&format!("{head}126 12"), "6))");
+    // Nothing comes after 127.
+    stops_after(&format!("{head}127"), " ");
+    stops_after(&format!("{head}13"), "0))");
     stops_after(head, " 0))");
     stops_after(&format!("{head}0 "), "))");
 }

@@ -58,13 +58,25 @@ add-lead : tie.Need-add-lead Inv-loop μ-loop
 add-lead c =
     let i = c .before .before .before in
     let s = i .before .before .before .before in
-    omega (arith, row-below _ _ _ (s .pre .0) _ _ (s .pre .1) (i .loop-test .taken), table-long _ _ _ (s .pre .0), few _ _ _ (s .pre .0), accepted-fits _ (s .pre .0 .accepted) .input .most)
+    omega (
+      arith,
+      row-below _ _ _ (s .pre .0) _ _ (s .pre .1) (i .loop-test .taken),
+      table-long _ _ _ (s .pre .0),
+      few _ _ _ (s .pre .0),
+      accepted-fits _ (s .pre .0 .accepted) .input .most,
+    )
 
 mul-lead : tie.Need-mul-lead Inv-loop μ-loop
 mul-lead c =
     let i = c .before .before .before in
     let s = i .before .before .before .before in
-    omega (arith, row-below _ _ _ (s .pre .0) _ _ (s .pre .1) (i .loop-test .taken), table-long _ _ _ (s .pre .0), few _ _ _ (s .pre .0), accepted-fits _ (s .pre .0 .accepted) .input .most)
+    omega (
+      arith,
+      row-below _ _ _ (s .pre .0) _ _ (s .pre .1) (i .loop-test .taken),
+      table-long _ _ _ (s .pre .0),
+      few _ _ _ (s .pre .0),
+      accepted-fits _ (s .pre .0 .accepted) .input .most,
+    )
 
 shared-slice-read-lead : tie.Need-shared-slice-read-lead Inv-loop μ-loop
 shared-slice-read-lead c =

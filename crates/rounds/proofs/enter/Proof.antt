@@ -8,7 +8,18 @@ use Rattle.bits.specs.Member.{has}
 use Rattle.sets.specs.Words.{capacity, bitsOf, setsIn}
 use Rattle.sets.proofs.Rows.{is-none, is-some}
 use Rattle.layout.proofs.Places.{fits-same}
-use Rattle.rounds.proofs.Staying.{Entered, staying-stamps, staying-self, entered-start, entered-small, entered-in, entered-falls, entered-next, entered-end, step-small}
+use Rattle.rounds.proofs.Staying.{
+  Entered,
+  staying-stamps,
+  staying-self,
+  entered-start,
+  entered-small,
+  entered-in,
+  entered-falls,
+  entered-next,
+  entered-end,
+  step-small,
+}
 use Rattle.rounds.proofs.enter.Statement.{statement}
 use Rattle.rounds.proofs.enter.Tie as tie
 

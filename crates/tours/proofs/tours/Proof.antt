@@ -22,7 +22,8 @@ stay-requires c κs =
     let t = z .before .before in
     let p = t .before .before .before .before .pre in (
       laid-fits _ _ _ _ (p .0) (z .layout-of .ensures),
-      rests-moving _ _ _ _ (p .0) (z .layout-of .ensures) _ _ _ (p .1) (t .before .before .assumptions-met .ensures) (none _ (t .before .is-empty .ensures) (t .if1 .taken)),
+      rests-moving _ _ _ _ (p .0) (z .layout-of .ensures) _ _ _ (p .1) (t .before .before .assumptions-met .ensures)
+          (none _ (t .before .is-empty .ensures) (t .if1 .taken)),
     )
 
 same-length : tie.Need-same-length
@@ -34,7 +35,8 @@ returns c =
     let z = s .before .before .before .before in
     let t = z .before .before in
     let p = t .before .before .before .before .pre in
-    rests-filled _ _ _ _ (p .0) (z .layout-of .ensures) _ _ _ (p .1) (t .before .before .assumptions-met .ensures) (none _ (t .before .is-empty .ensures) (t .if1 .taken)) (s .stay .ensures)
+    rests-filled _ _ _ _ (p .0) (z .layout-of .ensures) _ _ _ (p .1) (t .before .before .assumptions-met .ensures)
+    (none _ (t .before .is-empty .ensures) (t .if1 .taken)) (s .stay .ensures)
 
 aims-requires : tie.Need-aims-requires
 aims-requires c κs =

@@ -21,7 +21,8 @@ use Rattle.visit.proofs.seek_all.Tie as tie
 
 abbrev Inv-loop : tie.InvT-loop
 Inv-loop room₀ q g h y component inputs n₀ r₀ room n r =
-    (r ≤ g .k) × (g .k ≤ 8) × Upto guaranteeSide g r n × Filled y (controllerEntries (separatedOf g)) (Headed y (bitsOf (component .0)) (bitsOf (inputs .0)) (q .0) 0 n) room₀ room
+    (r ≤ g .k) × (g .k ≤ 8) × Upto guaranteeSide g r n
+    × Filled y (controllerEntries (separatedOf g)) (Headed y (bitsOf (component .0)) (bitsOf (inputs .0)) (q .0) 0 n) room₀ room
 
 abbrev μ-loop : tie.MeasureT-loop
 μ-loop room₀ q g h y component inputs n₀ r₀ room n r = g .k - r

@@ -1,0 +1,2 @@
+-- Rows: whole sets of positions, row by row.
+pub mod Rows

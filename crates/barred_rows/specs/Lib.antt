@@ -1,0 +1,2 @@
+-- Sets of positions in scratch.
+pub mod Areas

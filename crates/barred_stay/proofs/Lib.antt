@@ -1,0 +1,3 @@
+-- Rows: single rows. Staying: where the controller can stay, input after input.
+pub mod Rows
+pub mod Staying

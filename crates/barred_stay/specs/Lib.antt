@@ -1,0 +1,2 @@
+-- Where the controller can stay.
+pub mod Stay

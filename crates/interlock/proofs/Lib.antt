@@ -1,0 +1,3 @@
+-- Bars: what is barred. Answers: what the entries answer, case by case.
+pub mod Bars
+pub mod Answers
