@@ -52,7 +52,7 @@ fn row(name: &str, g: &Game, b: &mut Buffers) -> f64 {
         solver / looped,
         microseconds(stores),
         solver / stores,
-        microseconds(apart::time(g)),
+        apart::time(g).map_or("-".to_string(), microseconds),
     );
     solver / looped
 }
