@@ -3,7 +3,7 @@
  * Numbers. A code is 0, or the number of a refusal: nanpuwiq_words.h has the list of them with a sentence each, nanpuwiq_words(code) gives the sentence.
  * The lowest number whose condition holds is given; the reader tries 12, 11, then 1 to 7; the player, of a controller's table or against a panel's,
  * 1 to 7, 16, 14, 15; the comparison of recordings 1 to 7, 16, then 14, 15 step by step; a kit 1, 17, 18, then 2 to 10; the map on the joined
- * positions 1 to 7, 24, 8; the checker of tables 1 to 7, 19, 20, 8.
+ * positions 1 to 7, 24, 8; the checker of tables 1 to 7, 19, 20, 8; a table that is moved 1 to 7, 23, 22 or 21, 9.
  *
  * Every value of every parameter has an answer, and on a refusal every buffer holds what it held before. What each entry promises is proved
  * in crates/nanpuwiq (specs/Calls.antt) and crates/results (specs/Results.antt), on the following, which C cannot check and a caller keeps to:
@@ -34,6 +34,7 @@ extern "C" {
 #define NANPUWIQ_JOINED_STATES 32   /* states of a graph at most, for that map */
 #define NANPUWIQ_NONE 65535         /* the entry of a table that is none */
 #define NANPUWIQ_TABLE_MOST 524416  /* entries of the longest controller's table; the longest panel's has 524289 */
+#define NANPUWIQ_COMPACT_MOST 524544  /* of the longest controller's table in the compact layout */
 #define NANPUWIQ_TEXT_MOST 40960    /* bytes of the longest text that is read; a large game's may be longer */
 #define NANPUWIQ_WALK_ROOM 24576    /* entries of the room that the checker's walk is lent */
 #define NANPUWIQ_CHECKED_PLACES 4096  /* inputs * outputs * values of the counter at most, of a table that is checked */
@@ -113,6 +114,18 @@ typedef struct {
     bool system;     /* whether the system wins; else the environment does */
     size_t entries;  /* how many entries of the winner's buffer are filled; of the kit's, where the system wins a kit */
 } nanpuwiq_solved;
+
+/* A table that was moved to another layout. On a refusal entries is 0. */
+typedef struct {
+    uint8_t code;
+    size_t entries;  /* how many entries of the room are filled */
+} nanpuwiq_table_moved;
+
+/* How many components the input graph has, or 0 on a refusal. */
+typedef struct {
+    uint8_t code;
+    size_t count;
+} nanpuwiq_counted;
 
 /* What made a position won or lost. On a refusal ground, first and second are 0; first and second are 0 where the ground names nothing. */
 typedef struct {
@@ -287,6 +300,28 @@ nanpuwiq_checked nanpuwiq_check(nanpuwiq_game game, const uint16_t *table, size_
  * Code 0, 1 to 7, 8, 9 or 10. */
 nanpuwiq_solved nanpuwiq_solve(nanpuwiq_game game, uint64_t *scratch, size_t scratch_words, uint16_t *controller, size_t controller_entries,
                                uint16_t *panel, size_t panel_entries);
+
+/* The compact layout of a controller's table. A row depends on the new input through its component alone, so there is one row a component: a start for each input,
+ * then the rank of each input's component, then rows by output, counter and rank, the last fastest: inputs + inputs + outputs * max(1, G) * components entries.
+ * Components rank from 0 by smallest state. The panel's table has one layout.
+ *
+ * How many components the input graph has. Code 0, or 1 to 7. */
+nanpuwiq_counted nanpuwiq_components(nanpuwiq_game game);
+
+/* As nanpuwiq_solve, with the controller's table in the compact layout: it has the rows of nanpuwiq_solve's for every output, counter and input, and wins.
+ * Code 0, 1 to 7, 8, 9 (by the compact layout), or 10. */
+nanpuwiq_solved nanpuwiq_solve_compact(nanpuwiq_game game, uint64_t *scratch, size_t scratch_words, uint16_t *controller, size_t controller_entries,
+                                       uint16_t *panel, size_t panel_entries);
+
+/* Moves a stored table, anyone's, to the other layout: the front of the room becomes the table, the rest stays as it was. Over and back is the same table,
+ * and so is back and over. Code 0, 1 to 7, 23, then 21 (to the compact layout) or 22 (from it), then 9 by the layout written. */
+nanpuwiq_table_moved nanpuwiq_to_compact(nanpuwiq_game game, const uint16_t *table, size_t entries, uint16_t *room, size_t room_entries);
+nanpuwiq_table_moved nanpuwiq_to_full(nanpuwiq_game game, const uint16_t *table, size_t entries, uint16_t *room, size_t room_entries);
+
+/* The entry of a row in the compact layout: the one that the full layout has for this output, counter and new input, where the table's ranks are the game's.
+ * NANPUWIQ_NONE where the table has no such row. The start of input i is entry i in both layouts. */
+uint16_t nanpuwiq_compact_row(const uint16_t *table, size_t entries, size_t inputs, size_t counters, size_t components, nanpuwiq_out_state output,
+                              size_t counter, nanpuwiq_in_state input);
 
 /* Whether the kit is accepted: 0, or 1, 17, 18, 2 to 7. */
 uint8_t nanpuwiq_accept_kit(nanpuwiq_kit kit);

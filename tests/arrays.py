@@ -17,7 +17,7 @@ import subprocess
 import sys
 
 BYTES = 64
-ENTRIES = {"map": "map::won_map", "solver": "solver::solve_into", "kit": "kit::solve_kit"}
+ENTRIES = {"map": ["map::won_map"], "solver": ["solver::solve_into", "solver::solve_compact_into"], "kit": ["kit::solve_kit"]}
 GAMES = {"game::Game", "game::Graph", "drives::Kit", "drives::Drive"}
 MAKERS = {"drives::graph_of", "drives::game_of"}
 
@@ -186,7 +186,8 @@ class Test:
 def over(texts, change=lambda text: text, **known):
     test = Test(**known)
     for crate, text in texts.items():
-        test.program(change(text), ENTRIES[crate])
+        for entry in ENTRIES[crate]:
+            test.program(change(text), entry)
     return test
 
 

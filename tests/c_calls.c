@@ -193,6 +193,79 @@ static void solving(void)
     same("no adapter: controller", memcmp(controller, table, sizeof table), 0);
 }
 
+/* The compact layout of the example's table: both inputs are of one component, so there are 2 starts, 2 ranks and a row for each output. */
+static const uint16_t compact_table[6] = {0, NANPUWIQ_NONE, 0, 0, 1, 1};
+
+static void compact_solving(void)
+{
+    nanpuwiq_game g = example();
+    uint64_t scratch[12];
+    uint16_t controller[7], panel[6];
+    memset(scratch, 255, sizeof scratch);
+    memset(controller, 1, sizeof controller);
+    memset(panel, 2, sizeof panel);
+    same("components", nanpuwiq_components(g).count, 1);
+    same("compact solve, scratch short", nanpuwiq_solve_compact(g, scratch, 11, controller, 7, panel, 6).code, 8);
+    same("compact solve, controller short", nanpuwiq_solve_compact(g, scratch, 12, controller, 5, panel, 6).code, 9);
+    same("compact solve, panel short", nanpuwiq_solve_compact(g, scratch, 12, controller, 6, panel, 4).code, 10);
+    same("compact solve refused: controller", controller[0], 257);
+    same("compact solve refused: panel", panel[0], 514);
+    same("compact solve refused: scratch", scratch[0], UINT64_MAX);
+    nanpuwiq_solved r = nanpuwiq_solve_compact(g, scratch, 12, controller, 7, panel, 6);
+    same("compact solve", r.code, 0);
+    same("compact solve: system", r.system, true);
+    same("compact solve: entries", r.entries, 6);
+    same("compact solve: table", memcmp(controller, compact_table, sizeof compact_table), 0);
+    same("compact solve: entry 6", controller[6], 257);
+    same("compact solve: panel", panel[0], 514);
+    same("compact solve: scratch 0", scratch[0], 0);
+    same("compact solve: scratch 11", scratch[11], 0);
+    g.input.states = 129;
+    same("components, refused", nanpuwiq_components(g).code, 1);
+    same("compact solve, refused", nanpuwiq_solve_compact(g, scratch, 12, controller, 7, panel, 6).code, 1);
+}
+
+static void table_moved(const char *what, nanpuwiq_table_moved got, uint8_t code, size_t entries)
+{
+    same(what, got.code, code);
+    same(what, got.entries, entries);
+}
+
+static void moving_tables(void)
+{
+    nanpuwiq_game g = example();
+    uint16_t room[7] = {7, 7, 7, 7, 7, 7, 7}, differing[6], misranked[6];
+    const uint16_t untouched[7] = {7, 7, 7, 7, 7, 7, 7};
+    memcpy(differing, table, sizeof table);
+    differing[5] = 0;
+    memcpy(misranked, compact_table, sizeof compact_table);
+    misranked[3] = 1;
+    table_moved("over, length", nanpuwiq_to_compact(g, differing, 5, room, 0), 23, 0);
+    table_moved("over, rows", nanpuwiq_to_compact(g, differing, 6, room, 0), 21, 0);
+    table_moved("over, room", nanpuwiq_to_compact(g, table, 6, room, 5), 9, 0);
+    table_moved("back, length", nanpuwiq_to_full(g, misranked, 5, room, 0), 23, 0);
+    table_moved("back, ranks", nanpuwiq_to_full(g, misranked, 6, room, 0), 22, 0);
+    table_moved("back, room", nanpuwiq_to_full(g, compact_table, 6, room, 5), 9, 0);
+    same("moves refused: room", memcmp(room, untouched, sizeof room), 0);
+    table_moved("over", nanpuwiq_to_compact(g, table, 6, room, 7), 0, 6);
+    same("over: table", memcmp(room, compact_table, sizeof compact_table), 0);
+    same("over: entry 6", room[6], 7);
+    table_moved("back", nanpuwiq_to_full(g, compact_table, 6, room, 7), 0, 6);
+    same("back: table", memcmp(room, table, sizeof table), 0);
+    same("back: entry 6", room[6], 7);
+    for (size_t o = 0; o < 2; o++)
+        for (size_t j = 0; j < 2; j++) {
+            nanpuwiq_out_state output = {o};
+            nanpuwiq_in_state input = {j};
+            same("row in place", nanpuwiq_compact_row(compact_table, 6, 2, 1, 1, output, 0, input), table[2 + 2 * o + j]);
+            same("no such counter", nanpuwiq_compact_row(compact_table, 6, 2, 1, 1, output, 1, input), NANPUWIQ_NONE);
+            same("no such rank", nanpuwiq_compact_row(compact_table, 6, 2, 1, 0, output, 0, input), NANPUWIQ_NONE);
+        }
+    g.k = 9;
+    table_moved("over, refused", nanpuwiq_to_compact(g, table, 6, room, 7), 5, 0);
+    table_moved("back, refused", nanpuwiq_to_full(g, compact_table, 6, room, 7), 5, 0);
+}
+
 /* 128 states each ask for 768 words: one word less gets 8, that many pass and are zero afterwards, and no word past them is. */
 static void scratch_of_the_largest(void)
 {
@@ -1282,6 +1355,8 @@ int main(void)
     map_of_the_joined_positions();
     bars_beside_a_game();
     solving();
+    compact_solving();
+    moving_tables();
     scratch_of_the_largest();
     explaining();
     checking();

@@ -29,6 +29,8 @@ def won_games():
     ring = [(int(s == 0), [(s + 1) % 40]) for s in range(40)]
     yield "a ring of 40 outputs", game([(1, [0, 1, 2])] * 3, ring, [("(1)", "(39) (20)"), ("(2)", "(5)")])
     yield "64 x 64 with seven sets", counted(64, 64, 0, 7)
+    pairs = [(int(s == 0), sorted({s ^ 1, min(s | 1, 19), min((s | 1) + 1, 19)})) for s in range(20)]
+    yield "ten pairs of inputs in a line", game(pairs, [(1, [0, 1, 2])] * 3, [("(18)", "(1) (2)")])
 
 
 def compiled(folder, source, exported, *more):
@@ -38,13 +40,18 @@ def compiled(folder, source, exported, *more):
     return binary
 
 
+LAYOUTS = [[], ["--compact"]]
+
+
 def in_c(check, command, library, folder):
     for name, text in won_games():
         (folder / "x.game").write_bytes(text)
-        (folder / "x.c").write_bytes(subprocess.run([command, "export", "--c", folder / "x.game"], capture_output=True, check=True).stdout)
-        binary = compiled(folder, "exported.c", folder / "x.c", library / "libnanpuwiq.a")
-        got = subprocess.run([binary, folder / "x.game"], capture_output=True, text=True)
-        check.holds("C, " + name, got.returncode == 0 and re.fullmatch(r"\d+ 0\n", got.stdout), got.stdout)
+        for layout in LAYOUTS:
+            exported = subprocess.run([command, "export", "--c", *layout, folder / "x.game"], capture_output=True, check=True).stdout
+            (folder / "x.c").write_bytes(exported)
+            binary = compiled(folder, "exported.c", folder / "x.c", library / "libnanpuwiq.a")
+            got = subprocess.run([binary, folder / "x.game"], capture_output=True, text=True)
+            check.holds(" ".join(["C,", name, *layout]), got.returncode == 0 and re.fullmatch(r"\d+ 0\n", got.stdout), got.stdout)
 
 
 def table_of(command, file):
@@ -59,11 +66,14 @@ def in_structured_text(check, command, folder):
     for name, text in won_games():
         file = folder / "x.game"
         file.write_bytes(text)
-        source = subprocess.run([command, "export", "--st", "--name", "Adapter", file], capture_output=True, check=True, text=True).stdout
-        try:
-            check.holds("Structured Text, " + name, stepped(Block(source), text.decode(), *table_of(command, file)), "a step differs")
-        except Fault as fault:
-            check.holds("Structured Text, " + name, False, fault)
+        for layout in LAYOUTS:
+            words = [command, "export", "--st", *layout, "--name", "Adapter", file]
+            source = subprocess.run(words, capture_output=True, check=True, text=True).stdout
+            what = " ".join(["Structured Text,", name, *layout])
+            try:
+                check.holds(what, stepped(Block(source), text.decode(), *table_of(command, file)), "a step differs")
+            except Fault as fault:
+                check.holds(what, False, fault)
 
 
 def stepped(block, text, starts, rows):

@@ -35,6 +35,18 @@ pub struct PanelMoved {
 }
 
 #[repr(C)]
+pub struct MoveResult {
+    pub code: u8,
+    pub entries: usize,
+}
+
+#[repr(C)]
+pub struct CountResult {
+    pub code: u8,
+    pub count: usize,
+}
+
+#[repr(C)]
 pub struct JudgeResult {
     pub code: u8,
     pub system: bool,
@@ -103,6 +115,28 @@ extern "C" {
         panel: *mut u16,
         panel_entries: usize,
     ) -> SolveResult;
+    fn nanpuwiq_solve_compact(
+        game: Game,
+        scratch: *mut u64,
+        scratch_words: usize,
+        controller: *mut u16,
+        controller_entries: usize,
+        panel: *mut u16,
+        panel_entries: usize,
+    ) -> SolveResult;
+    fn nanpuwiq_components(game: Game) -> CountResult;
+    fn nanpuwiq_to_compact(game: Game, table: *const u16, entries: usize, room: *mut u16, room_entries: usize) -> MoveResult;
+    fn nanpuwiq_to_full(game: Game, table: *const u16, entries: usize, room: *mut u16, room_entries: usize) -> MoveResult;
+    fn nanpuwiq_compact_row(
+        table: *const u16,
+        entries: usize,
+        inputs: usize,
+        counters: usize,
+        components: usize,
+        output: OutState,
+        counter: usize,
+        input: InState,
+    ) -> u16;
     fn nanpuwiq_accept_kit(kit: Kit) -> u8;
     fn nanpuwiq_solve_kit(
         kit: Kit,
@@ -170,6 +204,44 @@ pub fn solve(game: Game, scratch: &mut [u64], controller: &mut [u16], panel: &mu
             panel.len(),
         )
     }
+}
+
+pub fn solve_compact(game: Game, scratch: &mut [u64], controller: &mut [u16], panel: &mut [u16]) -> SolveResult {
+    unsafe {
+        nanpuwiq_solve_compact(
+            game,
+            scratch.as_mut_ptr(),
+            scratch.len(),
+            controller.as_mut_ptr(),
+            controller.len(),
+            panel.as_mut_ptr(),
+            panel.len(),
+        )
+    }
+}
+
+pub fn components(game: Game) -> CountResult {
+    unsafe { nanpuwiq_components(game) }
+}
+
+pub fn to_compact(game: Game, table: &[u16], room: &mut [u16]) -> MoveResult {
+    unsafe { nanpuwiq_to_compact(game, table.as_ptr(), table.len(), room.as_mut_ptr(), room.len()) }
+}
+
+pub fn to_full(game: Game, table: &[u16], room: &mut [u16]) -> MoveResult {
+    unsafe { nanpuwiq_to_full(game, table.as_ptr(), table.len(), room.as_mut_ptr(), room.len()) }
+}
+
+pub fn compact_row(
+    table: &[u16],
+    inputs: usize,
+    counters: usize,
+    components: usize,
+    output: OutState,
+    counter: usize,
+    input: InState,
+) -> u16 {
+    unsafe { nanpuwiq_compact_row(table.as_ptr(), table.len(), inputs, counters, components, output, counter, input) }
 }
 
 pub fn accept_kit(kit: Kit) -> u8 {

@@ -36,6 +36,8 @@ pub const JOINED_STATES: usize = 32;
 pub const NONE: u16 = 65_535;
 /// Entries of the longest controller's table.
 pub const CONTROLLER_MOST: usize = STATES + STATES * REQUIREMENTS * SETS * STATES;
+/// Entries of the longest controller's table in the compact layout.
+pub const COMPACT_MOST: usize = STATES + CONTROLLER_MOST;
 /// Entries of the longest environment's table.
 pub const ENVIRONMENT_MOST: usize = 1 + STATES * REQUIREMENTS * SETS * STATES;
 
@@ -313,6 +315,39 @@ pub enum Winner {
 pub struct Verdict {
     pub winner: Winner,
     pub table: Vec<u16>,
+}
+
+impl Verdict {
+    /// The winner's buffer, as far as it is filled.
+    fn filled(winner: Winner, entries: usize, system: Vec<u16>, environment: Vec<u16>) -> Verdict {
+        let mut table = match winner {
+            Winner::System => system,
+            Winner::Environment => environment,
+        };
+        table.truncate(entries);
+        Verdict { winner, table }
+    }
+}
+
+/// A stored controller's table in the compact layout, and what a row's place is worked out from.
+#[derive(Clone, Copy, Debug, PartialEq, Eq)]
+pub struct CompactTable<'a> {
+    pub entries: &'a [u16],
+    pub inputs: usize,
+    pub counters: usize,
+    pub components: usize,
+}
+
+impl CompactTable<'_> {
+    /// The start of an input: `NONE` where the table has none.
+    pub fn start(&self, input: InState) -> u16 {
+        self.entries[..self.inputs.min(self.entries.len())].get(input.0).copied().unwrap_or(NONE)
+    }
+
+    /// The entry of a row: the one that the full layout has for this output, counter and new input. `NONE` where the table has no such row.
+    pub fn row(&self, output: OutState, counter: usize, input: InState) -> u16 {
+        entries::compact_row(self.entries, self.inputs, self.counters, self.components, output, counter, input)
+    }
 }
 
 /// The inputs of a run, recorded by the panel: a state number, 0 to 127, a byte.
@@ -606,12 +641,75 @@ impl Game {
         let mut controller = vec![0; CONTROLLER_MOST];
         let mut environment = vec![0; ENVIRONMENT_MOST];
         let (winner, entries) = self.solve_into(&mut [0; SCRATCH_MOST], &mut controller, &mut environment)?;
-        let mut table = match winner {
-            Winner::System => controller,
-            Winner::Environment => environment,
-        };
-        table.truncate(entries);
-        Ok(Verdict { winner, table })
+        Ok(Verdict::filled(winner, entries, controller, environment))
+    }
+
+    /// As `solve_into`, with the controller's table in the compact layout: 1 to 7, 8, 9 by that layout, 10.
+    ///
+    /// The compact layout has a start for each input, the rank of each input's component, then rows by output, counter and rank. Components of the
+    /// input graph rank from 0 by smallest state. For every output, counter and input its row is that of `solve_into`.
+    pub fn solve_compact_into(
+        &self,
+        scratch: &mut [u64],
+        controller: &mut [u16],
+        environment: &mut [u16],
+    ) -> Result<(Winner, usize), Error> {
+        let r = entries::solve_compact(*self, scratch, controller, environment);
+        refusal(r.code)?;
+        Ok((if r.system { Winner::System } else { Winner::Environment }, r.entries))
+    }
+
+    /// The side that wins, and its table, a controller's in the compact layout.
+    pub fn solve_compact(&self) -> Result<Verdict, Error> {
+        let mut controller = vec![0; COMPACT_MOST];
+        let mut environment = vec![0; ENVIRONMENT_MOST];
+        let (winner, entries) = self.solve_compact_into(&mut [0; SCRATCH_MOST], &mut controller, &mut environment)?;
+        Ok(Verdict::filled(winner, entries, controller, environment))
+    }
+
+    /// How many components the input graph has: 1 to 7.
+    pub fn components(&self) -> Result<usize, Error> {
+        let r = entries::components(*self);
+        refusal(r.code)?;
+        Ok(r.count)
+    }
+
+    /// Moves a stored table of a controller, anyone's, to the compact layout, and says how many entries of the room are filled: 1 to 7, 23 a length
+    /// that is not the full layout's, 21 two inputs of one component that differ in a row, 9 a room too short.
+    pub fn to_compact_into(&self, table: &[u16], room: &mut [u16]) -> Result<usize, Error> {
+        let r = entries::to_compact(*self, table, room);
+        refusal(r.code)?;
+        Ok(r.entries)
+    }
+
+    /// The table in the compact layout.
+    pub fn to_compact(&self, table: &[u16]) -> Result<Vec<u16>, Error> {
+        let mut room = vec![0; COMPACT_MOST];
+        let entries = self.to_compact_into(table, &mut room)?;
+        room.truncate(entries);
+        Ok(room)
+    }
+
+    /// Moves a stored table of the compact layout to the full one, and says how many entries of the room are filled: 1 to 7, 23 a length that is not
+    /// the compact layout's, 22 ranks that are not the game's, 9 a room too short.
+    pub fn to_full_into(&self, table: &[u16], room: &mut [u16]) -> Result<usize, Error> {
+        let r = entries::to_full(*self, table, room);
+        refusal(r.code)?;
+        Ok(r.entries)
+    }
+
+    /// The table in the full layout.
+    pub fn to_full(&self, table: &[u16]) -> Result<Vec<u16>, Error> {
+        let mut room = vec![0; CONTROLLER_MOST];
+        let entries = self.to_full_into(table, &mut room)?;
+        room.truncate(entries);
+        Ok(room)
+    }
+
+    /// A stored table of the compact layout as it is, to read rows from: 1 to 7.
+    pub fn compact_table<'a>(&self, entries: &'a [u16]) -> Result<CompactTable<'a>, Error> {
+        let components = self.components()?;
+        Ok(CompactTable { entries, inputs: self.input.states, counters: self.controller_counters(), components })
     }
 
     /// The game that a text describes: 12, 11 with its place, 1 to 7.
@@ -760,11 +858,6 @@ impl Kit {
         let mut environment = vec![0; ENVIRONMENT_MOST];
         let mut room = vec![0; KIT_MOST];
         let (winner, entries) = self.solve_into(&mut [0; SCRATCH_MOST], &mut controller, &mut environment, &mut room)?;
-        let mut table = match winner {
-            Winner::System => room,
-            Winner::Environment => environment,
-        };
-        table.truncate(entries);
-        Ok(Verdict { winner, table })
+        Ok(Verdict::filled(winner, entries, room, environment))
     }
 }

@@ -1,4 +1,4 @@
-//! The checker of tables: its numbers, what it leaves of the room, stuck states, and entries from prints. tests/checker compares its answers.
+//! The checker of tables: its numbers, what it leaves of the room, stuck states, and entries from prints. tests/beside compares its answers.
 use nanpuwiq::*;
 
 fn places(game: &Game) -> usize {

@@ -17,12 +17,17 @@ ghost use Rattle.game.specs.declared.Acceptance.the-variants.{Accepted};
 ghost use Rattle.play.specs.Play.{separatedOf};
 ghost use Rattle.theory.specs.Entries.{controllerEntries};
 ghost use mathlib.Core.List.{_++_};
-ghost use Rattle.controller_table.specs.Filled.{Filled, At, Below, Sized, Given};
+ghost use Rattle.controller_rows.specs.Writes.{lengthOf};
+ghost use Rattle.controller_table.specs.Filled.{Filled, Every, At, Below, Sized, Given};
+ghost use Rattle.controller.specs.Sizes.{ByInput, ByComponent};
+ghost use Rattle.bits.specs.Member.{pack};
+ghost use Rattle.compact.specs.Rank.{leads};
+ghost use Rattle.compact.specs.Compact.{compactLength, compactEntries};
 
 // The rows whose home is d; c are the inputs in nontrivial components.
 fn settle(g: Game, s: &[u64], room: &mut [u16], z: Size, c: InSet, d: OutState)
-    requires { ⌜ Given g z (now s) (bitsOf (c .0)) × (d .0 < z .outputs) × (length (controllerEntries (separatedOf g)) ≤ length (now room)) ⌝ }
-    ensures { λ r. ⌜ Filled (separatedOf g) (At (separatedOf g) (d .0)) (now (room .entry)) (now (room .exit)) ⌝ }
+    requires { ⌜ Given g z (now s) (bitsOf (c .0)) × (d .0 < z .outputs) × (lengthOf z ≤ length (now room)) ⌝ }
+    ensures { λ r. ⌜ Filled (separatedOf g) z (At (separatedOf g) (d .0)) (now (room .entry)) (now (room .exit)) ⌝ }
 {
     let inputs = resident::residents(s, z.inputs, c, d, d);
     if sets::is_empty(inputs.0) {
@@ -40,8 +45,8 @@ fn settle(g: Game, s: &[u64], room: &mut [u16], z: Size, c: InSet, d: OutState)
 
 // The rows with a home.
 fn settle_all(g: Game, s: &[u64], room: &mut [u16], z: Size, c: InSet)
-    requires { ⌜ Given g z (now s) (bitsOf (c .0)) × (length (controllerEntries (separatedOf g)) ≤ length (now room)) ⌝ }
-    ensures { λ r. ⌜ Filled (separatedOf g) (Below (separatedOf g) (z .outputs)) (now (room .entry)) (now (room .exit)) ⌝ }
+    requires { ⌜ Given g z (now s) (bitsOf (c .0)) × (lengthOf z ≤ length (now room)) ⌝ }
+    ensures { λ r. ⌜ Filled (separatedOf g) z (Below (separatedOf g) (z .outputs)) (now (room .entry)) (now (room .exit)) ⌝ }
 {
     let m = z.outputs;
     let mut d = 0;
@@ -51,17 +56,31 @@ fn settle_all(g: Game, s: &[u64], room: &mut [u16], z: Size, c: InSet)
     }
 }
 
-// The size of the table of an accepted game.
+// All rows.
+fn rows(g: Game, s: &[u64], room: &mut [u16], z: Size, c: InSet)
+    requires { ⌜ Given g z (now s) (bitsOf (c .0)) × (lengthOf z ≤ length (now room)) ⌝ }
+    ensures { λ r. ⌜ Filled (separatedOf g) z Every (now (room .entry)) (now (room .exit)) ⌝ }
+{
+    let h = g.output;
+    unsettled::plains(room, s, z, c, &h.moves);
+    settle_all(g, s, room, z, c);
+}
+
+// The size of the table of an accepted game, with rows by input.
 fn size_of(g: Game) -> Size
     requires { ⌜ acceptance g ≡ Accepted ⌝ }
-    ensures { λ r. ⌜ Sized g r ⌝ }
+    ensures { λ r. ⌜ Sized g r × ByInput r ⌝ }
 {
+    let inputs = g.input.states;
     let counters = sizes::controller_counters(g);
     Size {
-        inputs: g.input.states,
+        inputs,
         outputs: g.output.states,
         counters,
         all: counters::below(counters),
+        base: inputs,
+        width: inputs,
+        leaders: InSet(sets::below(inputs)),
     }
 }
 
@@ -72,7 +91,35 @@ pub fn fill(g: Game, s: &[u64], c: InSet, room: &mut [u16])
 {
     let z = size_of(g);
     starts::starts(room, s, z, c, game::in_initial(g), game::out_initial(g));
-    let h = g.output;
-    unsettled::plains(room, s, z, c, &h.moves);
-    settle_all(g, s, room, z, c);
+    rows(g, s, room, z, c);
+}
+
+// The size of the table of an accepted game, with rows by component; the leaders are the smallest inputs of the components.
+fn compact_size(g: Game, leaders: InSet) -> Size
+    requires { ⌜ (acceptance g ≡ Accepted) × (bitsOf (leaders .0) ≡ pack (g .input .states) (leads (separatedOf g))) ⌝ }
+    ensures { λ r. ⌜ Sized g r × ByComponent g r ⌝ }
+{
+    let inputs = g.input.states;
+    let counters = sizes::controller_counters(g);
+    Size {
+        inputs,
+        outputs: g.output.states,
+        counters,
+        all: counters::below(counters),
+        base: inputs + inputs,
+        width: component_ranks::components(g, leaders),
+        leaders,
+    }
+}
+
+// The same table with its rows by component, written directly.
+pub fn fill_compact(g: Game, s: &[u64], c: InSet, leaders: InSet, room: &mut [u16])
+    requires { ⌜ (acceptance g ≡ Accepted) × Ready g (now s) (bitsOf (c .0)) × (bitsOf (leaders .0) ≡ pack (g .input .states) (leads (separatedOf g)))
+        × (compactLength (separatedOf g) ≤ length (now room)) ⌝ }
+    ensures { λ r. ⌜ now (room .exit) ≡ compactEntries (separatedOf g) ++ drop (compactLength (separatedOf g)) (now (room .entry)) ⌝ }
+{
+    let z = compact_size(g, leaders);
+    starts::starts(room, s, z, c, game::in_initial(g), game::out_initial(g));
+    component_ranks::write_ranks(g, room);
+    rows(g, s, room, z, c);
 }

@@ -5,31 +5,50 @@
 --   column-fits                      : so what is written fits
 --   row-of                           : what was written
 --   long-..                          : lengths are kept
+--   plain-led, plain-other           : the rows of one output, input by input
 --   table-long                       : the table fits any buffer of the length
 --   lowest-both, settles-in, settles-out, start-in, start-out : the tests by cases
 use Prim.Native.Nat.{ℕ, _+_, _*_, _≤_, _<_}
 use native.Mathlib.Nat.{mul-le-mul, mul-le-mul-left, mul-le-mul-right, mul-suc, suc-mul, mul-comm, add-mul, zero-mul}
 use mathlib.Core.Path.{_≡_, refl, sym, _∙_, ap}
-use mathlib.Core.Bool.{Bool, true, false, _&&_}
+use mathlib.Core.Bool.{Bool, true, false, not, _&&_}
 use mathlib.Core.List.{List}
+use mathlib.Core.Logic.{inl, inr}
 use native.Mathlib.Omega.{arith}
 use native.Mathlib.Decide.{decLt}
 use lib.ListN.{length, set, length-set}
 use borrow.Author.Tests.{lt-ltb, le-ltb, ltb-true}
 use Rattle.finite.specs.Bounded.{least}
-use Rattle.finite.proofs.Bounded.{least-same}
+use Rattle.finite.proofs.Truth.{decide, and-intro, and-false-left, and-false-right}
+use Rattle.finite.proofs.Bounded.{least-same, count-le}
 use Rattle.bits.specs.Member.{has, pack, both, meets}
 use Rattle.sets.specs.Words.{capacity}
 use Rattle.arena.specs.Table.{gives}
 use Rattle.theory.specs.Entries.{entry}
-use Rattle.scratch.specs.Stored.{wonAt}
+use Rattle.scratch.specs.Stored.{rowAt, outReachAt, wonAt}
 use Rattle.counters.specs.Counters.{mostCounters}
 use Rattle.entries.specs.Step.{entryStep}
 use Rattle.entries.proofs.Packed.{none-entry, entry-small, entry-steps}
 use Rattle.columns.specs.Column.{Fits, Column}
 use Rattle.controller_rows.specs.declared.Size.{Size}
-use Rattle.controller_rows.specs.Writes.{first, more, Stays, base, Table, Row, settlesAt, Plain, Plains, startOf, Start, Starts}
-use Rattle.controller_rows.proofs.Each.{each-long}
+use Rattle.controller_rows.specs.Writes.{
+  first,
+  more,
+  Stays,
+  leading,
+  columnOf,
+  base,
+  Table,
+  Row,
+  settlesAt,
+  PlainRow,
+  Plain,
+  Plains,
+  startOf,
+  Start,
+  Starts,
+}
+use Rattle.controller_rows.proofs.Each.{each-hit, each-miss, each-long}
 
 -- ---- entries for every counter
 
@@ -63,10 +82,10 @@ counters-small M o b d =
     let a : o ≤ capacity = omega arith in
     mul-le-mul a b
 
-pub base-small : (n M o : ℕ) → n ≤ capacity → M ≤ mostCounters → o < capacity → o * M * n ≤ capacity * mostCounters * capacity
-base-small n M o a b d = mul-le-mul (counters-small M o b d) a
+pub base-small : (w M o : ℕ) → w ≤ capacity → M ≤ mostCounters → o < capacity → o * M * w ≤ capacity * mostCounters * capacity
+base-small w M o a b d = mul-le-mul (counters-small M o b d) a
 
-pub base-at : (z : Size) (o : ℕ) → z .inputs + o * z .counters * z .inputs ≡ base z o
+pub base-at : (z : Size) (o : ℕ) → z .base + o * z .counters * z .width ≡ base z o
 unfolding base
 base-at z o = refl
 
@@ -74,24 +93,27 @@ module _ (z : Size) (long : ℕ) (t : Table z long) where
   pub counter-below : (h : ℕ) → has (z .all .0) h ≡ true → h < z .counters
   counter-below h e = ltb-true h (z .counters) (sym (t .all h) ∙ e)
 
-  rows-below : (o : ℕ) → o < z .outputs → base z o + z .inputs * z .counters ≤ long
+  pub width-few : z .width ≤ capacity
+  width-few = omega (arith, t .inputs, t .columns, count-le (z .inputs) (leading z))
+
+  rows-below : (o : ℕ) → o < z .outputs → base z o + z .width * z .counters ≤ long
   unfolding base
   rows-below o b =
       omega (
         arith,
         t .room,
-        mul-le-mul-right (z .inputs) (mul-le-mul-right (z .counters) b),
-        ap (λ (k : ℕ). k * z .inputs) (suc-mul o (z .counters)),
-        add-mul (o * z .counters) (z .counters) (z .inputs),
-        mul-comm (z .inputs) (z .counters),
+        mul-le-mul-right (z .width) (mul-le-mul-right (z .counters) b),
+        ap (λ (k : ℕ). k * z .width) (suc-mul o (z .counters)),
+        add-mul (o * z .counters) (z .counters) (z .width),
+        mul-comm (z .width) (z .counters),
       )
 
-  pub cell-below : (o j h : ℕ) → o < z .outputs → j < z .inputs → h < z .counters → base z o + j + z .inputs * h < long
-  cell-below o j h a b c = omega (arith, rows-below o a, mul-le-mul-left (z .inputs) c, mul-suc (z .inputs) h)
+  pub cell-below : (o b h : ℕ) → o < z .outputs → b < z .width → h < z .counters → base z o + b + z .width * h < long
+  cell-below o b h a d c = omega (arith, rows-below o a, mul-le-mul-left (z .width) c, mul-suc (z .width) h)
 
   module _ (o which f m : ℕ) (b : o < z .outputs) (in-range : (h : ℕ) → has which h ≡ true → h < z .counters)
       (small : (h : ℕ) → h < z .counters → f + m * h < 65536) where
-    pub column-fits : {at : ℕ} (j : ℕ) → at ≡ base z o → j < z .inputs → Fits long (at + j) (z .inputs) which f m
+    pub column-fits : {at : ℕ} (j : ℕ) → at ≡ base z o → j < z .width → Fits long (at + j) (z .width) which f m
     column-fits j e l = rw e
         (record {
           below = λ h i. cell-below o j h b l (in-range h i);
@@ -102,16 +124,26 @@ module _ (z : Size) (long : ℕ) (t : Table z long) where
   all-small p f m e h b = stays-small p f m h e (omega (arith, t .counters))
 
 pub table-long : {z : Size} {a b : ℕ} → Table z a → b ≡ a → Table z b
-table-long t e = record { inputs = t .inputs; outputs = t .outputs; some = t .some; counters = t .counters; all = t .all; room = omega (arith, t .room) }
+table-long t e = record {
+  inputs = t .inputs;
+  outputs = t .outputs;
+  some = t .some;
+  counters = t .counters;
+  all = t .all;
+  starts = t .starts;
+  front = t .front;
+  columns = t .columns;
+  room = omega (arith, t .room);
+}
 
 -- ---- what was written
 
 module _ (z : Size) (o : ℕ) where
-  pub row-of : (j p : ℕ) {at f m : ℕ} {l r : List ℕ} → at ≡ base z o → Stays p f m → Column l r (at + j) (z .inputs) (z .all .0) f m → Row z o j p l r
-  row-of j p e s c = record { column = rw (← e, ← s .first, ← s .more) c }
+  pub row-of : (b p : ℕ) {at f m : ℕ} {l r : List ℕ} → at ≡ base z o → Stays p f m → Column l r (at + b) (z .width) (z .all .0) f m → Row z o b p l r
+  row-of b p e s c = record { column = rw (← e, ← s .first, ← s .more) c }
 
 module _ {z : Size} {o : ℕ} {l m : List ℕ} where
-  pub row-at : {j p p′ : ℕ} → p ≡ p′ → Row z o j p l m → Row z o j p′ l m
+  pub row-at : {b p p′ : ℕ} → p ≡ p′ → Row z o b p l m → Row z o b p′ l m
   row-at e r = rw (← e) r
 
 pub start-of : {z : Size} {s : List ℕ} {c ins outs i v : ℕ} {l : List ℕ} → v ≡ startOf z s c ins outs i → Start z s c ins outs i l (set l i v)
@@ -122,6 +154,20 @@ pub starts-at : {z : Size} {s : List ℕ} {c ins ins′ outs outs′ k : ℕ} {l
 starts-at d e r = rw (← d, ← e) r
 
 -- ---- lengths
+
+module _ {z : Size} {s : List ℕ} {c o moves j b : ℕ} {l m : List ℕ} (P : PlainRow z s c o moves j b l m) where
+  -- the turn of a leader, and that of another input
+  pub plain-led : {k : List ℕ} → Plain z s c o moves j k l → leading z j ≡ true → columnOf z j ≡ b → Plain z s c o moves (j + 1) k m
+  plain-led L t e =
+      elim (decide (settlesAt c j (rowAt s (z .inputs) j) (outReachAt s (z .inputs) o))) [
+        | inl h ↦ record { each = each-miss (L .each) (and-false-right (leading z j) (ap not h)) (P .kept h) }
+        | inr h ↦ record { each = each-hit (L .each) (and-intro t (ap not h)) refl (rw e (P .written h)) }
+      ]
+
+module _ {z : Size} {s : List ℕ} {c o moves j : ℕ} {k l : List ℕ} where
+  pub plain-other : Plain z s c o moves j k l → leading z j ≡ false → Plain z s c o moves (j + 1) k l
+  plain-other L t =
+      record { each = each-miss (L .each) (and-false-left (not (settlesAt c j (rowAt s (z .inputs) j) (outReachAt s (z .inputs) o))) t) refl }
 
 module _ {z : Size} {l m : List ℕ} where
   pub long-plain : {s : List ℕ} {c o moves k : ℕ} → Plain z s c o moves k l m → length m ≡ length l

@@ -1,16 +1,20 @@
 -- What the loops write into the buffer of the controller's table, of the size z.
 --
 --   first p, more p                == first p + more p × c is the entry for state p and counter c, and none where p is no state
+--   leading z j                    == input j leads: it has a column of its own
+--   columnOf z j, inputOf z b      == the column of the leader j, and the leader of column b
 --   base z o                       == where the rows of output o begin
---   ControllerLayout z y           == y is the layout of its rows
+--   layoutOf z                     == the layout of its rows
+--   lengthOf z                     == how many entries the table has
 --   Table z long                   == a buffer of that length has the table
---   Row z o j p l m                == the rows of (o, j) were written: state p, the counter stays
+--   Row z o b p l m                == the rows of output o and column b were written: state p, the counter stays
 --
 -- told from the sets s of scratch, c being the inputs in nontrivial components:
 --   settlesAt c j row reach        == j is in a nontrivial component, and one of its homes, the row, is in reach
 --   homeAt c j row reach d         == and the lowest such home is d
 --   residesAt s n c o d j          == the home of j at output o is d
---   Plain z s c o moves k          == for each input j < k with no home in reach of o: the lowest of the moves to a member of the row of j, or none
+--   PlainRow z s c o moves j b     == where input j, of column b, has no home in reach of o: the lowest of the moves to a member of its row, or none
+--   Plain z s c o moves k          == the same for each leader j < k
 --   Plains z s c rows k            == the same for each output o < k
 --   startOf .. i, Starts .. k      == the start entries
 use Prim.Native.Nat.{ℕ, _+_, _*_, _≤_, _<_}
@@ -19,9 +23,9 @@ use mathlib.Core.Bool.{Bool, true, false, _&&_, not}
 use mathlib.Core.List.{List}
 use lib.Dec.{ltb, eqb}
 use lib.ListN.{getD, set}
-use Rattle.finite.specs.Bounded.{least}
+use Rattle.finite.specs.Bounded.{least, count}
 use Rattle.bits.specs.Member.{has, pack, both, meets}
-use Rattle.sets.specs.Words.{capacity}
+use Rattle.sets.specs.Words.{capacity, bitsOf}
 use Rattle.arena.specs.Table.{none, gives}
 use Rattle.theory.specs.Entries.{entry}
 use Rattle.scratch.specs.Stored.{rowAt, outReachAt, wonAt}
@@ -29,6 +33,7 @@ use Rattle.counters.specs.Counters.{mostCounters}
 use Rattle.entries.specs.Step.{entryStep}
 use Rattle.columns.specs.Column.{Column}
 use Rattle.layout.specs.declared.Layout.{Layout}
+use Rattle.layout.specs.Rows.{mostStarts}
 use Rattle.controller_rows.specs.declared.Size.{Size}
 use Rattle.controller_rows.specs.Each.{Each}
 
@@ -43,16 +48,25 @@ pub record Stays (p f m : ℕ) : Type 0 where
   pub first : f ≡ first p
   pub more : m ≡ more p
 
+abbrev pub leading : Size → ℕ → Bool
+leading z = has (bitsOf (z .leaders .0))
+
+-- "then rows by output, counter and component", "Components rank from 0 by smallest state."
+unfoldable pub columnOf : Size → ℕ → ℕ
+columnOf z j = count j (leading z)
+
+unfoldable pub inputOf : Size → ℕ → ℕ
+inputOf z b = least (z .inputs) (λ j. leading z j && eqb (columnOf z j) b)
+
 -- "one start entry an input, then rows by output, counter, input, the last running fastest"
 unfoldable pub base : Size → ℕ → ℕ
-base z o = z .inputs + o * z .counters * z .inputs
+base z o = z .base + o * z .counters * z .width
 
--- "Controller: one start entry an input, then rows by output, counter, input"
-pub record ControllerLayout (z : Size) (y : Layout) : Type 0 where
-  pub base : y .base ≡ z .inputs
-  pub states : y .states ≡ z .outputs
-  pub counters : y .counters ≡ z .counters
-  pub width : y .width ≡ z .inputs
+unfoldable pub layoutOf : Size → Layout
+layoutOf z = record { base = z .base; states = z .outputs; counters = z .counters; width = z .width }
+
+abbrev pub lengthOf : Size → ℕ
+lengthOf z = z .base + z .outputs * z .counters * z .width
 
 pub record Table (z : Size) (long : ℕ) : Type 0 where
   pub inputs : z .inputs ≤ capacity
@@ -60,10 +74,13 @@ pub record Table (z : Size) (long : ℕ) : Type 0 where
   pub some : 0 < z .counters
   pub counters : z .counters ≤ mostCounters
   pub all : (h : ℕ) → has (z .all .0) h ≡ ltb h (z .counters)
-  pub room : z .inputs + z .outputs * z .counters * z .inputs ≤ long
+  pub starts : z .inputs ≤ z .base
+  pub front : z .base ≤ mostStarts
+  pub columns : z .width ≡ count (z .inputs) (leading z)
+  pub room : lengthOf z ≤ long
 
-pub record Row (z : Size) (o j p : ℕ) (l m : List ℕ) : Type 0 where
-  pub column : Column l m (base z o + j) (z .inputs) (z .all .0) (first p) (more p)
+pub record Row (z : Size) (o b p : ℕ) (l m : List ℕ) : Type 0 where
+  pub column : Column l m (base z o + b) (z .width) (z .all .0) (first p) (more p)
 
 unfoldable pub settlesAt : ℕ → ℕ → ℕ → ℕ → Bool
 settlesAt c j row reach = has c j && meets capacity row reach
@@ -74,10 +91,15 @@ homeAt c j row reach d = has c j && eqb (least capacity (both row reach)) d
 unfoldable pub residesAt : List ℕ → ℕ → ℕ → ℕ → ℕ → ℕ → Bool
 residesAt s n c o d j = homeAt c j (rowAt s n j) (outReachAt s n o) d
 
+pub record PlainRow (z : Size) (s : List ℕ) (c o moves j b : ℕ) (l m : List ℕ) : Type 0 where
+  pub written : settlesAt c j (rowAt s (z .inputs) j) (outReachAt s (z .inputs) o) ≡ false
+      → Row z o b (least capacity (both moves (rowAt s (z .inputs) j))) l m
+  pub kept : settlesAt c j (rowAt s (z .inputs) j) (outReachAt s (z .inputs) o) ≡ true → m ≡ l
+
 pub record Plain (z : Size) (s : List ℕ) (c o moves k : ℕ) (l m : List ℕ) : Type 0 where
   pub each :
-      Each (λ j. not (settlesAt c j (rowAt s (z .inputs) j) (outReachAt s (z .inputs) o)))
-      (λ j. Row z o j (least capacity (both moves (rowAt s (z .inputs) j)))) k l m
+      Each (λ j. leading z j && not (settlesAt c j (rowAt s (z .inputs) j) (outReachAt s (z .inputs) o)))
+      (λ j. Row z o (columnOf z j) (least capacity (both moves (rowAt s (z .inputs) j)))) k l m
 
 pub record Plains (z : Size) (s : List ℕ) (c : ℕ) (rows : List ℕ) (k : ℕ) (l m : List ℕ) : Type 0 where
   pub each : Each (λ o. true) (λ o. Plain z s c o (getD rows o 0) (z .inputs)) k l m

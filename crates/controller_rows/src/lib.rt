@@ -4,14 +4,19 @@ use game::InSet;
 use game::OutSet;
 use game::OutState;
 
+pub mod leaders; // columns of the rows
 pub mod rows; // rows of the table, for all counters at once
 
-// The size of a table, with the set of its counters.
+// The size of a table, with the set of its counters, and its rows: where they begin, and how many columns they have. Each of the leaders has a column
+// of its own, in order. Where rows are by input every input leads, where they are by component its smallest input.
 pub struct Size {
     pub inputs: usize,
     pub outputs: usize,
     pub counters: usize,
     pub all: CounterSet,
+    pub base: usize,
+    pub width: usize,
+    pub leaders: InSet,
 }
 
 // A home: its number, the states of its component, and the inputs whose home is there.

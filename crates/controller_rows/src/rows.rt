@@ -1,6 +1,5 @@
 // Rows of the table, for all counters at once.
 use crate::Size;
-use game::InState;
 use game::OutState;
 use layout::Layout;
 ghost use mathlib.Core.Path.{_≡_};
@@ -8,7 +7,8 @@ ghost use Prim.Native.Nat.{_≤_, _<_};
 ghost use lib.ListN.{length};
 ghost use Rattle.sets.specs.Words.{capacity};
 ghost use Rattle.counters.specs.Counters.{mostCounters};
-ghost use Rattle.controller_rows.specs.Writes.{Stays, base as baseOf, ControllerLayout, Table, Row};
+ghost use Rattle.layout.specs.Rows.{mostStarts};
+ghost use Rattle.controller_rows.specs.Writes.{Stays, base as baseOf, layoutOf, Table, Row};
 
 // A pattern of entries: first + more × counter for each counter.
 pub struct Pattern {
@@ -32,31 +32,31 @@ pub fn staying(p: usize) -> Pattern
     }
 }
 
-// Where the rows lie: by output, counter and input, after the starts.
+// Where the rows lie: by output, counter and column.
 pub fn layout_of(z: Size) -> Layout
-    ensures { λ r. ⌜ ControllerLayout z r ⌝ }
+    ensures { λ r. ⌜ r ≡ layoutOf z ⌝ }
 {
     Layout {
-        base: z.inputs,
+        base: z.base,
         states: z.outputs,
         counters: z.counters,
-        width: z.inputs,
+        width: z.width,
     }
 }
 
 // Where the rows of output o begin.
 fn base(z: Size, o: OutState) -> usize
-    requires { ⌜ (z .inputs ≤ capacity) × (z .counters ≤ mostCounters) × (o .0 < capacity) ⌝ }
+    requires { ⌜ (z .base ≤ mostStarts) × (z .width ≤ capacity) × (z .counters ≤ mostCounters) × (o .0 < capacity) ⌝ }
     ensures { λ r. ⌜ r ≡ baseOf z (o .0) ⌝ }
 {
-    z.inputs + o.0 * z.counters * z.inputs
+    z.base + o.0 * z.counters * z.width
 }
 
-// The rows of (o, j): state p, the counter stays.
-pub fn write_row(room: &mut [u16], z: Size, o: OutState, j: InState, p: usize)
-    requires { ⌜ Table z (length (now room)) × (o .0 < z .outputs) × (j .0 < z .inputs) ⌝ }
-    ensures { λ r. ⌜ Row z (o .0) (j .0) p (now (room .entry)) (now (room .exit)) ⌝ }
+// The rows of output o and column b: state p, the counter stays.
+pub fn write_row(room: &mut [u16], z: Size, o: OutState, b: usize, p: usize)
+    requires { ⌜ Table z (length (now room)) × (o .0 < z .outputs) × (b < z .width) ⌝ }
+    ensures { λ r. ⌜ Row z (o .0) b p (now (room .entry)) (now (room .exit)) ⌝ }
 {
     let e = staying(p);
-    columns::column(room, base(z, o) + j.0, z.inputs, z.all, e.first, e.more);
+    columns::column(room, base(z, o) + b, z.width, z.all, e.first, e.more);
 }

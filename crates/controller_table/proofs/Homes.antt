@@ -62,9 +62,9 @@ module _ (g : Game) (z : Size) (s : List ℕ) (inner : ℕ) (G : Given g z s inn
           )
 
       -- with no resident at d there is none anywhere
-      pub no-home : bitsOf (i .0) ≡ 0 → (l : List ℕ) → Filled (separatedOf g) (At (separatedOf g) d) l l
+      pub no-home : bitsOf (i .0) ≡ 0 → (l : List ℕ) → Filled (separatedOf g) z (At (separatedOf g) d) l l
       no-home none l =
-          filled-none (separatedOf g) l
+          filled-none (separatedOf g) z l
           (λ o c j x y a h. clash (in-set j a (resides-there (separatedOf g) o d j (h .resides))) (ap (λ (x : ℕ). has x j) none ∙ has-zero j))
 
       pub home-given : (x : OutSet) → bitsOf (i .0) ≢ 0 → bitsOf (x .0) ≡ pack (z .outputs) (together (outArea (setsIn s) (z .inputs)) d)
@@ -83,24 +83,24 @@ module _ (g : Game) (z : Size) (s : List ℕ) (inner : ℕ) (G : Given g z s inn
           }
 
 -- the rows of one home
-pub settled-here : (S : Separated) (d : ℕ) {l m r : List ℕ} → Filled S (Away S d) l m → Filled S (There S d) m r → Filled S (At S d) l r
-settled-here S d p q =
-    filled-part S
+pub settled-here : (S : Separated) (z : Size) (d : ℕ) {l m r : List ℕ} → Filled S z (Away S d) l m → Filled S z (There S d) m r → Filled S z (At S d) l r
+settled-here S z d p q =
+    filled-part S z
     (λ o c j x y a h. elim (decide (joined (S .output) d o)) [
       | inl e ↦ inr (record { resides = h .resides; within = e })
       | inr e ↦ inl (record { resides = h .resides; apart = e })
     ])
-    (filled-more S p q)
+    (filled-more S z p q)
 
 -- the loop over the homes
-pub homes-none : (S : Separated) (l : List ℕ) → Filled S (Below S 0) l l
-homes-none S l = filled-none S l (λ o c j x y a h. omega (arith, h .below))
+pub homes-none : (S : Separated) (z : Size) (l : List ℕ) → Filled S z (Below S 0) l l
+homes-none S z l = filled-none S z l (λ o c j x y a h. omega (arith, h .below))
 
-pub homes-next : (S : Separated) (d : ℕ) {l m r : List ℕ} → Filled S (Below S d) l m → Filled S (At S d) m r → Filled S (Below S (d + 1)) l r
-homes-next S d p q =
-    filled-part S
+pub homes-next : (S : Separated) (z : Size) (d : ℕ) {l m r : List ℕ} → Filled S z (Below S d) l m → Filled S z (At S d) m r → Filled S z (Below S (d + 1)) l r
+homes-next S z d p q =
+    filled-part S z
     (λ o c j x y a h. elim (below-suc (home S j o) d (rw add-one at (h .below))) [
       | inl e ↦ inr (record { resides = subst (λ (k : ℕ). Resides S o k j) e (h .resides) })
       | inr e ↦ inl (record { resides = h .resides; below = e })
     ])
-    (filled-more S p q)
+    (filled-more S z p q)

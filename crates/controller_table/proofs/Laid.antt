@@ -1,71 +1,59 @@
 -- The controller's table in its layout.
 --
---   inputs-are, outputs-are, counters-are : the sizes are the game's
+--   outputs-are, counters-are : the sizes are the game's
 --   laid-fits     : the buffer has the rows
---   laid-table    : the table ends in them
+--   width-is, laid-rows, laid-input : the sheet in the layout that is handed on
 --   laid-filled   : rows that were written there were written in the table
-use Prim.Native.Nat.{ℕ, _+_, _*_, _≤_}
-use mathlib.Core.Path.{_≡_, refl, sym, _∙_, ap}
+use Prim.Native.Nat.{ℕ, _≤_, _<_}
+use mathlib.Core.Path.{_≡_, sym, _∙_, ap, subst}
 use mathlib.Core.List.{List}
 use native.Mathlib.Omega.{arith}
-use lib.ListN.{length, getD}
 use Rattle.game.specs.declared.Game.{Game}
 use Rattle.play.specs.Play.{separatedOf}
 use Rattle.theory.specs.Choice.{controllerRow}
-use Rattle.theory.specs.Entries.{controllerCounters, controllerEntries}
-use Rattle.theory.proofs.Entries.{controller-long}
+use Rattle.theory.specs.Entries.{controllerCounters}
 use Rattle.layout.specs.declared.Layout.{Layout}
-use Rattle.layout.specs.Rows.{place as placeOf, Fits, Rows}
-use Rattle.layout.specs.Rows.{Filled as FilledIn}
+use Rattle.layout.specs.Rows.{Fits, Rows, Filled as FilledIn}
 use Rattle.controller_rows.specs.declared.Size.{Size}
-use Rattle.controller_rows.specs.Writes.{ControllerLayout}
-use Rattle.controller_table.specs.Filled.{place, Filled, Sized}
-use Rattle.controller_table.proofs.Cells.{row-entry}
+use Rattle.controller_rows.specs.Writes.{inputOf, layoutOf, lengthOf}
+use Rattle.controller_rows.proofs.Writes.{width-few}
+use Rattle.controller_table.specs.Filled.{Sheet, Sized}
 use Rattle.controller_table.proofs.Setting.{sizes-of, table-of}
 
-module _ (g : Game) (z : Size) (y : Layout) (Z : Sized g z) (D : ControllerLayout z y) where
-  pub inputs-are : y .width ≡ separatedOf g .input .states
-  inputs-are = D .width ∙ sizes-of g z Z .inputs
-
+module _ (g : Game) (z : Size) (y : Layout) (Z : Sized g z) (D : y ≡ layoutOf z) where
   pub outputs-are : y .states ≡ separatedOf g .output .states
-  outputs-are = D .states ∙ sizes-of g z Z .outputs
+  unfolding layoutOf
+  outputs-are = ap (λ (x : Layout). x .states) D ∙ sizes-of g z Z .outputs
 
   pub counters-are : y .counters ≡ controllerCounters (separatedOf g)
-  counters-are = D .counters ∙ Z .counters
+  unfolding layoutOf
+  counters-are = ap (λ (x : Layout). x .counters) D ∙ Z .counters
 
-  base-is : y .base ≡ separatedOf g .input .states
-  base-is = D .base ∙ sizes-of g z Z .inputs
+  pub width-is : y .width ≡ z .width
+  unfolding layoutOf
+  width-is = ap (λ (x : Layout). x .width) D
 
-  -- a row's place is the same
-  at : (o c j : ℕ) → placeOf y o c j ≡ place (separatedOf g) o c j
-  unfolding placeOf place
-  at o c j = rw (base-is, counters-are, inputs-are) refl
-
-  size : y .base + y .states * y .counters * y .width ≡ length (controllerEntries (separatedOf g))
-  size = rw (base-is, outputs-are, counters-are, inputs-are) (sym (controller-long (separatedOf g)))
-
-  pub laid-fits : (n : ℕ) → length (controllerEntries (separatedOf g)) ≤ n → Fits y n
+  pub laid-fits : (n : ℕ) → lengthOf z ≤ n → Fits y n
+  unfolding layoutOf
   laid-fits n long =
-      let t = table-of g z Z n long in record {
-        front = omega (arith, D .base, t .inputs);
-        states = omega (arith, D .states, t .outputs);
-        some = omega (arith, D .counters, t .some);
-        counters = omega (arith, D .counters, t .counters);
-        width = omega (arith, D .width, t .inputs);
-        room = rw size long;
-      }
+      let t = table-of g z Z n long in
+      subst (λ (x : Layout). Fits x n) (sym D)
+      (record {
+        front = t .front;
+        states = t .outputs;
+        some = t .some;
+        counters = t .counters;
+        width = width-few z n t;
+        room = long;
+      })
 
-  pub laid-table : Rows y (controllerRow (separatedOf g)) (controllerEntries (separatedOf g))
-  laid-table = record {
-    long = sym size;
-    row = λ o c j lo lc lj.
-        ap (λ (k : ℕ). getD (controllerEntries (separatedOf g)) k 0) (at o c j)
-        ∙ row-entry (separatedOf g) o c j (omega (arith, outputs-are)) (omega (arith, counters-are)) (omega (arith, inputs-are));
-  }
+  module _ (E : List ℕ) where
+    pub laid-rows : Sheet (separatedOf g) (layoutOf z) (inputOf z) E → Rows y (λ o c b. controllerRow (separatedOf g) o c (inputOf z b)) E
+    laid-rows T = subst (λ (x : Layout). Rows x (λ o c b. controllerRow (separatedOf g) o c (inputOf z b)) E) (sym D) (T .rows)
 
-  pub laid-filled : {P : ℕ → ℕ → ℕ → Type 0} {l m : List ℕ} → FilledIn y (controllerEntries (separatedOf g)) P l m → Filled (separatedOf g) P l m
-  laid-filled F = record {
-    grows = F .grows;
-    right = λ o c j lo lc lj p.
-        rw (sym (at o c j)) (F .rows o c j (omega (arith, outputs-are)) (omega (arith, counters-are)) (omega (arith, inputs-are)) p);
-  }
+    pub laid-input : Sheet (separatedOf g) (layoutOf z) (inputOf z) E → (b : ℕ) → b < y .width → inputOf z b < separatedOf g .input .states
+    unfolding layoutOf
+    laid-input T b l = T .inputs b (omega (arith, width-is))
+
+    pub laid-filled : {P : ℕ → ℕ → ℕ → Type 0} {l m : List ℕ} → FilledIn y E P l m → FilledIn (layoutOf z) E P l m
+    laid-filled {P} {l} {m} F = subst (λ (x : Layout). FilledIn x E P l m) D F

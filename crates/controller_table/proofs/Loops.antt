@@ -4,13 +4,13 @@
 --   starts-filled   : the starts
 use Prim.Native.Nat.{ℕ, suc, _≤_, _<_}
 use mathlib.Core.Path.{_≡_, refl, sym, _∙_, ap}
-use mathlib.Core.Bool.{Bool, true, false, not}
+use mathlib.Core.Bool.{Bool, true, false, not, _&&_}
 use mathlib.Core.List.{List}
 use mathlib.Core.Logic.{inl, inr}
 use native.Mathlib.Omega.{arith}
 use lib.ListN.{length, getD}
 use Rattle.finite.specs.Bounded.{least}
-use Rattle.finite.proofs.Truth.{clash, not-true}
+use Rattle.finite.proofs.Truth.{clash, not-true, and-intro, and-left, and-right}
 use Rattle.finite.proofs.Bounded.{below-suc}
 use Rattle.bits.specs.Member.{has, both}
 use Rattle.sets.specs.Words.{capacity, bitsOf}
@@ -21,16 +21,14 @@ use Rattle.arena.specs.Arena.{Separated}
 use Rattle.filling.specs.Grows.{Right, Grows}
 use Rattle.filling.proofs.Grows.{grows-none, grows-more, grows-set, right-set}
 use Rattle.theory.specs.Choice.{controllerStart}
-use Rattle.theory.specs.Entries.{entry, controllerEntries}
+use Rattle.theory.specs.Entries.{entry}
 use Rattle.ways.proofs.Kept.{members-pack}
 use Rattle.controller_rows.specs.declared.Size.{Size}
 use Rattle.controller_rows.specs.declared.Home.{Home}
 use Rattle.controller_rows.specs.Each.{Each, none, hit, miss}
-use Rattle.controller_rows.specs.Writes.{Row, settlesAt, Plain, Plains, startOf, Start, Starts}
+use Rattle.controller_rows.specs.Writes.{leading, columnOf, Row, settlesAt, Plain, Plains, startOf, Start, Starts}
 use Rattle.controller_table.specs.Filled.{Resides, HomeOf}
-use Rattle.theory.proofs.Entries.{controller-long}
-use Rattle.controller_table.proofs.Cells.{start-at}
-use Rattle.controller_table.proofs.Fills.{Sizes, Fills, filled-part, fills-each, fills-row}
+use Rattle.controller_table.proofs.Fills.{Sizes, Fills, filled-part, filled-led, fills-each, fills-row}
 use Rattle.controller_table.proofs.Told.{Told, resides-same}
 use Rattle.controller_table.proofs.Entries.{plain-entry}
 
@@ -43,27 +41,29 @@ comp-in S w H o =
 module _ (S : Separated) (z : Size) (Z : Sizes S z) where
   module _ (s : List ℕ) (inner : ℕ) (rows : List ℕ) (T : Told S s (z .inputs) inner rows) where
     fills-plain : (o : ℕ) → o < S .output .states
-        → Fills S (Plain z s inner o (getD rows o 0) (z .inputs))
+        → Fills S z (Plain z s inner o (getD rows o 0) (z .inputs))
         (λ o′ c j. (o′ ≡ o) × (settlesAt inner j (rowAt s (z .inputs) j) (outReachAt s (z .inputs) o) ≡ false))
     fills-plain o b = record {
       fills = λ l m e long.
-          filled-part S (λ o′ c j x y d h. (j, rw (Z .inputs) d, ap not (h .1), (h .0, refl)))
-          (fills-each S (λ j. not (settlesAt inner j (rowAt s (z .inputs) j) (outReachAt s (z .inputs) o)))
-          (λ j. Row z o j (least capacity (both (getD rows o 0) (rowAt s (z .inputs) j))))
+          filled-led S z Z (λ o′ c j x d t h. (j, rw (Z .inputs) d, and-intro t (ap not (h .1)), (h .0, refl)))
+          (fills-each S z (λ j. leading z j && not (settlesAt inner j (rowAt s (z .inputs) j) (outReachAt s (z .inputs) o)))
+          (λ j. Row z o (columnOf z j) (least capacity (both (getD rows o 0) (rowAt s (z .inputs) j))))
           (λ j o′ c j′. (o′ ≡ o) × (j′ ≡ j)) (z .inputs)
           (λ j d h. let a = rw (Z .inputs) at d in
-          fills-row S z Z o b j (least capacity (both (getD rows o 0) (rowAt s (z .inputs) j))) a
+          fills-row S z Z o j (least capacity (both (getD rows o 0) (rowAt s (z .inputs) j))) b a
+          (and-left (leading z j) (not (settlesAt inner j (rowAt s (z .inputs) j) (outReachAt s (z .inputs) o))) h)
           (λ c x. plain-entry S s (z .inputs) inner rows T j o a b
-          (not-true (settlesAt inner j (rowAt s (z .inputs) j) (outReachAt s (z .inputs) o)) h) c))
+          (not-true (settlesAt inner j (rowAt s (z .inputs) j) (outReachAt s (z .inputs) o))
+          (and-right (leading z j) (not (settlesAt inner j (rowAt s (z .inputs) j) (outReachAt s (z .inputs) o))) h)) c))
           .fills l m (e .each) long);
     }
 
-    pub fills-plains : Fills S (Plains z s inner rows (z .outputs))
+    pub fills-plains : Fills S z (Plains z s inner rows (z .outputs))
         (λ o c j. settlesAt inner j (rowAt s (z .inputs) j) (outReachAt s (z .inputs) o) ≡ false)
     fills-plains = record {
       fills = λ l m e long.
-          filled-part S (λ o c j b y d h. (o, rw (Z .outputs) b, refl, (refl, h)))
-          (fills-each S (λ o. true) (λ o. Plain z s inner o (getD rows o 0) (z .inputs))
+          filled-part S z (λ o c j b y d h. (o, rw (Z .outputs) b, refl, (refl, h)))
+          (fills-each S z (λ o. true) (λ o. Plain z s inner o (getD rows o 0) (z .inputs))
           (λ i o c j. (o ≡ i) × (settlesAt inner j (rowAt s (z .inputs) j) (outReachAt s (z .inputs) i) ≡ false)) (z .outputs)
           (λ o b h. fills-plain o (rw (Z .outputs) at b))
           .fills l m (e .each) long);
@@ -79,35 +79,35 @@ module _ (S : Separated) (z : Size) (Z : Sizes S z) where
 
 -- ---- the starts
 
--- the first k starts stand in m
-record Begun (S : Separated) (k : ℕ) (l m : List ℕ) : Type 0 where
-  grows : Grows (controllerEntries S) l m
-  right : (i : ℕ) → i < k → Right (controllerEntries S) m i
+-- the first k starts of a list E stand in m
+record Begun (E : List ℕ) (k : ℕ) (l m : List ℕ) : Type 0 where
+  grows : Grows E l m
+  right : (i : ℕ) → i < k → Right E m i
 
 module _ (S : Separated) (z : Size) (n : z .inputs ≡ S .input .states) (s : List ℕ) (inner ins outs : ℕ)
-    (value : (i : ℕ) → i < S .input .states → startOf z s inner ins outs i ≡ entry (controllerStart S i)) where
-  begun : (k : ℕ) {l m : List ℕ} → Each (λ i. true) (Start z s inner ins outs) k l m → k ≤ S .input .states → length (controllerEntries S) ≤ length l
-      → Begun S k l m
-  begun k (none {l = l}) b long = record { grows = grows-none (controllerEntries S) l; right = λ i c. absurd (omega arith) }
+    (value : (i : ℕ) → i < S .input .states → startOf z s inner ins outs i ≡ entry (controllerStart S i))
+    (E : List ℕ) (some : S .input .states ≤ length E) (starts : (i : ℕ) → i < S .input .states → getD E i 0 ≡ entry (controllerStart S i)) where
+  begun : (k : ℕ) {l m : List ℕ} → Each (λ i. true) (Start z s inner ins outs) k l m → k ≤ S .input .states → length E ≤ length l → Begun E k l m
+  begun k (none {l = l}) b long = record { grows = grows-none E l; right = λ i c. absurd (omega arith) }
   begun (suc k) (hit {m = m} {r = r} e t f) b long =
       let before = begun k e (omega arith) long in
-      let is = value k b ∙ sym (start-at S k b) in
-      let in-table : k < length (controllerEntries S) = omega (arith, controller-long S) in
+      let is = value k b ∙ sym (starts k b) in
+      let in-table : k < length E = omega arith in
       let in-room : k < length m = omega (arith, before .grows .long) in
-      let step = grows-set (controllerEntries S) m k (startOf z s inner ins outs k) in-table in-room is in
+      let step = grows-set E m k (startOf z s inner ins outs k) in-table in-room is in
       rw (f .written)
       (record {
-        grows = grows-more (controllerEntries S) (before .grows) step;
+        grows = grows-more E (before .grows) step;
         right = λ i c. elim (below-suc i k c) [
-          | inl q ↦ rw q (right-set (controllerEntries S) m k (startOf z s inner ins outs k) in-room is)
+          | inl q ↦ rw q (right-set E m k (startOf z s inner ins outs k) in-room is)
           | inr q ↦ step .kept i (omega arith) (before .right i q)
         ];
       })
   begun (suc k) (miss e t) b long = clash refl t
 
-  pub starts-grow : {l m : List ℕ} → Starts z s inner ins outs (z .inputs) l m → length (controllerEntries S) ≤ length l → Grows (controllerEntries S) l m
-  starts-grow e long = begun (z .inputs) (e .each) (omega (arith, n)) long .grows
+  module _ {l m : List ℕ} (e : Starts z s inner ins outs (z .inputs) l m) (long : length E ≤ length l) where
+    pub starts-grow : Grows E l m
+    starts-grow = begun (z .inputs) (e .each) (omega (arith, n)) long .grows
 
-  pub starts-right : {l m : List ℕ} → Starts z s inner ins outs (z .inputs) l m → length (controllerEntries S) ≤ length l
-      → (i : ℕ) → i < S .input .states → Right (controllerEntries S) m i
-  starts-right e long i b = begun (z .inputs) (e .each) (omega (arith, n)) long .right i (rw n b)
+    pub starts-right : (i : ℕ) → i < S .input .states → Right E m i
+    starts-right i b = begun (z .inputs) (e .each) (omega (arith, n)) long .right i (rw n b)

@@ -9,7 +9,6 @@ use mathlib.Core.Bool.{true, false}
 use mathlib.Core.List.{List}
 use mathlib.Core.Logic.{_⊎_, inl, inr}
 use native.Mathlib.Omega.{arith}
-use lib.ListN.{length}
 use Rattle.finite.proofs.Truth.{decide}
 use Rattle.bits.specs.Member.{has}
 use Rattle.bits.proofs.Membership.{has-pack-below}
@@ -29,12 +28,10 @@ use Rattle.scratch.specs.Stored.{rowAt, storedAt, storedRow}
 use Rattle.scratch.proofs.Read.{ready-won}
 use Rattle.demands.proofs.Sizes.{controller-few}
 use Rattle.theory.specs.Region.{homeFor, region}
-use Rattle.theory.specs.Entries.{controllerEntries}
 use Rattle.theory.proofs.Region.{homeFor-nontrivial, region-out}
 use Rattle.controller_rows.specs.declared.Size.{Size}
-use Rattle.controller_rows.specs.Writes.{Table}
+use Rattle.controller_rows.specs.Writes.{lengthOf, Table}
 use Rattle.controller_table.specs.Filled.{Sized, Given}
-use Rattle.theory.proofs.Entries.{controller-long}
 use Rattle.controller_table.proofs.Cells.{some-counter}
 use Rattle.controller_table.proofs.Fills.{Sizes}
 use Rattle.controller_table.proofs.Told.{Told}
@@ -45,13 +42,13 @@ module _ (g : Game) (z : Size) (Z : Sized g z) where
 
   pub sizes-of : Sizes (separatedOf g) z
   unfolding separatedOf graphOf
-  sizes-of = record { inputs = Z .inputs; outputs = Z .outputs; counters = Z .counters; all = Z .all }
+  sizes-of = record { inputs = Z .inputs; outputs = Z .outputs; counters = Z .counters; all = Z .all; columns = Z .columns }
 
   pub few-outputs : separatedOf g .output .states ≤ capacity
   unfolding separatedOf graphOf
   few-outputs = fits-of .output .most
 
-  pub table-of : (long : ℕ) → length (controllerEntries (separatedOf g)) ≤ long → Table z long
+  pub table-of : (long : ℕ) → lengthOf z ≤ long → Table z long
   unfolding separatedOf graphOf
   table-of long b = record {
     inputs = omega (arith, Z .inputs, fits-of .input .most);
@@ -59,7 +56,10 @@ module _ (g : Game) (z : Size) (Z : Sized g z) where
     some = rw (Z .counters) (some-counter (separatedOf g));
     counters = omega (arith, Z .counters, controller-few g fits-of);
     all = Z .all;
-    room = rw (Z .inputs, Z .outputs, Z .counters) (omega (arith, controller-long (separatedOf g)));
+    starts = Z .starts;
+    front = Z .front;
+    columns = Z .columns;
+    room = b;
   }
 
 module _ (S : Separated) (j : ℕ) where

@@ -1,7 +1,8 @@
 -- What is filled of the controller's table, of the game S.
 --
---   place S o c j        == the place of row (o, c, j)
---   Filled S P l m       == from l to m entries of the table were written, those of the rows with P among them
+--   Sheet S y input E    == the list E ends in rows of the table, in the layout y, column b of them being that of the input b
+--   Filled S z P l m     == from l to m entries of any such list of the size z were written, those of the rows with P among them
+--   Every o c j          == every row
 --   Resides S o d j      == j is in a nontrivial component, and its home at output o is d
 --   Away S d o c j       == so it is, and o lies outside the component of d
 --   There S d o c j      == so it is, and o lies in the component of d
@@ -11,16 +12,16 @@
 --   Given g z s inner    == with scratch that is ready, inner being the inputs in nontrivial components
 --   HomeOf S w           == w is a home with its component and the inputs that reside there
 --   Goals S w q          == q is the set of the numbers of the guarantees that meet its component
-use Prim.Native.Nat.{ℕ, _+_, _*_, _<_}
+use Prim.Native.Nat.{ℕ, _≤_, _<_}
 use mathlib.Core.Path.{_≡_}
 use mathlib.Core.Bool.{true, false}
 use mathlib.Core.List.{List}
 use lib.Dec.{ltb}
 use lib.ListN.{length}
+use Rattle.finite.specs.Bounded.{count}
 use Rattle.bits.specs.Member.{has, pack}
 use Rattle.graphs.specs.Component.{joined, nontrivial, meetsAt}
 use Rattle.arena.specs.Arena.{Separated}
-use Rattle.filling.specs.Grows.{Right, Grows}
 use Rattle.game.specs.declared.Game.{Game}
 use Rattle.game.specs.declared.Acceptance.the-variants.{Accepted}
 use Rattle.game.specs.Acceptance.{acceptance}
@@ -29,19 +30,26 @@ use Rattle.sets.specs.Words.{bitsOf}
 use Rattle.scratch.specs.Stored.{Ready}
 use Rattle.theory.specs.Region.{region, settles}
 use Rattle.theory.specs.Tour.{goalAt}
-use Rattle.theory.specs.Choice.{guarantees, home}
-use Rattle.theory.specs.Entries.{controllerCounters, controllerEntries}
+use Rattle.theory.specs.Choice.{guarantees, home, controllerRow}
+use Rattle.theory.specs.Entries.{controllerCounters}
+use Rattle.layout.specs.declared.Layout.{Layout}
+use Rattle.layout.specs.Rows.{mostStarts, Rows, Filled as FilledIn}
 use Rattle.controller_rows.specs.declared.Size.{Size}
 use Rattle.controller_rows.specs.declared.Home.{Home}
+use Rattle.controller_rows.specs.Writes.{leading, inputOf, layoutOf}
 
--- "one start entry an input, then rows by output, counter, input, the last running fastest"
-unfoldable pub place : Separated → ℕ → ℕ → ℕ → ℕ
-place S o c j = S .input .states + ((o * controllerCounters S + c) * S .input .states + j)
+-- "rows by output, counter, input, the last running fastest", "rows by output, counter and component"
+pub record Sheet (S : Separated) (y : Layout) (input : ℕ → ℕ) (E : List ℕ) : Type 0 where
+  pub outputs : y .states ≡ S .output .states
+  pub counters : y .counters ≡ controllerCounters S
+  pub inputs : (b : ℕ) → b < y .width → input b < S .input .states
+  pub rows : Rows y (λ o c b. controllerRow S o c (input b)) E
 
-pub record Filled (S : Separated) (P : ℕ → ℕ → ℕ → Type 0) (l m : List ℕ) : Type 0 where
-  pub grows : Grows (controllerEntries S) l m
-  pub right : (o c j : ℕ) → o < S .output .states → c < controllerCounters S → j < S .input .states → P o c j
-      → Right (controllerEntries S) m (place S o c j)
+pub record Filled (S : Separated) (z : Size) (P : ℕ → ℕ → ℕ → Type 0) (l m : List ℕ) : Type 0 where
+  pub long : length m ≡ length l
+  pub fills : (E : List ℕ) → Sheet S (layoutOf z) (inputOf z) E → FilledIn (layoutOf z) E (λ o c b. P o c (inputOf z b)) l m
+
+pub record Every (o c j : ℕ) : Type 0 where
 
 pub record Resides (S : Separated) (o d j : ℕ) : Type 0 where
   pub core : nontrivial (S .input) j ≡ true
@@ -69,6 +77,9 @@ pub record Sized (g : Game) (z : Size) : Type 0 where
   pub outputs : z .outputs ≡ g .output .states
   pub counters : z .counters ≡ controllerCounters (separatedOf g)
   pub all : (c : ℕ) → has (z .all .0) c ≡ ltb c (z .counters)
+  pub starts : z .inputs ≤ z .base
+  pub front : z .base ≤ mostStarts
+  pub columns : z .width ≡ count (z .inputs) (leading z)
 
 pub record Given (g : Game) (z : Size) (s : List ℕ) (inner : ℕ) : Type 0 where
   pub sized : Sized g z

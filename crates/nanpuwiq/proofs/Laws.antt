@@ -15,6 +15,10 @@ use Rattle.map.specs.Map.{numberOf, MapMade}
 use Rattle.ground_search.specs.declared.Explanation.{Explanation}
 use Rattle.explain.specs.Explain.{Explained}
 use Rattle.solver.specs.Promise.{Solved}
+use Rattle.solver.specs.Compact.{SolvedCompact}
+use Rattle.compact_moves.specs.declared.Move.{Move}
+use Rattle.compact_moves.specs.declared.Count.{Count}
+use Rattle.compact_moves.specs.Promise.{MovedOver, MovedBack, Counted}
 use Rattle.drives.specs.declared.Kit.{Kit}
 use Rattle.kit.specs.Promise.{KitSolved}
 use Rattle.text.specs.declared.WriteAnswer.{WriteAnswer}
@@ -23,8 +27,11 @@ use Rattle.results.specs.declared.SolveResult.{SolveResult}
 use Rattle.results.specs.declared.ExplainResult.{ExplainResult}
 use Rattle.results.specs.declared.JudgeResult.{JudgeResult}
 use Rattle.results.specs.declared.WriteResult.{WriteResult}
-use Rattle.results.specs.Results.{solveResult, writeResult, explainResult, judgeResult}
+use Rattle.results.specs.declared.MoveResult.{MoveResult}
+use Rattle.results.specs.declared.CountResult.{CountResult}
+use Rattle.results.specs.Results.{solveResult, writeResult, explainResult, judgeResult, moveResult, countResult}
 use Rattle.nanpuwiq.specs.Calls.{MapCalled, JoinedCalled, BarredCalled, JudgeCalled, SolveCalled, KitCalled, WriteCalled, ExplainCalled}
+use Rattle.nanpuwiq.specs.Calls.{CompactCalled, OverCalled, BackCalled, CountCalled}
 
 pub map-called : {g : Game} {s s′ m m′ : List ℕ} {a : Mapped} {r : ℕ} → MapMade g s s′ m m′ a → r ≡ numberOf a → MapCalled g s s′ m m′ r
 map-called {g} {s} {s′} {m} {m′} f e = record { answer = e ∙ f .number; made = subst (MapMade g s s′ m m′) (f .answer) f }
@@ -48,6 +55,11 @@ pub solve-called : {g : Game} {s s′ c c′ e e′ : List ℕ} {v : Verdict} {r
 solve-called {g} {s} {s′} {c} {c′} {e} {e′} f is =
     record { answer = is ∙ ap solveResult (f .answer); solved = subst (Solved g s s′ c c′ e e′) (f .answer) f }
 
+pub compact-called : {g : Game} {s s′ c c′ e e′ : List ℕ} {v : Verdict} {r : SolveResult} → SolvedCompact g s s′ c c′ e e′ v → r ≡ solveResult v
+    → CompactCalled g s s′ c c′ e e′ r
+compact-called {g} {s} {s′} {c} {c′} {e} {e′} f is =
+    record { answer = is ∙ ap solveResult (f .answer); solved = subst (SolvedCompact g s s′ c c′ e e′) (f .answer) f }
+
 pub kit-called : {k : Kit} {s s′ c c′ e e′ t t′ : List ℕ} {v : Verdict} {r : SolveResult} → KitSolved k s s′ c c′ e e′ t t′ v → r ≡ solveResult v
     → KitCalled k s s′ c c′ e e′ t t′ r
 kit-called {k} {s} {s′} {c} {c′} {e} {e′} {t} {t′} f is =
@@ -55,3 +67,12 @@ kit-called {k} {s} {s′} {c} {c′} {e} {e′} {t} {t′} f is =
 
 pub write-called : {g : Game} {d d′ : List ℕ} {a : WriteAnswer} {r : WriteResult} → Writes g d a d′ → r ≡ writeResult a → WriteCalled g d d′ r
 write-called f e = record { answer = e ∙ ap writeResult (f .answer); buffer = f .buffer }
+
+pub count-called : {g : Game} {a : Count} {r : CountResult} → Counted g a → r ≡ countResult a → CountCalled g r
+count-called {g} f e = record { answer = e ∙ ap countResult (f .answer); counted = subst (Counted g) (f .answer) f }
+
+pub over-called : {g : Game} {l w w′ : List ℕ} {a : Move} {r : MoveResult} → MovedOver g l w w′ a → r ≡ moveResult a → OverCalled g l w w′ r
+over-called {g} {l} {w} {w′} f e = record { answer = e ∙ ap moveResult (f .answer); moved = subst (MovedOver g l w w′) (f .answer) f }
+
+pub back-called : {g : Game} {l w w′ : List ℕ} {a : Move} {r : MoveResult} → MovedBack g l w w′ a → r ≡ moveResult a → BackCalled g l w w′ r
+back-called {g} {l} {w} {w′} f e = record { answer = e ∙ ap moveResult (f .answer); moved = subst (MovedBack g l w w′) (f .answer) f }

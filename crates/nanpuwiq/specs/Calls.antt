@@ -7,6 +7,10 @@
 --   ExplainCalled g s s′ i o r          == the call that explains (i, o) answers r and leaves scratch s as s′
 --   CheckCalled g l w w′ r             == the checker answers r to the table l and leaves the room w as w′
 --   SolveCalled g s s′ c c′ e e′ r     == the solver answers r and leaves scratch s as s′, the controller's buffer c as c′ and the environment's e as e′
+--   CompactCalled g s s′ c c′ e e′ r   == the same, the controller's table in the compact layout
+--   CountCalled g r                    == the count of the components is r
+--   OverCalled g l w w′ r              == the move of the table l to the compact layout answers r and leaves the room w as w′
+--   BackCalled g l w w′ r              == the same of the move to the full layout
 --   KitCalled k s s′ c c′ e e′ t t′ r  == the same of a kit, whose room t is left as t′
 --   ReadCalled s r                     == the reader answers r to the bytes s
 --   WriteCalled g d d′ r               == the writer answers r and leaves the buffer d as d′
@@ -26,6 +30,8 @@ use Rattle.explain.specs.Explain.{explainAnswer, Explained}
 use Rattle.checker.specs.declared.Checked.{Checked}
 use Rattle.checker.specs.Check.{Checks}
 use Rattle.solver.specs.Promise.{verdictAnswer, Solved}
+use Rattle.solver.specs.Compact.{compactAnswer, SolvedCompact}
+use Rattle.compact_moves.specs.Promise.{overAnswer, backAnswer, countAnswer, MovedOver, MovedBack, Counted}
 use Rattle.drives.specs.declared.Kit.{Kit}
 use Rattle.kit.specs.Promise.{kitAnswer, KitSolved}
 use Rattle.text.specs.declared.Reading.{Reading}
@@ -37,7 +43,9 @@ use Rattle.results.specs.declared.CheckResult.{CheckResult}
 use Rattle.results.specs.declared.JudgeResult.{JudgeResult}
 use Rattle.results.specs.declared.ReadResult.{ReadResult}
 use Rattle.results.specs.declared.WriteResult.{WriteResult}
-use Rattle.results.specs.Results.{solveResult, explainResult, checkResult, judgeResult, readResult, writeResult}
+use Rattle.results.specs.declared.MoveResult.{MoveResult}
+use Rattle.results.specs.declared.CountResult.{CountResult}
+use Rattle.results.specs.Results.{solveResult, explainResult, checkResult, judgeResult, readResult, writeResult, moveResult, countResult}
 
 -- `made` says what both buffers hold, and carries demand 2
 pub record MapCalled (g : Game) (s s′ m m′ : List ℕ) (r : ℕ) : Type 0 where
@@ -74,6 +82,25 @@ pub record CheckCalled (g : Game) (l w w′ : List ℕ) (r : CheckResult) : Type
 pub record SolveCalled (g : Game) (s s′ c c′ e e′ : List ℕ) (r : SolveResult) : Type 0 where
   pub answer : r ≡ solveResult (verdictAnswer g (length s) (length c) (length e))
   pub solved : Solved g s s′ c c′ e e′ (verdictAnswer g (length s) (length c) (length e))
+
+-- so does it with the table read through the compact layout, and every row of it is the full layout's
+pub record CompactCalled (g : Game) (s s′ c c′ e e′ : List ℕ) (r : SolveResult) : Type 0 where
+  pub answer : r ≡ solveResult (compactAnswer g (length s) (length c) (length e))
+  pub solved : SolvedCompact g s s′ c c′ e e′ (compactAnswer g (length s) (length c) (length e))
+
+-- `counted` says how the answer's number is found
+pub record CountCalled (g : Game) (r : CountResult) : Type 0 where
+  pub answer : r ≡ countResult (countAnswer g)
+  pub counted : Counted g (countAnswer g)
+
+-- `moved` says what the room holds, and that what was written, moved again, is the table
+pub record OverCalled (g : Game) (l w w′ : List ℕ) (r : MoveResult) : Type 0 where
+  pub answer : r ≡ moveResult (overAnswer g l (length w))
+  pub moved : MovedOver g l w w′ (overAnswer g l (length w))
+
+pub record BackCalled (g : Game) (l w w′ : List ℕ) (r : MoveResult) : Type 0 where
+  pub answer : r ≡ moveResult (backAnswer g l (length w))
+  pub moved : MovedBack g l w w′ (backAnswer g l (length w))
 
 -- `solved` says what all four rooms hold, and carries demand 3 and what the kit's table is for
 pub record KitCalled (k : Kit) (s s′ c c′ e e′ t t′ : List ℕ) (r : SolveResult) : Type 0 where

@@ -7,7 +7,9 @@ ghost use Rattle.recorder.specs.Recorded.{compared};
 ghost use Rattle.panel_player.specs.Panel.{panelFirst, panelBegin, panelNext, panelStep};
 ghost use Rattle.results.specs.Results.{compareResult, panelMoved, nowhere};
 ghost use Rattle.drives.specs.Acceptance.{kitTests};
-ghost use Rattle.nanpuwiq.specs.Calls.{MapCalled, JoinedCalled, SolveCalled, KitCalled, ReadCalled, WriteCalled, ExplainCalled, CheckCalled, BarredCalled, JudgeCalled};
+ghost use Rattle.compact_view.specs.Rows.{Looked};
+ghost use Rattle.nanpuwiq.specs.Calls.{MapCalled, JoinedCalled, SolveCalled, CompactCalled, KitCalled, ReadCalled, WriteCalled, ExplainCalled, CheckCalled, BarredCalled, JudgeCalled};
+ghost use Rattle.nanpuwiq.specs.Calls.{OverCalled, BackCalled, CountCalled};
 use drives::Kit;
 use game::Game;
 use game::InState;
@@ -18,12 +20,15 @@ use recorder::InRecording;
 use recorder::OutRecording;
 use results::CheckResult;
 use results::CompareResult;
+use results::CountResult;
 use results::ExplainResult;
 use results::JudgeResult;
+use results::MoveResult;
 use results::PanelMoved;
 use results::ReadResult;
 use results::SolveResult;
 use results::WriteResult;
+use view::RowIndex;
 
 // Whether the game is accepted.
 #[no_mangle]
@@ -97,12 +102,71 @@ pub extern "C" fn nanpuwiq_solve(
     results::solve_result(solver::solve_into(g, scratch, controller, panel))
 }
 
+// The same, the controller's table in the compact layout, with its rows by component.
+#[no_mangle]
+pub extern "C" fn nanpuwiq_solve_compact(
+    g: Game,
+    scratch: &mut [u64],
+    controller: &mut [u16],
+    panel: &mut [u16],
+) -> SolveResult
+    ensures { λ r. ⌜ CompactCalled g (now (scratch .entry)) (now (scratch .exit)) (now (controller .entry)) (now (controller .exit)) (now (panel .entry))
+        (now (panel .exit)) r ⌝ }
+{
+    results::solve_result(solver::solve_compact_into(g, scratch, controller, panel))
+}
+
 // Whether a controller's table wins; else what shows that it does not, with the walk at the front of the room.
 #[no_mangle]
 pub extern "C" fn nanpuwiq_check(g: Game, table: &[u16], room: &mut [u16]) -> CheckResult
     ensures { λ r. ⌜ CheckCalled g (now (table .entry)) (now (room .entry)) (now (room .exit)) r ⌝ }
 {
     results::check_result(checker::check(g, table, room))
+}
+
+// How many components the input graph has: the count that the compact layout asks for.
+#[no_mangle]
+pub extern "C" fn nanpuwiq_components(g: Game) -> CountResult
+    ensures { λ r. ⌜ CountCalled g r ⌝ }
+{
+    results::count_result(compact_moves::count_components(g))
+}
+
+// Writes a controller's table of the full layout in the compact one, with its rows by component, into the front of the room.
+#[no_mangle]
+pub extern "C" fn nanpuwiq_to_compact(g: Game, table: &[u16], room: &mut [u16]) -> MoveResult
+    ensures { λ r. ⌜ OverCalled g (now (table .entry)) (now (room .entry)) (now (room .exit)) r ⌝ }
+{
+    results::move_result(compact_moves::to_compact(g, table, room))
+}
+
+// Writes a controller's table of the compact layout in the full one into the front of the room.
+#[no_mangle]
+pub extern "C" fn nanpuwiq_to_full(g: Game, table: &[u16], room: &mut [u16]) -> MoveResult
+    ensures { λ r. ⌜ BackCalled g (now (table .entry)) (now (room .entry)) (now (room .exit)) r ⌝ }
+{
+    results::move_result(compact_moves::to_full(g, table, room))
+}
+
+// The entry of a row of a table of the compact layout: that of an output, a counter and the new input.
+#[no_mangle]
+pub extern "C" fn nanpuwiq_compact_row(
+    rows: &[u16],
+    inputs: usize,
+    counters: usize,
+    components: usize,
+    output: OutState,
+    counter: usize,
+    input: InState,
+) -> u16
+    ensures { λ r. ⌜ Looked (now (rows .entry)) inputs counters components (output .0) counter (input .0) r ⌝ }
+{
+    let at = RowIndex {
+        output,
+        counter,
+        input,
+    };
+    compact_view::lookup(rows, inputs, counters, components, at)
 }
 
 // Whether the kit is accepted.

@@ -34,7 +34,6 @@ use Rattle.game.specs.declared.Game.{Game}
 use Rattle.play.specs.Play.{separatedOf}
 use Rattle.theory.specs.Region.{homeFor, region}
 use Rattle.theory.specs.Choice.{home, controllerRow}
-use Rattle.theory.specs.Entries.{controllerEntries}
 use Rattle.theory.proofs.Region.{settles-intro}
 use Rattle.theory.proofs.ControllerRow.{near-reaches, home-leads, homeward-away}
 use Rattle.ways.specs.Kept.{kept}
@@ -43,13 +42,14 @@ use Rattle.ways.proofs.Narrow.{toward-narrow, leads-narrow}
 use Rattle.scratch.specs.Scratch.{scratchSets}
 use Rattle.scratch.specs.Stored.{rowAt, outReachAt}
 use Rattle.layout.specs.declared.Layout.{Layout}
+use Rattle.layout.proofs.Places.{filled-part as part-in}
 use Rattle.rounds.specs.Staying.{Approaches}
 use Rattle.controller_rows.specs.declared.Size.{Size}
 use Rattle.controller_rows.specs.declared.Home.{Home}
-use Rattle.controller_rows.specs.Writes.{ControllerLayout}
+use Rattle.controller_rows.specs.Writes.{inputOf, layoutOf}
 use Rattle.controller_table.specs.Filled.{Filled, Resides, Away, Given, HomeOf}
 use Rattle.controller_table.proofs.Fills.{filled-none, filled-more, filled-part}
-use Rattle.controller_table.proofs.Laid.{inputs-are, outputs-are, laid-table, laid-filled}
+use Rattle.controller_table.proofs.Laid.{outputs-are, width-is, laid-rows, laid-input, laid-filled}
 use Rattle.controller_table.proofs.Loops.{comp-in}
 use Rattle.controller_table.proofs.Phases.{same-moves}
 use Rattle.controller_table.proofs.Setting.{sizes-of, told-of, scratch-long}
@@ -95,10 +95,10 @@ first-of reach homes d {b} e f = f ∙ rw e (and-true (has reach d))
     and-true true = refl
     and-true false = refl
 
--- group after group: x are the inputs that are left, of n
-pub record Homing (g : Game) (n : ℕ) (w : Home) (x : ℕ) (l m : List ℕ) : Type 0 where
-  pub inputs : (j : ℕ) → has x j ≡ true → (j < n) × (has (bitsOf (w .inputs .0)) j ≡ true)
-  pub filled : Filled (separatedOf g) (λ o c j. Away (separatedOf g) (w .state .0) o c j × (has x j ≡ false)) l m
+-- group after group: x are the inputs that are left
+pub record Homing (g : Game) (z : Size) (w : Home) (x : ℕ) (l m : List ℕ) : Type 0 where
+  pub inputs : (j : ℕ) → has x j ≡ true → (j < z .inputs) × (has (bitsOf (w .inputs .0)) j ≡ true)
+  pub filled : Filled (separatedOf g) z (λ o c j. Away (separatedOf g) (w .state .0) o c j × (has x j ≡ false)) l m
 
 module _ (g : Game) (z : Size) (s : List ℕ) (inner : ℕ) (G : Given g z s inner) (w : Home) (H : HomeOf (separatedOf g) w) where
   T : Told (separatedOf g) (setsIn s) (z .inputs) inner (setsIn (g .output .moves))
@@ -118,7 +118,7 @@ module _ (g : Game) (z : Size) (s : List ℕ) (inner : ℕ) (G : Given g z s inn
     scratch-long G,
   )
 
-  pub home-within : (y : Layout) → ControllerLayout z y → within (bitsOf (w .component .0)) (y .states) ≡ true
+  pub home-within : (y : Layout) → y ≡ layoutOf z → within (bitsOf (w .component .0)) (y .states) ≡ true
   home-within y D =
       has-within (bitsOf (w .component .0)) (y .states)
       (λ t e. omega (arith, outputs-are g z y (G .sized) D, joined-to (separatedOf g .output) (w .state .0) t (sym (comp-in (separatedOf g) w H t) ∙ e)))
@@ -206,7 +206,7 @@ module _ (g : Game) (z : Size) (s : List ℕ) (inner : ℕ) (G : Given g z s inn
           (λ k. reaches (separatedOf g .output) o k && homeFor (separatedOf g) (region (separatedOf g)) j k) t (omega (arith, v .0, h .is))))
 
   -- the rows of a group
-  module _ (y : Layout) (D : ControllerLayout z y) (homes inside x : ℕ)
+  module _ (y : Layout) (D : y ≡ layoutOf z) (homes inside x : ℕ)
       (i : inside ≡ pack (z .outputs) (nearAt (setsIn s) (z .inputs) homes (w .state .0))) where
     all-near : inside ≡ pack (separatedOf g .output .states) (Near homes)
     all-near = i ∙ ap (λ (k : ℕ). pack k (Near homes)) (sizes-of g z (G .sized) .outputs)
@@ -235,18 +235,26 @@ module _ (g : Game) (z : Size) (s : List ℕ) (inner : ℕ) (G : Given g z s inn
           (near-closed homes) o q (home-leads (separatedOf g .output) (w .state .0) o (near-reached homes o b q) (H .core))))
 
     -- x are inputs at home d; those of them with these lower homes are a group
-    pub group-filled : (group : ℕ) {l m : List ℕ} → ((j : ℕ) → has x j ≡ true → has (bitsOf (w .inputs .0)) j ≡ true)
+    pub group-filled : (group over : ℕ) {l m : List ℕ} → ((j : ℕ) → has x j ≡ true → has (bitsOf (w .inputs .0)) j ≡ true)
         → group ≡ pack (z .inputs) (λ j. has x j && alikeAt (setsIn s) (z .inputs) (w .state .0) homes j)
-        → Approaches (setsIn (g .output .moves)) y inside (bitsOf (w .component .0)) group l m
-        → Filled (separatedOf g) (λ o c j. Away (separatedOf g) (w .state .0) o c j × (has group j ≡ true)) l m
+        → ((b : ℕ) → has over b ≡ (ltb b (z .width) && has group (inputOf z b)))
+        → Approaches (setsIn (g .output .moves)) y inside (bitsOf (w .component .0)) over l m
+        → Filled (separatedOf g) z (λ o c j. Away (separatedOf g) (w .state .0) o c j × (has group j ≡ true)) l m
     unfolding alikeAt
-    group-filled group sub e A =
-        filled-part (separatedOf g)
-        (λ o c j lo lc lj p.
-        let q = near-resides homes j lj (at-home j lj (p .1)) (same j (p .1)) o lo (p .0 .resides) in
-        (in-near o lo ∙ q, comp-in (separatedOf g) w H o ∙ p .0 .apart, leads-home o q lo, p .1))
-        (laid-filled g z y (G .sized) D
-        (A .fills (controllerRow (separatedOf g)) (controllerEntries (separatedOf g)) (laid-table g z y (G .sized) D) (record { row = row })))
+    group-filled group over sub e O A = record {
+      long = A .long;
+      fills = λ E T.
+          let R = laid-rows g z y (G .sized) D E T in
+          laid-filled g z y (G .sized) D E
+          (part-in y (λ o c b. controllerRow (separatedOf g) o c (inputOf z b)) E R
+          (A .fills (λ o c b. controllerRow (separatedOf g) o c (inputOf z b)) E R
+          (record { row = λ o h b lo k c v lh lb m. row o h (inputOf z b) lo k c (laid-input g z y (G .sized) D E T b lb) (in-group b m) }))
+          (λ o c b lo lc lb p.
+          let a : o < separatedOf g .output .states = omega (arith, outputs-are g z y (G .sized) D) in
+          let j = laid-input g z y (G .sized) D E T b lb in
+          let q = near-resides homes (inputOf z b) j (at-home (inputOf z b) j (p .1)) (same (inputOf z b) (p .1)) o a (p .0 .resides) in
+          (in-near o a ∙ q, comp-in (separatedOf g) w H o ∙ p .0 .apart, leads-home o q a, of-group b lb (p .1))));
+    }
       where
         both : (j : ℕ) → has group j ≡ true → (has x j && eqb (lowerAt (setsIn s) (z .inputs) (w .state .0) j) homes) ≡ true
         both j h =
@@ -261,13 +269,17 @@ module _ (g : Game) (z : Size) (s : List ℕ) (inner : ℕ) (G : Given g z s inn
         at-home j a h =
             H .resides j a (sub j (and-left (has x j) (eqb (lowerAt (setsIn s) (z .inputs) (w .state .0) j) homes) (both j h)))
 
-        row : (o h j : ℕ) → o < y .states → has inside o ≡ true → has (bitsOf (w .component .0)) o ≡ false
-            → Leads (y .states) (kept (setsIn (g .output .moves)) inside) (has (bitsOf (w .component .0))) o → h < y .counters → j < y .width
+        in-group : (b : ℕ) → has over b ≡ true → has group (inputOf z b) ≡ true
+        in-group b h = and-right (ltb b (z .width)) (has group (inputOf z b)) (sym (O b) ∙ h)
+
+        of-group : (b : ℕ) → b < y .width → has group (inputOf z b) ≡ true → has over b ≡ true
+        of-group b l h = O b ∙ and-intro (lt-ltb b (z .width) (omega (arith, width-is g z y (G .sized) D))) h
+
+        row : (o h j : ℕ) → o < y .states → has inside o ≡ true → has (bitsOf (w .component .0)) o ≡ false → j < separatedOf g .input .states
             → has group j ≡ true
             → controllerRow (separatedOf g) o h j ≡ gives h (toward (y .states) (kept (setsIn (g .output .moves)) inside) (has (bitsOf (w .component .0))) o)
-        row o h j lo k c v lh lj m =
+        row o h j lo k c a m =
             let b : o < separatedOf g .output .states = omega (arith, outputs-are g z y (G .sized) D) in
-            let a : j < separatedOf g .input .states = omega (arith, inputs-are g z y (G .sized) D) in
             let q = sym (in-near o b) ∙ k in
             let r = resides-near homes j a (at-home j a m) (same j m) o b q in
             row-home (separatedOf g) o (w .state .0) j r a h
@@ -276,12 +288,12 @@ module _ (g : Game) (z : Size) (s : List ℕ) (inner : ℕ) (G : Given g z s inn
 
   -- group after group
 
-  pub homing-start : (x : ℕ) (l : List ℕ) → ((j : ℕ) → has x j ≡ (has (bitsOf (w .inputs .0)) j && has inner j)) → Homing g (z .inputs) w x l l
+  pub homing-start : (x : ℕ) (l : List ℕ) → ((j : ℕ) → has x j ≡ (has (bitsOf (w .inputs .0)) j && has inner j)) → Homing g z w x l l
   homing-start x l e = record {
     inputs = λ j h.
         let v = sym (e j) ∙ h in
         (inner-below j (and-right (has (bitsOf (w .inputs .0)) j) (has inner j) v), and-left (has (bitsOf (w .inputs .0)) j) (has inner j) v);
-    filled = filled-none (separatedOf g) l (λ o c j lo lc lj p. clash (inside o j lj (p .0 .resides)) (p .1));
+    filled = filled-none (separatedOf g) z l (λ o c j lo lc lj p. clash (inside o j lj (p .0 .resides)) (p .1));
   }
     where
       inner-below : (j : ℕ) → has inner j ≡ true → j < z .inputs
@@ -291,7 +303,7 @@ module _ (g : Game) (z : Size) (s : List ℕ) (inner : ℕ) (G : Given g z s inn
       inside : (o j : ℕ) → j < separatedOf g .input .states → Resides (separatedOf g) o (w .state .0) j → has x j ≡ true
       inside o j lj r = e j ∙ and-intro (H .resident j lj (resides-there (separatedOf g) o (w .state .0) j r)) (T .core j lj ∙ r .core)
 
-  module _ (x : ℕ) {l m : List ℕ} (I : Homing g (z .inputs) w x l m) where
+  module _ (x : ℕ) {l m : List ℕ} (I : Homing g z w x l m) where
     pub homing-within : within x (z .inputs) ≡ true
     homing-within = has-within x (z .inputs) (λ j h. I .inputs j h .0)
 
@@ -318,22 +330,22 @@ module _ (g : Game) (z : Size) (s : List ℕ) (inner : ℕ) (G : Given g z s inn
           (lowest-in capacity x j homing-small ne e)
 
     pub homing-next : (group v : ℕ) {r r′ : List ℕ} → ((k : ℕ) → has v k ≡ (has x k && not (has group k)))
-        → Filled (separatedOf g) (λ o c j. Away (separatedOf g) (w .state .0) o c j × (has group j ≡ true)) m r → r′ ≡ r → Homing g (z .inputs) w v l r′
+        → Filled (separatedOf g) z (λ o c j. Away (separatedOf g) (w .state .0) o c j × (has group j ≡ true)) m r → r′ ≡ r → Homing g z w v l r′
     homing-next group v d F q = rw q (record {
       inputs = λ j h. I .inputs j (and-left (has x j) (not (has group j)) (sym (d j) ∙ h));
       filled =
-          filled-part (separatedOf g)
+          filled-part (separatedOf g) z
           (λ o c j lo lc lj p.
           elim (decide (has x j)) [
             | inl a ↦ inr (p .0, taken j a (p .1))
             | inr a ↦ inl (p .0, a)
           ])
-          (filled-more (separatedOf g) (I .filled) F);
+          (filled-more (separatedOf g) z (I .filled) F);
     })
       where
         taken : (j : ℕ) → has x j ≡ true → has v j ≡ false → has group j ≡ true
         taken j a h = elim (decide (has group j)) [ inl b ↦ b | inr b ↦ clash (d j ∙ and-intro a (ap not b)) h ]
 
-    pub homing-end : x ≡ 0 → Filled (separatedOf g) (Away (separatedOf g) (w .state .0)) l m
+    pub homing-end : x ≡ 0 → Filled (separatedOf g) z (Away (separatedOf g) (w .state .0)) l m
     homing-end e =
-        filled-part (separatedOf g) (λ o c j lo lc lj p. (p, ap (λ (k : ℕ). has k j) e ∙ has-zero j)) (I .filled)
+        filled-part (separatedOf g) z (λ o c j lo lc lj p. (p, ap (λ (k : ℕ). has k j) e ∙ has-zero j)) (I .filled)

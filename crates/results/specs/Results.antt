@@ -7,6 +7,8 @@
 --   judgeResult a      == the verdict with bars: code, whether the system wins
 --   readResult x       == the reader's answer: code, the place of 11, the game
 --   writeResult a      == the writer's answer: code, how many bytes are filled
+--   moveResult a       == the answer to a move between the layouts: code, how many entries are filled
+--   countResult a      == how many components there are: code, the count
 --   compareResult c    == the recorder's answer: code, whether the recordings agree, whether one has ended, the step
 --   panelMoved a       == the panel's move: input and counter, both 0 beside a refusal, and the code
 --   nowhere            == the position of zeros, which stands beside a refusal to begin
@@ -25,6 +27,10 @@ use Rattle.text.specs.declared.Answer.{Answer}
 use Rattle.text.specs.declared.Answer.the-variants as answer·
 use Rattle.text.specs.declared.WriteAnswer.{WriteAnswer}
 use Rattle.text.specs.declared.WriteAnswer.the-variants as write·
+use Rattle.compact_moves.specs.declared.Move.{Move}
+use Rattle.compact_moves.specs.declared.Move.the-variants as move·
+use Rattle.compact_moves.specs.declared.Count.{Count}
+use Rattle.compact_moves.specs.declared.Count.the-variants as count·
 use Rattle.place.specs.declared.Position.{Position}
 use Rattle.game.specs.declared.Game.{Game}
 use Rattle.recorder.specs.declared.Compared.{Compared}
@@ -39,6 +45,8 @@ use Rattle.results.specs.declared.JudgeResult.{JudgeResult}
 use Rattle.results.specs.declared.CompareResult.{CompareResult}
 use Rattle.results.specs.declared.ReadResult.{ReadResult}
 use Rattle.results.specs.declared.WriteResult.{WriteResult}
+use Rattle.results.specs.declared.MoveResult.{MoveResult}
+use Rattle.results.specs.declared.CountResult.{CountResult}
 
 unfoldable pub solveResult : Verdict → SolveResult
 solveResult (verdict·.System n) = record { code = 0; system = true; entries = n }
@@ -84,6 +92,14 @@ readResult x = readBy (x .answer) (x .game)
 unfoldable pub writeResult : WriteAnswer → WriteResult
 writeResult (write·.Written n) = record { code = 0; bytes = n }
 writeResult (write·.Refused n) = record { code = n; bytes = 0 }
+
+unfoldable pub moveResult : Move → MoveResult
+moveResult (move·.Moved n) = record { code = 0; entries = n }
+moveResult (move·.Refused n) = record { code = n; entries = 0 }
+
+unfoldable pub countResult : Count → CountResult
+countResult (count·.Components n) = record { code = 0; count = n }
+countResult (count·.Refused n) = record { code = n; count = 0 }
 
 unfoldable pub compareResult : Compared → CompareResult
 compareResult compared·.Agree = record { code = 0; agree = true; ended = false; step = 0 }

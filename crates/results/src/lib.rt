@@ -4,8 +4,11 @@ ghost use Rattle.player.specs.Player.{movedOf};
 ghost use Rattle.game.specs.Acceptance.{numberOf as acceptNumber};
 ghost use Rattle.map.specs.Map.{numberOf as mapNumber};
 ghost use Rattle.results.specs.Results.{solveResult, readResult, writeResult, compareResult, panelMoved, nowhere, explainResult, checkResult, judgedAs, judgeResult};
+ghost use Rattle.results.specs.Results.{moveResult, countResult};
 ghost use Rattle.joined.specs.Joined.{numberOf as joinedNumber};
 use checker::Checked;
+use compact_moves::Count;
+use compact_moves::Move;
 use game::Acceptance;
 use game::Game;
 use game::InState;
@@ -59,6 +62,20 @@ pub struct CheckResult {
 pub struct JudgeResult {
     pub code: u8,
     pub system: bool,
+}
+
+// The answer to a move between the layouts: the code; how many entries are filled, 0 on a refusal.
+#[repr(C)]
+pub struct MoveResult {
+    pub code: u8,
+    pub entries: usize,
+}
+
+// How many components there are: the code; the count, 0 on a refusal.
+#[repr(C)]
+pub struct CountResult {
+    pub code: u8,
+    pub count: usize,
 }
 
 // The reader's answer: the code; for code 11 the place; the game, which is the empty one on a refusal.
@@ -297,6 +314,30 @@ pub fn write_result(a: WriteAnswer) -> WriteResult
     match a {
         WriteAnswer::Written(n) => WriteResult { code: 0, bytes: n },
         WriteAnswer::Refused(n) => WriteResult { code: n, bytes: 0 },
+    }
+}
+
+pub fn move_result(a: Move) -> MoveResult
+    ensures { λ r. ⌜ r ≡ moveResult a ⌝ }
+{
+    match a {
+        Move::Moved(n) => MoveResult {
+            code: 0,
+            entries: n,
+        },
+        Move::Refused(n) => MoveResult {
+            code: n,
+            entries: 0,
+        },
+    }
+}
+
+pub fn count_result(a: Count) -> CountResult
+    ensures { λ r. ⌜ r ≡ countResult a ⌝ }
+{
+    match a {
+        Count::Components(n) => CountResult { code: 0, count: n },
+        Count::Refused(n) => CountResult { code: n, count: 0 },
     }
 }
 

@@ -1,2 +1,3 @@
 -- Verdicts: the promise for every input.
 pub mod Verdicts
+pub mod Compact

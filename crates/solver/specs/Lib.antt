@@ -1,2 +1,3 @@
--- What the solver promises.
+-- What the solver promises. Compact: with the controller's rows by component.
 pub mod Promise
+pub mod Compact

@@ -14,7 +14,6 @@ use lib.Dec.{leb}
 use lib.ListN.{length, take, drop}
 use Rattle.arena.specs.Win.{system, environment, DemandThree}
 use Rattle.game.specs.declared.Game.{Game}
-use Rattle.game.specs.declared.Acceptance.{Acceptance}
 use Rattle.game.specs.declared.Acceptance.the-variants.{Accepted, Refused as Faulty}
 use Rattle.game.specs.Acceptance.{acceptance}
 use Rattle.game.specs.Numbers.{firstOf, gameTests}

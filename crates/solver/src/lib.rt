@@ -3,8 +3,11 @@ ghost use mathlib.Core.Path.{_≡_};
 ghost use Rattle.game.specs.declared.Acceptance.the-variants.{Accepted};
 ghost use Rattle.game.specs.Acceptance.{acceptance};
 ghost use Rattle.solver.specs.Promise.{Solved};
+ghost use Rattle.solver.specs.Compact.{SolvedCompact};
 use game::Acceptance;
 use game::Game;
+
+mod by_component; // the controller's table with its rows by component
 
 // The answer of the solver: the side that wins, with how many entries its table has.
 pub enum Verdict {
@@ -55,5 +58,22 @@ pub fn solve_into(
     match accepted {
         Acceptance::Refused(n) => Verdict::Refused(n),
         Acceptance::Accepted => solve_accepted(g, scratch, controller, panel),
+    }
+}
+
+// The same, the controller's table with its rows by component.
+pub fn solve_compact_into(
+    g: Game,
+    scratch: &mut [u64],
+    controller: &mut [u16],
+    panel: &mut [u16],
+) -> Verdict
+    ensures { λ r. ⌜ SolvedCompact g (now (scratch .entry)) (now (scratch .exit)) (now (controller .entry)) (now (controller .exit)) (now (panel .entry))
+        (now (panel .exit)) r ⌝ }
+{
+    let accepted = acceptance::accept(g);
+    match accepted {
+        Acceptance::Refused(n) => Verdict::Refused(n),
+        Acceptance::Accepted => by_component::solve_accepted(g, scratch, controller, panel),
     }
 }

@@ -10,6 +10,8 @@ ghost use Rattle.scratch.specs.Scratch.{scratchLength};
 ghost use Rattle.winner.specs.Written.{Written};
 use game::Game;
 
+pub mod by_component; // with the controller's rows by component
+
 // Writes the winner's table of an accepted game and clears scratch. Answers whether that is the system's.
 pub fn write_winner(g: Game, scratch: &mut [u64], controller: &mut [u16], panel: &mut [u16]) -> bool
     requires { ⌜ (acceptance g ≡ Accepted) × (scratchLength g ≤ length (now scratch)) × (length (controllerEntries (separatedOf g)) ≤ length (now controller))

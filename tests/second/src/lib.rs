@@ -10,6 +10,7 @@
 pub mod compare;
 pub mod game;
 pub mod generate;
+pub mod layout;
 pub mod print;
 pub mod solve;
 pub mod text;

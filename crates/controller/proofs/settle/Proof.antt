@@ -56,7 +56,7 @@ tour-requires c κs =
       b .pre .0 .sized,
       home-given (b .args .g) (b .args .z) (b .args .s .now) (bitsOf (b .args .c .0)) (b .pre .0) (b .args .d .0) (b .pre .1)
           (r .residents .result) (r .residents .ensures) _ (some _ (e .is-empty .ensures) (t .if1 .left)) (k .out-component .ensures),
-      omega (arith, b .pre .2, n .approach .ensures .grows .long),
+      omega (arith, b .pre .2, n .approach .ensures .long),
     )
 
 same-length : tie.Need-same-length
@@ -66,7 +66,7 @@ returns-2 : tie.Need-returns-2
 returns-2 c =
     let t = c .before .before in
     let n = t .before .before .before .before in
-    settled-here _ _ (n .approach .ensures) (t .tour .ensures)
+    settled-here _ _ _ (n .approach .ensures) (t .tour .ensures)
 
 pub settle-spec : {M : Type 1} → statement M
 settle-spec =

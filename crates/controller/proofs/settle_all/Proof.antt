@@ -9,19 +9,19 @@ use Rattle.controller.proofs.settle_all.Statement.{statement}
 use Rattle.controller.proofs.settle_all.Tie as tie
 
 abbrev Inv-loop : tie.InvT-loop
-Inv-loop g s room₀ z cores m d₀ room d = (d ≤ m) × Filled (separatedOf g) (Below (separatedOf g) d) room₀ room
+Inv-loop g s room₀ z cores m d₀ room d = (d ≤ m) × Filled (separatedOf g) z (Below (separatedOf g) d) room₀ room
 
 abbrev μ-loop : tie.MeasureT-loop
 μ-loop g s room₀ z cores m d₀ room d = m - d
 
 loop-holds : tie.Need-loop-holds Inv-loop μ-loop
-loop-holds c = (omega arith, homes-none _ _)
+loop-holds c = (omega arith, homes-none _ _ _)
 
 settle-requires : tie.Need-settle-requires Inv-loop μ-loop
 settle-requires c κs =
     let l = c .before .before in
     let b = l .before .before .before in
-    (b .pre .0, omega arith, omega (arith, b .pre .1, l .loop .inv .1 .grows .long))
+    (b .pre .0, omega arith, omega (arith, b .pre .1, l .loop .inv .1 .long))
 
 add-d : tie.Need-add-d Inv-loop μ-loop
 add-d c = omega arith
@@ -33,10 +33,10 @@ loop-again : tie.Need-loop-again Inv-loop μ-loop
 loop-again c =
     let n = c .before .before in
     let l = n .before .before .before in
-    (omega arith, homes-next _ (l .loop .d) (l .loop .inv .1) (n .settle .ensures))
+    (omega arith, homes-next _ _ (l .loop .d) (l .loop .inv .1) (n .settle .ensures))
 
 same-length : tie.Need-same-length Inv-loop μ-loop
-same-length c = c .before .loop .inv .1 .grows .long
+same-length c = c .before .loop .inv .1 .long
 
 returns : tie.Need-returns Inv-loop μ-loop
 returns c =

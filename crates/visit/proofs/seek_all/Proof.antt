@@ -4,37 +4,38 @@ use mathlib.Core.Path.{refl}
 use native.Mathlib.Omega.{arith}
 use borrow.Author.Needs.{needs}
 use Rattle.sets.specs.Words.{bitsOf}
-use Rattle.play.specs.Play.{separatedOf}
 use Rattle.theory.specs.Choice.{guarantees}
-use Rattle.theory.specs.Entries.{controllerEntries}
 use Rattle.sizes.specs.Below.{guaranteeSide, setsIn}
 use Rattle.sizes.specs.Numbered.{Upto}
 use Rattle.sizes.proofs.Below.{guarantees-listed, few, guaranteed-few}
 use Rattle.sizes.proofs.Numbered.{upto-none, upto-next, upto-all, stretch-short, stretch-set}
-use Rattle.layout.specs.Rows.{Filled}
 use Rattle.layout.proofs.Places.{fits-same}
-use Rattle.aiming.specs.Course.{Headed}
 use Rattle.controller_table.proofs.Laid.{laid-fits}
-use Rattle.visit.proofs.Courses.{home-counted, home-members, home-none, home-further, home-filled}
+use Rattle.controller_table.proofs.Setting.{table-of}
+use Rattle.visit.proofs.Courses.{Toured, home-counted, home-members, home-none, home-further, home-filled}
 use Rattle.visit.proofs.seek_all.Statement.{statement}
 use Rattle.visit.proofs.seek_all.Tie as tie
 
 abbrev Inv-loop : tie.InvT-loop
-Inv-loop room₀ q g h y component inputs n₀ r₀ room n r =
-    (r ≤ g .k) × (g .k ≤ 8) × Upto guaranteeSide g r n
-    × Filled y (controllerEntries (separatedOf g)) (Headed y (bitsOf (component .0)) (bitsOf (inputs .0)) (q .0) 0 n) room₀ room
+Inv-loop room₀ q g h y component over n₀ r₀ room n r =
+    (r ≤ g .k) × (g .k ≤ 8) × Upto guaranteeSide g r n × Toured g y (bitsOf (component .0)) (bitsOf over) (q .0) n room₀ room
 
 abbrev μ-loop : tie.MeasureT-loop
-μ-loop room₀ q g h y component inputs n₀ r₀ room n r = g .k - r
+μ-loop room₀ q g h y component over n₀ r₀ room n r = g .k - r
 
 layout-of-requires : tie.Need-layout-of-requires Inv-loop μ-loop
 layout-of-requires c κs = search needs
 
+columns-of-requires : tie.Need-columns-of-requires Inv-loop μ-loop
+columns-of-requires c κs =
+    let p = c .before .before .before .before .pre in
+    let t = table-of _ _ (p .0) _ (p .4) in
+    (t .inputs, t .columns)
+
 loop-holds : tie.Need-loop-holds Inv-loop μ-loop
 loop-holds c =
     let p = c .before .before .before .before .before .pre in
-    let none = upto-none guaranteeSide guarantees-listed _ in
-    (omega arith, few _ (p .0 .accepted), none, home-none _ _ _ (p .0) (c .before .before .layout-of .ensures) _ (p .1) _ (p .2) (p .3) _)
+    (omega arith, few _ (p .0 .accepted), upto-none guaranteeSide guarantees-listed _, home-none _ _ _ _ _ _)
 
 mul-guarantees-of : tie.Need-mul-guarantees-of Inv-loop μ-loop
 mul-guarantees-of c = omega arith
@@ -56,8 +57,8 @@ aim-some-requires c κs =
     let z = y .layout-of .ensures in
     let b = o .before .before .loop-test .taken in
     let f = guaranteed-few _ (p .0 .accepted) (l .loop .r) b in (
-      fits-same _ _ _ (i .3 .grows .long) (laid-fits _ _ _ (p .0) z _ (p .4)),
-      home-members _ _ _ (p .0) z _ (p .1) _ (p .2) (p .3),
+      fits-same _ _ _ (i .3 .long) (laid-fits _ _ _ (p .0) z _ (p .4)),
+      home-members _ _ _ (p .0) z _ (p .1),
       home-counted _ _ _ (p .0) z _ (p .1) _ (p .2) (p .3),
       stretch-short guaranteeSide guarantees-listed _ (l .loop .r) _ _ b (i .1) f (i .2) (o .guarantees-of .ensures),
     )
@@ -95,12 +96,12 @@ loop-again c =
       omega arith,
       i .1,
       upto-next guaranteeSide guarantees-listed _ (l .loop .r) _ _ b (i .1) f (i .2) (o .guarantees-of .ensures),
-      home-further _ _ _ (p .0) (y .layout-of .ensures) _ (p .1) _ (p .2) (p .3) _ _ (o .guarantees-of .ensures .first)
+      home-further _ _ _ _ _ _ _ (o .guarantees-of .ensures .first)
           (stretch-set guaranteeSide guarantees-listed _ (l .loop .r) _ _ b (i .1) f (i .2) (o .guarantees-of .ensures)) (i .3) (s .aim-some .ensures) refl,
     )
 
 same-length : tie.Need-same-length Inv-loop μ-loop
-same-length c = c .before .loop .inv .3 .grows .long
+same-length c = c .before .loop .inv .3 .long
 
 returns : tie.Need-returns Inv-loop μ-loop
 unfolding guaranteeSide setsIn guarantees
@@ -109,7 +110,7 @@ returns c =
     let i = l .loop .inv in
     let y = l .before .before .before in
     let p = y .before .before .before .pre in
-    home-filled _ _ _ (p .0) (y .layout-of .ensures) _ (p .1) _ (p .2) (p .3) _
+    home-filled _ _ _ (p .0) (y .layout-of .ensures) _ (p .1) _ (l .before .columns-of .ensures) _ (p .2) (p .3) _
     (upto-all guaranteeSide guarantees-listed _ (l .loop .r) _ (i .0) (c .loop-test .left) (i .2)) (i .3)
 
 pub seek-all-spec : {M : Type 1} → statement M
@@ -119,6 +120,7 @@ seek-all-spec =
     Inv-loop
     μ-loop
     layout-of-requires
+    columns-of-requires
     loop-holds
     mul-guarantees-of
     element-copy-out-guarantees-of

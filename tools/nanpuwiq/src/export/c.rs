@@ -10,10 +10,18 @@ const COMMENT: (&str, &str) = ("/*", "*/");
 pub fn controller(c: &Controller) -> String {
     let (inputs, outputs, counters) = (c.inputs(), c.outputs(), c.counters());
     let moves: Vec<String> = c.game.input.moves.iter().take(inputs).map(|row| words(*row)).collect();
-    let rows = labelled(&numbers(c.rows()), inputs, COMMENT, |row| {
+    let rows = labelled(&numbers(c.rows()), c.columns(), COMMENT, |row| {
         format!("output {}, counter {}", c.names.output(OutState(row / counters)), row % counters)
     });
+    let (layout, count, column) = match c.ranks() {
+        None => (BY_INPUT.to_string(), "@_inputs", "input"),
+        Some(ranks) => (BY_COMPONENT.replace("@RANKS", &plain(&numbers(ranks))), "@_components", "@_component[input]"),
+    };
     let text = CONTROLLER
+        .replace("@LAYOUT", &layout)
+        .replace("@WIDTH", count)
+        .replace("@COLUMN", column)
+        .replace("@COMPONENTS", &c.columns().to_string())
         .replace("@VERSION", nanpuwiq::VERSION)
         .replace("@FILE", &c.file)
         .replace("@NAMES", &controller_names(c))
@@ -112,8 +120,7 @@ static const uint64_t @_moves[@_inputs][2] = {
 static const uint16_t @_starts[@_inputs] = {
 @STARTS};
 
-/* Rows by output, counter, input, the last fastest. */
-static const uint16_t @_rows[@_outputs * @_counters * @_inputs] = {
+@LAYOUTstatic const uint16_t @_rows[@_outputs * @_counters * @WIDTH] = {
 @ROWS};
 
 static int @_take(@_place *at, unsigned input, uint16_t entry)
@@ -139,8 +146,21 @@ int @_step(@_place *at, unsigned input)
         return 16;
     if (input >= @_inputs || !(@_moves[at->input][input / 64] >> input % 64 & 1))
         return 14;
-    return @_take(at, input, @_rows[((unsigned)at->output * @_counters + at->counter) * @_inputs + input]);
+    return @_take(at, input, @_rows[((unsigned)at->output * @_counters + at->counter) * @WIDTH + @COLUMN]);
 }
+";
+
+const BY_INPUT: &str = "\
+/* Rows by output, counter, input, the last fastest. */
+";
+
+const BY_COMPONENT: &str = "\
+/* The component of each input. Components are numbered by their smallest inputs. */
+enum { @_components = @COMPONENTS };
+static const uint8_t @_component[@_inputs] = {
+@RANKS};
+
+/* Rows by output, counter, component, the last fastest. */
 ";
 
 const KIT: &str = "\

@@ -12,11 +12,23 @@ const COMMENT: (&str, &str) = ("(*", "*)");
 /// The function block of a controller.
 pub fn controller(c: &Controller) -> String {
     let (inputs, counters) = (c.inputs(), c.counters());
-    let rows = labelled(&numbers(c.rows()), inputs, COMMENT, |row| {
+    let rows = labelled(&numbers(c.rows()), c.columns(), COMMENT, |row| {
         format!("output {}, counter {}", c.names.output(OutState(row / counters)), row % counters)
     });
+    let (layout, count, column) = match c.ranks() {
+        None => (BY_INPUT.to_string(), "Inputs", "OldState"),
+        Some(ranks) => (
+            BY_COMPONENT.replace("@RANKS", &plain(&numbers(ranks))),
+            "Components",
+            "UINT_TO_UDINT(ComponentOf[OldState])",
+        ),
+    };
     let moves: Vec<String> = c.game.input.moves.iter().take(inputs).flat_map(|row| truths(*row, inputs)).collect();
     let text = CONTROLLER
+        .replace("@LAYOUT", &layout)
+        .replace("@WIDTH", count)
+        .replace("@COLUMN", column)
+        .replace("@COMPONENTS", &c.columns().to_string())
         .replace("@VERSION", nanpuwiq::VERSION)
         .replace("@FILE", &c.file)
         .replace("@NAMES", &controller_names(c))
@@ -117,8 +129,7 @@ VAR CONSTANT
     (* an entry is output + 128 * counter, or 65535 for none *)
     Starts : ARRAY [0..@LASTSTART] OF UINT := [
 @STARTS    ];
-    (* rows by output, counter, input, the last fastest *)
-    Rows : ARRAY [0..@LASTROW] OF UINT := [
+@LAYOUT    Rows : ARRAY [0..@LASTROW] OF UINT := [
 @ROWS    ];
 END_VAR
 
@@ -139,7 +150,7 @@ ELSIF OldState >= Inputs THEN
 ELSIF NOT InputMoves[Held * Inputs + OldState] THEN
     Code := 14;
 ELSE
-    Entry := UINT_TO_UDINT(Rows[(NewState * Counters + Count) * Inputs + OldState]);
+    Entry := UINT_TO_UDINT(Rows[(NewState * Counters + Count) * @WIDTH + @COLUMN]);
 END_IF;
 IF Code = 0 THEN
     IF Entry = NoEntry THEN
@@ -151,6 +162,16 @@ IF Code = 0 THEN
     END_IF;
 END_IF;
 END_FUNCTION_BLOCK
+";
+
+const BY_INPUT: &str = "    (* rows by output, counter, input, the last fastest *)
+";
+
+const BY_COMPONENT: &str = "    (* the component of each input; components are numbered by their smallest inputs *)
+    Components : UDINT := @COMPONENTS;
+    ComponentOf : ARRAY [0..@LASTSTART] OF UINT := [
+@RANKS    ];
+    (* rows by output, counter, component, the last fastest *)
 ";
 
 const KIT: &str = "\

@@ -12,12 +12,12 @@ mul-result c =
 mul-result-2 : tie.Need-mul-result-2
 mul-result-2 c =
     let a = c .before .before .before .args in
-    omega (arith, base-small (a .z .inputs) (a .z .counters) (a .o .0) (omega arith) (omega arith) (omega arith))
+    omega (arith, base-small (a .z .width) (a .z .counters) (a .o .0) (omega arith) (omega arith) (omega arith))
 
 add-result : tie.Need-add-result
 add-result c =
     let a = c .before .before .before .before .args in
-    omega (arith, base-small (a .z .inputs) (a .z .counters) (a .o .0) (omega arith) (omega arith) (omega arith))
+    omega (arith, base-small (a .z .width) (a .z .counters) (a .o .0) (omega arith) (omega arith) (omega arith))
 
 returns : tie.Need-returns
 returns c = base-at _ _

@@ -1,49 +1,65 @@
--- `plain` writes the rows of one output, input by input.
-use Prim.Native.Nat.{ℕ, _-_, _≤_}
-use mathlib.Core.Path.{sym, _∙_, ap, ap₂}
-use mathlib.Core.Bool.{not}
+-- `plain` writes the rows of one output, leader by leader.
+use Prim.Native.Nat.{_-_, _≤_}
+use mathlib.Core.Path.{_≡_, sym, _∙_}
 use mathlib.Core.Logic.{⊎-elim}
-use Rattle.finite.specs.Bounded.{least}
-use Rattle.bits.specs.Member.{both}
-use Rattle.sets.specs.Words.{capacity, bitsOf, setsIn}
-use Rattle.controller_rows.specs.Each.{none}
-use Rattle.controller_rows.specs.Writes.{settlesAt, Plain}
-use Rattle.controller_rows.proofs.Each.{each-hit, each-miss, each-end}
-use Rattle.controller_rows.proofs.Writes.{table-long, row-at, long-plain, lowest-both}
 use native.Mathlib.Omega.{arith}
-use borrow.Author.Needs.{needs}
+use Rattle.sets.specs.Words.{bitsOf, setsIn}
+use Rattle.controller_rows.specs.Each.{none}
+use Rattle.controller_rows.specs.Writes.{columnOf, Plain}
+use Rattle.controller_rows.proofs.Each.{each-end}
+use Rattle.controller_rows.proofs.Columns.{column-none, column-hit, column-miss, column-below}
+use Rattle.controller_rows.proofs.Writes.{table-long, width-few, long-plain, plain-led, plain-other}
 use Rattle.opening.proofs.unsettled.plain.Statement.{statement}
 use Rattle.opening.proofs.unsettled.plain.Tie as tie
 
 abbrev Inv-loop : tie.InvT-loop
-Inv-loop room₀ s z c o moves n reach j₀ room j = (j ≤ n) × Plain z (setsIn s) (bitsOf (c .0)) (o .0) (bitsOf (moves .0)) j room₀ room
+Inv-loop room₀ s z c o moves leaders reach b₀ j₀ room b j =
+    (j ≤ z .inputs) × (columnOf z j ≡ b) × Plain z (setsIn s) (bitsOf (c .0)) (o .0) (bitsOf (moves .0)) j room₀ room
 
 abbrev μ-loop : tie.MeasureT-loop
-μ-loop room₀ s z c o moves n reach j₀ room j = n - j
+μ-loop room₀ s z c o moves leaders reach b₀ j₀ room b j = z .inputs - j
 
 out-reach-requires : tie.Need-out-reach-requires Inv-loop μ-loop
 out-reach-requires c κs = omega arith
 
 loop-holds : tie.Need-loop-holds Inv-loop μ-loop
-loop-holds c = (omega arith, record { each = none })
+loop-holds c = (omega arith, column-none _, record { each = none })
 
-region-row-requires : tie.Need-region-row-requires Inv-loop μ-loop
-region-row-requires c κs = omega arith
+member-requires : tie.Need-member-requires Inv-loop μ-loop
+member-requires c κs = omega arith
 
-settles-requires : tie.Need-settles-requires Inv-loop μ-loop
-settles-requires c κs = omega arith
+plain-row-requires : tie.Need-plain-row-requires Inv-loop μ-loop
+plain-row-requires c κs =
+    let h = c .before in
+    let m = h .before in
+    let t = m .before in
+    let l = t .before .before in
+    let x = l .before in
+    let b = x .before .before .before .before in
+    let p = b .pre in
+    let i = l .loop .inv in (
+      table-long (p .0) (long-plain (i .2)),
+      p .1,
+      t .if1 .taken,
+      omega (arith, i .1, column-below (b .args .z) (p .0 .columns) (l .loop .j) (t .if1 .taken) (sym (m .member .ensures) ∙ h .if2 .taken)),
+      p .2,
+      x .out-reach .ensures,
+    )
 
-intersection-requires : tie.Need-intersection-requires Inv-loop μ-loop
-intersection-requires c κs = search needs
-
-lowest-requires : tie.Need-lowest-requires Inv-loop μ-loop
-lowest-requires c κs = search needs
-
-write-row-requires : tie.Need-write-row-requires Inv-loop μ-loop
-write-row-requires c κs =
-    let e = c .before .before .before .before in
-    let b = e .before .before .before in
-    (table-long (b .before .before .before .before .pre .0) (long-plain (b .loop .inv .1)), omega arith, omega arith)
+add-b : tie.Need-add-b Inv-loop μ-loop
+add-b c =
+    let h = c .before .before .before .before in
+    let m = h .before in
+    let t = m .before in
+    let l = t .before .before in
+    let b = l .before .before .before .before .before in
+    let p = b .pre in
+    omega (
+      arith,
+      l .loop .inv .1,
+      width-few (b .args .z) _ (p .0),
+      column-below (b .args .z) (p .0 .columns) (l .loop .j) (t .if1 .taken) (sym (m .member .ensures) ∙ h .if2 .taken),
+    )
 
 add-j : tie.Need-add-j Inv-loop μ-loop
 add-j c = omega arith
@@ -53,27 +69,25 @@ loop-less c = omega arith
 
 loop-again : tie.Need-loop-again Inv-loop μ-loop
 loop-again c =
-    let read = c .before .before in
-    let b = read .before .before in
-    let a = b .before .before .before .before .args in
-    let row = read .region-row .ensures in
-    let test = c .before .settles .ensures ∙ ap₂ (λ (x y : ℕ). settlesAt (bitsOf (a .c .0)) (b .loop .j) x y) row (b .before .out-reach .ensures) in
-    let moved = ap (λ (x : ℕ). least capacity (both (bitsOf (a .moves .0)) x)) row in (
+    let m = c .before in
+    let l = m .before .before .before in
+    let i = l .loop .inv in (
       omega arith,
       ⊎-elim
-          (λ w. record {
-            each = each-hit (b .loop .inv .1 .each) (sym (ap not test) ∙ w .0 .taken) (w .7)
-                (row-at (lowest-both _ _ _ (w .1 .ensures) (w .2 .ensures) ∙ moved) (w .4 .ensures));
-          })
-          (λ w. record { each = each-miss (b .loop .inv .1 .each) (sym (ap not test) ∙ w .0 .left) (w .1) })
-          (c .if1 .came),
+          (λ w. column-hit _ (l .loop .j) (sym (m .member .ensures) ∙ w .0 .taken) ∙ omega (arith, i .1, w .6))
+          (λ w. column-miss _ (l .loop .j) (sym (m .member .ensures) ∙ w .0 .left) ∙ i .1 ∙ sym (w .2))
+          (c .if2 .came),
+      ⊎-elim
+          (λ w. rw (w .5) (plain-led (w .2 .ensures) (i .2) (sym (m .member .ensures) ∙ w .0 .taken) (i .1)))
+          (λ w. rw (w .1) (plain-other (i .2) (sym (m .member .ensures) ∙ w .0 .left)))
+          (c .if2 .came),
     )
 
 same-length : tie.Need-same-length Inv-loop μ-loop
-same-length c = long-plain (c .before .loop .inv .1)
+same-length c = long-plain (c .before .before .loop .inv .2)
 
 returns : tie.Need-returns Inv-loop μ-loop
-returns c = record { each = each-end (omega arith) (omega arith) (c .before .loop .inv .1 .each) }
+returns c = record { each = each-end (omega arith) (omega arith) (c .before .before .loop .inv .2 .each) }
 
 pub plain-spec : {M : Type 1} → statement M
 plain-spec =
@@ -83,11 +97,9 @@ plain-spec =
     μ-loop
     out-reach-requires
     loop-holds
-    region-row-requires
-    settles-requires
-    intersection-requires
-    lowest-requires
-    write-row-requires
+    member-requires
+    plain-row-requires
+    add-b
     add-j
     loop-less
     loop-again

@@ -1,0 +1,162 @@
+-- Laws of the ranks. "Components rank from 0 by smallest state."
+--
+--   count-in, count-out      : counting one number further
+--   rank-below               : a rank is below the count of components
+--   components-le            : there are no more components than inputs
+--   rank-same, rank-joined   : two inputs have one rank exactly when they are in one component
+--   first-below              : the smallest state of a component is an input
+--   first-rank, rank-first   : rank c, smallest state of the component of rank c, are inverse to one another
+--   first-rises, rank-rises  : ranks rise with smallest states
+use Prim.Native.Nat.{ℕ, zero, suc, _≤_, _<_}
+use mathlib.Core.Path.{_≡_, sym, _∙_, ap, subst}
+use mathlib.Core.Bool.{Bool, true, false, _&&_}
+use mathlib.Core.Logic.{_⊎_, inl, inr, _↔_}
+use native.Mathlib.Omega.{arith}
+use native.Mathlib.Decide.{ℕ-discrete, decLt}
+use lib.Dec.{eqb}
+use borrow.Author.Tests.{eqb-true, eq-eqb}
+use Rattle.finite.specs.Bounded.{count, one}
+use Rattle.finite.proofs.Truth.{decide, and-intro, and-left, and-right}
+use Rattle.finite.proofs.Bounded.{least-below, least-member, count-le}
+use Rattle.graphs.specs.Component.{joined, number}
+use Rattle.graphs.proofs.Component.{joined-sym, joined-trans, number-same, number-joined, number-below}
+use Rattle.arena.specs.Arena.{Separated}
+use Rattle.compact.specs.Rank.{leads, componentCount, rankOf, firstOf}
+
+-- counting up to a bound that rises
+
+pub count-in : (p : ℕ → Bool) (n : ℕ) → p n ≡ true → count (suc n) p ≡ suc (count n p)
+unfolding count one
+count-in p n e = rw e (omega arith)
+
+pub count-out : (p : ℕ → Bool) (n : ℕ) → p n ≡ false → count (suc n) p ≡ count n p
+unfolding count one
+count-out p n e = rw e (omega arith)
+
+count-step : (p : ℕ → Bool) (n : ℕ) → count n p ≤ count (suc n) p
+count-step p n =
+    elim (decide (p n)) [
+      | inl e ↦ omega (arith, count-in p n e)
+      | inr e ↦ omega (arith, count-out p n e)
+    ]
+
+count-up : (p : ℕ → Bool) (a b : ℕ) → a ≤ b → count a p ≤ count b p
+count-up p a zero h = let e : a ≡ zero = omega arith in rw e (omega arith)
+count-up p a (suc b) h =
+    elim (ℕ-discrete a (suc b)) [
+      | yes e ↦ rw e (omega arith)
+      | no n ↦ omega (arith, count-up p a b (omega arith), count-step p b)
+    ]
+
+-- past a member it has risen
+count-past : (p : ℕ → Bool) (a b : ℕ) → p a ≡ true → a < b → count a p < count b p
+count-past p a b e h = omega (arith, count-in p a e, count-up p (suc a) b (omega arith))
+
+-- every number below the count is the count up to some member
+count-reached : (p : ℕ → Bool) (n c : ℕ) → c < count n p → (s : ℕ) × (s < n) × (p s ≡ true) × (count s p ≡ c)
+unfolding count
+count-reached p zero c h = absurd (omega arith)
+count-reached p (suc n) c h = go (decLt c (count n p)) (decide (p n)) (count-reached p n c)
+  where
+    go : Dec (c < count n p) → (p n ≡ true) ⊎ (p n ≡ false) → (c < count n p → (s : ℕ) × (s < n) × (p s ≡ true) × (count s p ≡ c))
+        → (s : ℕ) × (s < suc n) × (p s ≡ true) × (count s p ≡ c)
+    go (yes b) d rec = let w = rec b in (w .0, omega (arith, w .1), w .2, w .3)
+    go (no b) (inl e) rec = (n, omega arith, e, omega (arith, count-in p n e))
+    go (no b) (inr e) rec = absurd (omega (arith, count-out p n e))
+
+module _ (S : Separated) where
+  leads-number : (j : ℕ) → j < S .input .states → leads S (number (S .input) j) ≡ true
+  unfolding leads
+  leads-number j b =
+      let s = number (S .input) j in
+      eq-eqb (number (S .input) s) s (sym (number-same (S .input) j s (number-joined (S .input) j b)))
+
+  number-leads : (s : ℕ) → leads S s ≡ true → number (S .input) s ≡ s
+  unfolding leads
+  number-leads s h = eqb-true (number (S .input) s) s h
+
+  pub rank-below : (j : ℕ) → j < S .input .states → rankOf S j < componentCount S
+  unfolding rankOf componentCount
+  rank-below j b = count-past (leads S) (number (S .input) j) (S .input .states) (leads-number j b) (number-below (S .input) j b)
+
+  -- there are no more components than inputs
+  pub components-le : componentCount S ≤ S .input .states
+  unfolding componentCount
+  components-le = count-le (S .input .states) (leads S)
+
+  pub rank-same : (j k : ℕ) → joined (S .input) j k ≡ true → rankOf S j ≡ rankOf S k
+  unfolding rankOf
+  rank-same j k h = ap (λ (s : ℕ). count s (leads S)) (number-same (S .input) j k h)
+
+  -- a smaller smallest state, a smaller rank
+  pub rank-rises : (j k : ℕ) → j < S .input .states → number (S .input) j < number (S .input) k → rankOf S j < rankOf S k
+  unfolding rankOf
+  rank-rises j k b h = count-past (leads S) (number (S .input) j) (number (S .input) k) (leads-number j b) h
+
+  number-ranked : (j k : ℕ) → j < S .input .states → k < S .input .states → rankOf S j ≡ rankOf S k → number (S .input) j ≡ number (S .input) k
+  number-ranked j k b c e = go (decLt (number (S .input) j) (number (S .input) k)) (decLt (number (S .input) k) (number (S .input) j))
+    where
+      go : Dec (number (S .input) j < number (S .input) k) → Dec (number (S .input) k < number (S .input) j)
+          → number (S .input) j ≡ number (S .input) k
+      go (yes l) d = absurd (omega (arith, rank-rises j k b l))
+      go (no l) (yes m) = absurd (omega (arith, rank-rises k j c m))
+      go (no l) (no m) = omega arith
+
+  pub rank-apart : (j k : ℕ) → j < S .input .states → k < S .input .states → rankOf S j ≡ rankOf S k → joined (S .input) j k ≡ true
+  rank-apart j k b c e =
+      joined-trans (S .input) j (number (S .input) j) k (number-joined (S .input) j b)
+      (joined-sym (S .input) k (number (S .input) j)
+      (subst (λ (s : ℕ). joined (S .input) k s ≡ true) (sym (number-ranked j k b c e)) (number-joined (S .input) k c)))
+
+  -- Two inputs have one rank exactly when they are in one component.
+  pub rank-joined : (j k : ℕ) → j < S .input .states → k < S .input .states → (rankOf S j ≡ rankOf S k) ↔ (joined (S .input) j k ≡ true)
+  rank-joined j k b c = (rank-apart j k b c, rank-same j k)
+
+  -- the smallest state of the component of rank c
+
+  ranked : ℕ → ℕ → Bool
+  ranked c s = leads S s && eqb (count s (leads S)) c
+
+  first-found : (c : ℕ) → c < componentCount S → firstOf S c < S .input .states
+  unfolding firstOf componentCount ranked
+  first-found c h =
+      let w = count-reached (leads S) (S .input .states) c h in
+      least-below (S .input .states) (ranked c) (w .0) (w .1) (and-intro (w .2) (eq-eqb (count (w .0) (leads S)) c (w .3)))
+
+  first-ranked : (c : ℕ) → c < componentCount S → ranked c (firstOf S c) ≡ true
+  unfolding firstOf ranked
+  first-ranked c h = least-member (S .input .states) (ranked c) (first-found c h)
+
+  pub first-below : (c : ℕ) → c < componentCount S → firstOf S c < S .input .states
+  first-below c h = first-found c h
+
+  -- it is the smallest of its component
+  pub first-number : (c : ℕ) → c < componentCount S → number (S .input) (firstOf S c) ≡ firstOf S c
+  unfolding ranked
+  first-number c h =
+      number-leads (firstOf S c) (and-left (leads S (firstOf S c)) (eqb (count (firstOf S c) (leads S)) c) (first-ranked c h))
+
+  first-count : (c : ℕ) → c < componentCount S → count (firstOf S c) (leads S) ≡ c
+  unfolding ranked
+  first-count c h =
+      eqb-true (count (firstOf S c) (leads S)) c
+      (and-right (leads S (firstOf S c)) (eqb (count (firstOf S c) (leads S)) c) (first-ranked c h))
+
+  pub first-rank : (c : ℕ) → c < componentCount S → rankOf S (firstOf S c) ≡ c
+  unfolding rankOf
+  first-rank c h = ap (λ (s : ℕ). count s (leads S)) (first-number c h) ∙ first-count c h
+
+  pub rank-first : (j : ℕ) → j < S .input .states → firstOf S (rankOf S j) ≡ number (S .input) j
+  rank-first j b =
+      let r = rank-below j b in
+      sym (first-number (rankOf S j) r)
+      ∙ number-ranked (firstOf S (rankOf S j)) j (first-below (rankOf S j) r) b (first-rank (rankOf S j) r)
+
+  -- "Components rank from 0 by smallest state."
+  pub first-rises : (c d : ℕ) → c < d → d < componentCount S → firstOf S c < firstOf S d
+  first-rises c d l h = go (decLt (firstOf S c) (firstOf S d))
+    where
+      go : Dec (firstOf S c < firstOf S d) → firstOf S c < firstOf S d
+      go (yes b) = b
+      go (no b) =
+          absurd (omega (arith, count-up (leads S) (firstOf S d) (firstOf S c) (omega arith), first-count c (omega arith), first-count d h))

@@ -1,0 +1,84 @@
+-- The laws of the smallest inputs for a game.
+--
+--   firsts-none, firsts-leader, firsts-other, firsts-end   : naming the smallest inputs
+--   firsts-below, rows-long                                : what the test reads is in the table
+--   parts-none, parts-next, parts-stop, parts-end          : the parts, one after the other
+use Prim.Native.Nat.{ℕ, _+_, _*_, _≤_, _<_}
+use mathlib.Core.Path.{_≡_, sym, _∙_, ap, subst, subst⁻¹, subst₂}
+use mathlib.Core.Bool.{true, false}
+use mathlib.Core.List.{List}
+use mathlib.Core.Logic.{_⊎_}
+use native.Mathlib.Omega.{arith}
+use lib.ListN.{length, getD}
+use Rattle.bits.specs.Member.{has, pack}
+use Rattle.bits.proofs.Membership.{has-pack-below}
+use Rattle.graphs.specs.Component.{joined}
+use Rattle.graphs.proofs.Component.{number-below}
+use Rattle.arena.specs.Arena.{Separated}
+use Rattle.game.specs.declared.Game.{Game}
+use Rattle.play.specs.Play.{graphOf, separatedOf}
+use Rattle.theory.specs.Entries.{controllerCounters}
+use Rattle.compact.specs.Rank.{leads}
+use Rattle.compact.specs.Compact.{fullLength}
+use Rattle.compact.specs.Moving.{rowsFit}
+use Rattle.compact_checks.specs.Parts.{partFits, Marked}
+use Rattle.compact_checks.specs.Firsts.{Named, Firsts, Same}
+use Rattle.compact_checks.proofs.Firsts.{named-none, named-leader, named-other, named-end, same-next, same-stop, same-end}
+
+module _ (g : Game) where
+  abbrev S : Separated
+  S = separatedOf g
+
+  abbrev I : ℕ
+  I = g .input .states
+
+  module _ (part n : ℕ) (in-graph : part + n ≤ I) where
+    pub firsts-none : (F : List ℕ) → length F ≡ 64 → Named S part n 0 F
+    unfolding separatedOf graphOf
+    firsts-none F e = named-none S part n in-graph F e
+
+    module _ (j : ℕ) (lj : j < I) {b : ℕ} (e : b ≡ pack I (leads S)) where
+      leads-of : has b j ≡ leads S j
+      leads-of = ap (λ (x : ℕ). has x j) e ∙ has-pack-below I (leads S) j lj
+
+      pub firsts-leader : {c : ℕ} {F F′ : List ℕ} → has b j ≡ true → c ≡ pack I (joined (graphOf (g .input)) j) → Named S part n j F
+          → Marked part n c j F F′ → Named S part n (j + 1) F′
+      unfolding separatedOf graphOf
+      firsts-leader h q D M = named-leader S part n in-graph j D lj (sym leads-of ∙ h) q M
+
+      pub firsts-other : {F : List ℕ} → has b j ≡ false → Named S part n j F → Named S part n (j + 1) F
+      unfolding separatedOf graphOf
+      firsts-other h D = named-other S part n in-graph j D (sym leads-of ∙ h)
+
+    pub firsts-end : (j : ℕ) {F : List ℕ} → I ≤ j → Named S part n j F → Firsts g part n F
+    unfolding separatedOf graphOf
+    firsts-end j b D = record { long = D .long; name = named-end S part n in-graph j b D }
+
+  -- the smallest inputs are inputs
+  pub firsts-below : (part n : ℕ) {F : List ℕ} → part + n ≤ I → Firsts g part n F → (k : ℕ) → k < n → getD F k 0 < I
+  unfolding separatedOf graphOf
+  firsts-below part n b D k l = omega (arith, D .name k l, number-below (S .input) (part + k) (omega arith))
+
+  module _ (T : List ℕ) {R : ℕ} (q : R ≡ g .output .states * controllerCounters S) where
+    pub rows-long : length T ≡ fullLength S → I + R * I ≡ length T
+    unfolding separatedOf graphOf fullLength
+    rows-long e = ap (λ (r : ℕ). I + r * I) q ∙ sym e
+
+    pub parts-none : Same S T R 0
+    parts-none = record { entry = λ x j b l h. absurd (omega arith) }
+
+    module _ (part n : ℕ) {F : List ℕ} {N : ℕ} (z : N ≡ I) (in-graph : part + n ≤ I) (D : Firsts g part n F) where
+      pub parts-next : (n ≡ 64) ⊎ (part + n ≡ I) → partFits T F N R part n ≡ true → Same S T R part → Same S T R (part + 64)
+      unfolding separatedOf graphOf
+      parts-next e h P =
+          subst⁻¹ (λ (r : ℕ). Same S T r (part + 64)) q
+          (same-next S T F part n in-graph (D .name) e (subst₂ (λ (i r : ℕ). partFits T F i r part n ≡ true) z q h)
+          (subst (λ (r : ℕ). Same S T r part) q P))
+
+      pub parts-stop : length T ≡ fullLength S → partFits T F N R part n ≡ false → false ≡ rowsFit S T
+      unfolding separatedOf graphOf
+      parts-stop e h = sym (same-stop S T F part n in-graph (D .name) e (subst₂ (λ (i r : ℕ). partFits T F i r part n ≡ false) z q h))
+
+    pub parts-end : (part : ℕ) → length T ≡ fullLength S → I ≤ part → Same S T R part → true ≡ rowsFit S T
+    unfolding separatedOf graphOf
+    parts-end part e b P = sym (same-end S T part e b (subst (λ (r : ℕ). Same S T r part) q P))

@@ -1,0 +1,3 @@
+-- What the contracts of the test cite.
+pub mod Parts
+pub mod Firsts

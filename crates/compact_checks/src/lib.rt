@@ -1,0 +1,127 @@
+// Whether inputs of one component have the same rows in a table of the full layout. An entry is compared with that of its component's smallest input.
+// Eight words hold the smallest inputs for 64 inputs: the table is gone through once for each such part of the inputs, row after row.
+use game::Game;
+use game::InSet;
+use game::InState;
+use sets::Set;
+ghost use mathlib.Core.Path.{_≡_};
+ghost use mathlib.Core.Logic.{_⊎_};
+ghost use Prim.Native.Nat.{ℕ, _+_, _*_, _≤_, _<_};
+ghost use lib.ListN.{length, getD};
+ghost use Rattle.bits.specs.Member.{pack};
+ghost use Rattle.sets.specs.Words.{capacity, bitsOf};
+ghost use Rattle.game.specs.declared.Acceptance.the-variants.{Accepted};
+ghost use Rattle.game.specs.Acceptance.{acceptance};
+ghost use Rattle.play.specs.Play.{separatedOf};
+ghost use Rattle.compact.specs.Rank.{leads};
+ghost use Rattle.compact.specs.Compact.{fullLength};
+ghost use Rattle.compact.specs.Moving.{rowsFit};
+ghost use Rattle.compact_checks.specs.Parts.{rowFits, partFits, Marked};
+ghost use Rattle.compact_checks.specs.Firsts.{Firsts};
+
+fn wide(x: u8) -> usize
+    ensures { λ r. ⌜ r ≡ x ⌝ }
+{
+    x as usize
+}
+
+// Whether the entries of `count` inputs from `part` on are those of the inputs named by firsts, in the row number that begins at `row`.
+fn row_fits(table: &[u16], row: usize, part: usize, count: usize, firsts: &[u8; 64]) -> bool
+    requires { ⌜ (count ≤ 64) × (row + part + count ≤ length (now table))
+        × ((k : ℕ) → k < count → row + getD (now firsts) k 0 < length (now table)) ⌝ }
+    ensures { λ r. ⌜ r ≡ rowFits (now (table .entry)) (now (firsts .entry)) row part count ⌝ }
+{
+    let mut k: usize = 0;
+    while k < count {
+        let s = wide(firsts[k]);
+        if table[row + part + k] != table[row + s] {
+            return false;
+        }
+        k += 1;
+    }
+    true
+}
+
+// The same of every row number.
+fn part_fits(
+    table: &[u16],
+    inputs: usize,
+    rows: usize,
+    part: usize,
+    count: usize,
+    firsts: &[u8; 64],
+) -> bool
+    requires { ⌜ (count ≤ 64) × (part + count ≤ inputs) × (inputs + rows * inputs ≤ length (now table))
+        × ((k : ℕ) → k < count → getD (now firsts) k 0 < inputs) ⌝ }
+    ensures { λ r. ⌜ r ≡ partFits (now (table .entry)) (now (firsts .entry)) inputs rows part count ⌝ }
+{
+    let mut x: usize = 0;
+    while x < rows {
+        if !row_fits(table, inputs + x * inputs, part, count, firsts) {
+            return false;
+        }
+        x += 1;
+    }
+    true
+}
+
+// Names s for those of the inputs from `part` on that are in c.
+fn mark(firsts: &mut [u8; 64], part: usize, count: usize, c: Set, s: u8)
+    requires { ⌜ (count ≤ 64) × (part + count ≤ capacity) × (length (now firsts) ≡ 64) ⌝ }
+    ensures { λ r. ⌜ Marked part count (bitsOf c) s (now (firsts .entry)) (now (firsts .exit)) ⌝ }
+{
+    let mut k: usize = 0;
+    while k < count {
+        if sets::member(c, part + k) {
+            firsts[k] = s;
+        }
+        k += 1;
+    }
+}
+
+// The smallest input of the component of each of `count` inputs from `part` on.
+fn name_firsts(g: Game, leaders: InSet, part: usize, count: usize, firsts: &mut [u8; 64])
+    requires { ⌜ (acceptance g ≡ Accepted) × (bitsOf (leaders .0) ≡ pack (g .input .states) (leads (separatedOf g))) × (count ≤ 64)
+        × (part + count ≤ g .input .states) × (length (now firsts) ≡ 64) ⌝ }
+    ensures { λ r. ⌜ Firsts g part count (now (firsts .exit)) ⌝ }
+{
+    let n = g.input.states;
+    let mut j: usize = 0;
+    while j < n {
+        if sets::member(leaders.0, j) {
+            let c = component_ranks::component(g, InState(j));
+            mark(firsts, part, count, c.0, j as u8);
+        }
+        j += 1;
+    }
+}
+
+fn at_most_64(n: usize) -> usize
+    ensures { λ r. ⌜ (r ≤ 64) × (r ≤ n) × ((r ≡ 64) ⊎ (r ≡ n)) ⌝ }
+{
+    if n < 64 {
+        return n;
+    }
+    64
+}
+
+// Whether no two inputs of one component differ in a row.
+pub fn rows_fit(g: Game, table: &[u16]) -> bool
+    requires { ⌜ (acceptance g ≡ Accepted) × (length (now table) ≡ fullLength (separatedOf g)) ⌝ }
+    ensures { λ r. ⌜ r ≡ rowsFit (separatedOf g) (now (table .entry)) ⌝ }
+{
+    let n = g.input.states;
+    let rows = g.output.states * sizes::controller_counters(g);
+    let leaders = component_ranks::leading(g);
+    let mut firsts: [u8; 64] = [0; 64];
+    let mut part: usize = 0;
+    while part < n {
+        let count = at_most_64(n - part);
+        name_firsts(g, leaders, part, count, &mut firsts);
+        if !part_fits(table, n, rows, part, count, &firsts) {
+            return false;
+        }
+        part += 64;
+    }
+    true
+}

@@ -1,0 +1,3 @@
+-- Laws of the moves.
+pub mod Answers
+pub mod Written

@@ -1,0 +1,2 @@
+-- What the moves promise.
+pub mod Promise

@@ -1,0 +1,2 @@
+-- What the functions that copy a table read and write.
+pub mod Copying

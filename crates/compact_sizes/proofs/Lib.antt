@@ -1,0 +1,2 @@
+-- Lengths by component.
+pub mod Lengths

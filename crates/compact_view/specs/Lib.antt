@@ -1,0 +1,2 @@
+-- What the contract of the reader cites.
+pub mod Rows

@@ -1,0 +1,162 @@
+-- The controller's table by component.
+--
+--   components-columns    : there are as many columns as components
+--   component-long, ranks-room, component-filled : the table
+use Prim.Native.Nat.{ℕ, zero, suc, _+_, _-_, _≤_, _<_}
+use mathlib.Core.Path.{_≡_, refl, sym, _∙_, ap, ap₂}
+use mathlib.Core.Bool.{Bool, _&&_}
+use mathlib.Core.List.{List, [], _∷_, _++_}
+use native.Mathlib.Omega.{arith}
+use native.Mathlib.Decide.{decLt}
+use lib.Dec.{eqb}
+use lib.ListN.{length, getD, drop, length-drop}
+use lib.Seq.{ext-getD, getD-drop}
+use Rattle.finite.specs.Bounded.{least, count}
+use Rattle.finite.proofs.Bounded.{least-same, count-same}
+use Rattle.bits.specs.Member.{has, pack}
+use Rattle.bits.proofs.Membership.{has-pack-below}
+use Rattle.sets.specs.Words.{bitsOf, setsIn}
+use Rattle.filling.specs.Grows.{Right, Grows}
+use Rattle.filling.proofs.Grows.{grows-more}
+use Rattle.game.specs.declared.Game.{Game}
+use Rattle.play.specs.Play.{graphOf, separatedOf}
+use Rattle.theory.specs.Choice.{controllerStart}
+use Rattle.theory.specs.Entries.{entry}
+use Rattle.compact.specs.Rank.{leads, componentCount, firstOf}
+use Rattle.compact.specs.Compact.{compactLength, compactEntries, compactCell}
+use Rattle.compact.proofs.Rank.{first-below}
+use Rattle.compact.proofs.Entries.{compact-entries-length, compact-start, compact-rank, compact-cell}
+use Rattle.component_ranks.specs.Ranks.{RanksWritten}
+use Rattle.layout.specs.Rows.{place}
+use Rattle.controller_rows.specs.declared.Size.{Size}
+use Rattle.controller_rows.specs.Writes.{leading, columnOf, inputOf, layoutOf, lengthOf, Starts}
+use Rattle.controller_rows.proofs.Writes.{long-starts}
+use Rattle.controller_table.specs.Filled.{Sheet, Filled, Every, Sized, Given}
+use Rattle.controller_table.proofs.Cells.{place-room}
+use Rattle.controller_table.proofs.Setting.{sizes-of}
+use Rattle.controller_table.proofs.Table.{starts-grown, starts-stand, table-filled}
+use Rattle.controller.specs.Sizes.{ByComponent}
+
+-- what is read inside a list is no default
+read-any : (l : List ℕ) (i a b : ℕ) → i < length l → getD l i a ≡ getD l i b
+read-any [] i a b h = absurd (omega arith)
+read-any (x ∷ l) zero a b h = refl
+read-any (x ∷ l) (suc i) a b h = read-any l i a b (omega arith)
+
+-- lists with the same entries from n on
+rest-same : (n : ℕ) (l m : List ℕ) → length m ≡ length l → ((k : ℕ) → n ≤ k → getD m k 0 ≡ getD l k 0) → drop n m ≡ drop n l
+rest-same n l m e f =
+    ext-getD 0 (drop n m) (drop n l) (length-drop n m ∙ ap (λ (k : ℕ). k - n) e ∙ sym (length-drop n l))
+    (λ i b. getD-drop n m i 0 ∙ f (n + i) (omega arith) ∙ sym (getD-drop n l i 0))
+
+pub components-columns : (g : Game) (x : ℕ) → x ≡ pack (g .input .states) (leads (separatedOf g))
+    → componentCount (separatedOf g) ≡ count (g .input .states) (has x)
+unfolding componentCount separatedOf graphOf
+components-columns g x e =
+    count-same (g .input .states) (leads (separatedOf g)) (has x)
+    (λ k b. sym (ap (λ (y : ℕ). has y k) e ∙ has-pack-below (g .input .states) (leads (separatedOf g)) k b))
+
+module _ (g : Game) (z : Size) (Z : Sized g z) (C : ByComponent g z) where
+  leads-at : (j : ℕ) → j < z .inputs → leading z j ≡ leads (separatedOf g) j
+  leads-at j b = ap (λ (x : ℕ). has x j) (C .leaders) ∙ has-pack-below (z .inputs) (leads (separatedOf g)) j b
+
+  column-at : (j : ℕ) → j ≤ z .inputs → columnOf z j ≡ count j (leads (separatedOf g))
+  unfolding columnOf
+  column-at j b = count-same j (leading z) (leads (separatedOf g)) (λ k l. leads-at k (omega arith))
+
+  -- the leader of a column is the smallest input of its component
+  input-at : (b : ℕ) → inputOf z b ≡ firstOf (separatedOf g) b
+  unfolding inputOf firstOf
+  input-at b =
+      least-same (z .inputs) (λ j. leading z j && eqb (columnOf z j) b)
+      (λ j. leads (separatedOf g) j && eqb (count j (leads (separatedOf g))) b)
+      (λ j l. ap₂ (λ (x : Bool) (k : ℕ). x && eqb k b) (leads-at j l) (column-at j (omega arith)))
+      ∙ ap (λ (n : ℕ). least n (λ j. leads (separatedOf g) j && eqb (count j (leads (separatedOf g))) b)) (sizes-of g z Z .inputs)
+
+  pub component-long : lengthOf z ≡ compactLength (separatedOf g)
+  unfolding compactLength
+  component-long =
+      let e = sizes-of g z Z in
+      rw (C .base, C .width, e .inputs, e .outputs, e .counters) (omega arith)
+
+  -- the starts and the ranks come first
+  pub ranks-room : g .input .states + g .input .states ≤ compactLength (separatedOf g)
+  ranks-room = omega (arith, component-long, C .base, Z .inputs)
+
+  list-long : lengthOf z ≡ length (compactEntries (separatedOf g))
+  list-long = component-long ∙ sym (compact-entries-length (separatedOf g))
+
+  inside : (k : ℕ) → k < z .base → k < length (compactEntries (separatedOf g))
+  inside k b = omega (arith, list-long)
+
+  component-sheet : Sheet (separatedOf g) (layoutOf z) (inputOf z) (compactEntries (separatedOf g))
+  unfolding layoutOf place compactCell
+  component-sheet =
+      let e = sizes-of g z Z in record {
+        outputs = e .outputs;
+        counters = e .counters;
+        inputs = λ b l. rw (input-at b) (first-below (separatedOf g) b (rw (C .width) at l));
+        rows = record {
+          long = sym list-long;
+          row = λ o c b lo lc lb.
+              read-any (compactEntries (separatedOf g)) (place (layoutOf z) o c b) 0 65535
+              (rw (← list-long) (place-room (layoutOf z) o c b lo lc lb))
+              ∙ rw (input-at b, C .base, C .width, e .inputs, e .counters)
+              (ap (λ (k : ℕ). getD (compactEntries (separatedOf g)) k 65535) (omega arith)
+              ∙ compact-cell (separatedOf g) o c b (omega (arith, e .outputs)) (omega (arith, e .counters)) (omega (arith, C .width)));
+        };
+      }
+
+  starts-at : (i : ℕ) → i < separatedOf g .input .states
+      → getD (compactEntries (separatedOf g)) i 0 ≡ entry (controllerStart (separatedOf g) i)
+  starts-at i b =
+      read-any (compactEntries (separatedOf g)) i 0 65535 (inside i (omega (arith, C .base, sizes-of g z Z .inputs))) ∙ compact-start (separatedOf g) i b
+
+  -- the ranks
+  module _ {l m : List ℕ} (long : compactLength (separatedOf g) ≤ length l) (R : RanksWritten g l m) where
+    rank-stands : (t : ℕ) → t < z .inputs → Right (compactEntries (separatedOf g)) m (z .inputs + t)
+    rank-stands t b =
+        let e = sizes-of g z Z .inputs in record {
+          is =
+              ap (λ (n : ℕ). getD m (n + t) 0) (Z .inputs) ∙ R .rank t (rw (Z .inputs) at b)
+              ∙ sym
+              (read-any (compactEntries (separatedOf g)) (z .inputs + t) 0 65535 (inside (z .inputs + t) (omega (arith, C .base)))
+              ∙ ap (λ (n : ℕ). getD (compactEntries (separatedOf g)) (n + t) 65535) e ∙ compact-rank (separatedOf g) t (omega arith));
+        }
+
+    ranks-grown : Grows (compactEntries (separatedOf g)) l m
+    ranks-grown = record {
+      long = R .long;
+      rest = rest-same (length (compactEntries (separatedOf g))) l m (R .long) (λ k b. R .rest k (omega (arith, list-long, C .base, Z .inputs)));
+      kept = λ k b r. go k r (decLt k (z .inputs)) (decLt k (z .base));
+    }
+      where
+        go : (k : ℕ) → Right (compactEntries (separatedOf g)) l k → Dec (k < z .inputs) → Dec (k < z .base) → Right (compactEntries (separatedOf g)) m k
+        go k r (yes a) d = record { is = R .front k (omega (arith, Z .inputs)) ∙ r .is }
+        go k r (no a) (yes b) =
+            let q : k ≡ z .inputs + (k - z .inputs) = omega arith in
+            rw q (rank-stands (k - z .inputs) (omega (arith, C .base)))
+        go k r (no a) (no b) = record { is = R .rest k (omega (arith, C .base, Z .inputs)) ∙ r .is }
+
+    ranks-stand : ((k : ℕ) → k < z .inputs → Right (compactEntries (separatedOf g)) l k) → (k : ℕ) → k < z .base
+        → Right (compactEntries (separatedOf g)) m k
+    ranks-stand f k b = go (decLt k (z .inputs))
+      where
+        go : Dec (k < z .inputs) → Right (compactEntries (separatedOf g)) m k
+        go (yes a) = ranks-grown .kept k (inside k b) (f k a)
+        go (no a) =
+            let q : k ≡ z .inputs + (k - z .inputs) = omega arith in
+            rw q (rank-stands (k - z .inputs) (omega (arith, C .base)))
+
+  -- the starts, the ranks and the rows are the table
+  pub component-filled : {s : List ℕ} {inner : ℕ} {l m n r : List ℕ} → Given g z s inner → compactLength (separatedOf g) ≤ length l
+      → Starts z (setsIn s) inner (bitsOf (g .input .initial)) (bitsOf (g .output .initial)) (z .inputs) l m → RanksWritten g m n
+      → Filled (separatedOf g) z Every n r → r ≡ compactEntries (separatedOf g) ++ drop (compactLength (separatedOf g)) l
+  component-filled {s} {inner} {l} {m} {n} {r} G long one two rows =
+      let E = compactEntries (separatedOf g) in
+      let w : lengthOf z ≤ length l = omega (arith, component-long) in
+      let v : compactLength (separatedOf g) ≤ length m = omega (arith, long-starts one) in
+      table-filled g z s inner G E component-sheet starts-at w
+      (grows-more E (starts-grown g z s inner G E component-sheet starts-at w one) (ranks-grown v two))
+      (ranks-stand v two (λ k b. starts-stand g z s inner G E component-sheet starts-at w one k (omega (arith, sizes-of g z Z .inputs)))) rows
+      ∙ ap (λ (k : ℕ). E ++ drop k l) (compact-entries-length (separatedOf g))

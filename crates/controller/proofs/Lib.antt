@@ -1,0 +1,3 @@
+-- Sheets: the table by input. Components: the table by component.
+pub mod Sheets
+pub mod Components

@@ -1,0 +1,2 @@
+-- The layouts.
+pub mod Sizes

@@ -1,0 +1,37 @@
+// The solver, the controller's table with its rows by component.
+use crate::Verdict;
+use game::Game;
+ghost use mathlib.Core.Path.{_≡_};
+ghost use Rattle.game.specs.declared.Acceptance.the-variants.{Accepted};
+ghost use Rattle.game.specs.Acceptance.{acceptance};
+ghost use Rattle.solver.specs.Compact.{SolvedCompact};
+
+// On an accepted game, where the buffers are long enough. The components are found with no scratch, so that a short room is refused before anything is
+// written.
+pub fn solve_accepted(
+    g: Game,
+    scratch: &mut [u64],
+    controller: &mut [u16],
+    panel: &mut [u16],
+) -> Verdict
+    requires { ⌜ acceptance g ≡ Accepted ⌝ }
+    ensures { λ r. ⌜ SolvedCompact g (now (scratch .entry)) (now (scratch .exit)) (now (controller .entry)) (now (controller .exit)) (now (panel .entry))
+        (now (panel .exit)) r ⌝ }
+{
+    if scratch.len() < scratch::length(g) {
+        return Verdict::Refused(8);
+    }
+    let leaders = component_ranks::leading(g);
+    let c = compact_sizes::compact_length(g, component_ranks::components(g, leaders));
+    if controller.len() < c {
+        return Verdict::Refused(9);
+    }
+    let e = sizes::environment_length(g);
+    if panel.len() < e {
+        return Verdict::Refused(10);
+    }
+    if winner::by_component::write_winner(g, leaders, scratch, controller, panel) {
+        return Verdict::System(c);
+    }
+    Verdict::Environment(e)
+}
