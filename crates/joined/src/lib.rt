@@ -21,34 +21,52 @@ use game::OutState;
 use joined_reach::AHEAD;
 use joined_reach::KNOWN;
 use joined_reach::WON;
+use sets::ROW_WORDS;
 
 // Settles the component of (i, o), n positions being ahead of it: all components that it leads to are settled.
-fn settle_component(g: Game, s: &mut [u64], i: InState, o: OutState, n: u64)
+fn settle_component(
+    g: Game,
+    ins: &[u64; ROW_WORDS],
+    outs: &[u64; ROW_WORDS],
+    s: &mut [u64],
+    i: InState,
+    o: OutState,
+    n: u64,
+)
     requires { ⌜ Small g × (4096 ≤ length (now s)) × Backward g n (now s) × (i .0 < g .input .states) × (o .0 < g .output .states)
-        × (rankAt (separatedOf g) (i .0) (o .0) ≡ n) × (known g (now s) (i .0) (o .0) ≡ false) ⌝ }
+        × (rankAt (separatedOf g) (i .0) (o .0) ≡ n) × (known g (now s) (i .0) (o .0) ≡ false) × (now ins ≡ g .input .moves)
+        × (now outs ≡ g .output .moves) ⌝ }
     ensures { λ _. ⌜ Advanced g n (i .0) (o .0) (now (s .entry)) (now (s .exit)) ⌝ }
 {
-    joined_reach::close(g, s, i, o);
+    joined_reach::close(g, ins, outs, s, i, o);
     joined_component::draw_component(g, s, n);
-    joined_settle::settle(g, s, i, o);
+    joined_settle::settle(g, ins, outs, s, i, o);
     joined_component::join(g, s, KNOWN);
 }
 
 // Settles the component of (i, o) where that has not been done.
-fn settle_position(g: Game, s: &mut [u64], i: InState, o: OutState, n: u64)
+fn settle_position(
+    g: Game,
+    ins: &[u64; ROW_WORDS],
+    outs: &[u64; ROW_WORDS],
+    s: &mut [u64],
+    i: InState,
+    o: OutState,
+    n: u64,
+)
     requires { ⌜ Small g × (4096 ≤ length (now s)) × Backward g n (now s) × (i .0 < g .input .states) × (o .0 < g .output .states)
-        × (rankAt (separatedOf g) (i .0) (o .0) ≡ n) ⌝ }
+        × (rankAt (separatedOf g) (i .0) (o .0) ≡ n) × (now ins ≡ g .input .moves) × (now outs ≡ g .output .moves) ⌝ }
     ensures { λ _. ⌜ Advanced g n (i .0) (o .0) (now (s .entry)) (now (s .exit)) ⌝ }
 {
     let row = i.0;
     if !bits::member(s[KNOWN + row], o.0) {
-        settle_component(g, s, i, o, n);
+        settle_component(g, ins, outs, s, i, o, n);
     }
 }
 
 // Settles all components with n positions ahead.
-fn settle_rank(g: Game, s: &mut [u64], n: u64)
-    requires { ⌜ Small g × (4096 ≤ length (now s)) × Backward g n (now s) ⌝ }
+fn settle_rank(g: Game, ins: &[u64; ROW_WORDS], outs: &[u64; ROW_WORDS], s: &mut [u64], n: u64)
+    requires { ⌜ Small g × (4096 ≤ length (now s)) × Backward g n (now s) × (now ins ≡ g .input .moves) × (now outs ≡ g .output .moves) ⌝ }
     ensures { λ _. ⌜ Passed g n (g .input .states * g .output .states) (now (s .entry)) (now (s .exit)) ⌝ }
 {
     let m = g.output.states;
@@ -58,23 +76,23 @@ fn settle_rank(g: Game, s: &mut [u64], n: u64)
         if s[AHEAD + c] == n {
             let i = c / m;
             let o = c % m;
-            settle_position(g, s, InState(i), OutState(o), n);
+            settle_position(g, ins, outs, s, InState(i), OutState(o), n);
         }
         c += 1;
     }
 }
 
 // Marks the won positions. The last components have the fewest positions ahead, so they are settled first.
-fn solve(g: Game, s: &mut [u64])
-    requires { ⌜ Small g × (4096 ≤ length (now s)) ⌝ }
+fn solve<'a>(g: Game, ins: &'a [u64; ROW_WORDS], outs: &'a [u64; ROW_WORDS], s: &mut [u64])
+    requires { ⌜ Small g × (4096 ≤ length (now s)) × (now ins ≡ g .input .moves) × (now outs ≡ g .output .moves) ⌝ }
     ensures { λ _. ⌜ Kept 0 2048 (now (s .entry)) (now (s .exit)) × Solved g (now (s .exit)) ⌝ }
 {
-    joined_reach::count_ahead(g, s);
+    joined_reach::count_ahead(g, ins, outs, s);
     clearing::clear(s, 160);
     let positions = g.input.states * g.output.states;
     let mut n: usize = 1;
     while n <= positions {
-        settle_rank(g, s, n as u64);
+        settle_rank(g, ins, outs, s, n as u64);
         n += 1;
     }
 }
@@ -96,7 +114,7 @@ fn make_map(g: Game, scratch: &mut [u64], map: &mut [u64])
     requires { ⌜ Small g × (4096 ≤ length (now scratch)) × (g .input .states ≤ setCount (now map)) ⌝ }
     ensures { λ _. ⌜ (now (scratch .exit) ≡ cleared 4096 (now (scratch .entry))) × MapFilled g (now (map .entry)) (now (map .exit)) ⌝ }
 {
-    solve(g, scratch);
+    solve(g, &g.input.moves, &g.output.moves, scratch);
     write_map(g, scratch, map);
     clearing::clear(scratch, 4096);
 }

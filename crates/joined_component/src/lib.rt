@@ -19,6 +19,7 @@ use joined_reach::AHEAD;
 use joined_reach::COMPONENT;
 use joined_reach::FOUND;
 use joined_reach::OutWord;
+use sets::ROW_WORDS;
 
 // ---- the component
 
@@ -156,12 +157,20 @@ fn accepts(g: Game, x: InSet, y: OutSet) -> bool
 }
 
 // Whether a joint move from (i, o) enters the component.
-fn returns_to(g: Game, s: &[u64], i: InState, o: OutState) -> bool
-    requires { ⌜ Small g × (i .0 < g .input .states) × (o .0 < g .output .states) × (4096 ≤ length (now s)) ⌝ }
+fn returns_to(
+    g: Game,
+    ins: &[u64; ROW_WORDS],
+    outs: &[u64; ROW_WORDS],
+    s: &[u64],
+    i: InState,
+    o: OutState,
+) -> bool
+    requires { ⌜ Small g × (i .0 < g .input .states) × (o .0 < g .output .states) × (4096 ≤ length (now s)) × (now ins ≡ g .input .moves)
+        × (now outs ≡ g .output .moves) ⌝ }
     ensures { λ r. ⌜ r ≡ returns (separatedOf g) (component g (now (s .entry))) (i .0) (o .0) ⌝ }
 {
-    let moves = joined_reach::output_moves(g, o);
-    let next = joined_reach::input_moves(g, i);
+    let moves = joined_reach::output_moves(g, outs, o);
+    let next = joined_reach::input_moves(g, ins, i);
     let mut rest = next.0;
     while rest != 0 {
         let j = bits::lowest(rest);
@@ -174,11 +183,19 @@ fn returns_to(g: Game, s: &[u64], i: InState, o: OutState) -> bool
 }
 
 // Whether the component, that of (i, o), is accepting. No play stays in a lone position that does not move to itself: it is not.
-pub fn accepting(g: Game, s: &[u64], i: InState, o: OutState) -> bool
-    requires { ⌜ Small g × (i .0 < g .input .states) × (o .0 < g .output .states) × (4096 ≤ length (now s)) × Rows g (now s) ⌝ }
+pub fn accepting(
+    g: Game,
+    ins: &[u64; ROW_WORDS],
+    outs: &[u64; ROW_WORDS],
+    s: &[u64],
+    i: InState,
+    o: OutState,
+) -> bool
+    requires { ⌜ Small g × (i .0 < g .input .states) × (o .0 < g .output .states) × (4096 ≤ length (now s)) × Rows g (now s)
+        × (now ins ≡ g .input .moves) × (now outs ≡ g .output .moves) ⌝ }
     ensures { λ r. ⌜ r ≡ recurring (separatedOf g) (component g (now (s .entry))) (i .0) (o .0) ⌝ }
 {
-    if !returns_to(g, s, i, o) {
+    if !returns_to(g, ins, outs, s, i, o) {
         return false;
     }
     accepts(g, inputs_of(g, s), outputs_of(g, s))

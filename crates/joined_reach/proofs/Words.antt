@@ -35,9 +35,6 @@ use Rattle.game.specs.declared.Game.{Game}
 use Rattle.game.specs.declared.Graph.{Graph as Record}
 use Rattle.game.specs.declared.InState.{InState}
 use Rattle.game.specs.declared.OutState.{OutState}
-use Rattle.game.specs.declared.InSet.{InSet}
-use Rattle.game.specs.declared.OutSet.{OutSet}
-use Rattle.game.specs.Access.{inMoves, outMoves}
 use Rattle.game.specs.Fits.{GraphFits}
 use Rattle.play.specs.Play.{graphOf}
 use Rattle.clearing.specs.Clearing.{cleared}
@@ -81,19 +78,19 @@ module _ (h : Record) (F : GraphFits h) where
   unfolding graphOf
   row-word k x a b e t q = omega (arith, edge-to (graphOf h) k t (sym (row-edge k x a e t) ∙ q))
 
-module _ {g : Game} (S : Small g) (i : InState) (b : i .0 < g .input .states) (x : InSet) (e : x ≡ inMoves g i) where
-  pub small-in : (j : ℕ) → has (bitsOf (x .0)) j ≡ edge (graphOf (g .input)) (i .0) j
-  small-in j = row-edge (g .input) (S .fits .input) (i .0) (x .0) b (ap (λ (y : InSet). y .0) e) j
+module _ {g : Game} (S : Small g) (i : InState) (b : i .0 < g .input .states) (x : Set) (e : x ≡ setAt (g .input .moves) (i .0)) where
+  pub small-in : (j : ℕ) → has (bitsOf x) j ≡ edge (graphOf (g .input)) (i .0) j
+  small-in j = row-edge (g .input) (S .fits .input) (i .0) x b e j
 
-  pub small-in-word : (j : ℕ) → has (bitsOf (x .0)) j ≡ true → j < 64
-  small-in-word j h = row-word (g .input) (S .fits .input) (i .0) (x .0) b (S .inputs) (ap (λ (y : InSet). y .0) e) j h
+  pub small-in-word : (j : ℕ) → has (bitsOf x) j ≡ true → j < 64
+  small-in-word j h = row-word (g .input) (S .fits .input) (i .0) x b (S .inputs) e j h
 
-module _ {g : Game} (S : Small g) (o : OutState) (b : o .0 < g .output .states) (x : OutSet) (e : x ≡ outMoves g o) where
-  pub small-out : (p : ℕ) → has (bitsOf (x .0)) p ≡ edge (graphOf (g .output)) (o .0) p
-  small-out p = row-edge (g .output) (S .fits .output) (o .0) (x .0) b (ap (λ (y : OutSet). y .0) e) p
+module _ {g : Game} (S : Small g) (o : OutState) (b : o .0 < g .output .states) (x : Set) (e : x ≡ setAt (g .output .moves) (o .0)) where
+  pub small-out : (p : ℕ) → has (bitsOf x) p ≡ edge (graphOf (g .output)) (o .0) p
+  small-out p = row-edge (g .output) (S .fits .output) (o .0) x b e p
 
-  pub small-out-word : (p : ℕ) → has (bitsOf (x .0)) p ≡ true → p < 64
-  small-out-word p h = row-word (g .output) (S .fits .output) (o .0) (x .0) b (S .outputs) (ap (λ (y : OutSet). y .0) e) p h
+  pub small-out-word : (p : ℕ) → has (bitsOf x) p ≡ true → p < 64
+  small-out-word p h = row-word (g .output) (S .fits .output) (o .0) x b (S .outputs) e p h
 
 pub move-below : (g : Game) (x r : ℕ) → ((k : ℕ) → has x k ≡ edge (graphOf (g .input)) r k) → (j : ℕ) → has x j ≡ true → j < g .input .states
 unfolding graphOf

@@ -13,6 +13,7 @@ ghost use Rattle.joined_reach.specs.Reach.{Next, Grown, Entered, Within,
 use game::Game;
 use game::InState;
 use game::OutState;
+use sets::ROW_WORDS;
 use sets::Set;
 
 // A set of inputs, and one of outputs, below 64: a word of scratch.
@@ -48,33 +49,34 @@ pub fn set_of(w: u64) -> Set
     Set { low: w, high: 0 }
 }
 
-// The inputs that i moves to.
-pub fn input_moves(g: Game, i: InState) -> InWord
-    requires { ⌜ Small g × (i .0 < g .input .states) ⌝ }
+// The inputs that i moves to. Here and below the rows of the graphs, `ins` and `outs`, are read where they stand: a game goes by value, and to read a row of
+// it would copy all of them.
+pub fn input_moves(g: Game, ins: &[u64; ROW_WORDS], i: InState) -> InWord
+    requires { ⌜ Small g × (i .0 < g .input .states) × (now ins ≡ g .input .moves) ⌝ }
     ensures { λ r. ⌜ ((j : ℕ) → has (r .0) j ≡ edge (graphOf (g .input)) (i .0) j) ⌝ }
 {
-    let row = game::in_moves(g, i);
-    InWord(word_of(row.0))
+    let row = sets::row_of(ins, i.0);
+    InWord(word_of(row))
 }
 
 // The outputs that o moves to.
-pub fn output_moves(g: Game, o: OutState) -> OutWord
-    requires { ⌜ Small g × (o .0 < g .output .states) ⌝ }
+pub fn output_moves(g: Game, outs: &[u64; ROW_WORDS], o: OutState) -> OutWord
+    requires { ⌜ Small g × (o .0 < g .output .states) × (now outs ≡ g .output .moves) ⌝ }
     ensures { λ r. ⌜ ((p : ℕ) → has (r .0) p ≡ edge (graphOf (g .output)) (o .0) p) ⌝ }
 {
-    let row = game::out_moves(g, o);
-    OutWord(word_of(row.0))
+    let row = sets::row_of(outs, o.0);
+    OutWord(word_of(row))
 }
 
 // The outputs that some member of x moves to.
-fn next_outputs(g: Game, x: OutWord) -> OutWord
-    requires { ⌜ Small g × ((p : ℕ) → has (x .0) p ≡ true → p < g .output .states) ⌝ }
+fn next_outputs(g: Game, outs: &[u64; ROW_WORDS], x: OutWord) -> OutWord
+    requires { ⌜ Small g × ((p : ℕ) → has (x .0) p ≡ true → p < g .output .states) × (now outs ≡ g .output .moves) ⌝ }
     ensures { λ r. ⌜ Next g (x .0) (r .0) ⌝ }
 {
     let mut y: u64 = 0;
     let mut rest = x.0;
     while rest != 0 {
-        let moves = output_moves(g, OutState(bits::lowest(rest)));
+        let moves = output_moves(g, outs, OutState(bits::lowest(rest)));
         y = bits::union(y, moves.0);
         rest = bits::without_lowest(rest);
     }
@@ -96,11 +98,18 @@ fn grow(s: &mut [u64], j: InState, y: OutWord, waiting: InWord) -> InWord
 }
 
 // Adds the outputs y to the rows of all inputs that r moves to: both graphs move at once.
-fn enter(g: Game, s: &mut [u64], r: InState, y: OutWord, waiting: InWord) -> InWord
-    requires { ⌜ Small g × (r .0 < g .input .states) × (4096 ≤ length (now s)) ⌝ }
+fn enter(
+    g: Game,
+    ins: &[u64; ROW_WORDS],
+    s: &mut [u64],
+    r: InState,
+    y: OutWord,
+    waiting: InWord,
+) -> InWord
+    requires { ⌜ Small g × (r .0 < g .input .states) × (4096 ≤ length (now s)) × (now ins ≡ g .input .moves) ⌝ }
     ensures { λ w. ⌜ Entered g (r .0) (y .0) (waiting .0) (w .0) (now (s .entry)) (now (s .exit)) ⌝ }
 {
-    let moves = input_moves(g, r);
+    let moves = input_moves(g, ins, r);
     let mut left = waiting;
     let mut rest = moves.0;
     while rest != 0 {
@@ -111,22 +120,37 @@ fn enter(g: Game, s: &mut [u64], r: InState, y: OutWord, waiting: InWord) -> InW
 }
 
 // Follows the lowest row that waits: the moves of what was found there since it was followed last.
-fn follow(g: Game, s: &mut [u64], waiting: InWord) -> InWord
-    requires { ⌜ Small g × (4096 ≤ length (now s)) × (waiting .0 ≢ 0) × Waiting g (waiting .0) (now s) ⌝ }
+fn follow(
+    g: Game,
+    ins: &[u64; ROW_WORDS],
+    outs: &[u64; ROW_WORDS],
+    s: &mut [u64],
+    waiting: InWord,
+) -> InWord
+    requires { ⌜ Small g × (4096 ≤ length (now s)) × (waiting .0 ≢ 0) × Waiting g (waiting .0) (now s)
+        × (now ins ≡ g .input .moves) × (now outs ≡ g .output .moves) ⌝ }
     ensures { λ w. ⌜ Followed g (waiting .0) (w .0) (now (s .entry)) (now (s .exit)) ⌝ }
 {
     let r = bits::lowest(waiting.0);
     let found = s[FOUND + r];
     let new = bits::difference(found, s[FOLLOWED + r]);
-    let y = next_outputs(g, OutWord(new));
+    let y = next_outputs(g, outs, OutWord(new));
     s[FOLLOWED + r] = found;
     let rest = bits::without_lowest(waiting.0);
-    enter(g, s, InState(r), y, InWord(rest))
+    enter(g, ins, s, InState(r), y, InWord(rest))
 }
 
 // Finds the positions that (i, o) reaches.
-pub fn close(g: Game, s: &mut [u64], i: InState, o: OutState)
-    requires { ⌜ Small g × (i .0 < g .input .states) × (o .0 < g .output .states) × (4096 ≤ length (now s)) ⌝ }
+pub fn close(
+    g: Game,
+    ins: &[u64; ROW_WORDS],
+    outs: &[u64; ROW_WORDS],
+    s: &mut [u64],
+    i: InState,
+    o: OutState,
+)
+    requires { ⌜ Small g × (i .0 < g .input .states) × (o .0 < g .output .states) × (4096 ≤ length (now s)) × (now ins ≡ g .input .moves)
+        × (now outs ≡ g .output .moves) ⌝ }
     ensures { λ _. ⌜ Reached g (i .0) (o .0) (now (s .entry)) (now (s .exit)) ⌝ }
 {
     let row = i.0;
@@ -135,7 +159,7 @@ pub fn close(g: Game, s: &mut [u64], i: InState, o: OutState)
     s[FOUND + row] = bits::insert(0, output);
     let mut waiting = InWord(bits::insert(0, row));
     while waiting.0 != 0 {
-        waiting = follow(g, s, waiting);
+        waiting = follow(g, ins, outs, s, waiting);
     }
 }
 
@@ -154,15 +178,15 @@ fn count_found(g: Game, s: &[u64]) -> usize
 }
 
 // Writes down for each position how many positions are ahead of it: those that it reaches, itself counted.
-pub fn count_ahead(g: Game, s: &mut [u64])
-    requires { ⌜ Small g × (4096 ≤ length (now s)) ⌝ }
+pub fn count_ahead(g: Game, ins: &[u64; ROW_WORDS], outs: &[u64; ROW_WORDS], s: &mut [u64])
+    requires { ⌜ Small g × (4096 ≤ length (now s)) × (now ins ≡ g .input .moves) × (now outs ≡ g .output .moves) ⌝ }
     ensures { λ _. ⌜ Counted g (now (s .entry)) (now (s .exit)) ⌝ }
 {
     let m = g.output.states;
     let positions = g.input.states * m;
     let mut c: usize = 0;
     while c < positions {
-        close(g, s, InState(c / m), OutState(c % m));
+        close(g, ins, outs, s, InState(c / m), OutState(c % m));
         s[AHEAD + c] = count_found(g, s) as u64;
         c += 1;
     }

@@ -19,6 +19,8 @@ settle-requires c κs =
       b .pre .0,
       omega (arith, b .pre .1, e .close .ensures .kept .long, d .draw-component .ensures .kept .long),
       unsettled _ (b .pre .0) _ _ _ _ (b .pre .2) (b .pre .3) (b .pre .4) (b .pre .5) (b .pre .6) _ (e .close .ensures) _ (d .draw-component .ensures),
+      b .pre .7,
+      b .pre .8,
     )
 
 join-requires : tie.Need-join-requires

@@ -23,7 +23,8 @@ settle-component-requires : tie.Need-settle-component-requires
 settle-component-requires c κs =
     let b = c .before .before .before .before .before in
     let p = b .pre in
-    (p .0, p .1, p .2, p .3, p .4, p .5, belongs-has _ 96 _ _ _ (p .3) ∙ failed (c .before .before .member .ensures) (c .before .if1 .taken))
+    let unknown = belongs-has _ 96 _ _ _ (p .3) ∙ failed (c .before .before .member .ensures) (c .before .if1 .taken) in
+    (p .0, p .1, p .2, p .3, p .4, p .5, unknown, p .6, p .7)
 
 same-length : tie.Need-same-length
 same-length c = search needs

@@ -10,10 +10,10 @@ use Rattle.joined.proofs.settle_rank.Statement.{statement}
 use Rattle.joined.proofs.settle_rank.Tie as tie
 
 abbrev Inv-loop : tie.InvT-loop
-Inv-loop g s₀ n m positions c₀ s c = (c ≤ positions) × (positions ≤ 1024) × Passed g n c s₀ s
+Inv-loop g ins outs s₀ n m positions c₀ s c = (c ≤ positions) × (positions ≤ 1024) × Passed g n c s₀ s
 
 abbrev μ-loop : tie.MeasureT-loop
-μ-loop g s₀ n m positions c₀ s c = positions - c
+μ-loop g ins outs s₀ n m positions c₀ s c = positions - c
 
 mul-positions : tie.Need-mul-positions Inv-loop μ-loop
 mul-positions c = omega (arith, few-positions _ (c .before .before .pre .0))
@@ -50,6 +50,8 @@ settle-position-requires c κs =
       p .0,
       p .1,
       passed-rank _ _ _ (l .loop .c) _ (l .loop .inv .2) t (c .before .if1 .taken),
+      b .pre .3,
+      b .pre .4,
     )
 
 add-c : tie.Need-add-c Inv-loop μ-loop

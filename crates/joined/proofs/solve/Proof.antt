@@ -11,13 +11,13 @@ use Rattle.joined.proofs.solve.Statement.{statement}
 use Rattle.joined.proofs.solve.Tie as tie
 
 abbrev Inv-loop : tie.InvT-loop
-Inv-loop g s₀ positions n₀ s n = (1 ≤ n) × (n ≤ positions + 1) × (positions ≤ 1024) × Kept 0 2048 s₀ s × Backward g n s
+Inv-loop g ins outs s₀ positions n₀ s n = (1 ≤ n) × (n ≤ positions + 1) × (positions ≤ 1024) × Kept 0 2048 s₀ s × Backward g n s
 
 abbrev μ-loop : tie.MeasureT-loop
-μ-loop g s₀ positions n₀ s n = positions + 1 - n
+μ-loop g ins outs s₀ positions n₀ s n = positions + 1 - n
 
 count-ahead-requires : tie.Need-count-ahead-requires Inv-loop μ-loop
-count-ahead-requires c κs = (c .before .before .pre .0, c .before .before .pre .1)
+count-ahead-requires c κs = (c .before .before .pre .0, c .before .before .pre .1, c .before .before .pre .2, c .before .before .pre .3)
 
 clear-requires : tie.Need-clear-requires Inv-loop μ-loop
 clear-requires c κs =
@@ -57,7 +57,7 @@ settle-rank-requires c κs =
     let d = l .before .before .before .before in
     let b-past = d .before .before .before .before .before in
     let b = b-past .before .before in
-    (b .pre .0, omega (arith, b .pre .1, begun d .long, l .loop .inv .3 .long), l .loop .inv .4)
+    (b .pre .0, omega (arith, b .pre .1, begun d .long, l .loop .inv .3 .long), l .loop .inv .4, b .pre .2, b .pre .3)
 
 add-n : tie.Need-add-n Inv-loop μ-loop
 add-n c = omega arith

@@ -11,16 +11,16 @@ use Rattle.joined_component.proofs.returns_to.Statement.{statement}
 use Rattle.joined_component.proofs.returns_to.Tie as tie
 
 abbrev Inv-loop : tie.InvT-loop
-Inv-loop s moves rest₀ rest = Passing 64 rest₀ 32 (misses s 128 (moves .0)) rest
+Inv-loop ins outs s moves rest₀ rest = Passing 64 rest₀ 32 (misses s 128 (moves .0)) rest
 
 abbrev μ-loop : tie.MeasureT-loop
-μ-loop s moves rest₀ rest = count 64 (has rest)
+μ-loop ins outs s moves rest₀ rest = count 64 (has rest)
 
 output-moves-requires : tie.Need-output-moves-requires Inv-loop μ-loop
-output-moves-requires c κs = (c .before .pre .0, c .before .pre .2)
+output-moves-requires c κs = (c .before .pre .0, c .before .pre .2, c .before .pre .5)
 
 input-moves-requires : tie.Need-input-moves-requires Inv-loop μ-loop
-input-moves-requires c κs = (c .before .before .pre .0, c .before .before .pre .1)
+input-moves-requires c κs = (c .before .before .pre .0, c .before .before .pre .1, c .before .before .pre .4)
 
 loop-holds : tie.Need-loop-holds Inv-loop μ-loop
 loop-holds c =

@@ -20,10 +20,10 @@ use Rattle.joined_reach.proofs.close.Statement.{statement}
 use Rattle.joined_reach.proofs.close.Tie as tie
 
 abbrev Inv-loop : tie.InvT-loop
-Inv-loop g s₀ row output waiting₀ s waiting = Closed g row output s₀ (waiting .0) s
+Inv-loop g ins outs s₀ row output waiting₀ s waiting = Closed g row output s₀ (waiting .0) s
 
 abbrev μ-loop : tie.MeasureT-loop
-μ-loop g s₀ row output waiting₀ s waiting = g .input .states * g .output .states - followedCount g s
+μ-loop g ins outs s₀ row output waiting₀ s waiting = g .input .states * g .output .states - followedCount g s
 
 clear-requires : tie.Need-clear-requires Inv-loop μ-loop
 clear-requires c κs = omega arith
@@ -69,7 +69,8 @@ follow-requires c κs =
     let l = c .before .before .before in
     let b-past = l .before .before .before .before .before in
     let b = b-past .before .before .before in
-    (b .pre .0, omega (arith, l .loop .inv .kept .long, kept (l .before .before) .long), c .before .if1 .taken, closed-waiting _ _ _ _ _ _ (l .loop .inv))
+    let waits = closed-waiting _ _ _ _ _ _ (l .loop .inv) in
+    (b .pre .0, omega (arith, l .loop .inv .kept .long, kept (l .before .before) .long), c .before .if1 .taken, waits, b .pre .4, b .pre .5)
 
 loop-less : tie.Need-loop-less Inv-loop μ-loop
 loop-less c =
@@ -81,7 +82,7 @@ loop-less c =
     omega (
       arith,
       closed-falls _ _ _ _ (l .loop .waiting .0) _ (l .loop .inv) _ _ (e .ensures) (b .pre .0) (t .if1 .taken),
-      followed-most (b .args .g) (e .last .1 .0),
+      followed-most (b .args .g) (e .last .1 .1 .1 .0),
     )
 
 loop-again : tie.Need-loop-again Inv-loop μ-loop

@@ -6,10 +6,10 @@ use Rattle.joined_reach.proofs.count_ahead.Statement.{statement}
 use Rattle.joined_reach.proofs.count_ahead.Tie as tie
 
 abbrev Inv-loop : tie.InvT-loop
-Inv-loop g s₀ m positions c₀ s c = (c ≤ positions) × (positions ≤ 1024) × Ranking g c s₀ s
+Inv-loop g ins outs s₀ m positions c₀ s c = (c ≤ positions) × (positions ≤ 1024) × Ranking g c s₀ s
 
 abbrev μ-loop : tie.MeasureT-loop
-μ-loop g s₀ m positions c₀ s c = positions - c
+μ-loop g ins outs s₀ m positions c₀ s c = positions - c
 
 mul-positions : tie.Need-mul-positions Inv-loop μ-loop
 mul-positions c = omega (arith, few-positions _ (c .before .before .pre .0))
@@ -28,7 +28,7 @@ close-requires c κs =
     let l = c .before .before in
     let b = l .before .before .before in
     let p = parts (b .args .g) (l .loop .c) (c .before .loop-test .taken) in
-    (b .pre .0, p .0, p .1, omega (arith, l .loop .inv .2 .kept .long))
+    (b .pre .0, p .0, p .1, omega (arith, l .loop .inv .2 .kept .long), b .pre .2, b .pre .3)
 
 count-found-requires : tie.Need-count-found-requires Inv-loop μ-loop
 count-found-requires c κs =

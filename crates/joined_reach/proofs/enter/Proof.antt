@@ -10,13 +10,13 @@ use Rattle.joined_reach.proofs.enter.Statement.{statement}
 use Rattle.joined_reach.proofs.enter.Tie as tie
 
 abbrev Inv-loop : tie.InvT-loop
-Inv-loop s₀ y left₀ rest₀ s left rest = Entering rest₀ (y .0) (left₀ .0) rest (left .0) s₀ s
+Inv-loop ins s₀ y left₀ rest₀ s left rest = Entering rest₀ (y .0) (left₀ .0) rest (left .0) s₀ s
 
 abbrev μ-loop : tie.MeasureT-loop
-μ-loop s₀ y left₀ rest₀ s left rest = count 64 (has rest)
+μ-loop ins s₀ y left₀ rest₀ s left rest = count 64 (has rest)
 
 input-moves-requires : tie.Need-input-moves-requires Inv-loop μ-loop
-input-moves-requires c κs = (c .before .pre .0, c .before .pre .1)
+input-moves-requires c κs = (c .before .pre .0, c .before .pre .1, c .before .pre .3)
 
 loop-holds : tie.Need-loop-holds Inv-loop μ-loop
 loop-holds c = entering-start _ _ _ _ (omega (arith, c .input-moves .ok))

@@ -49,8 +49,9 @@ next-outputs-requires c κs =
     let l = c .before .before .before in
     let b = l .before .before in (
       b .pre .0,
-      follow-within _ (b .pre .0) _ _ (b .pre .3) (search needs) (b .pre .2) _ (l .lowest .ensures) (b .pre .1) _ (simp zero-add at
+      follow-within _ (b .pre .0) _ _ (b .pre .3) (small b) (b .pre .2) _ (l .lowest .ensures) (b .pre .1) _ (simp zero-add at
           (c .difference .ensures)),
+      b .pre .5,
     )
 
 add-s : tie.Need-add-s
@@ -70,7 +71,7 @@ enter-requires c κs =
     let l-past = c .before .before .before .before .before in
     let l = l-past .before in
     let b = l .before .before in
-    (b .pre .0, below l, simp length-set (b .pre .1))
+    (b .pre .0, below l, simp length-set (b .pre .1), b .pre .4)
 
 same-length : tie.Need-same-length
 same-length c = c .before .before .enter .ensures .kept .long ∙ simp length-set

@@ -8,10 +8,10 @@ use Rattle.joined_reach.proofs.next_outputs.Statement.{statement}
 use Rattle.joined_reach.proofs.next_outputs.Tie as tie
 
 abbrev Inv-loop : tie.InvT-loop
-Inv-loop g y₀ rest₀ y rest = Nexting g rest₀ rest y
+Inv-loop g outs y₀ rest₀ y rest = Nexting g rest₀ rest y
 
 abbrev μ-loop : tie.MeasureT-loop
-μ-loop g y₀ rest₀ y rest = count 64 (has rest)
+μ-loop g outs y₀ rest₀ y rest = count 64 (has rest)
 
 loop-holds : tie.Need-loop-holds Inv-loop μ-loop
 loop-holds c = next-start _ _ (search needs)
@@ -22,7 +22,8 @@ lowest-requires c κs = search needs
 output-moves-requires : tie.Need-output-moves-requires Inv-loop μ-loop
 output-moves-requires c κs =
     let b = c .before .before in
-    (b .before .pre .0, b .before .pre .1 _ (next-member _ _ (b .loop .rest) _ (b .loop .inv) (c .before .loop-test .taken) _ (c .lowest .ensures)))
+    let m = next-member _ _ (b .loop .rest) _ (b .loop .inv) (c .before .loop-test .taken) _ (c .lowest .ensures) in
+    (b .before .pre .0, b .before .pre .1 _ m, b .before .pre .2)
 
 union-requires : tie.Need-union-requires Inv-loop μ-loop
 union-requires c κs = search needs

@@ -7,10 +7,10 @@ use Rattle.joined_settle.proofs.force.Statement.{statement}
 use Rattle.joined_settle.proofs.force.Tie as tie
 
 abbrev Inv-loop : tie.InvT-loop
-Inv-loop g s₀ s = Swept g s₀ s × Growing g s
+Inv-loop g ins outs s₀ s = Swept g s₀ s × Growing g s
 
 abbrev μ-loop : tie.MeasureT-loop
-μ-loop g s₀ s = missing g s
+μ-loop g ins outs s₀ s = missing g s
 
 loop-holds : tie.Need-loop-holds Inv-loop μ-loop
 loop-holds c = (swept-self _ _, c .before .pre .2)
@@ -19,7 +19,7 @@ add-forced-requires : tie.Need-add-forced-requires Inv-loop μ-loop
 add-forced-requires c κs =
     let l = c .before in
     let b = l .before .before in
-    (b .pre .0, omega (arith, b .pre .1, l .loop .inv .0 .kept .long), l .loop .inv .1)
+    (b .pre .0, omega (arith, b .pre .1, l .loop .inv .0 .kept .long), l .loop .inv .1, b .pre .3, b .pre .4)
 
 loop-less : tie.Need-loop-less Inv-loop μ-loop
 loop-less c = c .before .before .before .add-forced .ensures .fewer (c .if1 .taken)

@@ -12,10 +12,10 @@ use Rattle.joined_settle.proofs.forcing.Statement.{statement}
 use Rattle.joined_settle.proofs.forcing.Tie as tie
 
 abbrev Inv-loop : tie.InvT-loop
-Inv-loop g s i c₀ rest₀ c rest = Collected 64 rest₀ (g .output .states) (replies (separatedOf g) (won g s) (i .0)) rest c
+Inv-loop g ins outs s i c₀ rest₀ c rest = Collected 64 rest₀ (g .output .states) (replies (separatedOf g) (won g s) (i .0)) rest c
 
 abbrev μ-loop : tie.MeasureT-loop
-μ-loop g s i c₀ rest₀ c rest = count 64 (has rest)
+μ-loop g ins outs s i c₀ rest₀ c rest = count 64 (has rest)
 
 loop-holds : tie.Need-loop-holds Inv-loop μ-loop
 loop-holds c = whole-start 64 _ _ _ (omega (arith, c .before .pre .0 .outputs)) (c .before .pre .3)
@@ -31,6 +31,8 @@ forces-requires c κs =
       b .pre .1,
       collected-below 64 _ _ _ (l .loop .rest) _ (l .loop .inv) (c .before .loop-test .taken) _ (c .lowest .ensures),
       b .pre .2,
+      b .pre .4,
+      b .pre .5,
     )
 
 insert-if-requires : tie.Need-insert-if-requires Inv-loop μ-loop

@@ -7,10 +7,10 @@ use Rattle.joined_settle.proofs.keep_safe.Statement.{statement}
 use Rattle.joined_settle.proofs.keep_safe.Tie as tie
 
 abbrev Inv-loop : tie.InvT-loop
-Inv-loop g s₀ s = Swept g s₀ s × Shrinking g s
+Inv-loop g ins outs s₀ s = Swept g s₀ s × Shrinking g s
 
 abbrev μ-loop : tie.MeasureT-loop
-μ-loop g s₀ s = marked g s
+μ-loop g ins outs s₀ s = marked g s
 
 loop-holds : tie.Need-loop-holds Inv-loop μ-loop
 loop-holds c = (swept-self _ _, c .before .pre .2)
@@ -19,7 +19,7 @@ drop-unsafe-requires : tie.Need-drop-unsafe-requires Inv-loop μ-loop
 drop-unsafe-requires c κs =
     let l = c .before in
     let b = l .before .before in
-    (b .pre .0, omega (arith, b .pre .1, l .loop .inv .0 .kept .long), l .loop .inv .1)
+    (b .pre .0, omega (arith, b .pre .1, l .loop .inv .0 .kept .long), l .loop .inv .1, b .pre .3, b .pre .4)
 
 loop-less : tie.Need-loop-less Inv-loop μ-loop
 loop-less c = c .before .before .before .drop-unsafe .ensures .fewer (c .if1 .taken)

@@ -19,7 +19,7 @@ accepting-requires : tie.Need-accepting-requires
 accepting-requires c κs =
     let b = c .before .before in
     let i = unsettled-below _ (b .pre .0) _ _ _ (b .pre .2) in
-    (b .pre .0, i .0, i .1, b .pre .1, unsettled-rows _ (b .pre .0) _ _ _ (b .pre .2))
+    (b .pre .0, i .0, i .1, b .pre .1, unsettled-rows _ (b .pre .0) _ _ _ (b .pre .2), b .pre .3, b .pre .4)
 
 join-requires : tie.Need-join-requires
 join-requires c κs = search needs
@@ -29,12 +29,13 @@ keep-safe-requires c κs =
     let j = c .before .before .before in
     let b-past = j .before .before .before .before .before in
     let b = b-past .before in
-    (b .pre .0, omega (arith, b .pre .1, j .join .ensures .kept .long), safe-start _ (b .pre .0) _ _ _ (b .pre .2) _ (j .join .ensures))
+    let start = safe-start _ (b .pre .0) _ _ _ (b .pre .2) _ (j .join .ensures) in
+    (b .pre .0, omega (arith, b .pre .1, j .join .ensures .kept .long), start, b .pre .3, b .pre .4)
 
 force-requires : tie.Need-force-requires
 force-requires c κs =
     let b = c .before .before .before .before .before in
-    (b .pre .0, b .pre .1, force-start _ (b .pre .0) _ _ _ (b .pre .2))
+    (b .pre .0, b .pre .1, force-start _ (b .pre .0) _ _ _ (b .pre .2), b .pre .3, b .pre .4)
 
 same-length : tie.Need-same-length
 same-length c = search needs
