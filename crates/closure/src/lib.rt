@@ -2,7 +2,7 @@
 use game::Graph;
 use sets::Set;
 ghost use mathlib.Core.Path.{_≡_};
-ghost use Prim.Native.Nat.{_≤_};
+ghost use Prim.Native.Nat.{ℕ, _≤_};
 ghost use Rattle.sets.specs.Words.{capacity, bitsOf, setsIn, setCount};
 ghost use Rattle.closure.specs.Sweep.{grown, firstRows, Ran, Closed};
 
@@ -20,20 +20,47 @@ fn start(h: Graph, rows: &mut [u64])
     }
 }
 
-// The set x with the rows of its members below n, those that join on the way included.
-fn joined(rows: &[u64], n: usize, x: Set) -> Set
-    requires { ⌜ (n ≤ capacity) × (n ≤ setCount (now rows)) ⌝ }
+// The set x with the rows of its members below n, which are in its low word, those that join on the way included.
+fn joined_low(rows: &[u64], n: usize, x: Set) -> Set
+    requires { ⌜ (n ≤ 64) × (n ≤ setCount (now rows)) ⌝ }
     ensures { λ r. ⌜ bitsOf r ≡ grown (setsIn (now (rows .entry))) n (bitsOf x) ⌝ }
 {
     let mut y = x;
     let mut t = 0;
     while t < n {
-        if sets::member(y, t) {
+        if sets::member_low(y, t) {
             y = sets::union(y, sets::row(rows, t));
         }
         t += 1;
     }
     y
+}
+
+// The same on, for the members from 64 on, which are in the high word.
+fn joined_high(rows: &[u64], n: usize, x: Set) -> Set
+    requires { ⌜ (64 ≤ n) × (n ≤ capacity) × (n ≤ setCount (now rows)) ⌝ }
+    ensures { λ r. ⌜ ((z : ℕ) → bitsOf x ≡ grown (setsIn (now (rows .entry))) 64 z → bitsOf r ≡ grown (setsIn (now (rows .entry))) n z) ⌝ }
+{
+    let mut y = x;
+    let mut t = 64;
+    while t < n {
+        if sets::member_high(y, t) {
+            y = sets::union(y, sets::row(rows, t));
+        }
+        t += 1;
+    }
+    y
+}
+
+// The set x with the rows of its members below n, those that join on the way included. By halves, as a turn then looks at one word of the set alone.
+fn joined(rows: &[u64], n: usize, x: Set) -> Set
+    requires { ⌜ (n ≤ capacity) × (n ≤ setCount (now rows)) ⌝ }
+    ensures { λ r. ⌜ bitsOf r ≡ grown (setsIn (now (rows .entry))) n (bitsOf x) ⌝ }
+{
+    if n <= 64 {
+        return joined_low(rows, n, x);
+    }
+    joined_high(rows, n, joined_low(rows, 64, x))
 }
 
 // One sweep over the states below n, in place, which moves the count of sweeps on. Whether it added a state to a row.

@@ -1,6 +1,5 @@
 -- One round: the states that are still to be tried are a set `rest`.
 --
---   Trying rows z c left l w x y r rest  == from x to y the rows of the others that settle were written; r has these
 --   trying-start, trying-hit, trying-miss, trying-falls, trying-end : how that begins, goes on and ends
 use Prim.Native.Nat.{ℕ, _+_, _*_, _^_, _≤_, _<_}
 use mathlib.Core.Path.{_≡_, refl, sym, _∙_, ap}
@@ -29,16 +28,7 @@ use Rattle.layout.specs.Rows.{Rows, Filled, Wrote}
 use Rattle.layout.proofs.Places.{filled-none, filled-join, filled-part}
 use Rattle.rounds.specs.declared.Stamp.{Stamp}
 use Rattle.rounds.specs.Walk.{firstOf, Fair, Settled}
-
-pub record Trying (rows : List ℕ) (z : Layout) (c left l : ℕ) (w : Stamp) (x y : List ℕ) (r rest : ℕ) : Type 0 where
-  pub bound : z .states ≤ capacity
-  pub member : (t : ℕ) → has rest t ≡ true → has left t ≡ true
-  pub below : (t : ℕ) → has rest t ≡ true → t < z .states
-  pub taken : (t : ℕ) → t < z .states → has rest t ≡ false → settles rows c left l t ≡ true → has r t ≡ true
-  pub only : (t : ℕ) → has r t ≡ true → (t < z .states) × (settles rows c left l t ≡ true)
-  pub long : length y ≡ length x
-  pub fills : (f : ℕ → ℕ → ℕ → Answer) (E : List ℕ) → Rows z f E → Fair rows z c left l w f
-      → Filled z E (λ s h b. (has rest s ≡ false) × (settles rows c left l s ≡ true) × (has (w .which .0) h ≡ true) × (has (bitsOf (w .over)) b ≡ true)) x y
+use Rattle.rounds.specs.Trying.{Trying}
 
 module _ (rows : List ℕ) (z : Layout) (c left l : ℕ) (w : Stamp) where
   pub trying-start : (x : List ℕ) (r b rest : ℕ) → z .states ≤ capacity → r ≡ 0 → ((s : ℕ) → has b s ≡ ltb s (z .states))

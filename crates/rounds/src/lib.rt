@@ -12,6 +12,7 @@ ghost use Rattle.sets.specs.Words.{capacity, bitsOf, setsIn};
 ghost use Rattle.counters.specs.Counters.{mostCounters};
 ghost use Rattle.layout.specs.Rows.{Fits, Wrote};
 ghost use Rattle.rounds.specs.Walk.{firstOf, Stamps, Settled, Ground, Walks};
+ghost use Rattle.rounds.specs.Trying.{Trying};
 ghost use Rattle.rounds.specs.Staying.{Staying, Entering, Enters, Approaches};
 
 // What a state's move to p writes, for the columns of `over` and the counters of `which`: p with the counter `hit` where p is in the set `goal`, else with
@@ -48,6 +49,40 @@ pub fn write_move(room: &mut [u16], z: Layout, s: usize, p: usize, w: Stamp)
     layout::write(room, z, s, over, which, first, w.more);
 }
 
+// A part of a round: the states that settled in it, and those that are still to be tried.
+struct Tried {
+    settled: Set,
+    rest: Set,
+}
+
+// The part of a round that tries the states of the low word: each with a move into `reached` gets its rows. Most sets have no others.
+fn settle_low(
+    rows: &[u64; sets::ROW_WORDS],
+    room: &mut [u16],
+    z: Layout,
+    inside: Set,
+    left: Set,
+    reached: Set,
+    w: Stamp,
+) -> Tried
+    requires { ⌜ Fits z (length (now room)) × Stamps z w × (within (bitsOf reached) (z .states) ≡ true) ⌝ }
+    ensures { λ r. ⌜ Trying (setsIn (now (rows .entry))) z (bitsOf inside) (bitsOf left) (bitsOf reached) w (now (room .entry)) (now (room .exit))
+        (bitsOf (r .settled)) (bitsOf (r .rest)) ⌝ }
+{
+    let mut settled = sets::empty();
+    let mut rest = sets::intersection(left, sets::below(z.states));
+    while sets::begins_low(rest) {
+        let s = sets::lowest_low(rest);
+        let open = ways::choices(rows, inside, left, reached, s);
+        if !sets::is_empty(open) {
+            write_move(room, z, s, ways::prefer(s, open), w);
+            settled = sets::insert(settled, s);
+        }
+        rest = sets::without_lowest_low(rest);
+    }
+    Tried { settled, rest }
+}
+
 // One round: every state of `left` with a move into `reached` gets its rows. The answer is the set of these states.
 fn settle(
     rows: &[u64; sets::ROW_WORDS],
@@ -62,14 +97,15 @@ fn settle(
     ensures { λ r. ⌜ Settled (setsIn (now (rows .entry))) z (bitsOf inside) (bitsOf left) (bitsOf reached) w (now (room .entry)) (now (room .exit))
         (bitsOf r) ⌝ }
 {
-    let mut settled = sets::empty();
-    let mut rest = sets::intersection(left, sets::below(z.states));
+    let low = settle_low(rows, room, z, inside, left, reached, w);
+    let mut settled = low.settled;
+    let mut rest = low.rest;
     while !sets::is_empty(rest) {
-        let s = sets::lowest(rest);
-        let open = ways::choices(rows, inside, left, reached, s);
-        if !sets::is_empty(open) {
-            write_move(room, z, s, ways::prefer(s, open), w);
-            settled = sets::insert(settled, s);
+        let t = sets::lowest(rest);
+        let moves = ways::choices(rows, inside, left, reached, t);
+        if !sets::is_empty(moves) {
+            write_move(room, z, t, ways::prefer(t, moves), w);
+            settled = sets::insert(settled, t);
         }
         rest = sets::without_lowest(rest);
     }

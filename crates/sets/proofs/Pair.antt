@@ -77,6 +77,19 @@ module _ (x y : ℕ) (h : x < 2 ^ 64) where
   pub pair-lowest-high : x ≡ 0 → 64 + least 64 (has y) ≡ least 128 (has (value 64 (x ∷ y ∷ [])))
   pair-lowest-high z = ap (λ (n : ℕ). 64 + least 64 (has n)) (sym (single y)) ∙ sym (least-later 64 64 x (y ∷ []) h z)
 
+  low-least : x ≢ 0 → least 64 (has x) < 64
+  low-least n = let m = nonzero-below 64 x h n in least-below 64 (has x) (m .0) (m .1) (m .2)
+
+  -- the lowest member is of the low word where that has one
+  pub low-some : least 128 (has (value 64 (x ∷ y ∷ []))) < 64 → x ≢ 0
+  low-some l z = absurd (omega (arith, l, pair-lowest-high z))
+
+  pub low-test : not (eqb x 0) ≡ ltb (least 128 (has (value 64 (x ∷ y ∷ [])))) 64
+  low-test = elim (ℕ-discrete x 0) [
+    | yes z ↦ ap not (eq-eqb x 0 z) ∙ sym (le-ltb (least 128 (has (value 64 (x ∷ y ∷ [])))) 64 (omega (arith, pair-lowest-high z)))
+    | no n ↦ ap not (ne-eqb x 0 n) ∙ sym (lt-ltb (least 128 (has (value 64 (x ∷ y ∷ [])))) 64 (omega (arith, low-least n, pair-lowest-low n)))
+  ]
+
   pub pair-count : count 128 (has (value 64 (x ∷ y ∷ []))) ≡ count 64 (has x) + count 64 (has y)
   pair-count = count-words 64 64 x (y ∷ []) h ∙ ap (λ (n : ℕ). count 64 (has x) + count 64 (has n)) (single y)
 
@@ -126,14 +139,11 @@ module _ (x y : ℕ) (h : x < 2 ^ 64) where
       rw (sym (pair-lowest-low n))
       (has-words 64 r (y ∷ []) (λ t. has (value 64 (x ∷ y ∷ [])) t && not (eqb t (least 64 (has x)))) g (λ t b. f t ∙ rw (pair-low t b) refl)
       (λ t. ap (λ (n : ℕ). has n t) (single y)
-      ∙ rw (pair-high t, ne-eqb (64 + t) (least 64 (has x)) (λ e. omega (arith, least-le 64 (has x), small))) (keep (has y t))))
+      ∙ rw (pair-high t, ne-eqb (64 + t) (least 64 (has x)) (λ e. omega (arith, low-least n))) (keep (has y t))))
     where
       keep : (b : Bool) → b ≡ (b && true)
       keep true = refl
       keep false = refl
-
-      small : least 64 (has x) < 64
-      small = let m = nonzero-below 64 x h n in least-below 64 (has x) (m .0) (m .1) (m .2)
 
   pub strip-high : (r : ℕ) → x ≡ 0 → ((t : ℕ) → has r t ≡ (has y t && not (eqb t (least 64 (has y)))))
       → (t : ℕ) → has (value 64 (0 ∷ r ∷ [])) t ≡ (has (value 64 (x ∷ y ∷ [])) t && not (eqb t (least 128 (has (value 64 (x ∷ y ∷ []))))))

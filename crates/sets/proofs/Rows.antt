@@ -2,6 +2,7 @@
 --
 --   none, some         : the test of `is_empty`, taken and not
 --   is-none, is-some   : the test of `!is_empty`, not taken and taken
+--   low-some           : a set whose lowest member is of the low word is not empty
 --   alike, differ      : the test of `!same`, not taken and taken
 --   count-same         : as many sets in as many words
 --   sets-long          : what the words hold is in the list of sets
@@ -30,7 +31,11 @@ use native.Mathlib.Omega.{arith}
 use native.Mathlib.Numerals.{unary-clauses}
 use borrow.Author.Tests.{eqb-true, eqb-false}
 use Rattle.sets.proofs.Pair.{pair-zero}
-use Rattle.finite.proofs.Truth.{not-true, not-false}
+use Rattle.finite.specs.Bounded.{least}
+use Rattle.finite.proofs.Bounded.{least-member}
+use Rattle.finite.proofs.Truth.{clash, not-true, not-false}
+use Rattle.bits.specs.Member.{has}
+use Rattle.bits.proofs.Membership.{has-zero}
 use Rattle.sets.specs.declared.Set.{Set}
 use Rattle.sets.specs.Words.{capacity, rowWords, value, bitsOf, setOf, setsIn, setCount, wordsOf, putSet, wordsFor, WordsFit, noStates, setAt}
 
@@ -45,6 +50,11 @@ is-some {b} x e q = some x e (not-true b q)
 
 pub is-none : {b : Bool} (x : ℕ) → b ≡ eqb x 0 → not b ≡ false → x ≡ 0
 is-none {b} x e q = none x e (not-false b q)
+
+-- a set whose lowest member is known has a member
+pub low-some : {x : ℕ} → least capacity (has x) < 64 → x ≢ 0
+low-some {x} l z =
+    clash (least-member capacity (has x) (omega arith)) (ap (λ (k : ℕ). has k (least capacity (has x))) z ∙ has-zero (least capacity (has x)))
 
 pub differ : {b : Bool} (x y : ℕ) → b ≡ eqb x y → not b ≡ true → x ≢ y
 differ {b} x y e q = eqb-false x y (sym e ∙ not-true b q)

@@ -18,6 +18,12 @@ Inv-loop rows n s row c₀ t₀ c t = (t ≤ n) × (bitsOf c ≡ pack t (togethe
 abbrev μ-loop : tie.MeasureT-loop
 μ-loop rows n s row c₀ t₀ c t = n - t
 
+component-low-requires : tie.Need-component-low-requires Inv-loop μ-loop
+component-low-requires c κs = search needs
+
+returns : tie.Need-returns Inv-loop μ-loop
+returns c = search needs
+
 row-requires : tie.Need-row-requires Inv-loop μ-loop
 row-requires c κs = omega arith
 
@@ -47,11 +53,11 @@ loop-again c =
     let b = c .before .before .before .before in
     let read = b .before .before in
     let both = c .before .both-ways in
-    let met = both .ensures ∙ ap₂ (λ (x y : ℕ). has x (b .loop .t) && has y (read .before .before .args .s)) (read .row .ensures) (c .before .before .row2 .ensures) in
+    let met = both .ensures ∙ ap₂ (λ (x y : ℕ). has x (b .loop .t) && has y (read .before .before .before .args .s)) (read .row .ensures) (c .before .before .row2 .ensures) in
     (omega arith, collect-next _ (b .loop .t) _ _ _ (b .loop .inv .1) (together-at _ _ (b .loop .t) met) (c .insert-if .ensures))
 
-returns : tie.Need-returns Inv-loop μ-loop
-returns c = collect-end _ (c .before .loop .t) _ _ (omega arith) (omega arith) (c .before .loop .inv .1)
+returns-2 : tie.Need-returns-2 Inv-loop μ-loop
+returns-2 c = collect-end _ (c .before .loop .t) _ _ (omega arith) (omega arith) (c .before .loop .inv .1)
 
 pub component-spec : {M : Type 1} → statement M
 component-spec =
@@ -59,6 +65,8 @@ component-spec =
     (tie.spec
     Inv-loop
     μ-loop
+    component-low-requires
+    returns
     row-requires
     empty-requires
     loop-holds
@@ -68,4 +76,4 @@ component-spec =
     add-t
     loop-less
     loop-again
-    returns)
+    returns-2)

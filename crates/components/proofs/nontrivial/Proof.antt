@@ -26,11 +26,8 @@ loop-holds c = (omega arith, c .empty .ensures .1 ∙ collect-none _)
 row-of-requires : tie.Need-row-of-requires Inv-loop μ-loop
 row-of-requires c κs = omega arith
 
-component-requires : tie.Need-component-requires Inv-loop μ-loop
-component-requires c κs = omega arith
-
-meets-requires : tie.Need-meets-requires Inv-loop μ-loop
-meets-requires c κs = search needs
+comes-back-requires : tie.Need-comes-back-requires Inv-loop μ-loop
+comes-back-requires c κs = omega arith
 
 insert-if-requires : tie.Need-insert-if-requires Inv-loop μ-loop
 insert-if-requires c κs = omega arith
@@ -43,11 +40,11 @@ loop-less c = omega arith
 
 loop-again : tie.Need-loop-again Inv-loop μ-loop
 loop-again c =
-    let whole = c .before .before in
-    let b = whole .before .before .before .before .before in (
+    let read = c .before .before in
+    let b = read .before .before .before .before in (
       omega arith,
       collect-next _ (b .loop .s) _ _ _ (b .loop .inv .1)
-          (nontrivial-at _ _ _ _ _ _ (whole .before .row-of .ensures .1) (whole .component .ensures) (c .before .meets .ensures)) (c .insert-if .ensures),
+          (nontrivial-at _ _ _ _ _ (read .row-of .ensures .1) (c .before .comes-back .ensures)) (c .insert-if .ensures),
     )
 
 returns : tie.Need-returns Inv-loop μ-loop
@@ -62,8 +59,7 @@ nontrivial-spec =
     empty-requires
     loop-holds
     row-of-requires
-    component-requires
-    meets-requires
+    comes-back-requires
     insert-if-requires
     add-s
     loop-less

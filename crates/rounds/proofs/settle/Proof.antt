@@ -1,6 +1,7 @@
--- `settle` tries the lowest state that is left to try, until none is.
-use Prim.Native.Nat.{_<_}
+-- `settle` tries the lowest state that is left to try, until none is. Invariant: what the low word left holds of the states that are left.
+use Prim.Native.Nat.{ℕ, _<_}
 use mathlib.Core.Path.{ap}
+use mathlib.Core.List.{List}
 use mathlib.Core.Logic.{⊎-elim, _≢_}
 use borrow.Author.Needs.{needs}
 use native.Mathlib.Omega.{arith}
@@ -9,14 +10,16 @@ use Rattle.bits.specs.Member.{has}
 use Rattle.sets.specs.Words.{capacity, bitsOf, setsIn}
 use Rattle.sets.proofs.Rows.{is-none, is-some}
 use Rattle.layout.proofs.Places.{fits-same}
-use Rattle.rounds.proofs.Trying.{Trying, trying-start, try-small, try-in, try-below, trying-falls, trying-hit, trying-miss, trying-end}
+use Rattle.rounds.specs.Trying.{Trying}
+use Rattle.rounds.proofs.Trying.{try-small, try-in, try-below, trying-falls, trying-hit, trying-miss, trying-end}
 use Rattle.rounds.proofs.Stamping.{settling-small}
 use Rattle.rounds.proofs.settle.Statement.{statement}
 use Rattle.rounds.proofs.settle.Tie as tie
 
 abbrev Inv-loop : tie.InvT-loop
 Inv-loop rows room₀ z inside left reached w settled₀ rest₀ room settled rest =
-    Trying (setsIn rows) z (bitsOf inside) (bitsOf left) (bitsOf reached) w room₀ room (bitsOf settled) (bitsOf rest)
+    (x : List ℕ) → Trying (setsIn rows) z (bitsOf inside) (bitsOf left) (bitsOf reached) w x room₀ (bitsOf settled₀) (bitsOf rest₀)
+    → Trying (setsIn rows) z (bitsOf inside) (bitsOf left) (bitsOf reached) w x room (bitsOf settled) (bitsOf rest)
 
 abbrev μ-loop : tie.MeasureT-loop
 μ-loop rows room₀ z inside left reached w settled₀ rest₀ room settled rest = count capacity (has (bitsOf rest))
@@ -25,21 +28,16 @@ some-left : (c : tie.Then1 Inv-loop μ-loop) → bitsOf (c .before .before .loop
 some-left c = is-some _ (c .before .is-empty .ensures) (c .if1 .taken)
 
 small : (c : tie.After-lowest Inv-loop μ-loop) → c .lowest .result < capacity
-small c = try-small _ _ _ _ _ _ (c .before .before .before .loop .inv) (some-left (c .before)) (c .lowest .ensures)
+small c =
+    let l = c .before .before .before in
+    let a = l .before .before .before .before .before in
+    try-small _ _ _ _ _ _ (l .loop .inv _ (a .settle-low .ensures)) (some-left (c .before)) (c .lowest .ensures)
 
-empty-requires : tie.Need-empty-requires Inv-loop μ-loop
-empty-requires c κs = search needs
-
-below-requires : tie.Need-below-requires Inv-loop μ-loop
-below-requires c κs = omega (arith, c .before .before .pre .0 .states)
-
-intersection-requires : tie.Need-intersection-requires Inv-loop μ-loop
-intersection-requires c κs = search needs
+settle-low-requires : tie.Need-settle-low-requires Inv-loop μ-loop
+settle-low-requires c κs = search needs
 
 loop-holds : tie.Need-loop-holds Inv-loop μ-loop
-loop-holds c =
-    let e = c .before .before in
-    trying-start _ _ _ _ _ _ _ _ _ _ (e .before .before .pre .0 .states) (e .empty .ensures .1) (c .before .below .ensures) (c .intersection .ensures)
+loop-holds c = λ x h. h
 
 is-empty-requires : tie.Need-is-empty-requires Inv-loop μ-loop
 is-empty-requires c κs = search needs
@@ -49,7 +47,9 @@ lowest-requires c κs = search needs
 
 choices-requires : tie.Need-choices-requires Inv-loop μ-loop
 choices-requires c κs =
-    let tried = c .before .before .before .loop .inv in
+    let l = c .before .before .before in
+    let a = l .before .before .before .before .before in
+    let tried = l .loop .inv _ (a .settle-low .ensures) in
     (small c, tried .member _ (try-in _ _ _ _ _ _ tried (some-left (c .before)) (c .lowest .ensures)))
 
 is-empty-requires-2 : tie.Need-is-empty-requires-2 Inv-loop μ-loop
@@ -63,9 +63,11 @@ write-move-requires c κs =
     let t = c .before .before in
     let o = t .before .before .before in
     let l = o .before .before .before in
-    let p = l .before .before .before .before .before .pre in (
-      fits-same _ _ _ (l .loop .inv .long) (p .0),
-      try-below _ _ _ _ _ _ (l .loop .inv) (some-left (o .before)) (o .lowest .ensures),
+    let a = l .before .before .before .before .before in
+    let p = a .before .before .before .pre in
+    let tried = l .loop .inv _ (a .settle-low .ensures) in (
+      fits-same _ _ _ (tried .long) (p .0),
+      try-below _ _ _ _ _ _ tried (some-left (o .before)) (o .lowest .ensures),
       settling-small _ _ _ _ _ _ (p .0 .states) (p .2) (t .before .before .choices .ensures) (is-some _ (t .before .is-empty2 .ensures) (t .if2 .taken))
           (c .prefer .ensures),
       p .1,
@@ -80,27 +82,35 @@ without-lowest-requires c κs = some-left (c .before .before .before .before)
 loop-less : tie.Need-loop-less Inv-loop μ-loop
 loop-less c =
     let a = c .before .before .before .before in
-    trying-falls _ _ _ _ _ _ (a .before .before .before .loop .inv) (some-left (a .before)) (a .lowest .ensures) _ (c .without-lowest .ensures)
+    let l = a .before .before .before in
+    let b = l .before .before .before .before .before in
+    trying-falls _ _ _ _ _ _ (l .loop .inv _ (b .settle-low .ensures)) (some-left (a .before)) (a .lowest .ensures) _ (c .without-lowest .ensures)
 
 loop-again : tie.Need-loop-again Inv-loop μ-loop
 loop-again c =
     let a = c .before .before .before .before in
-    let tried = a .before .before .before .loop .inv in
+    let l = a .before .before .before in
     let more = some-left (a .before) in
     let chosen = c .before .before .before .choices .ensures in
     let tested = c .before .before .is-empty2 .ensures in
     ⊎-elim
-    (λ v. trying-hit _ _ _ _ _ _ tried more (a .lowest .ensures) _ (c .without-lowest .ensures) chosen
+    (λ v x h. trying-hit _ _ _ _ _ _ (l .loop .inv x h) more (a .lowest .ensures) _ (c .without-lowest .ensures) chosen
     (is-some _ tested (v .0 .taken)) (v .2 .ensures) (v .6 .ensures) (v .3 .ensures) (v .7) (ap bitsOf (v .8)))
-    (λ v. trying-miss _ _ _ _ _ _ tried more (a .lowest .ensures) _ (c .without-lowest .ensures) chosen
+    (λ v x h. trying-miss _ _ _ _ _ _ (l .loop .inv x h) more (a .lowest .ensures) _ (c .without-lowest .ensures) chosen
     (is-none _ tested (v .0 .left)) (v .1) (ap bitsOf (v .2)))
     (c .before .if2 .came)
 
 same-length : tie.Need-same-length Inv-loop μ-loop
-same-length c = c .before .before .loop .inv .long
+same-length c =
+    let l = c .before .before in
+    let a = l .before .before .before .before .before in
+    l .loop .inv _ (a .settle-low .ensures) .long
 
 returns : tie.Need-returns Inv-loop μ-loop
-returns c = trying-end _ _ _ _ _ _ (c .before .before .loop .inv) (is-none _ (c .before .is-empty .ensures) (c .if1 .left))
+returns c =
+    let l = c .before .before in
+    let a = l .before .before .before .before .before in
+    trying-end _ _ _ _ _ _ (l .loop .inv _ (a .settle-low .ensures)) (is-none _ (c .before .is-empty .ensures) (c .if1 .left))
 
 pub settle-spec : {M : Type 1} → statement M
 settle-spec =
@@ -108,9 +118,7 @@ settle-spec =
     (tie.spec
     Inv-loop
     μ-loop
-    empty-requires
-    below-requires
-    intersection-requires
+    settle-low-requires
     loop-holds
     is-empty-requires
     lowest-requires
