@@ -2,7 +2,6 @@
 --
 --   run-*             : how a run begins and goes on
 --   run-row           : a run of all below the width is a row
---   Scattering        == a row written but for the columns of a set `rest`
 --   scattering-*      : how it begins, goes on and ends
 --   inside-below, fits-inside, block-over, block-none : the columns of a set that are below the width
 --   Rowing            == a block written but for the counters of a set `left`
@@ -40,6 +39,7 @@ use Rattle.columns.specs.Column.{
   Blocked,
   Block,
 }
+use Rattle.columns.specs.Scattering.{RowPart, Scattering}
 use Rattle.bits.proofs.Visit.{small-word, lowest-below, lowest-in, lowest-less, cut-in, cut-all}
 
 -- ---- runs
@@ -93,17 +93,6 @@ module _ (over b width : ℕ) (e : over ≡ b) (f : (s : ℕ) → has b s ≡ lt
     where
       agrees : (E : List ℕ) → RowAgrees E base over value → RunAgrees E base width value
       agrees E A = record { below = λ x lt. A .below x (full-in x lt); entry = λ x lt. A .entry x (full-in x lt) }
-
--- a row but for the columns of `rest`
-pub record RowPart (E l m : List ℕ) (base over rest : ℕ) : Type 0 where
-  pub grows : Grows E l m
-  pub right : (x : ℕ) → has over x ≡ true → has rest x ≡ false → Right E m (base + x)
-
-pub record Scattering (n : ℕ) (l m : List ℕ) (base width over value rest : ℕ) : Type 0 where
-  pub fits : RowFits n base width over
-  pub long : length m ≡ length l
-  pub inside : (x : ℕ) → has rest x ≡ true → has over x ≡ true
-  pub fills : (E : List ℕ) → RowAgrees E base over value → length E ≤ length l → RowPart E l m base over rest
 
 pub scattering-start : (n : ℕ) (l : List ℕ) (base width over value : ℕ) → RowFits n base width over → Scattering n l l base width over value over
 scattering-start n l base width over value F = record {

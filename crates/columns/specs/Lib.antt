@@ -1,2 +1,3 @@
 -- Entries written in columns and blocks.
 pub mod Column
+pub mod Scattering

@@ -5,6 +5,7 @@ ghost use Prim.Native.Nat.{ℕ, _+_, _<_};
 ghost use lib.ListN.{length};
 ghost use Rattle.sets.specs.Words.{bitsOf};
 ghost use Rattle.columns.specs.Column.{Fits, Column, FrontFits, Front, Run, RowFits, Row, BlockFits, Block};
+ghost use Rattle.columns.specs.Scattering.{Scattering};
 
 // From so many counters on a column is written faster than a row.
 const MANY: usize = 8;
@@ -59,12 +60,26 @@ fn run(room: &mut [u16], base: usize, width: usize, value: u16)
     }
 }
 
+// The value at base + x for each x of the low word of the set `over`, lowest first. The answer is the rest of the set: most rows have none.
+fn scattered_low(room: &mut [u16], base: usize, width: usize, over: Set, value: u16) -> Set
+    requires { ⌜ RowFits (length (now room)) base width (bitsOf over) ⌝ }
+    ensures { λ r. ⌜ Scattering (length (now (room .entry))) (now (room .entry)) (now (room .exit)) base width (bitsOf over) value (bitsOf r) ⌝ }
+{
+    let mut rest = over;
+    while sets::begins_low(rest) {
+        let x = sets::lowest_low(rest);
+        room[base + x] = value;
+        rest = sets::without_lowest_low(rest);
+    }
+    rest
+}
+
 // The value at base + x for each x of the set `over`, lowest first.
 fn scattered(room: &mut [u16], base: usize, width: usize, over: Set, value: u16)
     requires { ⌜ RowFits (length (now room)) base width (bitsOf over) ⌝ }
     ensures { λ r. ⌜ Row (now (room .entry)) (now (room .exit)) base (bitsOf over) value ⌝ }
 {
-    let mut rest = over;
+    let mut rest = scattered_low(room, base, width, over, value);
     while !sets::is_empty(rest) {
         let x = sets::lowest(rest);
         room[base + x] = value;

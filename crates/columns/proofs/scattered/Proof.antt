@@ -1,5 +1,6 @@
--- `scattered` writes the lowest place that is left, until none is.
-use Prim.Native.Nat.{_+_, _<_}
+-- `scattered` writes the lowest place that is left, until none is. Invariant: what the low word left holds of the places that are left.
+use Prim.Native.Nat.{ℕ, _+_, _<_}
+use mathlib.Core.List.{List}
 use mathlib.Core.Logic.{_≢_}
 use native.Mathlib.Omega.{arith}
 use borrow.Author.Needs.{needs}
@@ -8,12 +9,14 @@ use Rattle.finite.specs.Bounded.{count}
 use Rattle.bits.specs.Member.{has}
 use Rattle.sets.specs.Words.{capacity, bitsOf}
 use Rattle.sets.proofs.Rows.{is-none, is-some}
-use Rattle.columns.proofs.Rows.{Scattering, scattering-start, scattered-below, scattering-turn, scattering-falls, scattering-end}
+use Rattle.columns.specs.Scattering.{Scattering}
+use Rattle.columns.proofs.Rows.{scattered-below, scattering-turn, scattering-falls, scattering-end}
 use Rattle.columns.proofs.scattered.Statement.{statement}
 use Rattle.columns.proofs.scattered.Tie as tie
 
 abbrev Inv-loop : tie.InvT-loop
-Inv-loop room₀ base width value rest₀ room rest = Scattering (length room₀) room₀ room base width (bitsOf rest₀) value (bitsOf rest)
+Inv-loop room₀ base width value rest₀ room rest =
+    (n : ℕ) (x : List ℕ) (over : ℕ) → Scattering n x room₀ base width over value (bitsOf rest₀) → Scattering n x room base width over value (bitsOf rest)
 
 abbrev μ-loop : tie.MeasureT-loop
 μ-loop room₀ base width value rest₀ room rest = count capacity (has (bitsOf rest))
@@ -22,13 +25,20 @@ some-left : (c : tie.Then1 Inv-loop μ-loop) → bitsOf (c .before .before .loop
 some-left c = is-some _ (c .before .is-empty .ensures) (c .if1 .taken)
 
 place-below : (c : tie.After-lowest Inv-loop μ-loop)
-    → let l = c .before .before .before in l .before .before .args .base + c .lowest .result < length (l .loop .room)
+    → let l = c .before .before .before in
+    let a = l .before .before .before in
+    let p = a .before .before .before in
+    p .args .base + c .lowest .result < length (p .args .room .now)
 place-below c =
     let l = c .before .before .before in
-    omega (arith, scattered-below _ _ _ _ _ _ _ _ _ (l .loop .inv) (some-left (c .before)) (c .lowest .ensures), l .loop .inv .long)
+    let a = l .before .before .before in
+    scattered-below _ _ _ _ _ _ _ _ _ (l .loop .inv _ _ _ (a .scattered-low .ensures)) (some-left (c .before)) (c .lowest .ensures)
+
+scattered-low-requires : tie.Need-scattered-low-requires Inv-loop μ-loop
+scattered-low-requires c κs = search needs
 
 loop-holds : tie.Need-loop-holds Inv-loop μ-loop
-loop-holds c = scattering-start _ _ _ _ _ _ (c .before .pre)
+loop-holds c = λ n x over h. h
 
 is-empty-requires : tie.Need-is-empty-requires Inv-loop μ-loop
 is-empty-requires c κs = search needs
@@ -43,7 +53,10 @@ mul-room : tie.Need-mul-room Inv-loop μ-loop
 mul-room c = omega (arith, place-below c)
 
 slice-write-room : tie.Need-slice-write-room Inv-loop μ-loop
-slice-write-room c = omega (arith, place-below c)
+slice-write-room c =
+    let l = c .before .before .before in
+    let a = l .before .before .before in
+    omega (arith, place-below c, l .loop .inv _ _ _ (a .scattered-low .ensures) .long)
 
 without-lowest-requires : tie.Need-without-lowest-requires Inv-loop μ-loop
 without-lowest-requires c κs = some-left (c .before)
@@ -51,18 +64,27 @@ without-lowest-requires c κs = some-left (c .before)
 loop-less : tie.Need-loop-less Inv-loop μ-loop
 loop-less c =
     let o = c .before .before in
-    scattering-falls _ _ _ _ _ _ _ _ _ (o .before .before .loop .inv) (some-left o) (c .before .lowest .ensures) _ (c .without-lowest .ensures)
+    let l = o .before .before in
+    let a = l .before .before .before in
+    scattering-falls _ _ _ _ _ _ _ _ _ (l .loop .inv _ _ _ (a .scattered-low .ensures)) (some-left o) (c .before .lowest .ensures) _ (c .without-lowest .ensures)
 
 loop-again : tie.Need-loop-again Inv-loop μ-loop
 loop-again c =
     let o = c .before .before in
-    scattering-turn _ _ _ _ _ _ _ _ _ (o .before .before .loop .inv) (some-left o) (c .before .lowest .ensures) _ (c .without-lowest .ensures)
+    let l = o .before .before in
+    λ n x over h. scattering-turn _ _ _ _ _ _ _ _ _ (l .loop .inv n x over h) (some-left o) (c .before .lowest .ensures) _ (c .without-lowest .ensures)
 
 same-length : tie.Need-same-length Inv-loop μ-loop
-same-length c = c .before .before .loop .inv .long
+same-length c =
+    let l = c .before .before in
+    let a = l .before .before .before in
+    l .loop .inv _ _ _ (a .scattered-low .ensures) .long
 
 returns : tie.Need-returns Inv-loop μ-loop
-returns c = scattering-end _ _ _ _ _ _ _ _ (c .before .before .loop .inv) (is-none _ (c .before .is-empty .ensures) (c .if1 .left))
+returns c =
+    let l = c .before .before in
+    let a = l .before .before .before in
+    scattering-end _ _ _ _ _ _ _ _ (l .loop .inv _ _ _ (a .scattered-low .ensures)) (is-none _ (c .before .is-empty .ensures) (c .if1 .left))
 
 pub scattered-spec : {M : Type 1} → statement M
 scattered-spec =
@@ -70,6 +92,7 @@ scattered-spec =
     (tie.spec
     Inv-loop
     μ-loop
+    scattered-low-requires
     loop-holds
     is-empty-requires
     lowest-requires
