@@ -94,17 +94,18 @@ module _ (g : Game) (F : Fits g) where
   -- ---- set after set
 
   module _ (v : ℕ) (l : List ℕ) where
-    pub widened-none : Widened g v 0 l l false
-    widened-none = record {
+    pub widened-none : (k : ℕ) → k ≡ length (assumed (only g)) → Widened g v k l l false
+    widened-none k b = record {
       apart = apart-self reachedAt (stayingAt + g .input .states) l;
       more = among-self g (reachedPairs l);
       sound = λ h. h;
       some = λ e. clash e refl;
       same = λ e. among-self g (reachedPairs l);
-      none = λ e j h. absurd (omega arith);
+      none = λ e j a h. absurd (omega arith);
     }
 
-    module _ (k : ℕ) (m : List ℕ) (T : Widened g v k l m false) (w : ℕ) (m′ : List ℕ) (r : Bool) (R : WidenedBy g v w m m′ r) (N : Waits g w k) (b : k < length (assumed (only g))) where
+    module _ (k h : ℕ) (n : h ≡ k + 1) (m : List ℕ) (T : Widened g v h l m false) (w : ℕ) (m′ : List ℕ) (r : Bool) (R : WidenedBy g v w m m′ r)
+        (N : Waits g w k) (b : k < length (assumed (only g))) where
       -- what is kept is as it was
       into : Among g (keptPairs m) (keptPairs l)
       into = rows-among g (λ i. getD m i 0) (λ i. getD l i 0) (kept-row (T .apart))
@@ -139,14 +140,14 @@ module _ (g : Game) (F : Fits g) where
         none = λ q. clash refl q;
       }
 
-      pub widened-next : r ≡ false → Widened g v (k + 1) l m′ false
+      pub widened-next : r ≡ false → Widened g v k l m′ false
       widened-next e = record {
         apart = apart;
         more = among-then g (T .more) grows;
         sound = sound;
         some = λ q. clash q refl;
         same = λ q. among-then g shrinks (T .same refl);
-        none = λ q j h. none j h (ℕ-discrete j k);
+        none = λ q j a c. none j a c (ℕ-discrete j k);
       }
         where
           shrinks : Among g (reachedPairs m′) (reachedPairs m)
@@ -157,10 +158,10 @@ module _ (g : Game) (F : Fits g) where
             ];
           }
 
-          none : (j : ℕ) → j < k + 1 → Dec (j ≡ k)
+          none : (j : ℕ) → k ≤ j → j < length (assumed (only g)) → Dec (j ≡ k)
               → Among g (stay (separatedOf g) (has v) (goalAt (assumed (only g)) j) (keptPairs l) (reachedPairs l)) (reachedPairs l)
-          none j h (no q) = T .none refl j (omega arith)
-          none j h (yes q) =
+          none j a c (no q) = T .none refl j (omega arith) c
+          none j a c (yes q) =
               rw q (among-then g
               (part-stay g (has v) (has v) (goalAt (assumed (only g)) k) (has w) (keptPairs l) (keptPairs m) (reachedPairs l) (reachedPairs m) (λ p. refl)
               (λ i c. sym (N .same i c)) back (T .more))
@@ -181,7 +182,7 @@ module _ (g : Game) (F : Fits g) where
     pub reaching-within : Within g l → (m : List ℕ) → Reaching g v l m → Within g m
     reaching-within W m T = record { outputs = λ i o b h. W .outputs i o b (ap (λ (x : ℕ). has x o) (sym (kept-row (T .apart) i b)) ∙ h) }
 
-    module _ (m : List ℕ) (T : Reaching g v l m) (m′ : List ℕ) (r : Bool) (R : Widened g v (length (assumed (only g))) m m′ r) where
+    module _ (m : List ℕ) (T : Reaching g v l m) (m′ : List ℕ) (r : Bool) (R : Widened g v 0 m m′ r) where
       into-l : Among g (keptPairs m) (keptPairs l)
       into-l = rows-among g (λ i. getD m i 0) (λ i. getD l i 0) (kept-row (T .apart))
 
@@ -209,7 +210,7 @@ module _ (g : Game) (F : Fits g) where
             (λ j b. among-sub g (among-then g
             (part-stay g (has v) (has v) (goalAt (assumed (only g)) j) (goalAt (assumed (only g)) j) (keptPairs l) (keptPairs m) (reachedPairs m′) (reachedPairs m)
             (λ p. refl) (λ i c. refl) from-l (R .same e))
-            (among-then g (R .none e j b) (R .more))));
+            (among-then g (R .none e j (omega arith) b) (R .more))));
       }
 
   -- what is kept is as it was before what was reached had been emptied

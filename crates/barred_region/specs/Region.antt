@@ -5,14 +5,14 @@
 --   Waits g w j               == w are the inputs of set number j that is waited for
 --   WidenedBy g v w l m r     == where the controller can stay has been added to what is reached, v being the goal and w waited for; r tells whether
 --                                that added a position
---   Widened g v k l m r       == so it is for the first k sets, up to the first that adds a position
+--   Widened g v k l m r       == so it is for the sets from number k on, the last first, up to the first that adds a position
 --   Reached g v l m           == what is reached is found
 --   Trimmed g l m             == what is kept has been trimmed
 --   Settled g v l m r         == what does not reach the goal v has been taken out of what is kept; r tells whether there was any
 --   Passed g k l m r          == so it is for the first k output sets
 --   Freed g k b l m           == the first k rows of what is kept have what is not barred
 --   Kept g b l m              == what is kept is the winning region
-use Prim.Native.Nat.{ℕ, _+_, _<_}
+use Prim.Native.Nat.{ℕ, _+_, _≤_, _<_}
 use mathlib.Core.Path.{_≡_}
 use mathlib.Core.Bool.{Bool, true, false, _&&_, _||_, not}
 use mathlib.Core.List.{List}
@@ -58,7 +58,7 @@ pub record Widened (g : Game) (v k : ℕ) (l m : List ℕ) (r : Bool) : Type 0 w
       → Among g (reachedPairs m) (reach (separatedOf g) (only g) (has v) (keptPairs l))
   pub some : r ≡ true → (i : ℕ) × (o : ℕ) × (i < g .input .states) × (o < g .output .states) × (reachedPairs l i o ≡ false) × (reachedPairs m i o ≡ true)
   pub same : r ≡ false → Among g (reachedPairs m) (reachedPairs l)
-  pub none : r ≡ false → (j : ℕ) → j < k
+  pub none : r ≡ false → (j : ℕ) → k ≤ j → j < length (assumed (only g))
       → Among g (stay (separatedOf g) (has v) (goalAt (assumed (only g)) j) (keptPairs l) (reachedPairs l)) (reachedPairs l)
 
 pub record Reached (g : Game) (v : ℕ) (l m : List ℕ) : Type 0 where

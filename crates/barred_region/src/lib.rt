@@ -35,19 +35,20 @@ fn widen_by(g: Game, s: &mut [u64], goal: OutSet, wait: InSet) -> bool
     barred_rows::unite(s, g.input.states, STAYING, REACHED)
 }
 
-// Adds to what is reached where the controller can stay as long as one of the sets is not visited; it ends with the first that adds a position.
+// Adds to what is reached where the controller can stay as long as one of the sets is not visited; it ends with the first that adds a position. The sets of
+// the requirement come before the inputs of every play: where one of them stays away, it adds at once what those add turn by turn.
 fn widen(g: Game, s: &mut [u64], goal: OutSet) -> bool
     requires { ⌜ Fits g × (384 ≤ setCount (now s)) × Within g (setsIn (now s)) ⌝ }
-    ensures { λ r. ⌜ Widened g (bitsOf (goal .0)) (length (assumed (only g))) (setsIn (now (s .entry))) (setsIn (now (s .exit))) r ⌝ }
+    ensures { λ r. ⌜ Widened g (bitsOf (goal .0)) 0 (setsIn (now (s .entry))) (setsIn (now (s .exit))) r ⌝ }
 {
     let q = g.requirements[0];
-    let mut j: usize = 0;
-    while j <= q.assumed {
+    let mut j: usize = q.assumed + 1;
+    while j > 0 {
+        j -= 1;
         let wait = waited(g, j);
         if widen_by(g, s, goal, wait) {
             return true;
         }
-        j += 1;
     }
     false
 }
