@@ -96,16 +96,17 @@ pub fn nontrivial(h: Graph, rows: &[u64]) -> Set
     c
 }
 
-// The states that moves out of the states of c enter.
-fn entering(h: Graph, c: Set) -> Set
-    requires { ⌜ h .states ≤ capacity ⌝ }
+// The states that moves out of the states of c enter. The rows, `moves`, are read where they stand: a graph goes by value, and to read a row of it would
+// copy all of them.
+fn entering(h: Graph, moves: &[u64; sets::ROW_WORDS], c: Set) -> Set
+    requires { ⌜ (h .states ≤ capacity) × (now moves ≡ h .moves) ⌝ }
     ensures { λ r. ⌜ ((t : ℕ) → has (bitsOf r) t ≡ enters (setsIn (h .moves)) (bitsOf c) (h .states) t) ⌝ }
 {
     let n = h.states;
     let mut x = sets::empty();
     let mut k: usize = 0;
     while k < n {
-        let row = sets::row_of(&h.moves, k);
+        let row = sets::row_of(moves, k);
         x = sets::union_if(x, row, sets::member(c, k));
         k += 1;
     }
@@ -113,9 +114,9 @@ fn entering(h: Graph, c: Set) -> Set
 }
 
 // The states entered by a move out of the set c.
-pub fn leaving(h: Graph, c: Set) -> Set
-    requires { ⌜ h .states ≤ capacity ⌝ }
+pub fn leaving(h: Graph, moves: &[u64; sets::ROW_WORDS], c: Set) -> Set
+    requires { ⌜ (h .states ≤ capacity) × (now moves ≡ h .moves) ⌝ }
     ensures { λ r. ⌜ ((t : ℕ) → has (bitsOf r) t ≡ (enters (setsIn (h .moves)) (bitsOf c) (h .states) t && not (has (bitsOf c) t))) ⌝ }
 {
-    sets::difference(entering(h, c), c)
+    sets::difference(entering(h, moves, c), c)
 }

@@ -152,7 +152,7 @@ pub fn escapes(
     let h = g.input;
     let q = g.output;
     let z = rows::layout_of(h.states, counters, q.states);
-    let leaving = InSet(components::leaving(h, c.0));
+    let leaving = InSet(components::leaving(h, &h.moves, c.0));
     let part = Part {
         states: c,
         leaving,

@@ -15,26 +15,45 @@ use game::InState;
 use game::OutSet;
 use scratch::Nontrivial;
 
-// The region's row of input i, a being its component, where the rows of the inputs that reach fewer states stand.
-fn stored_row(g: Game, t: Servers, s: &[u64], x: Nontrivial, a: InSet, i: InState) -> OutSet
+// The region's row of input i, a being its component, where the rows of the inputs that reach fewer states stand. Here and below the rows of the graphs,
+// `ins` and `outs`, are read where they stand: a game goes by value, and to read a row of it would copy all of them for each input.
+fn stored_row(
+    g: Game,
+    ins: &[u64; sets::ROW_WORDS],
+    outs: &[u64; sets::ROW_WORDS],
+    t: Servers,
+    s: &[u64],
+    x: Nontrivial,
+    a: InSet,
+    i: InState,
+) -> OutSet
     requires { ⌜ RowReady g (now s) x (i .0) × Serving g (serverList t)
-        × (bitsOf (a .0) ≡ pack (g .input .states) (joined (graphOf (g .input)) (i .0))) ⌝ }
+        × (bitsOf (a .0) ≡ pack (g .input .states) (joined (graphOf (g .input)) (i .0))) × (now ins ≡ g .input .moves) × (now outs ≡ g .output .moves) ⌝ }
     ensures { λ r. ⌜ bitsOf (r .0) ≡ storedRow (separatedOf g) (i .0) ⌝ }
 {
     let c = x.inputs;
     if sets::member(c.0, i.0) {
-        let h = g.input;
+        let n = g.input.states;
         let m = g.output.states;
         let among = dues::accepted(g, t, a, x.outputs);
-        let entered = InSet(components::leaving(h, a.0));
-        return homes::home_row(s, h.states, m, c, entered, among);
+        let entered = InSet(components::leaving(g.input, ins, a.0));
+        return homes::home_row(s, n, m, c, entered, among);
     }
-    replies::reply_row(g, s, c, i)
+    replies::reply_row(g, ins, outs, s, c, i)
 }
 
 // The same, taken from the first input of the component where that has been worked out.
-fn row_for(g: Game, t: Servers, s: &[u64], x: Nontrivial, i: InState) -> OutSet
-    requires { ⌜ RowReady g (now s) x (i .0) × EarlierReady g (now s) (i .0) × Serving g (serverList t) ⌝ }
+fn row_for(
+    g: Game,
+    ins: &[u64; sets::ROW_WORDS],
+    outs: &[u64; sets::ROW_WORDS],
+    t: Servers,
+    s: &[u64],
+    x: Nontrivial,
+    i: InState,
+) -> OutSet
+    requires { ⌜ RowReady g (now s) x (i .0) × EarlierReady g (now s) (i .0) × Serving g (serverList t) × (now ins ≡ g .input .moves)
+        × (now outs ≡ g .output .moves) ⌝ }
     ensures { λ r. ⌜ bitsOf (r .0) ≡ storedRow (separatedOf g) (i .0) ⌝ }
 {
     let n = g.input.states;
@@ -43,16 +62,25 @@ fn row_for(g: Game, t: Servers, s: &[u64], x: Nontrivial, i: InState) -> OutSet
     if f < i.0 {
         return scratch::region_row(s, n, InState(f));
     }
-    stored_row(g, t, s, x, a, i)
+    stored_row(g, ins, outs, t, s, x, a, i)
 }
 
 // Writes the row of input i, where the rows of the inputs that come before it stand.
-fn place(g: Game, t: Servers, s: &mut [u64], x: Nontrivial, i: InState)
-    requires { ⌜ Filling g x (now s) (reach (setsIn (now s)) (i .0)) (i .0) × Serving g (serverList t) × (i .0 < g .input .states) ⌝ }
+fn place(
+    g: Game,
+    ins: &[u64; sets::ROW_WORDS],
+    outs: &[u64; sets::ROW_WORDS],
+    t: Servers,
+    s: &mut [u64],
+    x: Nontrivial,
+    i: InState,
+)
+    requires { ⌜ Filling g x (now s) (reach (setsIn (now s)) (i .0)) (i .0) × Serving g (serverList t) × (i .0 < g .input .states)
+        × (now ins ≡ g .input .moves) × (now outs ≡ g .output .moves) ⌝ }
     ensures { λ _. ⌜ Filling g x (now (s .exit)) (reach (setsIn (now (s .entry))) (i .0)) (i .0 + 1) × PastKept g (now (s .entry)) (now (s .exit)) ⌝ }
 {
     let n = g.input.states;
-    let r = row_for(g, t, s, x, i);
+    let r = row_for(g, ins, outs, t, s, x, i);
     scratch::put_region_row(s, n, i, r);
 }
 
@@ -72,14 +100,22 @@ fn next_at(s: &[u64], n: usize, k: usize, i: usize) -> usize
 }
 
 // Writes the rows of the inputs that reach k states.
-pub fn fill_rank(g: Game, t: Servers, s: &mut [u64], x: Nontrivial, k: usize)
-    requires { ⌜ Filling g x (now s) k 0 × Serving g (serverList t) ⌝ }
+pub fn fill_rank(
+    g: Game,
+    ins: &[u64; sets::ROW_WORDS],
+    outs: &[u64; sets::ROW_WORDS],
+    t: Servers,
+    s: &mut [u64],
+    x: Nontrivial,
+    k: usize,
+)
+    requires { ⌜ Filling g x (now s) k 0 × Serving g (serverList t) × (now ins ≡ g .input .moves) × (now outs ≡ g .output .moves) ⌝ }
     ensures { λ _. ⌜ Filling g x (now (s .exit)) (k + 1) 0 × PastKept g (now (s .entry)) (now (s .exit)) ⌝ }
 {
     let n = g.input.states;
     let mut i = next_at(s, n, k, 0);
     while i < n {
-        place(g, t, s, x, InState(i));
+        place(g, ins, outs, t, s, x, InState(i));
         i = next_at(s, n, k, i + 1);
     }
 }

@@ -1,4 +1,5 @@
 // The winning region, worked out in scratch.
+ghost use mathlib.Core.Path.{_≡_};
 ghost use Prim.Native.Nat.{_≤_};
 ghost use lib.ListN.{length};
 ghost use Rattle.sets.specs.Words.{bitsOf};
@@ -13,13 +14,20 @@ use game::Game;
 use scratch::Nontrivial;
 
 // Writes all rows, those of the inputs that reach fewer states first.
-fn fill(g: Game, t: Servers, s: &mut [u64], x: Nontrivial)
-    requires { ⌜ Filling g x (now s) 1 0 × Serving g (serverList t) ⌝ }
+fn fill<'a>(
+    g: Game,
+    ins: &'a [u64; sets::ROW_WORDS],
+    outs: &'a [u64; sets::ROW_WORDS],
+    t: Servers,
+    s: &mut [u64],
+    x: Nontrivial,
+)
+    requires { ⌜ Filling g x (now s) 1 0 × Serving g (serverList t) × (now ins ≡ g .input .moves) × (now outs ≡ g .output .moves) ⌝ }
     ensures { λ _. ⌜ Ready g (now (s .exit)) (bitsOf (x .inputs .0)) × PastKept g (now (s .entry)) (now (s .exit)) ⌝ }
 {
     let mut k: usize = 1;
     while k <= g.input.states {
-        ranks::fill_rank(g, t, s, x, k);
+        ranks::fill_rank(g, ins, outs, t, s, x, k);
         k += 1;
     }
 }
@@ -32,6 +40,6 @@ pub fn prepare(g: Game, s: &mut [u64]) -> Nontrivial
     scratch::close(g, s);
     let x = scratch::nontrivial_states(g, s);
     let t = dues::served(g, s);
-    fill(g, t, s, x);
+    fill(g, &g.input.moves, &g.output.moves, t, s, x);
     x
 }

@@ -69,21 +69,26 @@ fn replies(s: &[u64], n: usize, m: usize, c: InSet, next: InSet, moves: OutSet) 
     sets::is_empty(rest)
 }
 
-// The outputs with a reply to every next input of i.
-pub fn reply_row(g: Game, s: &[u64], c: InSet, i: InState) -> OutSet
+// The outputs with a reply to every next input of i. The rows of the graphs, `ins` and `outs`, are read where they stand.
+pub fn reply_row(
+    g: Game,
+    ins: &[u64; sets::ROW_WORDS],
+    outs: &[u64; sets::ROW_WORDS],
+    s: &[u64],
+    c: InSet,
+    i: InState,
+) -> OutSet
     requires { ⌜ (g .input .states ≤ capacity) × (g .output .states ≤ capacity) × (i .0 < g .input .states)
-        × (scratchSets (g .input .states) (g .output .states) ≤ setCount (now s)) ⌝ }
+        × (scratchSets (g .input .states) (g .output .states) ≤ setCount (now s)) × (now ins ≡ g .input .moves) × (now outs ≡ g .output .moves) ⌝ }
     ensures { λ r. ⌜ bitsOf (r .0) ≡ pack (g .output .states) (replyAt g (setsIn (now (s .entry))) (bitsOf (c .0)) (i .0)) ⌝ }
 {
-    let h = g.input;
-    let next = InSet(sets::row_of(&h.moves, i.0));
-    let n = h.states;
-    let f = g.output;
-    let m = f.states;
+    let next = InSet(sets::row_of(ins, i.0));
+    let n = g.input.states;
+    let m = g.output.states;
     let mut x = sets::empty();
     let mut o: usize = 0;
     while o < m {
-        let moves = OutSet(sets::row_of(&f.moves, o));
+        let moves = OutSet(sets::row_of(outs, o));
         x = sets::insert_if(x, o, replies(s, n, m, c, next, moves));
         o += 1;
     }

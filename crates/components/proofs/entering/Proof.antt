@@ -1,6 +1,7 @@
 -- `entering` joins the rows of the states of c.
 use mathlib.Core.Path.{_≡_, _∙_, ap}
 use mathlib.Core.Bool.{_&&_, _||_}
+use mathlib.Core.List.{List}
 use Prim.Native.Nat.{ℕ, _≤_, _-_}
 use Rattle.bits.specs.Member.{has}
 use Rattle.sets.specs.Words.{bitsOf, setsIn}
@@ -12,10 +13,10 @@ use Rattle.components.proofs.entering.Statement.{statement}
 use Rattle.components.proofs.entering.Tie as tie
 
 abbrev Inv-loop : tie.InvT-loop
-Inv-loop c h n x₀ k₀ x k = (k ≤ n) × ((t : ℕ) → has (bitsOf x) t ≡ enters (setsIn (h .moves)) (bitsOf c) k t)
+Inv-loop moves c n x₀ k₀ x k = (k ≤ n) × ((t : ℕ) → has (bitsOf x) t ≡ enters (setsIn moves) (bitsOf c) k t)
 
 abbrev μ-loop : tie.MeasureT-loop
-μ-loop c h n x₀ k₀ x k = n - k
+μ-loop moves c n x₀ k₀ x k = n - k
 
 empty-requires : tie.Need-empty-requires Inv-loop μ-loop
 empty-requires c κs = search needs
@@ -41,7 +42,7 @@ loop-less c = omega arith
 loop-again : tie.Need-loop-again Inv-loop μ-loop
 loop-again c =
     let read = c .before .before in
-    let b = read .before .before .before .before in
+    let b = read .before .before in
     let held = c .before .member in (
       omega arith,
       λ t. enters-next _ _ (b .loop .k) t _ _ _ (b .loop .inv .1 t) (held .ensures)
@@ -50,9 +51,11 @@ loop-again c =
 
 returns : tie.Need-returns Inv-loop μ-loop
 returns c =
-    let a = c .before .before .before .args in
-    let e : c .before .loop .k ≡ a .t1 .states = omega arith in
-    λ t. c .before .loop .inv .1 t ∙ ap (λ (k : ℕ). enters (setsIn (a .t1 .moves)) (bitsOf (a .c)) k t) e
+    let b = c .before .before .before in
+    let a = b .args in
+    let e : c .before .loop .k ≡ a .h .states = omega arith in
+    λ t. c .before .loop .inv .1 t ∙ ap (λ (k : ℕ). enters (setsIn (a .moves .now)) (bitsOf (a .c)) k t) e
+    ∙ ap (λ (l : List ℕ). enters (setsIn l) (bitsOf (a .c)) (a .h .states) t) (b .pre .1)
 
 pub entering-spec : {M : Type 1} → statement M
 entering-spec =

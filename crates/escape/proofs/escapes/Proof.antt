@@ -32,7 +32,7 @@ pressed : (c : tie.After-escape-arg2 Inv-loop μ-loop)
     let t = step .before .before .before in
     let l = t .before .before in
     let y = l .before .before .before .before in
-    let v = y .before in
+    let v = y .before .before .before in
     let a = v .before .before .before .before .before .args in
     Pressed (v .layout-of .result) (setsIn (a .g .input .moves)) (a .s .now) (bitsOf (a .inner .0)) (bitsOf (a .c .0)) (bitsOf (y .leaving .result))
     (a .first .0) (l .loop .o) (bitsOf (c .before .row-of .result)) (length (l .loop .room))
@@ -41,7 +41,7 @@ pressed c =
     let t = step .before .before .before in
     let l = t .before .before in
     let y = l .before .before .before .before in
-    let v = y .before in
+    let v = y .before .before .before in
     let s = v .before .before .before .before .before in
     record {
       game = s .args .g;
@@ -59,7 +59,9 @@ layout-of-requires : tie.Need-layout-of-requires Inv-loop μ-loop
 layout-of-requires c κs = search needs
 
 leaving-requires : tie.Need-leaving-requires Inv-loop μ-loop
-leaving-requires c κs = c .before .before .before .before .before .pre .0 .ready .fits .input .most
+leaving-requires c κs =
+    let v = c .before .before in
+    (v .before .before .before .before .before .pre .0 .ready .fits .input .most, refl)
 
 empty-requires : tie.Need-empty-requires Inv-loop μ-loop
 empty-requires c κs = search needs
@@ -82,7 +84,8 @@ row-of-requires : tie.Need-row-of-requires Inv-loop μ-loop
 row-of-requires c κs =
     let t = c .before .before .before .before in
     let l = t .before .before in
-    let v = l .before .before .before .before .before in
+    let y = l .before .before .before .before in
+    let v = y .before .before .before in
     let s = v .before .before .before .before .before in
     omega (arith, t .if1 .taken, s .pre .0 .ready .fits .output .most)
 
@@ -91,7 +94,8 @@ escape-requires c κs =
     let step = c .before .before .before in
     let t = step .before .before .before in
     let l = t .before .before in
-    let v = l .before .before .before .before .before in
+    let y = l .before .before .before .before in
+    let v = y .before .before .before in
     (pressed c, gated-within _ _ _ (v .layout-of .ensures) (l .loop .inv .3))
 
 insert-if-requires : tie.Need-insert-if-requires Inv-loop μ-loop
@@ -100,7 +104,8 @@ insert-if-requires c κs =
     let step = e .before .before .before in
     let t = step .before .before .before .before in
     let l = t .before .before in
-    let v = l .before .before .before .before .before in
+    let y = l .before .before .before .before in
+    let v = y .before .before .before in
     let s = v .before .before .before .before .before in
     omega (arith, t .if1 .taken, s .pre .0 .ready .fits .output .most)
 
@@ -110,7 +115,8 @@ add-o c =
     let step = e .before .before .before in
     let t = step .before .before .before .before in
     let l = t .before .before in
-    let v = l .before .before .before .before .before in
+    let y = l .before .before .before .before in
+    let v = y .before .before .before in
     let s = v .before .before .before .before .before in
     omega (arith, t .if1 .taken, s .pre .0 .ready .fits .output .most)
 
@@ -135,7 +141,8 @@ approach-requires : tie.Need-approach-requires Inv-loop μ-loop
 approach-requires c κs =
     let t = c .before .before .before .before .before in
     let l = t .before .before in
-    let v = l .before .before .before .before .before in
+    let y = l .before .before .before .before in
+    let v = y .before .before .before in
     let s = v .before .before .before .before .before in (
       fits-same _ _ _ (l .loop .inv .1 .grows .long) (laid-fits _ _ _ _ (s .pre .1) (v .layout-of .ensures)),
       gated-within _ _ _ (v .layout-of .ensures) (l .loop .inv .3),
@@ -155,7 +162,8 @@ returns c =
     let step = a .before .before .before in
     let t = step .before .before .before in
     let l = t .before .before in
-    let v = l .before .before .before .before .before in
+    let y = l .before .before .before .before in
+    let v = y .before .before .before in
     let s = v .before .before .before .before .before in
     record {
       filled =

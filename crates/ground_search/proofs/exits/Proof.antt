@@ -12,7 +12,8 @@ leaving-requires c κs = search needs
 
 returns : tie.Need-returns
 returns c =
-    exits-means (c .before .before .before .before .pre) (c .before .in-component .ensures) (c .leaving .ensures)
+    let a = c .before .before .before in
+    exits-means (a .before .before .before .pre) (a .in-component .ensures) (c .leaving .ensures)
 
 pub exits-spec : {M : Type 1} → statement M
 exits-spec = tie.close (tie.spec in-component-requires leaving-requires returns)

@@ -9,10 +9,10 @@ use Rattle.ranks.proofs.fill_rank.Statement.{statement}
 use Rattle.ranks.proofs.fill_rank.Tie as tie
 
 abbrev Inv-loop : tie.InvT-loop
-Inv-loop g t s₀ x k n i₀ s i = (i ≤ n) × Filling g x s k i × PastKept g s₀ s × (i < n → reach (setsIn s) i ≡ k)
+Inv-loop g ins outs t s₀ x k n i₀ s i = (i ≤ n) × Filling g x s k i × PastKept g s₀ s × (i < n → reach (setsIn s) i ≡ k)
 
 abbrev μ-loop : tie.MeasureT-loop
-μ-loop g t s₀ x k n i₀ s i = n - i
+μ-loop g ins outs t s₀ x k n i₀ s i = n - i
 
 next-at-requires : tie.Need-next-at-requires Inv-loop μ-loop
 next-at-requires c κs = omega (arith, c .before .before .pre .0 .laid .long)
@@ -26,7 +26,8 @@ place-requires : tie.Need-place-requires Inv-loop μ-loop
 place-requires c κs =
     let b = c .before .before in
     let i : b .loop .i < _ = c .before .loop-test .taken in
-    (filling-at _ _ (b .loop .inv .3 i) (b .loop .inv .1), b .before .before .before .before .pre .1, i)
+    let p = b .before .before .before .before .pre in
+    (filling-at _ _ (b .loop .inv .3 i) (b .loop .inv .1), p .1, i, p .2, p .3)
 
 add-next-at : tie.Need-add-next-at Inv-loop μ-loop
 add-next-at c = omega arith

@@ -8,7 +8,7 @@ row-for-requires : tie.Need-row-for-requires
 row-for-requires c κs =
     let p = c .before .before .pre in
     let r = filling-ready (p .0) (p .2) in
-    (r .0, r .1, p .1)
+    (r .0, r .1, p .1, p .3, p .4)
 
 put-region-row-requires : tie.Need-put-region-row-requires
 put-region-row-requires c κs = search needs

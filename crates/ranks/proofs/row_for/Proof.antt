@@ -25,7 +25,7 @@ stored-row-requires : tie.Need-stored-row-requires
 stored-row-requires c κs =
     let a = c .before .before .before in
     let p = a .before .before .pre in
-    (p .0, p .2, row-component (p .0) _ (a .in-component .ensures))
+    (p .0, p .2, row-component (p .0) _ (a .in-component .ensures), p .3, p .4)
 
 returns-2 : tie.Need-returns-2
 returns-2 c = search needs

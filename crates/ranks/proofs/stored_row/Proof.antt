@@ -11,7 +11,7 @@ member-requires c κs = search needs
 
 accepted-requires : tie.Need-accepted-requires
 accepted-requires c κs =
-    let p = c .before .before .before .before .before .pre in
+    let p = c .before .before .before .before .pre in
     fits-few _ (p .0 .fits)
 
 leaving-requires : tie.Need-leaving-requires
@@ -20,7 +20,7 @@ leaving-requires c κs = search needs
 home-row-requires : tie.Need-home-row-requires
 home-row-requires c κs =
     let a = c .before in
-    let tested = a .before .before .before in
+    let tested = a .before .before in
     let p = tested .before .before .before .pre in
     let R = p .0 in (
       R .fits .input .most,
@@ -34,9 +34,9 @@ returns : tie.Need-returns
 returns c =
     let l = c .before in
     let a = l .before in
-    let tested = a .before .before .before in
+    let tested = a .before .before in
     let p = tested .before .before .before .pre in
-    row-homes (p .0) _ _ _ _ (p .1) (p .2) (l .leaving .ensures) (a .accepted .ensures) _ (sym (tested .member .ensures) ∙ a .before .before .if1 .taken)
+    row-homes (p .0) _ _ _ _ (p .1) (p .2) (l .leaving .ensures) (a .accepted .ensures) _ (sym (tested .member .ensures) ∙ a .before .if1 .taken)
     (c .home-row .ensures)
 
 reply-row-requires : tie.Need-reply-row-requires

@@ -7,16 +7,19 @@ use Rattle.region.proofs.fill.Statement.{statement}
 use Rattle.region.proofs.fill.Tie as tie
 
 abbrev Inv-loop : tie.InvT-loop
-Inv-loop g t s₀ x k₀ s k = (k ≤ g .input .states + 1) × Filling g x s k 0 × PastKept g s₀ s
+Inv-loop g ins outs t s₀ x k₀ s k = (k ≤ g .input .states + 1) × Filling g x s k 0 × PastKept g s₀ s
 
 abbrev μ-loop : tie.MeasureT-loop
-μ-loop g t s₀ x k₀ s k = g .input .states + 1 - k
+μ-loop g ins outs t s₀ x k₀ s k = g .input .states + 1 - k
 
 loop-holds : tie.Need-loop-holds Inv-loop μ-loop
 loop-holds c = (omega arith, c .before .pre .0, kept-none _ _)
 
 fill-rank-requires : tie.Need-fill-rank-requires Inv-loop μ-loop
-fill-rank-requires c κs = (c .before .before .before .loop .inv .1, c .before .before .before .before .before .pre .1)
+fill-rank-requires c κs =
+    let l = c .before .before .before in
+    let p = l .before .before .pre in
+    (l .loop .inv .1, p .1, p .2, p .3)
 
 add-k : tie.Need-add-k Inv-loop μ-loop
 add-k c = omega arith

@@ -1,6 +1,7 @@
 -- `prepare` works out the closures, then the components, then the rows.
 use Rattle.dues.proofs.Meaning.{fits-few}
 use Rattle.region.proofs.Parts.{filling-first, serving-first, kept-words}
+use mathlib.Core.Path.{refl}
 use native.Mathlib.Omega.{arith}
 use borrow.Author.Needs.{needs}
 use Rattle.region.proofs.prepare.Statement.{statement}
@@ -20,12 +21,12 @@ served-requires c κs =
 
 fill-requires : tie.Need-fill-requires
 fill-requires c κs =
-    let served = c .before in
+    let served = c .before .before .before .before in
     let found = served .before .before in
     let closed = found .before .before .before .before in
     let F = closed .before .before .before .pre .0 in
     let L = closed .close .ensures .0 in
-    (filling-first F L _ (found .nontrivial-states .ensures), serving-first F L _ (served .served .ensures))
+    (filling-first F L _ (found .nontrivial-states .ensures), serving-first F L _ (served .served .ensures), refl, refl)
 
 same-length : tie.Need-same-length
 same-length c = search needs
@@ -33,7 +34,8 @@ same-length c = search needs
 returns : tie.Need-returns
 returns c =
     let filled = c .before .before in
-    let found = filled .before .before .before .before in
+    let served = filled .before .before .before .before .before in
+    let found = served .before .before in
     let known = found .before .before in
     let closed = known .before .before in
     let f = filled .fill .ensures in

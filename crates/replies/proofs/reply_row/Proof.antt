@@ -1,6 +1,8 @@
 -- `reply_row` collects the outputs below o.
 use Prim.Native.Nat.{ℕ, _-_, _≤_}
-use mathlib.Core.Path.{_≡_, _∙_, ap}
+use mathlib.Core.Path.{_≡_, _∙_, ap, ap₂}
+use mathlib.Core.List.{List}
+use lib.ListN.{getD}
 use Rattle.bits.specs.Member.{pack}
 use Rattle.bits.proofs.Collect.{collect-none, collect-next, collect-end}
 use Rattle.sets.specs.Words.{bitsOf, setsIn}
@@ -11,10 +13,10 @@ use Rattle.replies.proofs.reply_row.Statement.{statement}
 use Rattle.replies.proofs.reply_row.Tie as tie
 
 abbrev Inv-loop : tie.InvT-loop
-Inv-loop s c next n f m x₀ o₀ x o = (o ≤ m) × (bitsOf x ≡ pack o (replyWith (setsIn s) n (bitsOf (c .0)) (bitsOf (next .0)) (setsIn (f .moves)) m))
+Inv-loop ins outs s c next n m x₀ o₀ x o = (o ≤ m) × (bitsOf x ≡ pack o (replyWith (setsIn s) n (bitsOf (c .0)) (bitsOf (next .0)) (setsIn outs) m))
 
 abbrev μ-loop : tie.MeasureT-loop
-μ-loop s c next n f m x₀ o₀ x o = m - o
+μ-loop ins outs s c next n m x₀ o₀ x o = m - o
 
 row-of-requires : tie.Need-row-of-requires Inv-loop μ-loop
 row-of-requires c κs = omega arith
@@ -44,9 +46,9 @@ loop-again : tie.Need-loop-again Inv-loop μ-loop
 unfolding replyWith
 loop-again c =
     let read = c .before .before in
-    let b = read .before .before .before .before in
-    let first = b .before .before .before in
-    let a = first .before .before .before .before .before .args in
+    let b = read .before .before in
+    let first = b .before .before in
+    let a = first .before .before .args in
     let n = a .g .input .states in
     let answer = ap (λ (y : ℕ). repliesAt (setsIn (a .s .now)) n (bitsOf (a .c .0)) (bitsOf (first .row-of .result)) y (a .g .output .states) n)
     (read .row-of2 .ensures .1) in
@@ -56,12 +58,14 @@ returns : tie.Need-returns Inv-loop μ-loop
 unfolding replyAt
 returns c =
     let b = c .before in
-    let first = b .before .before .before in
-    let a = first .before .before .before .before .before .args in
-    let rows = setsIn (a .g .output .moves) in
+    let first = b .before .before in
+    let p = first .before .before in
+    let a = p .args in
+    let n = a .g .input .states in
+    let m = a .g .output .states in
     collect-end _ (b .loop .o) _ _ (omega arith) (omega arith) (b .loop .inv .1)
-    ∙ ap (λ (y : ℕ). pack (a .g .output .states) (replyWith (setsIn (a .s .now)) (a .g .input .states) (bitsOf (a .c .0)) y rows (a .g .output .states)))
-    (first .row-of .ensures .1)
+    ∙ ap₂ (λ (y : ℕ) (l : List ℕ). pack m (replyWith (setsIn (a .s .now)) n (bitsOf (a .c .0)) y (setsIn l) m))
+    (first .row-of .ensures .1 ∙ ap (λ (l : List ℕ). getD (setsIn l) (a .i .0) 0) (p .pre .4)) (p .pre .5)
 
 pub reply-row-spec : {M : Type 1} → statement M
 reply-row-spec =
