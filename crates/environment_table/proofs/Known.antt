@@ -25,15 +25,13 @@ use Rattle.bits.proofs.Membership.{has-zero, has-pack-below, has-within}
 use Rattle.bits.proofs.Compare.{meets-intro, nonzero-member}
 use Rattle.ways.proofs.Kept.{pack-below}
 use Rattle.sets.specs.Words.{capacity, bitsOf, setsIn, setCount}
-use Rattle.sets.proofs.Rows.{set-bits}
 use Rattle.graphs.specs.Graph.{edge, begins, stuck}
 use Rattle.graphs.specs.Component.{nontrivial}
 use Rattle.graphs.proofs.Graph.{stuck-not, stuck-moves}
 use Rattle.game.specs.declared.Game.{Game}
 use Rattle.game.specs.declared.InSet.{InSet}
 use Rattle.game.specs.declared.OutSet.{OutSet}
-use Rattle.game.specs.declared.OutState.{OutState}
-use Rattle.game.specs.Access.{outMoves, outInitial}
+use Rattle.game.specs.Access.{outInitial}
 use Rattle.game.proofs.Laws.{accepted-fits}
 use Rattle.components.proofs.Closed.{moved-edge}
 use Rattle.play.specs.Play.{graphOf, separatedOf}
@@ -57,10 +55,6 @@ use Rattle.environment_table.proofs.Reading.{unanswered-both}
 pub unanswered-of : (l : List ℕ) (n m inner : ℕ) {j : ℕ} {x x′ : InSet} {y y′ : OutSet} → x ≡ x′ → y ≡ y′
     → j ≡ unansweredAt l n m inner (bitsOf (x .0)) (bitsOf (y .0)) → j ≡ unansweredAt l n m inner (bitsOf (x′ .0)) (bitsOf (y′ .0))
 unanswered-of l n m inner p q e = e ∙ ap₂ (λ (a : InSet) (b : OutSet). unansweredAt l n m inner (bitsOf (a .0)) (bitsOf (b .0))) p q
-
--- the moves of an output, as a number
-pub moves-bits : (g : Game) (o : OutState) {y : OutSet} → y ≡ outMoves g o → bitsOf (y .0) ≡ getD (setsIn (g .output .moves)) (o .0) 0
-moves-bits g o e = ap (λ (k : OutSet). bitsOf (k .0)) e ∙ set-bits (g .output .moves) (o .0)
 
 -- the initial states as sets
 begins-has : (g : Game) (o : ℕ) → o < g .output .states → has (bitsOf (g .output .initial)) o ≡ begins (separatedOf g .output) o

@@ -25,12 +25,13 @@ use Rattle.environment_table.proofs.Laid.{laid-table, laid-filled}
 
 module _ (g : Game) (M n : ℕ) (z : Layout) (R : Roomy g M n) (Z : EnvironmentLayout (g .input .states) M (g .output .states) z) (which o refused : ℕ)
     (P : Pushes g which o refused) where
-  pub pushes-entering : Entering (setsIn (g .input .moves)) (z .states) which refused
-  pushes-entering = record { below = λ s e. omega (arith, P .below s e, Z .states); move = P .move }
+  -- k are the rows that were read
+  pub pushes-entering : {k : List ℕ} → k ≡ g .input .moves → Entering (setsIn k) (z .states) which refused
+  pushes-entering q = rw q (record { below = λ s e. omega (arith, P .below s e, Z .states); move = P .move })
 
-  pub pushes-written : (x alone : ℕ) {l m : List ℕ} → x ≡ 0 → ((t : ℕ) → has alone t ≡ (has x t || eqb t o))
+  written : (x alone : ℕ) {l m : List ℕ} → x ≡ 0 → ((t : ℕ) → has alone t ≡ (has x t || eqb t o))
       → Enters (setsIn (g .input .moves)) z which refused alone l m → Filled g (λ a h b. (has which a ≡ true) × (b ≡ o)) l m
-  pushes-written x alone none single E =
+  written x alone none single E =
       filled-same g
       (laid-filled g M n z R Z
       (E .fills (environmentRow (separatedOf g)) (entriesOf g) (laid-table g M n z R Z)
@@ -43,3 +44,7 @@ module _ (g : Game) (M n : ℕ) (z : Layout) (R : Roomy g M n) (Z : EnvironmentL
             | inl q ↦ clash q (ap (λ (k : ℕ). has k b) none ∙ has-zero b)
             | inr q ↦ eqb-true b o q
           ]
+
+  pub pushes-written : {k : List ℕ} → k ≡ g .input .moves → (x alone : ℕ) {l m : List ℕ} → x ≡ 0 → ((t : ℕ) → has alone t ≡ (has x t || eqb t o))
+      → Enters (setsIn k) z which refused alone l m → Filled g (λ a h b. (has which a ≡ true) × (b ≡ o)) l m
+  pushes-written q x alone none single E = written x alone none single (rw q at E)

@@ -112,15 +112,23 @@ fn none_rows(g: Game, s: &[u64], inner: InSet, counters: usize, room: &mut [u16]
     }
 }
 
-// The rows of the inputs of `which` and output o: the lowest move to an input that no move of o answers. Those inputs are `refused`.
-fn push_rows(g: Game, counters: usize, o: OutState, which: InSet, refused: InSet, room: &mut [u16])
-    requires { ⌜ Roomy g counters (length (now room)) × Pushes g (bitsOf (which .0)) (o .0) (bitsOf (refused .0)) ⌝ }
+// The rows of the inputs of `which` and output o: the lowest move to an input that no move of o answers. Those inputs are `refused`. Here and below the rows
+// of the graphs, `ins` and `outs`, are read where they stand: a game goes by value, and to read a row of it would copy all of them for each output.
+fn push_rows(
+    g: Game,
+    ins: &[u64; sets::ROW_WORDS],
+    counters: usize,
+    o: OutState,
+    which: InSet,
+    refused: InSet,
+    room: &mut [u16],
+)
+    requires { ⌜ Roomy g counters (length (now room)) × Pushes g (bitsOf (which .0)) (o .0) (bitsOf (refused .0)) × (now ins ≡ g .input .moves) ⌝ }
     ensures { λ r. ⌜ Filled g (λ a h b. (has (bitsOf (which .0)) a ≡ true) × (b ≡ o .0)) (now (room .entry)) (now (room .exit)) ⌝ }
 {
-    let h = g.input;
-    let z = rows::layout_of(h.states, counters, g.output.states);
+    let z = rows::layout_of(g.input.states, counters, g.output.states);
     let alone = sets::insert(sets::empty(), o.0);
-    rounds::enter(&h.moves, room, z, which.0, refused.0, alone);
+    rounds::enter(ins, room, z, which.0, refused.0, alone);
 }
 
 // The inputs whose rows with an output need no walk, `moves` being its moves: those of `lone`, and all n where there is none.
@@ -138,6 +146,8 @@ fn pushed(n: usize, lone: InSet, moves: OutSet) -> InSet
 // there are any.
 fn push_column(
     g: Game,
+    ins: &[u64; sets::ROW_WORDS],
+    outs: &[u64; sets::ROW_WORDS],
     s: &[u64],
     inner: InSet,
     counters: usize,
@@ -145,7 +155,8 @@ fn push_column(
     o: OutState,
     room: &mut [u16],
 )
-    requires { ⌜ Known g (now s) (bitsOf (inner .0)) × Roomy g counters (length (now room)) × Pushed g (bitsOf (x .0)) (o .0) × (o .0 < g .output .states) ⌝ }
+    requires { ⌜ Known g (now s) (bitsOf (inner .0)) × Roomy g counters (length (now room)) × Pushed g (bitsOf (x .0)) (o .0) × (o .0 < g .output .states)
+        × (now ins ≡ g .input .moves) × (now outs ≡ g .output .moves) ⌝ }
     ensures { λ r. ⌜ Filled g (λ a h b. (unwalked g a b ≡ true) × (b ≡ o .0) × (region (separatedOf g) a b ≡ false)) (now (room .entry)) (now (room .exit)) ⌝ }
 {
     let n = g.input.states;
@@ -153,21 +164,31 @@ fn push_column(
     if sets::is_empty(which.0) {
         return;
     }
-    let y = refused(s, n, g.output.states, inner, game::out_moves(g, o));
-    push_rows(g, counters, o, which, y, room);
+    let moves = OutSet(sets::row_of(outs, o.0));
+    let y = refused(s, n, g.output.states, inner, moves);
+    push_rows(g, ins, counters, o, which, y, room);
 }
 
 // The same for every output; `lone` are the inputs in trivial components.
-fn push_columns(g: Game, s: &[u64], inner: InSet, counters: usize, lone: InSet, room: &mut [u16])
-    requires { ⌜ Known g (now s) (bitsOf (inner .0)) × Roomy g counters (length (now room)) × Lone (g .input .states) (bitsOf (inner .0)) (bitsOf (lone .0)) ⌝ }
+fn push_columns<'a>(
+    g: Game,
+    ins: &'a [u64; sets::ROW_WORDS],
+    outs: &'a [u64; sets::ROW_WORDS],
+    s: &[u64],
+    inner: InSet,
+    counters: usize,
+    lone: InSet,
+    room: &mut [u16],
+)
+    requires { ⌜ Known g (now s) (bitsOf (inner .0)) × Roomy g counters (length (now room)) × Lone (g .input .states) (bitsOf (inner .0)) (bitsOf (lone .0))
+        × (now ins ≡ g .input .moves) × (now outs ≡ g .output .moves) ⌝ }
     ensures { λ r. ⌜ Filled g (λ a h b. (unwalked g a b ≡ true) × (region (separatedOf g) a b ≡ false)) (now (room .entry)) (now (room .exit)) ⌝ }
 {
-    let h = g.output;
-    let m = h.states;
+    let m = g.output.states;
     let mut o: usize = 0;
     while o < m {
-        let x = pushed(g.input.states, lone, OutSet(sets::row_of(&h.moves, o)));
-        push_column(g, s, inner, counters, x, OutState(o), room);
+        let x = pushed(g.input.states, lone, OutSet(sets::row_of(outs, o)));
+        push_column(g, ins, outs, s, inner, counters, x, OutState(o), room);
         o += 1;
     }
 }
@@ -179,5 +200,14 @@ pub fn plain_rows(g: Game, s: &[u64], inner: InSet, counters: usize, room: &mut 
 {
     none_rows(g, s, inner, counters, room);
     let lone = InSet(sets::difference(sets::below(g.input.states), inner.0));
-    push_columns(g, s, inner, counters, lone, room);
+    push_columns(
+        g,
+        &g.input.moves,
+        &g.output.moves,
+        s,
+        inner,
+        counters,
+        lone,
+        room,
+    );
 }

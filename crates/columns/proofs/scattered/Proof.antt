@@ -66,7 +66,8 @@ loop-less c =
     let o = c .before .before in
     let l = o .before .before in
     let a = l .before .before .before in
-    scattering-falls _ _ _ _ _ _ _ _ _ (l .loop .inv _ _ _ (a .scattered-low .ensures)) (some-left o) (c .before .lowest .ensures) _ (c .without-lowest .ensures)
+    scattering-falls _ _ _ _ _ _ _ _ _ (l .loop .inv _ _ _ (a .scattered-low .ensures)) (some-left o) (c .before .lowest .ensures) _
+    (c .without-lowest .ensures)
 
 loop-again : tie.Need-loop-again Inv-loop μ-loop
 loop-again c =

@@ -73,8 +73,8 @@ met : (c : tie.After-both-ways Inv-loop μ-loop)
     → let e = c .before .before in
     let l = e .before .before .before in
     let p = l .before .before .before .before .before in
-    c .both-ways .result
-    ≡ (has (getD (setsIn (p .args .rows .now)) (p .args .s) 0) (e .lowest .result) && has (getD (setsIn (p .args .rows .now)) (e .lowest .result) 0) (p .args .s))
+    let rows = setsIn (p .args .rows .now) in
+    c .both-ways .result ≡ (has (getD rows (p .args .s) 0) (e .lowest .result) && has (getD rows (e .lowest .result) 0) (p .args .s))
 met c =
     let e = c .before .before in
     let l = e .before .before .before in

@@ -47,7 +47,8 @@ loop-again c =
     let b = c .before .before .before .before in
     let read = b .before .before in
     let both = c .before .both-ways-low in
-    let met = both .ensures ∙ ap₂ (λ (x y : ℕ). has x (b .loop .t) && has y (read .before .before .args .s)) (read .row .ensures) (c .before .before .row2 .ensures) in
+    let met = both .ensures ∙ ap₂ (λ (x y : ℕ). has x (b .loop .t) && has y (read .before .before .args .s))
+    (read .row .ensures) (c .before .before .row2 .ensures) in
     (omega arith, collect-next _ (b .loop .t) _ _ _ (b .loop .inv .1) (together-at _ _ (b .loop .t) met) (c .insert-if .ensures))
 
 returns : tie.Need-returns Inv-loop μ-loop

@@ -13,7 +13,9 @@ row-of-requires : tie.Need-row-of-requires
 row-of-requires c κs = omega (arith, c .pre .0 .inputs)
 
 word-of-requires : tie.Need-word-of-requires
-word-of-requires c κs = small-in-word (c .before .pre .0) (c .before .args .i) (c .before .pre .1) _ (c .row-of .ensures .0 ∙ ap (λ (l : List ℕ). setAt l (c .before .args .i .0)) (c .before .pre .2))
+word-of-requires c κs =
+    small-in-word (c .before .pre .0) (c .before .args .i) (c .before .pre .1) _
+    (c .row-of .ensures .0 ∙ ap (λ (l : List ℕ). setAt l (c .before .args .i .0)) (c .before .pre .2))
 
 returns : tie.Need-returns
 returns c =

@@ -1,4 +1,5 @@
 -- `plain_rows`: the won positions, and then the pushes.
+use mathlib.Core.Path.{refl}
 use borrow.Author.Needs.{needs}
 use Rattle.environment_table.proofs.Places.{roomy-more}
 use Rattle.environment_table.proofs.Known.{lone-of, plain-join}
@@ -16,19 +17,26 @@ difference-requires c κs = search needs
 
 push-columns-requires : tie.Need-push-columns-requires
 push-columns-requires c κs =
-    let at-none-rows = c .before .before .before .before .before in
+    let d = c .before .before .before .before in
+    let at-none-rows = d .before .before .before .before in
     let at-start = at-none-rows .before .before .before .before in
-    let p = at-start .pre in
-    (p .0, roomy-more _ (p .1) (at-none-rows .none-rows .ensures), lone-of _ _ _ (c .before .before .below .ensures) (c .before .difference .ensures))
+    let p = at-start .pre in (
+      p .0,
+      roomy-more _ (p .1) (at-none-rows .none-rows .ensures),
+      lone-of _ _ _ (d .before .below .ensures) (d .difference .ensures),
+      refl,
+      refl,
+    )
 
 same-length : tie.Need-same-length
 same-length c = search needs
 
 returns : tie.Need-returns
 returns c =
-    let d = c .before .before .before .before in
+    let w = c .before .before in
+    let d = w .before .before .before .before .before in
     let r = d .before .before .before .before in
-    plain-join _ (r .none-rows .ensures) (c .before .before .push-columns .ensures)
+    plain-join _ (r .none-rows .ensures) (w .push-columns .ensures)
 
 pub plain-rows-spec : {M : Type 1} → statement M
 plain-rows-spec =

@@ -1,8 +1,13 @@
 -- `push_column`: the inputs that are not won with o, where there are any.
+use Prim.Native.Nat.{ℕ}
+use mathlib.Core.Path.{_∙_, ap}
+use mathlib.Core.List.{List}
+use lib.ListN.{getD}
 use native.Mathlib.Omega.{arith}
+use Rattle.sets.specs.Words.{setsIn}
 use borrow.Author.Needs.{needs}
 use Rattle.sets.proofs.Rows.{none}
-use Rattle.environment_table.proofs.Known.{shaped, pushed-within, moves-bits, moves-within, pushes-of, pushes-filled, pushes-none}
+use Rattle.environment_table.proofs.Known.{shaped, pushed-within, moves-within, pushes-of, pushes-filled, pushes-none}
 use Rattle.plain.proofs.push_column.Statement.{statement}
 use Rattle.plain.proofs.push_column.Tie as tie
 
@@ -21,8 +26,8 @@ returns c =
     let p = l .before .before .before .pre in
     pushes-none _ _ _ (p .0) _ _ (p .2) (p .3) _ (l .lost .ensures) _ (none _ (c .before .is-empty .ensures) (c .if1 .taken))
 
-out-moves-requires : tie.Need-out-moves-requires
-out-moves-requires c κs =
+row-of-requires : tie.Need-row-of-requires
+row-of-requires c κs =
     let l = c .before .before in
     let p = l .before .before .before .pre in
     omega (arith, p .3, shaped _ _ _ (p .0) .outputs)
@@ -32,7 +37,7 @@ refused-requires c κs =
     let l = c .before .before .before in
     let start = l .before .before .before in
     let p = start .pre in
-    let moves = moves-bits (start .args .g) (start .args .o) (c .out-moves .ensures) in
+    let moves = c .row-of .ensures .1 ∙ ap (λ (l : List ℕ). getD (setsIn l) (start .args .o .0) 0) (p .5) in
     (shaped _ _ _ (p .0), moves-within _ _ _ (p .0) (start .args .o .0) _ (p .3) moves)
 
 push-rows-requires : tie.Need-push-rows-requires
@@ -42,8 +47,8 @@ push-rows-requires c κs =
     let l = o .before .before .before in
     let start = l .before .before .before in
     let p = start .pre in
-    let moves = moves-bits (start .args .g) (start .args .o) (o .out-moves .ensures) in
-    (p .1, pushes-of _ _ _ (p .0) _ _ (p .2) (p .3) _ (l .lost .ensures) moves (r .refused .ensures))
+    let moves = o .row-of .ensures .1 ∙ ap (λ (l : List ℕ). getD (setsIn l) (start .args .o .0) 0) (p .5) in
+    (p .1, pushes-of _ _ _ (p .0) _ _ (p .2) (p .3) _ (l .lost .ensures) moves (r .refused .ensures), p .4)
 
 same-length : tie.Need-same-length
 same-length c = search needs
@@ -63,7 +68,7 @@ push-column-spec =
     lost-requires
     is-empty-requires
     returns
-    out-moves-requires
+    row-of-requires
     refused-requires
     push-rows-requires
     same-length
