@@ -3,19 +3,8 @@ use mathlib.Core.List.{[], _∷_}
 use mathlib.Core.Path.{_≡_, refl}
 use Rattle.grammar.specs.Number.{digits, decimal}
 use Rattle.shape.specs.Text.{words, word, gapText, items, bracket, line}
-use Rattle.answer_lines.specs.Line.{none, unlessNone, winnerWord, winsLine, startLine, environmentStart, rowLine, stepLine}
-use Rattle.answers.specs.Print.{
-  startLines,
-  stepLines,
-  controllerPrint,
-  environmentPrint,
-  inRange,
-  controllerFits,
-  environmentFits,
-  onlyIf,
-  controllerAnswer,
-  environmentAnswer,
-}
+use Rattle.answer_lines.specs.Line.{none, unlessNone, winnerWord, winsLine, environmentStart, rowLine, stepLine}
+use Rattle.answers.specs.Print.{stepLines, environmentPrint, inRange, controllerFits, environmentFits, onlyIf, controllerAnswer, environmentAnswer}
 
 -- one input and two outputs, the row of output 0 being none:
 --   (wins environment)

@@ -10,7 +10,7 @@ use lib.ListN.{length, getD}
 use borrow.Author.Tests.{leb-true, le-leb, lt-leb, eqb-true}
 use Rattle.finite.proofs.Truth.{and-left, and-right}
 use Rattle.finite.proofs.Loops.{and-stop, and-next}
-use Rattle.grammar.proofs.Place.{same-default}
+use Rattle.finite.proofs.Lists.{any-default}
 use Rattle.put.specs.Put.{Puts}
 use Rattle.put.proofs.Buffer.{puts-then, puts-as}
 use Rattle.answer_lines.specs.Line.{none, winsLine, environmentStart}
@@ -125,4 +125,4 @@ module _ {d : List ℕ} (i o c : ℕ) (es : List ℕ) where
       let rows : length es - 1 ≡ i * max 1 c * o = omega (arith, l) in
       let first : 0 < length es = omega (arith, l) in
       puts-as (sym (ap (λ (b : Bool). onlyIf b (environmentPrint i o c es)) h))
-      (puts-then P (puts-then (puts-as (ap environmentStart (same-default es 0 0 none first)) Q) (puts-as (ap (λ (n : ℕ). stepLines n 0 c o 1 es) rows) R)))
+      (puts-then P (puts-then (puts-as (ap environmentStart (any-default es 0 0 none first)) Q) (puts-as (ap (λ (n : ℕ). stepLines n 0 c o 1 es) rows) R)))

@@ -4,7 +4,7 @@ use native.Mathlib.Omega.{arith}
 use mathlib.Core.List.{List, _++_, append-assoc, append-nil}
 use mathlib.Core.Path.{_≡_, sym, _∙_, ap}
 use lib.ListN.{getD, length, length-append}
-use Rattle.grammar.proofs.Place.{same-default}
+use Rattle.finite.proofs.Lists.{any-default}
 use Rattle.put.specs.Put.{Puts}
 use Rattle.put.proofs.Buffer.{puts-then, puts-as}
 use Rattle.answer_lines.specs.Line.{none, startLine, stepLine}
@@ -57,7 +57,7 @@ starts-on i es h P Q =
     let next : i + 1 ≡ suc i = omega arith in
     let here : 0 + i ≡ i = omega arith in
     let read : startLine i (getD es i 0) ≡ startLine (0 + i) (getD es (0 + i) none) =
-    ap (startLine i) (same-default es i 0 none h) ∙ ap (λ (j : ℕ). startLine j (getD es j none)) (sym here) in
+    ap (startLine i) (any-default es i 0 none h) ∙ ap (λ (j : ℕ). startLine j (getD es j none)) (sym here) in
     puts-as (starts-next i 0 es ∙ ap (λ (n : ℕ). startLines n 0 es) (sym next)) (puts-then P (puts-as read Q))
 
 pub steps-on : {d : List ℕ} {at : ℕ} {m : ℕ} {f : List ℕ} {r : ℕ} {e : List ℕ} (k c n first : ℕ) (es : List ℕ) → first + k < length es
@@ -66,7 +66,7 @@ steps-on k c n first es h P Q =
     let next : k + 1 ≡ suc k = omega arith in
     let here : 0 + k ≡ k = omega arith in
     let read : stepLine c n k (getD es (first + k) 0) ≡ stepLine c n (0 + k) (getD es (first + (0 + k)) none) =
-    ap (stepLine c n k) (same-default es (first + k) 0 none h) ∙ ap (λ (j : ℕ). stepLine c n j (getD es (first + j) none)) (sym here) in
+    ap (stepLine c n k) (any-default es (first + k) 0 none h) ∙ ap (λ (j : ℕ). stepLine c n j (getD es (first + j) none)) (sym here) in
     puts-as (steps-next k 0 c n first es ∙ ap (λ (j : ℕ). stepLines j 0 c n first es) (sym next)) (puts-then P (puts-as read Q))
 
 pub starts-short : (n i : ℕ) (es : List ℕ) → i + n ≤ 128 → length (startLines n i es) ≤ 160 * n

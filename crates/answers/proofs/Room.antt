@@ -10,7 +10,7 @@ use lib.ListN.{length, getD, length-append, List·getD-eq-default}
 use borrow.Author.Tests.{ltb-true, ltb-false}
 use Rattle.grammar.specs.Number.{decimal}
 use Rattle.grammar.proofs.Format.{by-cases}
-use Rattle.grammar.proofs.Place.{same-default}
+use Rattle.finite.proofs.Lists.{any-default}
 use Rattle.shape.specs.Text.{words, word}
 use Rattle.shape.specs.Shape.{opening}
 use Rattle.answer_lines.specs.Line.{none, winsLine, startLine, environmentStart, rowLine, stepLine, refusedLine, misshapenLine}
@@ -180,5 +180,5 @@ misshapen-room p h =
 pub entries-small : (l : List ℕ) → ((j : ℕ) → getD l j 0 < 65536) → (j : ℕ) → getD l j none < 65536
 entries-small l h j =
     by-cases (ltb j (length l))
-    (λ b. omega (arith, same-default l j none 0 (ltb-true j (length l) b), h j))
+    (λ b. omega (arith, any-default l j none 0 (ltb-true j (length l) b), h j))
     (λ b. omega (arith, List·getD-eq-default l none (ltb-false j (length l) b)))

@@ -9,12 +9,13 @@ use Prim.Native.Nat.{ℕ, zero, suc, _+_, _*_, _/_, _%_, _≤_, _<_}
 use native.Mathlib.Nat.{mul-suc}
 use mathlib.Core.Path.{_≡_, refl, sym, _∙_, ap, subst}
 use mathlib.Core.Bool.{Bool, true, false, _&&_}
-use mathlib.Core.List.{List, [], _∷_}
+use mathlib.Core.List.{List}
 use mathlib.Core.Logic.{inl, inr}
 use native.Mathlib.Omega.{arith}
 use lib.Dec.{ltb}
 use lib.ListN.{length, getD, set, length-set}
 use lib.Seq.{getD-set-same, getD-set-other}
+use Rattle.finite.proofs.Lists.{any-default}
 use Rattle.finite.proofs.Bounded.{below-suc}
 use Rattle.bits.specs.Member.{has}
 use Rattle.sets.specs.Words.{capacity, bitsOf, setAt}
@@ -76,11 +77,6 @@ module _ (I M : ℕ) (ok : ℕ → Bool) (j : InState) (a : Answer) (x : Played)
         let y = product-fits (p .output .0 * M + p .counter) I (p .input .0) 65535 l all in
         (omega (arith, y .0), y .0, y .1, all)
 
-getD-any : (l : List ℕ) (i a b : ℕ) → i < length l → getD l i a ≡ getD l i b
-getD-any [] i a b h = absurd (omega (arith, h))
-getD-any (x ∷ l) zero a b h = refl
-getD-any (x ∷ l) (suc i) a b h = getD-any l i a b (omega (arith, h))
-
 module _ (g : Game) where
   abbrev A : Arena
   A = playOf g
@@ -126,7 +122,7 @@ module _ (g : Game) where
       unfolding starting playOf arenaOf separatedOf graphOf controllerOf controllerTable
       start-lead k =
           lead (g .input .states) (R .counters k) (initial-outputs g (R .accepted) k) i
-          (answer (getD-any l i 0 65535 (omega (arith, b, table-long)) k))
+          (answer (any-default l i 0 65535 (omega (arith, b, table-long)) k))
 
       -- x is what is read as the initial outputs
       pub start-read : (x : OutSet) → x ≡ outInitial g
@@ -167,7 +163,7 @@ module _ (g : Game) where
           (λ k. lead (g .input .states) (R .counters k) (has (bitsOf (setAt (g .output .moves) (r / g .input .states / R .counters k))))
           (r % g .input .states) (answer (getD l (g .input .states + r) 0)))
           ∙ (λ k. lead (g .input .states) N (output-moves g (R .accepted) (r / g .input .states / N) output k) (r % g .input .states)
-          (answer (getD-any l (g .input .states + r) 0 65535 (omega (arith, b, table-long)) k)))
+          (answer (any-default l (g .input .states + r) 0 65535 (omega (arith, b, table-long)) k)))
           ∙ (λ k. lead (g .input .states) N (edge (graphOf (g .output)) (r / g .input .states / N)) (r % g .input .states)
           (answer (getD l (g .input .states + sym back k) 65535)))
 

@@ -1,68 +1,28 @@
 -- Laws of the ranks. "Components rank from 0 by smallest state."
 --
---   count-in, count-out      : counting one number further
 --   rank-below               : a rank is below the count of components
 --   components-le            : there are no more components than inputs
 --   rank-same, rank-joined   : two inputs have one rank exactly when they are in one component
 --   first-below              : the smallest state of a component is an input
 --   first-rank, rank-first   : rank c, smallest state of the component of rank c, are inverse to one another
 --   first-rises, rank-rises  : ranks rise with smallest states
-use Prim.Native.Nat.{ℕ, zero, suc, _≤_, _<_}
+use Prim.Native.Nat.{ℕ, _≤_, _<_}
 use mathlib.Core.Path.{_≡_, sym, _∙_, ap, subst}
-use mathlib.Core.Bool.{Bool, true, false, _&&_}
-use mathlib.Core.Logic.{_⊎_, inl, inr, _↔_}
+use mathlib.Core.Bool.{Bool, true, _&&_}
+use mathlib.Core.Logic.{_↔_}
 use native.Mathlib.Omega.{arith}
-use native.Mathlib.Decide.{ℕ-discrete, decLt}
+use native.Mathlib.Decide.{decLt}
 use lib.Dec.{eqb}
 use borrow.Author.Tests.{eqb-true, eq-eqb}
 use Rattle.finite.specs.Bounded.{count, one}
-use Rattle.finite.proofs.Truth.{decide, and-intro, and-left, and-right}
-use Rattle.finite.proofs.Bounded.{least-below, least-member, count-le}
+use Rattle.finite.proofs.Truth.{and-intro, and-left, and-right}
+use Rattle.finite.proofs.Bounded.{least-below, least-member, count-le, count-up, count-past, count-reached}
 use Rattle.graphs.specs.Component.{joined, number}
 use Rattle.graphs.proofs.Component.{joined-sym, joined-trans, number-same, number-joined, number-below}
 use Rattle.arena.specs.Arena.{Separated}
 use Rattle.compact.specs.Rank.{leads, componentCount, rankOf, firstOf}
 
 -- counting up to a bound that rises
-
-pub count-in : (p : ℕ → Bool) (n : ℕ) → p n ≡ true → count (suc n) p ≡ suc (count n p)
-unfolding count one
-count-in p n e = rw e (omega arith)
-
-pub count-out : (p : ℕ → Bool) (n : ℕ) → p n ≡ false → count (suc n) p ≡ count n p
-unfolding count one
-count-out p n e = rw e (omega arith)
-
-count-step : (p : ℕ → Bool) (n : ℕ) → count n p ≤ count (suc n) p
-count-step p n =
-    elim (decide (p n)) [
-      | inl e ↦ omega (arith, count-in p n e)
-      | inr e ↦ omega (arith, count-out p n e)
-    ]
-
-count-up : (p : ℕ → Bool) (a b : ℕ) → a ≤ b → count a p ≤ count b p
-count-up p a zero h = let e : a ≡ zero = omega arith in rw e (omega arith)
-count-up p a (suc b) h =
-    elim (ℕ-discrete a (suc b)) [
-      | yes e ↦ rw e (omega arith)
-      | no n ↦ omega (arith, count-up p a b (omega arith), count-step p b)
-    ]
-
--- past a member it has risen
-count-past : (p : ℕ → Bool) (a b : ℕ) → p a ≡ true → a < b → count a p < count b p
-count-past p a b e h = omega (arith, count-in p a e, count-up p (suc a) b (omega arith))
-
--- every number below the count is the count up to some member
-count-reached : (p : ℕ → Bool) (n c : ℕ) → c < count n p → (s : ℕ) × (s < n) × (p s ≡ true) × (count s p ≡ c)
-unfolding count
-count-reached p zero c h = absurd (omega arith)
-count-reached p (suc n) c h = go (decLt c (count n p)) (decide (p n)) (count-reached p n c)
-  where
-    go : Dec (c < count n p) → (p n ≡ true) ⊎ (p n ≡ false) → (c < count n p → (s : ℕ) × (s < n) × (p s ≡ true) × (count s p ≡ c))
-        → (s : ℕ) × (s < suc n) × (p s ≡ true) × (count s p ≡ c)
-    go (yes b) d rec = let w = rec b in (w .0, omega (arith, w .1), w .2, w .3)
-    go (no b) (inl e) rec = (n, omega arith, e, omega (arith, count-in p n e))
-    go (no b) (inr e) rec = absurd (omega (arith, count-out p n e))
 
 module _ (S : Separated) where
   leads-number : (j : ℕ) → j < S .input .states → leads S (number (S .input) j) ≡ true

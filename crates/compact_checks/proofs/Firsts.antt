@@ -27,7 +27,7 @@ use Rattle.compact.specs.Compact.{fullLength, fullRow}
 use Rattle.compact.specs.Moving.{rowsFit}
 use Rattle.compact.proofs.Rank.{rank-first}
 use Rattle.compact.proofs.Tests.{row-first, rows-fit-first}
-use Rattle.view.proofs.Range.{inside}
+use Rattle.finite.proofs.Lists.{any-default}
 use Rattle.compact_rows.proofs.Copying.{row-last, row-below, last-below}
 use Rattle.compact_checks.specs.Parts.{entryFits, rowFits, rowAt, partFits, Marked}
 use Rattle.compact_checks.specs.Firsts.{Named, Same}
@@ -110,7 +110,7 @@ module _ (S : Separated) (T : List ℕ) where
   row-is x j e b l =
       ap (λ (r : ℕ). getD T (inputs + (r * inputs + j)) 65535) (div-add-mod' x counters)
       ∙ ap (λ (r : ℕ). getD T r 65535) (sym (add-assoc inputs (x * inputs) j))
-      ∙ inside T (place x j) 65535 0 (place-in x j e b l)
+      ∙ any-default T (place x j) 65535 0 (place-in x j e b l)
 
   -- the parts
 

@@ -30,8 +30,8 @@ use Rattle.graphs.proofs.Component.{joined-sym, number-same, number-joined, num
 use Rattle.arena.specs.Arena.{Separated}
 use Rattle.compact.specs.Rank.{leads, rankOf}
 use Rattle.compact.specs.Moving.{ranksFit}
-use Rattle.compact.proofs.Rank.{count-in, count-out}
-use Rattle.compact.proofs.Lists.{any-default}
+use Rattle.finite.proofs.Bounded.{count-in, count-out}
+use Rattle.finite.proofs.Lists.{any-default}
 use Rattle.component_ranks.specs.Ranks.{Put, ranked}
 
 module _ (S : Separated) where

@@ -8,16 +8,15 @@
 --   Walked, walked-start, -rank, -next, -skip     : the walk, with the rank that comes next
 --   written-next, -skip, -end                     : the ranks written on it
 --   read-next, -skip, -end, -fails                : the ranks read on it
-use Prim.Native.Nat.{ℕ, zero, suc, _+_, _-_, _≤_, _<_}
+use Prim.Native.Nat.{ℕ, _+_, _-_, _≤_, _<_}
 use mathlib.Core.Path.{_≡_, refl, sym, _∙_, ap}
 use mathlib.Core.Bool.{true, false, _||_, not}
 use mathlib.Core.List.{List}
 use mathlib.Core.Logic.{inl, inr}
-use native.Mathlib.Nat.{add-zero, add-suc}
 use native.Mathlib.Omega.{arith}
 use Rattle.finite.specs.Bounded.{count}
 use Rattle.finite.proofs.Truth.{decide}
-use Rattle.finite.proofs.Bounded.{count-le, count-same}
+use Rattle.finite.proofs.Bounded.{count-le, count-same, count-wide}
 use Rattle.bits.specs.Member.{has, pack}
 use Rattle.bits.proofs.Membership.{has-pack-below, has-pack-past}
 use Rattle.sets.specs.declared.Set.{Set}
@@ -31,7 +30,6 @@ use Rattle.game.proofs.Laws.{accepted-fits}
 use Rattle.play.specs.Play.{graphOf, separatedOf}
 use Rattle.compact.specs.Rank.{leads, componentCount}
 use Rattle.compact.specs.Moving.{ranksFit}
-use Rattle.compact.proofs.Rank.{count-out}
 use Rattle.component_ranks.specs.Search.{Narrow, Component, Extended}
 use Rattle.component_ranks.specs.Ranks.{Put, ranked, RanksWritten}
 use Rattle.component_ranks.proofs.Found.{narrow, component-found}
@@ -98,26 +96,14 @@ module _ (g : Game) (A : acceptance g ≡ Accepted) where
       let l = members-below (separatedOf g) j c (around-joined j c b C) t m in
       (input-small t l, omega arith)
 
-  -- past the inputs no state is counted
-  count-wide : (x : ℕ) → ((k : ℕ) → g .input .states ≤ k → has x k ≡ false) → (d : ℕ)
-      → count (g .input .states + d) (has x) ≡ count (g .input .states) (has x)
-  count-wide x f zero = rw (add-zero (g .input .states)) refl
-  count-wide x f (suc d) =
-      ap (λ (k : ℕ). count k (has x)) (add-suc (g .input .states) d)
-      ∙ count-out (has x) (g .input .states + d) (f (g .input .states + d) (omega arith))
-      ∙ count-wide x f d
-
   pub counted : (x k : ℕ) → x ≡ pack (g .input .states) (leads (separatedOf g)) → k ≡ count capacity (has x) → k ≡ componentCount (separatedOf g)
   unfolding componentCount separatedOf graphOf
   counted x k e q =
       q
-      ∙ ap (λ (w : ℕ). count w (has x)) (split capacity (accepted-fits g A .input .most))
-      ∙ count-wide x (λ s b. ap (λ (y : ℕ). has y s) e ∙ has-pack-past (g .input .states) (leads (separatedOf g)) s b) (capacity - g .input .states)
+      ∙ count-wide (g .input .states) capacity (has x) (accepted-fits g A .input .most)
+      (λ s b. ap (λ (y : ℕ). has y s) e ∙ has-pack-past (g .input .states) (leads (separatedOf g)) s b)
       ∙ count-same (g .input .states) (has x) (leads (separatedOf g))
       (λ s b. ap (λ (y : ℕ). has y s) e ∙ has-pack-below (g .input .states) (leads (separatedOf g)) s b)
-    where
-      split : (w : ℕ) → g .input .states ≤ w → w ≡ g .input .states + (w - g .input .states)
-      split w b = omega arith
 
   -- ---- the ranks of the inputs passed, written or read
 

@@ -5,74 +5,21 @@
 --   input-leads, input-column, column-input : leaders and columns answer to one another
 --   own-column                      : where there are as many columns as inputs, every input leads and its column is its own number
 --   among-none, among-fits, among-hit, among-miss, among-end, among-all : columns found input by input
-use Prim.Native.Nat.{ℕ, zero, suc, _+_, _≤_, _<_}
+use Prim.Native.Nat.{ℕ, _+_, _≤_, _<_}
 use native.Mathlib.Numerals.{add-one}
 use mathlib.Core.Path.{_≡_, refl, sym, _∙_, ap}
 use mathlib.Core.Bool.{Bool, true, false, _&&_, _||_}
-use mathlib.Core.Logic.{_⊎_, inl, inr}
+use mathlib.Core.Logic.{inl, inr}
 use native.Mathlib.Omega.{arith}
 use native.Mathlib.Decide.{ℕ-discrete, decLt}
 use lib.Dec.{eqb, ltb}
 use borrow.Author.Tests.{eqb-true, eq-eqb, lt-ltb, le-ltb}
 use Rattle.finite.specs.Bounded.{count, one}
 use Rattle.finite.proofs.Truth.{decide, and-intro, and-left, and-right}
-use Rattle.finite.proofs.Bounded.{least-below, least-member, count-le}
+use Rattle.finite.proofs.Bounded.{least-below, least-member, count-in, count-out, count-past, count-reached}
 use Rattle.bits.specs.Member.{has}
 use Rattle.controller_rows.specs.declared.Size.{Size}
 use Rattle.controller_rows.specs.Writes.{leading, columnOf, inputOf}
-
--- counting up to a bound that rises
-module _ (p : ℕ → Bool) where
-  count-in : (n : ℕ) → p n ≡ true → count (suc n) p ≡ suc (count n p)
-  unfolding count one
-  count-in n e = rw e (omega arith)
-
-  count-out : (n : ℕ) → p n ≡ false → count (suc n) p ≡ count n p
-  unfolding count one
-  count-out n e = rw e (omega arith)
-
-  count-step : (n : ℕ) → (count (suc n) p ≡ suc (count n p)) ⊎ (count (suc n) p ≡ count n p)
-  count-step n = elim (decide (p n)) [ inl e ↦ inl (count-in n e) | inr e ↦ inr (count-out n e) ]
-
-  count-up : (a b : ℕ) → a ≤ b → count a p ≤ count b p
-  count-up a zero h = let e : a ≡ zero = omega arith in rw e (omega arith)
-  count-up a (suc b) h =
-      elim (ℕ-discrete a (suc b)) [
-        | yes e ↦ rw e (omega arith)
-        | no n ↦ elim (count-step b) [
-          | inl e ↦ omega (arith, count-up a b (omega arith), e)
-          | inr e ↦ omega (arith, count-up a b (omega arith), e)
-        ]
-      ]
-
-  -- past a member it has risen
-  count-past : (a b : ℕ) → p a ≡ true → a < b → count a p < count b p
-  count-past a b e h = omega (arith, count-in a e, count-up (suc a) b (omega arith))
-
-  -- every number below the count is the count up to some member
-  count-reached : (n c : ℕ) → c < count n p → (s : ℕ) × (s < n) × (p s ≡ true) × (count s p ≡ c)
-  unfolding count
-  count-reached zero c h = absurd (omega arith)
-  count-reached (suc n) c h = go (decLt c (count n p)) (decide (p n)) (count-reached n c)
-    where
-      go : Dec (c < count n p) → (p n ≡ true) ⊎ (p n ≡ false) → (c < count n p → (s : ℕ) × (s < n) × (p s ≡ true) × (count s p ≡ c))
-          → (s : ℕ) × (s < suc n) × (p s ≡ true) × (count s p ≡ c)
-      go (yes l) d before = let w = before l in (w .0, omega (arith, w .1), w .2, w .3)
-      go (no l) (inl e) before = (n, omega arith, e, omega (arith, count-in n e))
-      go (no l) (inr e) before = absurd (omega (arith, count-out n e))
-
-  -- where all below n are counted, each is a member
-  count-all : (n : ℕ) → count n p ≡ n → (k : ℕ) → k < n → (p k ≡ true) × (count k p ≡ k)
-  unfolding count
-  count-all zero e k b = absurd (omega arith)
-  count-all (suc n) e k b =
-      elim (decide (p n)) [
-        | inl t ↦ last t (omega (arith, count-in n t, e)) (count-all n)
-        | inr f ↦ absurd (omega (arith, count-out n f, e, count-le n p))
-      ]
-    where
-      last : p n ≡ true → count n p ≡ n → (count n p ≡ n → (i : ℕ) → i < n → (p i ≡ true) × (count i p ≡ i)) → (p k ≡ true) × (count k p ≡ k)
-      last t f before = elim (ℕ-discrete k n) [ yes q ↦ rw q (t, f) | no q ↦ before f k (omega arith) ]
 
 module _ (z : Size) where
   pub column-none : columnOf z 0 ≡ 0

@@ -1,6 +1,7 @@
 -- Laws of bounded search. Each definition has an introduction and an elimination lemma; nobody else unfolds it.
-use Prim.Native.Nat.{ℕ, zero, suc, _+_, _≤_, _<_}
-use mathlib.Core.Path.{_≡_, refl, sym, _∙_}
+use Prim.Native.Nat.{ℕ, zero, suc, _+_, _-_, _≤_, _<_}
+use native.Mathlib.Nat.{add-zero, add-suc}
+use mathlib.Core.Path.{_≡_, refl, sym, _∙_, ap}
 use mathlib.Core.Bool.{Bool, true, false}
 use mathlib.Core.Logic.{_⊎_, inl, inr}
 use native.Mathlib.Omega.{arith}
@@ -221,3 +222,55 @@ pub count-same : (n : ℕ) (p q : ℕ → Bool) → ((k : ℕ) → k < n → p k
 unfolding count
 count-same zero p q h = refl
 count-same (suc n) p q h = rw (h n (omega arith), count-same n p q (λ k b. h k (omega arith))) refl
+
+-- one number further
+
+pub count-in : (p : ℕ → Bool) (n : ℕ) → p n ≡ true → count (suc n) p ≡ suc (count n p)
+unfolding count one
+count-in p n e = rw e (omega arith)
+
+pub count-out : (p : ℕ → Bool) (n : ℕ) → p n ≡ false → count (suc n) p ≡ count n p
+unfolding count one
+count-out p n e = rw e (omega arith)
+
+count-step : (p : ℕ → Bool) (n : ℕ) → count n p ≤ count (suc n) p
+count-step p n =
+    elim (decide (p n)) [
+      | inl e ↦ omega (arith, count-in p n e)
+      | inr e ↦ omega (arith, count-out p n e)
+    ]
+
+pub count-up : (p : ℕ → Bool) (a b : ℕ) → a ≤ b → count a p ≤ count b p
+count-up p a zero h = let e : a ≡ zero = omega arith in rw e (omega arith)
+count-up p a (suc b) h =
+    elim (ℕ-discrete a (suc b)) [
+      | yes e ↦ rw e (omega arith)
+      | no n ↦ omega (arith, count-up p a b (omega arith), count-step p b)
+    ]
+
+-- past a member it has risen
+pub count-past : (p : ℕ → Bool) (a b : ℕ) → p a ≡ true → a < b → count a p < count b p
+count-past p a b e h = omega (arith, count-in p a e, count-up p (suc a) b (omega arith))
+
+-- every number below the count is the count up to some member
+pub count-reached : (p : ℕ → Bool) (n c : ℕ) → c < count n p → (s : ℕ) × (s < n) × (p s ≡ true) × (count s p ≡ c)
+unfolding count
+count-reached p zero c h = absurd (omega arith)
+count-reached p (suc n) c h = go (decLt c (count n p)) (decide (p n)) (count-reached p n c)
+  where
+    go : Dec (c < count n p) → (p n ≡ true) ⊎ (p n ≡ false) → (c < count n p → (s : ℕ) × (s < n) × (p s ≡ true) × (count s p ≡ c))
+        → (s : ℕ) × (s < suc n) × (p s ≡ true) × (count s p ≡ c)
+    go (yes b) d rec = let w = rec b in (w .0, omega (arith, w .1), w .2, w .3)
+    go (no b) (inl e) rec = (n, omega arith, e, omega (arith, count-in p n e))
+    go (no b) (inr e) rec = absurd (omega (arith, count-out p n e))
+
+-- numbers past n that do not pass are not counted
+count-more : (n d : ℕ) (p : ℕ → Bool) → ((k : ℕ) → n ≤ k → p k ≡ false) → count (n + d) p ≡ count n p
+count-more n zero p f = rw (add-zero n) refl
+count-more n (suc d) p f =
+    ap (λ (k : ℕ). count k p) (add-suc n d) ∙ count-out p (n + d) (f (n + d) (omega arith)) ∙ count-more n d p f
+
+pub count-wide : (n w : ℕ) (p : ℕ → Bool) → n ≤ w → ((k : ℕ) → n ≤ k → p k ≡ false) → count w p ≡ count n p
+count-wide n w p b f =
+    let e : w ≡ n + (w - n) = omega arith in
+    ap (λ (k : ℕ). count k p) e ∙ count-more n (w - n) p f

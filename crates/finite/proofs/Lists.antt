@@ -5,11 +5,15 @@
 --   allOf-false, anyOf-false     : it fails of some member, of every member
 --   allOf-same, anyOf-same       : tests that agree
 --   map-same, anyOf-map          : the images of a list
+--   any-default                  : inside a list the default is not read
 --   allOf-anyOf                  : where a test holds of every member and another of some member, they hold of one together
+use Prim.Native.Nat.{ℕ, zero, suc, _<_}
 use mathlib.Core.Path.{_≡_, refl, sym, _∙_, ap}
 use mathlib.Core.Bool.{Bool, true, false, _||_}
 use mathlib.Core.List.{List, [], _∷_, map, List·Memᴰ, List·Memᴰ·head, List·Memᴰ·tail, List·Memᴰ·not-nil, List·Memᴰ·cases-cons}
 use mathlib.Core.Logic.{_⊎_, inl, inr}
+use native.Mathlib.Omega.{arith}
+use lib.ListN.{length, getD}
 use Rattle.finite.specs.Lists.{allOf, anyOf}
 use Rattle.finite.proofs.Truth.{clash, false-of, and-intro, and-left, and-right, and-cases, or-left, or-right, or-cases}
 
@@ -87,3 +91,8 @@ module _ {A B : Type 0} where
   unfolding anyOf
   anyOf-map p f [] = refl
   anyOf-map p f (a ∷ l) = ap (_||_ (p (f a))) (anyOf-map p f l)
+
+pub any-default : {A : Type 0} (l : List A) (i : ℕ) (d e : A) → i < length l → getD l i d ≡ getD l i e
+any-default [] i d e h = absurd (omega arith)
+any-default (x ∷ l) zero d e h = refl
+any-default (x ∷ l) (suc i) d e h = any-default l i d e (omega arith)

@@ -5,6 +5,7 @@ use mathlib.Core.Path.{_≡_, refl, sym, _∙_, ap, subst}
 use mathlib.Core.Bool.{Bool, true}
 use native.Mathlib.Omega.{arith}
 use lib.ListN.{length, getD}
+use lib.Seq.{ext-getD}
 use Rattle.finite.specs.Bounded.{all}
 use Rattle.finite.specs.Lists.{allOf}
 use Rattle.finite.specs.Tabulate.{tabulateFrom, tabulate}
@@ -65,3 +66,9 @@ allOf-tabulate p n f =
     same-test (allOf p (tabulateFrom 0 n f)) (all n (λ k. p (f k)))
     (λ h. all-intro n (λ k. p (f k)) (λ k b. subst (λ (j : ℕ). p (f j) ≡ true) (zero-add k) (from-elim p f 0 n h k b)))
     (λ h. from-intro p f 0 n (λ k b. subst (λ (j : ℕ). p (f j) ≡ true) (sym (zero-add k)) (all-elim n (λ k. p (f k)) h k b)))
+
+-- lists made from functions that agree
+pub same-tabulate : (n : ℕ) (f h : ℕ → ℕ) → ((i : ℕ) → i < n → f i ≡ h i) → tabulate n f ≡ tabulate n h
+same-tabulate n f h e =
+    ext-getD 0 (tabulate n f) (tabulate n h) (length-tabulate f n ∙ sym (length-tabulate h n))
+    (λ i b. let k : i < n = omega (arith, length-tabulate f n) in getD-tabulate f n i 0 k ∙ e i k ∙ sym (getD-tabulate h n i 0 k))

@@ -1,5 +1,5 @@
 -- A whole input against a format: it is read exactly where it is a text, and else the fault's place is that of the longest front that begins one.
-use Prim.Native.Nat.{ℕ, zero, suc, _+_, _-_, _≤_, _<_}
+use Prim.Native.Nat.{ℕ, suc, _+_, _-_, _≤_, _<_}
 use native.Mathlib.Omega.{arith}
 use native.Mathlib.Nat.{zero-add}
 use mathlib.Core.List.{List, [], _∷_, _++_, append-assoc, append-nil}
@@ -9,6 +9,7 @@ use lib.ListN.{length, getD, take, drop, length-append, take-append-drop, List·
 use lib.Seq.{drop-cons, take-at, take-append-add, length-take-le}
 use borrow.Author.Tests.{eq-eqb, ne-eqb, eqb-true, eqb-false, ltb-true, ltb-false}
 use lib.Dec.{ltb}
+use Rattle.finite.proofs.Lists.{any-default}
 use Rattle.grammar.specs.Format.{Format, Run, TextOf, Stands, run, Live}
 use Rattle.grammar.specs.Format.Format.{done, node}
 use Rattle.grammar.specs.Format.Run.{got, fault}
@@ -182,15 +183,9 @@ module _ {R : Type 0} (f : Format R) (l : Live f) (s : List ℕ) where
   pub read-fault-none : {p : ℕ} → reading f s ≡ fault p → (r : R) → TextOf f s r → ⊥
   read-fault-none h r t = not-fault (sym h ∙ read-text f s r t)
 
--- within a list, the value for places past its end is never seen
-pub same-default : {A : Type 0} (l : List A) (i : ℕ) (d e : A) → i < length l → getD l i d ≡ getD l i e
-same-default [] i d e h = absurd (omega arith)
-same-default (x ∷ l) zero d e h = refl
-same-default (x ∷ l) (suc i) d e h = same-default l i d e (omega arith)
-
 pub bytes-in : (s : List ℕ) (i : ℕ) → i < length s → getD s i 0 ≡ bytes s i
 unfolding bytes
-bytes-in s i h = same-default s i 0 256 h
+bytes-in s i h = any-default s i 0 256 h
 
 pub bytes-past : (s : List ℕ) (i : ℕ) → length s ≤ i → 256 ≡ bytes s i
 unfolding bytes

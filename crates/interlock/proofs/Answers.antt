@@ -7,25 +7,24 @@
 use Prim.Native.Nat.{ℕ, zero, suc, _+_, _-_, _^_, _≤_, _<_}
 use mathlib.Core.Path.{_≡_, refl, sym, _∙_, ap, subst}
 use mathlib.Core.Bool.{Bool, true, false, _&&_}
-use mathlib.Core.List.{List, [], _∷_, _++_}
+use mathlib.Core.List.{List, [], _∷_}
 use mathlib.Core.Logic.{_≢_}
 use native.Mathlib.Omega.{arith}
 use lib.Dec.{leb}
 use lib.ListN.{length, getD, drop, length-drop}
 use lib.Seq.{drop-drop, ext-getD, getD-drop}
 use borrow.Author.Tests.{leb-true, le-leb, lt-leb}
-use Rattle.finite.proofs.Truth.{clash, and-intro, and-false-left, and-false-right}
+use Rattle.finite.proofs.Truth.{clash, and-intro}
 use Rattle.finite.proofs.Front.{front-rest}
 use Rattle.sets.specs.Words.{setsIn, setCount, wordsFor}
 use Rattle.sets.proofs.Rows.{rest-words, words-held}
-use Rattle.arena.specs.Win.{SystemWins}
 use Rattle.theory.specs.Region.{verdict}
 use Rattle.game.specs.declared.Game.{Game}
 use Rattle.game.specs.declared.Acceptance.{Acceptance}
 use Rattle.game.specs.declared.Acceptance.the-variants.{Accepted, Refused as Faulty}
 use Rattle.game.specs.Acceptance.{acceptance}
 use Rattle.game.specs.Fits.{Fits}
-use Rattle.game.specs.Numbers.{firstOf, gameTests}
+use Rattle.game.specs.Numbers.{firstOf}
 use Rattle.game.proofs.Laws.{accepted-fits}
 use Rattle.game.proofs.Numbers.{after, game-after}
 use Rattle.play.specs.Play.{separatedOf}
@@ -44,11 +43,10 @@ use Rattle.map.specs.Map.{
   mapScratch as plainScratch,
   MapMade,
 }
-use Rattle.barred.specs.Arena.{barredArena}
 use Rattle.barred_rows.specs.Areas.{Apart}
 use Rattle.interlock.specs.declared.Judged.{Judged}
 use Rattle.interlock.specs.declared.Judged.the-variants.{System, Environment, Refused as NotJudged}
-use Rattle.interlock.specs.Bars.{bars, barsInside, someBarred, oneRequirement, systemWins, BarredFilled}
+use Rattle.interlock.specs.Bars.{bars, barsInside, oneRequirement, systemWins, BarredFilled}
 use Rattle.interlock.specs.Interlock.{
   barsFit,
   barTests,

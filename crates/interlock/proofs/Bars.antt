@@ -7,21 +7,20 @@
 --   marks-won                    : what it marks
 --   opens-row, opens-region      : the inputs that open
 --   wins-some, wins-none         : who wins
-use Prim.Native.Nat.{ℕ, zero, suc, _≤_, _<_}
+use Prim.Native.Nat.{ℕ, _≤_, _<_}
 use mathlib.Core.Path.{_≡_, refl, sym, _∙_, ap, subst, subst⁻¹}
 use mathlib.Core.Bool.{Bool, true, false, _&&_, _||_, not}
-use mathlib.Core.List.{List, [], _∷_, _++_}
+use mathlib.Core.List.{List, _++_}
 use mathlib.Core.Logic.{_↔_, _⊎_, inl, inr}
 use native.Mathlib.Omega.{arith}
 use lib.Dec.{eqb, ltb}
-use lib.ListN.{length, getD, drop, length-drop, List·getD-eq-default}
-use lib.Seq.{ext-getD, getD-drop}
+use lib.ListN.{length, getD, drop, List·getD-eq-default}
 use borrow.Author.Tests.{lt-ltb, le-ltb, ltb-true, ltb-false, eqb-true}
 use Rattle.finite.specs.Bounded.{all, any}
 use Rattle.finite.specs.Tabulate.{tabulate}
-use Rattle.finite.proofs.Truth.{decide, clash, not-false, and-intro, and-left, and-right, same-test}
+use Rattle.finite.proofs.Truth.{decide, not-false, and-intro, and-left, and-right, same-test}
 use Rattle.finite.proofs.Bounded.{all-same, any-false, any-intro, any-elim}
-use Rattle.finite.proofs.Tabulate.{length-tabulate, getD-tabulate}
+use Rattle.finite.proofs.Tabulate.{same-tabulate}
 use Rattle.finite.proofs.Front.{front-at}
 use Rattle.bits.specs.Member.{has, pack, meets}
 use Rattle.bits.proofs.Membership.{has-zero, has-pack-below}
@@ -77,12 +76,6 @@ unfolding separatedOf requirementsOf only tabulate
 one g e = record { only = rw e refl }
 
 -- ---- the map
-
--- lists made from functions that agree
-same-tabulate : (n : ℕ) (f h : ℕ → ℕ) → ((i : ℕ) → i < n → f i ≡ h i) → tabulate n f ≡ tabulate n h
-same-tabulate n f h e =
-    ext-getD 0 (tabulate n f) (tabulate n h) (length-tabulate f n ∙ sym (length-tabulate h n))
-    (λ i b. let k : i < n = omega (arith, length-tabulate f n) in getD-tabulate f n i 0 k ∙ e i k ∙ sym (getD-tabulate h n i 0 k))
 
 module _ (g : Game) (b : List ℕ) where
   marked-some : someBarred b ≡ true → marked g b ≡ barredRegion (separatedOf g) (bars b) (only g)

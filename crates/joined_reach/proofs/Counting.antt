@@ -2,11 +2,10 @@
 --
 --   counted-start, counted-more, counted-end    : counting row by row
 --   Ranking, ranking-start, -more, -end         : the numbers of positions ahead, written one after the other
-use Prim.Native.Nat.{ℕ, zero, suc, _+_, _*_, _/_, _%_, _-_, _≤_, _<_}
+use Prim.Native.Nat.{ℕ, _+_, _*_, _/_, _%_, _-_, _≤_, _<_}
 use native.Mathlib.Nat.{le-trans, mul-le-mul-left, suc-mul, zero-mul, div-lt-iff-lt-mul, mod-lt}
 use native.Mathlib.Numerals.{add-one}
 use mathlib.Core.Path.{_≡_, refl, sym, _∙_, ap, ap₂}
-use mathlib.Core.Bool.{Bool, false}
 use mathlib.Core.List.{List}
 use native.Mathlib.Omega.{arith}
 use native.Mathlib.Decide.{ℕ-discrete}
@@ -15,7 +14,7 @@ use lib.ListN.{length, getD, set}
 use lib.Seq.{getD-set-same, getD-set-other}
 use Rattle.finite.specs.Bounded.{count, one}
 use Rattle.finite.proofs.Truth.{false-of}
-use Rattle.finite.proofs.Bounded.{count-same}
+use Rattle.finite.proofs.Bounded.{count-same, count-wide}
 use Rattle.bits.specs.Member.{has}
 use Rattle.joint.specs.Joint.{rankAt}
 use Rattle.joint.proofs.Reached.{count-add, rankAt-count, factor}
@@ -24,18 +23,6 @@ use Rattle.play.specs.Play.{graphOf, separatedOf}
 use Rattle.joined_reach.specs.Words.{belongs, Small, Kept, Ranked}
 use Rattle.joined_reach.specs.Reach.{Within, Reached, foundBelow, Counted}
 use Rattle.joined_reach.proofs.Words.{found-has, kept-self, kept-set, kept-then, kept-wider}
-
-count-none : (n : ℕ) (p : ℕ → Bool) → ((k : ℕ) → p k ≡ false) → count n p ≡ 0
-unfolding count one
-count-none zero p h = refl
-count-none (suc n) p h = rw (h n) (omega (arith, count-none n p h))
-
--- a wider count of what lies below n
-count-wide : (n w : ℕ) (p : ℕ → Bool) → n ≤ w → ((k : ℕ) → n ≤ k → p k ≡ false) → count w p ≡ count n p
-count-wide n w p b h =
-    let e : n + (w - n) ≡ w = omega arith in
-    ap (λ (k : ℕ). count k p) (sym e) ∙ count-add n (w - n) p
-    ∙ omega (arith, count-none (w - n) (λ k. p (n + k)) (λ k. h (n + k) (omega arith)))
 
 module _ (g : Game) (S : Small g) (l : List ℕ) (W : Within g l) where
   pub counted-start : 0 ≡ foundBelow g l (0 * g .output .states)

@@ -17,7 +17,8 @@ use Rattle.grammar.specs.Format.{Run}
 use Rattle.grammar.specs.Format.Run.{got, fault}
 use Rattle.grammar.specs.Place.{reading}
 use Rattle.grammar.proofs.Format.{by-cases}
-use Rattle.grammar.proofs.Place.{one-value, read-got, read-fault-none, same-default}
+use Rattle.finite.proofs.Lists.{any-default}
+use Rattle.grammar.proofs.Place.{one-value, read-got, read-fault-none}
 use Rattle.game.specs.Access.{noInput, noOutput, noRequirement, requirementAt}
 use Rattle.game.specs.Acceptance.{acceptance}
 use Rattle.game.specs.declared.InSet.{InSet}
@@ -36,7 +37,6 @@ use Rattle.shape.proofs.Shape.{game-sound, game-complete, game-live}
 use Rattle.put.proofs.Pieces.{in-word, out-word}
 use Rattle.text.specs.Read.{Reads, refused, misshapen, judged}
 use Rattle.text.specs.OneText.{Arrays, IsText, OneText}
-use Rattle.text.specs.declared.Answer.{Answer}
 use Rattle.text.specs.declared.Answer.the-variants.{Read, Misshapen, Refused as NotRead}
 use Rattle.text.specs.declared.Reading.{Reading}
 use Rattle.text.proofs.Reader.{text-of, judged-refused, judged-accepted}
@@ -174,7 +174,7 @@ accepted-shaped g h A =
     fit r l = record { in-length = A .assumptions r l; out-length = A .guarantees r l; in-sets = A .in-sets r; out-sets = A .out-sets r }
 
     same : (r : ℕ) → r < 8 → getD (g .requirements) r emptyRequirement ≡ requirementAt g r
-    same r l = let m = A .requirements in same-default (g .requirements) r emptyRequirement noRequirement (omega arith)
+    same r l = let m = A .requirements in any-default (g .requirements) r emptyRequirement noRequirement (omega arith)
 
     past : (r : ℕ) → 8 ≤ r → getD (g .requirements) r emptyRequirement ≡ emptyRequirement
     past r l = let m = A .requirements in List·getD-eq-default (g .requirements) emptyRequirement (omega arith)

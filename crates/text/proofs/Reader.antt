@@ -4,7 +4,7 @@ use native.Mathlib.Omega.{arith}
 use mathlib.Core.List.{List, _++_}
 use mathlib.Core.Path.{_≡_, refl, sym, _∙_, ap, subst}
 use lib.ListN.{length, take}
-use Rattle.grammar.specs.Format.{Format, Run, TextOf, run}
+use Rattle.grammar.specs.Format.{TextOf, run}
 use Rattle.grammar.specs.Format.Run.{got, fault}
 use Rattle.grammar.specs.Place.{bytes, Begins, Longest, atEnd, reading}
 use Rattle.grammar.proofs.Place.{one-value, read-got, read-fault, read-fault-none, end-here, end-before}
@@ -16,7 +16,7 @@ use Rattle.game.specs.Numbers.{firstOf, gameTests}
 use Rattle.game.proofs.Numbers.{accepts}
 use Rattle.game.specs.declared.Acceptance.{Acceptance}
 use Rattle.game.specs.declared.Acceptance.the-variants.{Accepted, Refused}
-use Rattle.text.specs.Read.{BeginsText, LongestFront, refused, misshapen, judgedBy, judged, numberOf, placeOf, ReadNumber, Reads}
+use Rattle.text.specs.Read.{BeginsText, LongestFront, refused, misshapen, judgedBy, judged, numberOf, placeOf, Reads}
 use Rattle.text.specs.declared.Answer.the-variants.{Read}
 use Rattle.text.specs.declared.Reading.{Reading}
 use Rattle.shape.proofs.Shape.{game-sound, game-complete, game-live}

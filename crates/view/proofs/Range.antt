@@ -1,23 +1,17 @@
 -- The rows of a table: one law for each return, and the bounds that keep a row's place within a word.
-use Prim.Native.Nat.{ℕ, zero, suc, _+_, _*_, _≤_, _<_}
+use Prim.Native.Nat.{ℕ, _+_, _*_, _≤_, _<_}
 use native.Mathlib.Nat.{mul-le-mul}
 use mathlib.Core.Path.{_≡_, refl, sym, _∙_}
 use mathlib.Core.Bool.{true, false, _&&_}
-use mathlib.Core.List.{List, [], _∷_}
+use mathlib.Core.List.{List}
 use native.Mathlib.Omega.{arith}
 use lib.Dec.{ltb, leb}
-use lib.ListN.{length, getD}
+use lib.ListN.{getD}
 use borrow.Author.Tests.{ltb-true, leb-true, lt-ltb, le-ltb, le-leb, lt-leb}
 use Rattle.finite.proofs.Truth.{and-left, and-right}
 use Rattle.finite.proofs.Loops.{and-stop, and-next}
 use Rattle.sets.specs.Words.{capacity}
 use Rattle.view.specs.Rows.{inRange, rowEntry}
-
--- what is read inside a list does not depend on what is read past it
-pub inside : (l : List ℕ) (k d e : ℕ) → k < length l → getD l k d ≡ getD l k e
-inside [] k d e h = absurd (omega arith)
-inside (x ∷ l) zero d e h = refl
-inside (x ∷ l) (suc k) d e h = inside l k d e (omega arith)
 
 module _ (I M o g j : ℕ) where
   pub many-inputs : capacity < I → false ≡ inRange I M o g j

@@ -1,5 +1,4 @@
 -- `barrable`.
-use native.Mathlib.Omega.{arith}
 use Rattle.interlock.proofs.Bars.{barrable-in, barrable-out}
 use Rattle.interlock.proofs.barrable.Statement.{statement}
 use Rattle.interlock.proofs.barrable.Tie as tie

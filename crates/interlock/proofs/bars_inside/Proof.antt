@@ -1,6 +1,6 @@
 -- `bars_inside`.
-use Prim.Native.Nat.{ℕ, _-_, _≤_}
-use mathlib.Core.Path.{_≡_, sym, _∙_, ap, ap₂}
+use Prim.Native.Nat.{_-_, _≤_}
+use mathlib.Core.Path.{_≡_, _∙_, ap₂}
 use mathlib.Core.Bool.{true}
 use lib.ListN.{length, getD}
 use native.Mathlib.Omega.{arith}

@@ -1,5 +1,4 @@
 -- `fault`.
-use mathlib.Core.Path.{_≡_, _∙_}
 use native.Mathlib.Omega.{arith}
 use Rattle.finite.proofs.Loops.{failed, passed}
 use Rattle.game.proofs.Laws.{accepted-fits}

@@ -1,5 +1,5 @@
 -- `judge`.
-use mathlib.Core.Path.{_≡_, sym, _∙_}
+use mathlib.Core.Path.{sym, _∙_}
 use Rattle.interlock.proofs.Answers.{none-tests, judged-fault, judged-system, judged-environment}
 use borrow.Author.Needs.{needs}
 use Rattle.interlock.proofs.judge.Statement.{statement}

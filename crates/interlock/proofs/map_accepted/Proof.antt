@@ -1,5 +1,5 @@
 -- `map_accepted`.
-use mathlib.Core.Path.{_≡_, sym, _∙_}
+use mathlib.Core.Path.{sym, _∙_}
 use native.Mathlib.Omega.{arith}
 use Rattle.game.proofs.Laws.{accepted-fits}
 use Rattle.interlock.proofs.Answers.{none-tests, map-fault, map-short, map-done}

@@ -1,5 +1,5 @@
 -- `mark`.
-use mathlib.Core.Path.{_≡_, sym, _∙_}
+use mathlib.Core.Path.{sym, _∙_}
 use Rattle.interlock.proofs.Bars.{unbarred-filled}
 use borrow.Author.Needs.{needs}
 use Rattle.interlock.proofs.mark.Statement.{statement}

@@ -1,5 +1,4 @@
 -- `mark_barred`.
-use mathlib.Core.Path.{_≡_, _∙_, ap}
 use native.Mathlib.Omega.{arith}
 use Rattle.sets.proofs.Rows.{words-held, count-same}
 use Rattle.game.proofs.Laws.{accepted-fits}

@@ -1,7 +1,4 @@
 -- `mark_unbarred`.
-use mathlib.Core.Path.{_≡_, sym, _∙_}
-use native.Mathlib.Omega.{arith}
-use Rattle.game.proofs.Laws.{accepted-fits}
 use Rattle.interlock.proofs.Answers.{map-made}
 use borrow.Author.Needs.{needs}
 use Rattle.interlock.proofs.mark_unbarred.Statement.{statement}

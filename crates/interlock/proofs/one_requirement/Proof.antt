@@ -1,5 +1,5 @@
 -- `one_requirement`.
-use mathlib.Core.Path.{_≡_, sym, _∙_}
+use mathlib.Core.Path.{sym, _∙_}
 use Rattle.interlock.proofs.Bars.{one-some, one-none}
 use borrow.Author.Needs.{needs}
 use Rattle.interlock.proofs.one_requirement.Statement.{statement}

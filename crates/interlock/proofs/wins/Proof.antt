@@ -1,5 +1,5 @@
 -- `wins`.
-use mathlib.Core.Path.{_≡_, sym, _∙_}
+use mathlib.Core.Path.{sym, _∙_}
 use Rattle.interlock.proofs.Bars.{wins-some, wins-none}
 use borrow.Author.Needs.{needs}
 use Rattle.interlock.proofs.wins.Statement.{statement}

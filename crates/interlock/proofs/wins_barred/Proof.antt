@@ -1,5 +1,5 @@
 -- `wins_barred`.
-use mathlib.Core.Path.{_≡_, _∙_, ap}
+use mathlib.Core.Path.{_∙_}
 use native.Mathlib.Omega.{arith}
 use Rattle.sets.specs.Words.{setsIn}
 use Rattle.sets.proofs.Rows.{words-held, count-same}

@@ -1,5 +1,4 @@
 -- `wins_unbarred`.
-use mathlib.Core.Path.{_≡_, _∙_}
 use native.Mathlib.Omega.{arith}
 use Rattle.game.proofs.Laws.{accepted-fits}
 use Rattle.interlock.proofs.Answers.{prepared-rest}

@@ -1,7 +1,7 @@
 -- `entry` reads inside the slice, and is none past it.
 use mathlib.Core.Path.{sym}
 use lib.ListN.{List·getD-eq-default}
-use Rattle.view.proofs.Range.{inside}
+use Rattle.finite.proofs.Lists.{any-default}
 use borrow.Author.Needs.{needs}
 use Rattle.view.proofs.entry.Statement.{statement}
 use Rattle.view.proofs.entry.Tie as tie
@@ -13,7 +13,7 @@ shared-slice-read-result : tie.Need-shared-slice-read-result
 shared-slice-read-result c = search needs
 
 returns : tie.Need-returns
-returns c = inside (c .before .before .args .rows .now) (c .before .before .args .k) 0 65535 (c .before .if1 .taken)
+returns c = any-default (c .before .before .args .rows .now) (c .before .before .args .k) 0 65535 (c .before .if1 .taken)
 
 returns-2 : tie.Need-returns-2
 returns-2 c = sym (List·getD-eq-default (c .before .args .rows .now) 65535 (c .if1 .left))
