@@ -6,7 +6,7 @@
  * positions 1 to 7, 24, 8; the checker of tables 1 to 7, 19, 20, 8; a table that is moved 1 to 7, 23, 22 or 21, 9.
  *
  * Every value of every parameter has an answer, and on a refusal every buffer holds what it held before. What each entry promises is proved
- * in crates/nanpuwiq (specs/Calls.antt) and crates/results (specs/Results.antt), on the following, which C cannot check and a caller keeps to:
+ * in crates/nanpuwiq (specs/Calls.antt) and crates/nanpuwiq_results (specs/Results.antt), on the following, which C cannot check and a caller keeps to:
  *  - a pointer, a recording's too, is not null, also where its length is 0, and is aligned for its type;
  *  - a length, a recording's steps too, counts elements, not bytes, and that many elements can be read (written, where the pointer is not const);
  *  - buffers and positions that are written overlap no other buffer of the same call, and no other thread uses them during it.

@@ -18,8 +18,8 @@ import sys
 
 BYTES = 64
 ENTRIES = {"map": ["map::won_map"], "solver": ["solver::solve_into", "solver::solve_compact_into"], "kit": ["kit::solve_kit"]}
-GAMES = {"game::Game", "game::Graph", "drives::Kit", "drives::Drive"}
-MAKERS = {"drives::graph_of", "drives::game_of"}
+GAMES = {"game::Game", "game::Graph", "kit_drives::Kit", "kit_drives::Drive"}
+MAKERS = {"kit_drives::graph_of", "kit_drives::game_of"}
 
 sys.setrecursionlimit(1_000_000)
 

@@ -4,7 +4,7 @@
     tests/program.py SOLVE
 
 Every NAME.game of tests/prints and examples is run and held to NAME.print. The prints of cases 1 to 8 are those of the proved
-table in crates/cases. Then come the refusals that a file can cause, drives that latch, and what a person may do to a program: give
+table in crates/check_cases. Then come the refusals that a file can cause, drives that latch, and what a person may do to a program: give
 it nothing, a binary file, or an output that is full or closed. The last line says how many passed and how many failed."""
 
 import pathlib

@@ -1,7 +1,7 @@
 #!/usr/bin/env python3
-"""Damaged texts against the program read_back: each place worked out by trying completions.
+"""Damaged texts against the program check_reading: each place worked out by trying completions.
 
-usage: text_places.py PATH-OF-read_back [COUNT [SEED]]
+usage: text_places.py PATH-OF-check_reading [COUNT [SEED]]
 
 A front begins a well-shaped file when some completion exists. Here that is found by following the grammar over whole tokens and
 trying every number of the range at each place where one may stand: no digit is looked at by itself. The acceptance of a whole text is

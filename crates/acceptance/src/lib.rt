@@ -10,28 +10,28 @@ ghost use Rattle.game.specs.Numbers.{Accepts};
 fn counts_fit(g: Game) -> bool
     ensures { λ r. ⌜ r ≡ countsFit g ⌝ }
 {
-    if !graph_checks::count_fits(g.input) {
+    if !accept_graph::count_fits(g.input) {
         return false;
     }
-    graph_checks::count_fits(g.output)
+    accept_graph::count_fits(g.output)
 }
 
 fn states_in_count(g: Game) -> bool
     ensures { λ r. ⌜ r ≡ statesInCount g ⌝ }
 {
-    if !graph_checks::states_fit(g.input) {
+    if !accept_graph::states_fit(g.input) {
         return false;
     }
-    graph_checks::states_fit(g.output)
+    accept_graph::states_fit(g.output)
 }
 
 fn initials_exist(g: Game) -> bool
     ensures { λ r. ⌜ r ≡ initialsExist g ⌝ }
 {
-    if !graph_checks::has_initial(g.input) {
+    if !accept_graph::has_initial(g.input) {
         return false;
     }
-    graph_checks::has_initial(g.output)
+    accept_graph::has_initial(g.output)
 }
 
 fn lengths_fit(g: Game) -> bool
@@ -39,7 +39,7 @@ fn lengths_fit(g: Game) -> bool
 {
     let mut p = 0;
     while p < 8 {
-        if !requirement_checks::few_sets(g.requirements[p]) {
+        if !accept_requirement::few_sets(g.requirements[p]) {
             return false;
         }
         p += 1;
@@ -52,7 +52,7 @@ fn sets_fit(g: Game) -> bool
 {
     let mut r = 0;
     while r < 8 {
-        if !requirement_checks::requirement_fits(g, r, g.requirements[r]) {
+        if !accept_requirement::requirement_fits(g, r, g.requirements[r]) {
             return false;
         }
         r += 1;

@@ -43,7 +43,8 @@ module _ (g : Game) where
   pub rows-among : (p q : ℕ → ℕ) → ((i : ℕ) → i < g .input .states → p i ≡ q i) → Among g (λ i o. has (p i) o) (λ i o. has (q i) o)
   rows-among p q e = record { all = λ i o a b h. ap (λ (x : ℕ). has x o) (sym (e i a)) ∙ h }
 
-  pub part-stay : (v v′ w w′ : ℕ → Bool) (Z Z′ Y Y′ : Pairs) → ((p : ℕ) → v p ≡ v′ p) → ((j : ℕ) → j < g .input .states → w j ≡ w′ j) → Among g Z Z′ → Among g Y Y′
+  pub part-stay : (v v′ w w′ : ℕ → Bool) (Z Z′ Y Y′ : Pairs) → ((p : ℕ) → v p ≡ v′ p) → ((j : ℕ) → j < g .input .states → w j ≡ w′ j) → Among g Z Z′
+      → Among g Y Y′
       → Among g (stay (separatedOf g) v w Z Y) (stay (separatedOf g) v′ w′ Z′ Y′)
   unfolding separatedOf graphOf
   part-stay v v′ w w′ Z Z′ Y Y′ e f A B =

@@ -44,7 +44,8 @@ module _ (g : Game) (b l : List ℕ) where
   pub freed-next : (k : ℕ) (m : List ℕ) (x y v : ℕ) → Freed g k b l m → k < length m → ((o : ℕ) → has x o ≡ ltb o (g .output .states)) → y ≡ getD b k 0
       → ((o : ℕ) → has v o ≡ (has x o && not (has y o))) → Freed g (k + 1) b l (set m k v)
   freed-next k m x y v T long e f d = record {
-    apart = apart-then (apart-wider keptAt (k + 1) (omega arith) (omega arith) (T .apart)) (apart-wider keptAt (k + 1) (omega arith) (omega arith) (apart-set m k v));
+    apart = apart-then (apart-wider keptAt (k + 1) (omega arith) (omega arith) (T .apart))
+        (apart-wider keptAt (k + 1) (omega arith) (omega arith) (apart-set m k v));
     row = λ i o h. row i o h (ℕ-discrete i k);
   }
     where
@@ -117,7 +118,8 @@ module _ (g : Game) (F : Fits g) (b l : List ℕ) where
             let h : u .0 < requirementAt g 0 .guaranteed = omega (arith, u .1, length-tabulate sets (requirementAt g 0 .guaranteed)) in
             let is : s ≡ sets (u .0) = sym (u .2) ∙ getD-tabulate sets (requirementAt g 0 .guaranteed) (u .0) (λ k. false) h in
             rw is (among-sub g (record {
-              all = λ i o x y k. part-reach g (sets (u .0)) (keptPairs m) (keptPairs n) back .all i o x y (P .none e (u .0) h .all i o x y (sym (P .same e i o x) ∙ k));
+              all = λ i o x y k. part-reach g (sets (u .0)) (keptPairs m) (keptPairs n) back .all i o x y
+                  (P .none e (u .0) h .all i o x y (sym (P .same e i o x) ∙ k));
             }))
           where
             sets : ℕ → ℕ → Bool
@@ -136,7 +138,8 @@ module _ (g : Game) (F : Fits g) (b l : List ℕ) where
         bit i o h =
             same-test (has (getD n i 0) o) (has (pack (g .output .states) (barredRegion (separatedOf g) (barOf b) (only g) i)) o)
             (λ t. let k = keeping-next .unbarred i o h t .0 in
-            has-pack (g .output .states) (barredRegion (separatedOf g) (barOf b) (only g) i) o ∙ and-intro (lt-ltb o (g .output .states) k) (sym (found i o h k) ∙ t))
+            has-pack (g .output .states) (barredRegion (separatedOf g) (barOf b) (only g) i) o
+            ∙ and-intro (lt-ltb o (g .output .states) k) (sym (found i o h k) ∙ t))
             (λ t. let u = sym (has-pack (g .output .states) (barredRegion (separatedOf g) (barOf b) (only g) i) o) ∙ t in
             let k = ltb-true o (g .output .states) (and-left (ltb o (g .output .states)) (barredRegion (separatedOf g) (barOf b) (only g) i o) u) in
             found i o h k ∙ and-right (ltb o (g .output .states)) (barredRegion (separatedOf g) (barOf b) (only g) i o) u)

@@ -136,7 +136,8 @@ module _ (g : Game) (l : List ℕ) where
     inside : (i o : ℕ) → i < g .input .states → keptPairs m′ i o ≡ true → keptPairs l i o ≡ true
     inside i o h t = T .inside i o h (S .inside i o h t)
 
-    sound : (bar : Pairs) → Among g (barredRegion (separatedOf g) bar (only g)) (keptPairs l) → Among g (barredRegion (separatedOf g) bar (only g)) (keptPairs m′)
+    sound : (bar : Pairs) → Among g (barredRegion (separatedOf g) bar (only g)) (keptPairs l)
+        → Among g (barredRegion (separatedOf g) bar (only g)) (keptPairs m′)
     sound bar A =
         S .sound (barredRegion (separatedOf g) bar (only g))
         (sub-among g (rw named at (region-passes (separatedOf g) bar (only g) (keptPairs m) (among-sub g (T .sound bar A)) (suc k) within-list)))

@@ -31,7 +31,8 @@ module _ (g : Game) (F : Fits g) where
     outputs = λ i o b h. W .outputs i o b (ap (λ (x : ℕ). has x o) (sym (E .apart .low i (omega (arith, F .input .most)))) ∙ h);
   }
 
-  module _ (v w : ℕ) (l a b m : List ℕ) (E : Emptied (g .input .states) reachedAt l a) (T : Stayed g v w a b) (C : Copied (g .input .states) stayingAt keptAt b m)
+  module _ (v w : ℕ) (l a b m : List ℕ) (E : Emptied (g .input .states) reachedAt l a) (T : Stayed g v w a b)
+      (C : Copied (g .input .states) stayingAt keptAt b m)
       (nv : v ≡ 0) (nw : w ≡ 0) where
     kept-a : (i : ℕ) → i < g .input .states → getD a i 0 ≡ getD l i 0
     kept-a i h = E .apart .low i (omega (arith, F .input .most))

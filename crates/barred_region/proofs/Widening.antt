@@ -51,7 +51,8 @@ module _ (g : Game) where
   unfolding assumed goalAt only requirementOf
   waits-next j w b e = record {
     same = λ i h. ap (λ (x : ℕ). has x i) e
-        ∙ ap (λ (f : ℕ → Bool). f i) (sym (getD-tabulate (λ k. has (bitsOf (getD (requirementAt g 0 .assumptions) k noInput .0))) (requirementAt g 0 .assumed) j (λ s. false) b));
+        ∙ ap (λ (f : ℕ → Bool). f i)
+        (sym (getD-tabulate (λ k. has (bitsOf (getD (requirementAt g 0 .assumptions) k noInput .0))) (requirementAt g 0 .assumed) j (λ s. false) b));
   }
 
 pub record Reaching (g : Game) (v : ℕ) (l m : List ℕ) : Type 0 where
@@ -119,14 +120,17 @@ module _ (g : Game) (F : Fits g) where
       apart : Apart reachedAt (stayingAt + g .input .states) l m′
       apart = apart-then (T .apart) (R .apart)
 
-      sound : Among g (reachedPairs l) (reach (separatedOf g) (only g) (has v) (keptPairs l)) → Among g (reachedPairs m′) (reach (separatedOf g) (only g) (has v) (keptPairs l))
+      sound : Among g (reachedPairs l) (reach (separatedOf g) (only g) (has v) (keptPairs l))
+          → Among g (reachedPairs m′) (reach (separatedOf g) (only g) (has v) (keptPairs l))
       sound h = record {
-        all = λ i o a c t. elim (or-cases (reachedPairs m i o) (stay (separatedOf g) (has v) (has w) (keptPairs m) (reachedPairs m) i o) (sym (R .row i o a c) ∙ t)) [
-          | inl y ↦ T .sound h .all i o a c y
-          | inr x ↦ sub-among g (reach-widens (separatedOf g) (only g) (has v) (keptPairs l) (reachedPairs m) (among-sub g (T .sound h)) k b) .all i o a c
-              (part-stay g (has v) (has v) (has w) (goalAt (assumed (only g)) k) (keptPairs m) (keptPairs l) (reachedPairs m) (reachedPairs m) (λ p. refl) (N .same) into
-              (among-self g (reachedPairs m)) .all i o a c x)
-        ];
+        all = λ i o a c t. elim
+            (or-cases (reachedPairs m i o) (stay (separatedOf g) (has v) (has w) (keptPairs m) (reachedPairs m) i o) (sym (R .row i o a c) ∙ t)) [
+              | inl y ↦ T .sound h .all i o a c y
+              | inr x ↦ sub-among g (reach-widens (separatedOf g) (only g) (has v) (keptPairs l) (reachedPairs m) (among-sub g (T .sound h)) k b) .all i o a c
+                  (part-stay g (has v) (has v) (has w) (goalAt (assumed (only g)) k) (keptPairs m) (keptPairs l) (reachedPairs m) (reachedPairs m) (λ p. refl)
+                  (N .same) into
+                  (among-self g (reachedPairs m)) .all i o a c x)
+            ];
       }
 
       pub widened-grew : (j : ℕ) → r ≡ true → Widened g v j l m′ true
@@ -152,10 +156,11 @@ module _ (g : Game) (F : Fits g) where
         where
           shrinks : Among g (reachedPairs m′) (reachedPairs m)
           shrinks = record {
-            all = λ i o a c t. elim (or-cases (reachedPairs m i o) (stay (separatedOf g) (has v) (has w) (keptPairs m) (reachedPairs m) i o) (sym (R .row i o a c) ∙ t)) [
-              | inl y ↦ y
-              | inr x ↦ R .none e .all i o a c x
-            ];
+            all = λ i o a c t. elim
+                (or-cases (reachedPairs m i o) (stay (separatedOf g) (has v) (has w) (keptPairs m) (reachedPairs m) i o) (sym (R .row i o a c) ∙ t)) [
+                  | inl y ↦ y
+                  | inr x ↦ R .none e .all i o a c x
+                ];
           }
 
           none : (j : ℕ) → k ≤ j → j < length (assumed (only g)) → Dec (j ≡ k)
@@ -208,7 +213,8 @@ module _ (g : Game) (F : Fits g) where
         apart = apart-then (T .apart) (R .apart);
         found = reach-found (separatedOf g) (only g) (has v) (keptPairs l) (reachedPairs m′) (among-sub g (reaching-next .sound))
             (λ j b. among-sub g (among-then g
-            (part-stay g (has v) (has v) (goalAt (assumed (only g)) j) (goalAt (assumed (only g)) j) (keptPairs l) (keptPairs m) (reachedPairs m′) (reachedPairs m)
+            (part-stay g (has v) (has v) (goalAt (assumed (only g)) j) (goalAt (assumed (only g)) j) (keptPairs l) (keptPairs m) (reachedPairs m′)
+            (reachedPairs m)
             (λ p. refl) (λ i c. refl) from-l (R .same e))
             (among-then g (R .none e j (omega arith) b) (R .more))));
       }

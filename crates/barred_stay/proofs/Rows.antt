@@ -58,7 +58,8 @@ module _ (l : List ℕ) (i r w x old lost : ℕ) (read : old ≡ getD l (staying
     m = set l (stayingAt + i) new
 
     row : (o : ℕ) → stayingPairs m i o ≡ (stayingPairs l i o && has r o)
-    row o = ap (λ (k : ℕ). has k o) (getD-set-same l (stayingAt + i) new 0 long) ∙ cut o ∙ left (has old o) (has r o) (d o) ∙ ap (λ (b : Bool). b && has r o) (sym (here o))
+    row o = ap (λ (k : ℕ). has k o) (getD-set-same l (stayingAt + i) new 0 long) ∙ cut o ∙ left (has old o) (has r o) (d o)
+        ∙ ap (λ (b : Bool). b && has r o) (sym (here o))
       where
         left : (p q : Bool) {v : Bool} → v ≡ (p && not q) → (p && not v) ≡ (p && q)
         left true true e = rw e refl

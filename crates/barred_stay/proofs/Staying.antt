@@ -100,7 +100,8 @@ module _ (g : Game) (F : Fits g) (v w : ℕ) (l : List ℕ) where
   staying-start x B e = record {
     apart = apart-self stayingAt (stayingAt + g .input .states) l;
     inside = λ i o b h. ap (λ (k : ℕ). has k o) (sym (B i b)) ∙ h;
-    kept = sub-intro (separatedOf g) (λ i o a b h. ap (λ (k : ℕ). has k o) (B i a) ∙ stay-in (separatedOf g) (has v) (has w) (keptPairs l) (reachedPairs l) i o h);
+    kept = sub-intro (separatedOf g)
+        (λ i o a b h. ap (λ (k : ℕ). has k o) (B i a) ∙ stay-in (separatedOf g) (has v) (has w) (keptPairs l) (reachedPairs l) i o h);
     clean = λ i o j a b q f h. clash (e j ∙ lt-ltb j (g .input .states) (edge-to (graphOf (g .input)) i j q)) f;
     inputs = λ j h. ltb-true j (g .input .states) (sym (e j) ∙ h);
   }
@@ -171,7 +172,8 @@ module _ (g : Game) (F : Fits g) (v w : ℕ) (l : List ℕ) where
       inputs = λ k h. inputs k (R .shrunk .more k h);
     }
       where
-        kept : (i o : ℕ) → i < g .input .states → o < g .output .states → stay (separatedOf g) (has v) (has w) (keptPairs l) (reachedPairs l) i o ≡ true → stayingPairs m′ i o ≡ true
+        kept : (i o : ℕ) → i < g .input .states → o < g .output .states → stay (separatedOf g) (has v) (has w) (keptPairs l) (reachedPairs l) i o ≡ true
+            → stayingPairs m′ i o ≡ true
         kept i o a b h =
             R .shrunk .row i o a
             ∙ and-intro (sub-elim (separatedOf g) (T .kept) i o a b h)
@@ -223,7 +225,8 @@ module _ (g : Game) (F : Fits g) (v w : ℕ) (l : List ℕ) where
             → stayingPairs m′ (c / g .output .states) (c % g .output .states) ≡ true → stayingPairs m (c / g .output .states) (c % g .output .states) ≡ true
         fewer c b h = falls (c / g .output .states) (c % g .output .states) (div-lt-iff-lt-mul (omega (arith, F .output .some)) .1 b) h
 
-        go : (any (g .input .states) (λ k. has x′ k && not (has (R .rest) k)) ≡ true) ⊎ (any (g .input .states) (λ k. has x′ k && not (has (R .rest) k)) ≡ false)
+        go : (any (g .input .states) (λ k. has x′ k && not (has (R .rest) k)) ≡ true) ⊎
+            (any (g .input .states) (λ k. has x′ k && not (has (R .rest) k)) ≡ false)
             → stayingCount g m′ * g .input .states + stayingCount g m′ + count (g .input .states) (has x′)
             < stayingCount g m * g .input .states + stayingCount g m + count (g .input .states) (has x)
         go (inl h) =
@@ -290,7 +293,9 @@ module _ (g : Game) (F : Fits g) (l k : List ℕ) (B : Copied (g .input .states)
   copied-stayed v w m T = record {
     apart = apart-then (B .apart) (T .apart);
     inside = λ i o b h. ap (λ (x : ℕ). has x o) (sym (kept-row i b)) ∙ T .inside i o b h;
-    found = λ i o a b. T .found i o a b ∙ same-sets (separatedOf g) (stay-mono (separatedOf g) (has v) (has w) (keptPairs k) (keptPairs l) (reachedPairs k) (reachedPairs l) (into kept-row) (into reached-row))
+    found = λ i o a b. T .found i o a b
+        ∙ same-sets (separatedOf g)
+        (stay-mono (separatedOf g) (has v) (has w) (keptPairs k) (keptPairs l) (reachedPairs k) (reachedPairs l) (into kept-row) (into reached-row))
         (stay-mono (separatedOf g) (has v) (has w) (keptPairs l) (keptPairs k) (reachedPairs l) (reachedPairs k) (back kept-row) (back reached-row)) i o a b;
   }
     where

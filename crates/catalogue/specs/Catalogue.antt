@@ -15,8 +15,8 @@ use mathlib.Core.Logic.{_⊎_}
 use mathlib.Core.Path.{_≡_}
 use lib.Dec.{leb}
 use lib.ListN.{length}
-use Rattle.put.specs.Put.{Puts}
-use Rattle.answer_lines.specs.Line.{refusedLine}
+use Rattle.text_put.specs.Put.{Puts}
+use Rattle.print_lines.specs.Line.{refusedLine}
 use Rattle.catalogue_names.specs.declared.Kept.{Kept}
 use Rattle.catalogue_names.specs.Names.{names, fitName, most}
 use Rattle.catalogue_names.specs.Keeping.{Keeps, Held}

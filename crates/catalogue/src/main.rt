@@ -138,7 +138,7 @@ fn answer(
     ensures { λ r. ⌜ Printed (now (list .entry)) (now (buffer .entry)) r (now (buffer .exit)) ⌝ }
 {
     if 1000 < catalogue_names::count_names(list) {
-        return answer_lines::put_refused(buffer, 27);
+        return print_lines::put_refused(buffer, 27);
     }
     let t = tally_names(list, file, controller, panel);
     catalogue_lines::put_figures(buffer, t)

@@ -8,13 +8,13 @@ use mathlib.Core.Path.{_≡_, refl, sym, _∙_, ap}
 use lib.Dec.{eqb}
 use lib.ListN.{length, getD, length-append}
 use borrow.Author.Tests.{eq-eqb, ne-eqb}
-use Rattle.grammar.specs.Number.{decimal}
-use Rattle.grammar.proofs.Format.{by-cases}
-use Rattle.shape.specs.Text.{word, line, bracket, items, gapText}
-use Rattle.shape.specs.Shape.{opening}
-use Rattle.put.specs.Put.{Puts}
-use Rattle.put.proofs.Buffer.{Remains, remains-room, puts-as}
-use Rattle.answer_lines.proofs.Lines.{number-short, opening-short, puts-nothing}
+use Rattle.text_grammar.specs.Number.{decimal}
+use Rattle.text_grammar.proofs.Format.{by-cases}
+use Rattle.text_shape.specs.Text.{word, line, bracket, items, gapText}
+use Rattle.text_shape.specs.Shape.{opening}
+use Rattle.text_put.specs.Put.{Puts}
+use Rattle.text_put.proofs.Buffer.{Remains, remains-room, puts-as}
+use Rattle.print_lines.proofs.Lines.{number-short, opening-short, puts-nothing}
 use Rattle.catalogue_tally.specs.declared.Tally.{Tally}
 use Rattle.catalogue_lines.specs.Figures.{numberWord, wonWord, countLine, pairText, numberLine, numberLines, wonLine, figuresPrint}
 

@@ -13,9 +13,9 @@ use mathlib.Core.Bool.{true, false}
 use mathlib.Core.List.{List, [], _∷_, _++_}
 use lib.Dec.{eqb}
 use lib.ListN.{getD}
-use Rattle.grammar.specs.Number.{decimal}
-use Rattle.shape.specs.Text.{word, line}
-use Rattle.put.specs.Put.{Puts}
+use Rattle.text_grammar.specs.Number.{decimal}
+use Rattle.text_shape.specs.Text.{word, line}
+use Rattle.text_put.specs.Put.{Puts}
 use Rattle.catalogue_tally.specs.declared.Tally.{Tally}
 
 unfoldable pub numberWord : List ℕ

@@ -3,7 +3,7 @@
 use catalogue_tally::Tally;
 ghost use Prim.Native.Nat.{_+_, _<_, _≤_, _^_};
 ghost use lib.ListN.{length};
-ghost use Rattle.put.specs.Put.{Puts};
+ghost use Rattle.text_put.specs.Put.{Puts};
 ghost use Rattle.catalogue_lines.specs.Figures.{countLine, pairText, numberLine, numberLines, wonLine, figuresPrint, Made};
 
 // The bytes of a text.
@@ -15,7 +15,7 @@ fn put_text(buffer: &mut [u8], at: usize, text: &[u8]) -> usize
     let mut k: usize = 0;
     while k < text.len() {
         let b = text[k];
-        to = put::put_byte(buffer, to, b);
+        to = text_put::put_byte(buffer, to, b);
         k += 1;
     }
     to
@@ -26,9 +26,9 @@ fn put_count(buffer: &mut [u8], at: usize, w: usize, n: usize) -> usize
     requires { ⌜ (w < 10) × (at + 160 ≤ 2 ^ 32) ⌝ }
     ensures { λ r. ⌜ Puts (now (buffer .entry)) at (countLine w n) r (now (buffer .exit)) × (r ≤ at + 60) ⌝ }
 {
-    let a = put::put_opening(buffer, at, w);
-    let b = put::put_number_then(buffer, a, n, 41);
-    put::put_byte(buffer, b, 10)
+    let a = text_put::put_opening(buffer, at, w);
+    let b = text_put::put_number_then(buffer, a, n, 41);
+    text_put::put_byte(buffer, b, 10)
 }
 
 // Two decimal numbers, the closing bracket and the line's end.
@@ -36,9 +36,9 @@ fn put_pair(buffer: &mut [u8], at: usize, m: usize, n: usize) -> usize
     requires { ⌜ at + 100 ≤ 2 ^ 32 ⌝ }
     ensures { λ r. ⌜ Puts (now (buffer .entry)) at (pairText m n) r (now (buffer .exit)) ⌝ }
 {
-    let a = put::put_number_then(buffer, at, m, 32);
-    let b = put::put_number_then(buffer, a, n, 41);
-    put::put_byte(buffer, b, 10)
+    let a = text_put::put_number_then(buffer, at, m, 32);
+    let b = text_put::put_number_then(buffer, a, n, 41);
+    text_put::put_byte(buffer, b, 10)
 }
 
 // (number R N); no byte where the number was not met.

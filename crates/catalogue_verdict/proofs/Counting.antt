@@ -18,7 +18,7 @@ use Rattle.finite.proofs.Truth.{and-intro}
 use Rattle.game.specs.declared.Game.{Game}
 use Rattle.game.specs.declared.Acceptance.the-variants.{Accepted}
 use Rattle.game.specs.Acceptance.{acceptance}
-use Rattle.sizes.proofs.Lengths.{inputs-most, outputs-most}
+use Rattle.table_sizes.proofs.Lengths.{inputs-most, outputs-most}
 use Rattle.map.specs.declared.Mapped.{Mapped}
 use Rattle.map.specs.declared.Mapped.the-variants.{Done}
 use Rattle.map.specs.Map.{mapFits, mapRoom, mapAnswer, MapMade}

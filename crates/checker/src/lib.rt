@@ -106,7 +106,7 @@ fn check_accepted(g: Game, table: &[u16], room: &mut [u16]) -> Checked
     requires { ⌜ acceptance g ≡ Accepted ⌝ }
     ensures { λ r. ⌜ Checks g (now (table .entry)) (now (room .entry)) (now (room .exit)) r ⌝ }
 {
-    let length = sizes::controller_length(g);
+    let length = table_sizes::controller_length(g);
     if table.len() != length {
         return Checked::Refused(19);
     }
@@ -117,7 +117,7 @@ fn check_accepted(g: Game, table: &[u16], room: &mut [u16]) -> Checked
     if room.len() < 24576 {
         return Checked::Refused(8);
     }
-    check_table(g, sizes::controller_counters(g), places, table, room)
+    check_table(g, table_sizes::controller_counters(g), places, table, room)
 }
 
 // Checks a controller's table: accepted exactly when it wins; else what is handed back, with the walk at the room's front, shows that it does not.

@@ -43,7 +43,7 @@ pub fn open(
     let mut found: usize = 0;
     let mut i: usize = 0;
     while i < g.input.states {
-        if !place::begins_with(g, InState(i)) {
+        if !player_place::begins_with(g, InState(i)) {
             i += 1;
             continue;
         }

@@ -33,11 +33,11 @@ use Rattle.play.specs.Play.{graphOf, separatedOf}
 use Rattle.theory.specs.Entries.{answer, controllerCounters, controllerTable}
 use Rattle.theory.proofs.Entries.{controller-long}
 use Rattle.demands.specs.Demands.{playOf, controllerOf}
-use Rattle.place.specs.declared.Position.{Position}
-use Rattle.place.specs.declared.Played.{Played}
-use Rattle.place.specs.declared.Played.the-variants.{At, Refused}
-use Rattle.place.specs.Place.{provided, arrives}
-use Rattle.place.proofs.Moves.{initial-outputs, output-moves}
+use Rattle.player_place.specs.declared.Position.{Position}
+use Rattle.player_place.specs.declared.Played.{Played}
+use Rattle.player_place.specs.declared.Played.the-variants.{At, Refused}
+use Rattle.player_place.specs.Place.{provided, arrives}
+use Rattle.player_place.proofs.Moves.{initial-outputs, output-moves}
 use Rattle.checker_places.specs.Place.{placeCount, place, placed, lead, starting, leads}
 use Rattle.checker_places.proofs.Place.{place-below, placed-inside, place-placed, lead-cases, named-inside}
 use Rattle.checker_rows.specs.Rows.{Ready, Filled}

@@ -2,7 +2,7 @@
 use game::Game;
 use game::InState;
 use game::OutSet;
-use place::Played;
+use player_place::Played;
 ghost use mathlib.Core.Path.{_≡_};
 ghost use Prim.Native.Nat.{_≤_, _<_};
 ghost use lib.ListN.{length};
@@ -18,7 +18,7 @@ fn lead(inputs: usize, counters: usize, allowed: OutSet, j: InState, entry: u16)
     requires { ⌜ (0 < inputs) × (leadOf inputs counters (has (bitsOf (allowed .0))) (j .0) (answer entry) ≤ 65535) ⌝ }
     ensures { λ r. ⌜ r ≡ leadOf inputs counters (has (bitsOf (allowed .0))) (j .0) (answer entry) ⌝ }
 {
-    match place::arrive(counters, allowed, j, entry) {
+    match player_place::arrive(counters, allowed, j, entry) {
         Played::At(p) => ((p.output.0 * counters + p.counter) * inputs + p.input.0) as u16,
         Played::Refused(_) => 65535,
     }

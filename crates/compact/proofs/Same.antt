@@ -46,7 +46,8 @@ module _ {A : Arena} (B : Bounded A) (T U : ControllerTable) (E : Same A T U) wh
       let i = inside-controller B U c r in
       record {
         move = t .move;
-        step = names-over (E .memories) (E .steps (c .memory) (c .output) (d .input) (i .memory) (i .output) (B .move (c .input) (d .input) (t .move))) (t .step);
+        step = names-over (E .memories) (E .steps (c .memory) (c .output) (d .input) (i .memory) (i .output) (B .move (c .input) (d .input) (t .move)))
+            (t .step);
       }
 
   walk-over : {c d : Configuration} → Here c → Walk (ControllerTurn A U) c d → Walk (ControllerTurn A T) c d

@@ -89,7 +89,7 @@ fn name_firsts(g: Game, leaders: InSet, part: usize, count: usize, firsts: &mut 
     let mut j: usize = 0;
     while j < n {
         if sets::member(leaders.0, j) {
-            let c = component_ranks::component(g, InState(j));
+            let c = graph_ranks::component(g, InState(j));
             mark(firsts, part, count, c.0, j as u8);
         }
         j += 1;
@@ -111,8 +111,8 @@ pub fn rows_fit(g: Game, table: &[u16]) -> bool
     ensures { λ r. ⌜ r ≡ rowsFit (separatedOf g) (now (table .entry)) ⌝ }
 {
     let n = g.input.states;
-    let rows = g.output.states * sizes::controller_counters(g);
-    let leaders = component_ranks::leading(g);
+    let rows = g.output.states * table_sizes::controller_counters(g);
+    let leaders = graph_ranks::leading(g);
     let mut firsts: [u8; 64] = [0; 64];
     let mut part: usize = 0;
     while part < n {

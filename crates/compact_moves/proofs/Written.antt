@@ -22,7 +22,7 @@ use Rattle.compact.proofs.Rank.{rank-below, first-below, first-rank}
 use Rattle.compact.proofs.Entries.{entries-length}
 use Rattle.compact.proofs.Tests.{ranks-fit-elim}
 use Rattle.compact.proofs.Moving.{to-length, start-over, rank-over, row-over, from-length, start-back, row-back}
-use Rattle.component_ranks.specs.Ranks.{RanksWritten}
+use Rattle.graph_ranks.specs.Ranks.{RanksWritten}
 use Rattle.finite.proofs.Lists.{any-default}
 use Rattle.compact_rows.specs.Copying.{FullFits, FullAgrees, FullFilled, CompactFits, CompactAgrees, CompactFilled}
 use Rattle.compact_rows.proofs.Copying.{row-last, row-below, last-below}

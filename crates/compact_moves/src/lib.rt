@@ -31,7 +31,7 @@ fn component_count(g: Game) -> usize
     requires { ⌜ acceptance g ≡ Accepted ⌝ }
     ensures { λ r. ⌜ r ≡ componentCount (separatedOf g) ⌝ }
 {
-    component_ranks::components(g, component_ranks::leading(g))
+    graph_ranks::components(g, graph_ranks::leading(g))
 }
 
 // The front of room becomes the table in the compact layout; the rest stays.
@@ -40,8 +40,8 @@ fn write_compact(g: Game, components: usize, table: &[u16], room: &mut [u16])
         × (rowsFit (separatedOf g) (now table) ≡ true) × (compactLength (separatedOf g) ≤ length (now room)) ⌝ }
     ensures { λ r. ⌜ now (room .exit) ≡ toCompact (separatedOf g) (now (table .entry)) ++ drop (compactLength (separatedOf g)) (now (room .entry)) ⌝ }
 {
-    component_ranks::write_ranks(g, room);
-    let rows = g.output.states * sizes::controller_counters(g);
+    graph_ranks::write_ranks(g, room);
+    let rows = g.output.states * table_sizes::controller_counters(g);
     compact_rows::fill_compact(table, g.input.states, components, rows, room);
 }
 
@@ -51,7 +51,7 @@ fn write_full(g: Game, components: usize, table: &[u16], room: &mut [u16])
         × (ranksFit (separatedOf g) (now table) ≡ true) × (fullLength (separatedOf g) ≤ length (now room)) ⌝ }
     ensures { λ r. ⌜ now (room .exit) ≡ fromCompact (separatedOf g) (now (table .entry)) ++ drop (fullLength (separatedOf g)) (now (room .entry)) ⌝ }
 {
-    let rows = g.output.states * sizes::controller_counters(g);
+    let rows = g.output.states * table_sizes::controller_counters(g);
     compact_rows::fill_full(table, g.input.states, components, rows, room);
 }
 
@@ -60,7 +60,7 @@ fn over_accepted(g: Game, table: &[u16], room: &mut [u16]) -> Move
     requires { ⌜ acceptance g ≡ Accepted ⌝ }
     ensures { λ r. ⌜ MovedOver g (now (table .entry)) (now (room .entry)) (now (room .exit)) r ⌝ }
 {
-    if table.len() != sizes::controller_length(g) {
+    if table.len() != table_sizes::controller_length(g) {
         return Move::Refused(23);
     }
     if !compact_checks::rows_fit(g, table) {
@@ -84,10 +84,10 @@ fn back_accepted(g: Game, table: &[u16], room: &mut [u16]) -> Move
     if table.len() != compact_sizes::compact_length(g, components) {
         return Move::Refused(23);
     }
-    if !component_ranks::ranks_fit(g, table) {
+    if !graph_ranks::ranks_fit(g, table) {
         return Move::Refused(22);
     }
-    let n = sizes::controller_length(g);
+    let n = table_sizes::controller_length(g);
     if room.len() < n {
         return Move::Refused(9);
     }

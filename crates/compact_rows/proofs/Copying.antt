@@ -8,8 +8,8 @@ use native.Mathlib.Omega.{arith}
 use native.Mathlib.Decide.{decLt, ℕ-discrete}
 use lib.ListN.{length, getD, drop, set, length-set}
 use lib.Seq.{getD-set-other}
-use Rattle.filling.specs.Grows.{Right, Grows}
-use Rattle.filling.proofs.Grows.{grows-none, grows-more, grows-set, right-set, grows-done}
+use Rattle.table_filling.specs.Grows.{Right, Grows}
+use Rattle.table_filling.proofs.Grows.{grows-none, grows-more, grows-set, right-set, grows-done}
 use Rattle.compact_rows.specs.Copying.{Puts, Started, GatherFits, Gathered, FullFits, FullAgrees, GatheredRows, FullFilled}
 use Rattle.compact_rows.specs.Copying.{ScatterFits, Scattered, CompactFits, CompactAgrees, ScatteredRows, CompactFilled}
 

@@ -23,7 +23,7 @@ use Prim.Native.Nat.{ℕ, _+_, _*_, _≤_, _<_}
 use mathlib.Core.Path.{_≡_}
 use mathlib.Core.List.{List, _++_}
 use lib.ListN.{length, getD, drop}
-use Rattle.filling.specs.Grows.{Right, Grows}
+use Rattle.table_filling.specs.Grows.{Right, Grows}
 
 pub record Puts (E l m : List ℕ) (place : ℕ → ℕ) (n : ℕ) : Type 0 where
   pub grows : Grows E l m

@@ -12,7 +12,7 @@ use Rattle.theory.specs.Entries.{controllerCounters}
 use Rattle.compact.specs.Rank.{componentCount}
 use Rattle.compact.specs.Compact.{compactLength}
 use Rattle.compact.proofs.Rank.{components-le}
-use Rattle.sizes.proofs.Lengths.{controller-rows}
+use Rattle.table_sizes.proofs.Lengths.{controller-rows}
 
 module _ (g : Game) (m k : ℕ) (e : m ≡ controllerCounters (separatedOf g)) (f : k ≡ componentCount (separatedOf g)) where
   pub length-is : g .input .states + (g .input .states + g .output .states * m * k) ≡ compactLength (separatedOf g)

@@ -13,5 +13,5 @@ pub fn compact_length(g: Game, components: usize) -> usize
     ensures { λ r. ⌜ r ≡ compactLength (separatedOf g) ⌝ }
 {
     let inputs = g.input.states;
-    inputs + (inputs + g.output.states * sizes::controller_counters(g) * components)
+    inputs + (inputs + g.output.states * table_sizes::controller_counters(g) * components)
 }

@@ -16,8 +16,8 @@ use Rattle.finite.proofs.Bounded.{least-same, count-same}
 use Rattle.bits.specs.Member.{has, pack}
 use Rattle.bits.proofs.Membership.{has-pack-below}
 use Rattle.sets.specs.Words.{bitsOf, setsIn}
-use Rattle.filling.specs.Grows.{Right, Grows}
-use Rattle.filling.proofs.Grows.{grows-more}
+use Rattle.table_filling.specs.Grows.{Right, Grows}
+use Rattle.table_filling.proofs.Grows.{grows-more}
 use Rattle.game.specs.declared.Game.{Game}
 use Rattle.play.specs.Play.{graphOf, separatedOf}
 use Rattle.theory.specs.Choice.{controllerStart}
@@ -26,8 +26,8 @@ use Rattle.compact.specs.Rank.{leads, componentCount, firstOf}
 use Rattle.compact.specs.Compact.{compactLength, compactEntries, compactCell}
 use Rattle.compact.proofs.Rank.{first-below}
 use Rattle.compact.proofs.Entries.{compact-entries-length, compact-start, compact-rank, compact-cell}
-use Rattle.component_ranks.specs.Ranks.{RanksWritten}
-use Rattle.layout.specs.Rows.{place}
+use Rattle.graph_ranks.specs.Ranks.{RanksWritten}
+use Rattle.table_layout.specs.Rows.{place}
 use Rattle.controller_rows.specs.declared.Size.{Size}
 use Rattle.controller_rows.specs.Writes.{leading, columnOf, inputOf, layoutOf, lengthOf, Starts}
 use Rattle.controller_rows.proofs.Writes.{long-starts}

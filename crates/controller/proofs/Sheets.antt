@@ -18,7 +18,7 @@ use Rattle.play.specs.Play.{separatedOf}
 use Rattle.theory.specs.Choice.{controllerStart}
 use Rattle.theory.specs.Entries.{entry, controllerEntries}
 use Rattle.theory.proofs.Entries.{controller-long, controller-start-at, controller-row-at}
-use Rattle.layout.specs.Rows.{place}
+use Rattle.table_layout.specs.Rows.{place}
 use Rattle.controller_rows.specs.declared.Size.{Size}
 use Rattle.controller_rows.specs.Writes.{inputOf, layoutOf, lengthOf, Starts}
 use Rattle.controller_rows.proofs.Columns.{own-column}

@@ -1,12 +1,12 @@
 // The controller's table, filled in any order: every entry that is written is the right one. Functions that take one sort of states alone take plain
 // numbers and sets.
+use controller_opening::starts;
+use controller_opening::unsettled;
 use controller_rows::Home;
 use controller_rows::Size;
 use game::Game;
 use game::InSet;
 use game::OutState;
-use opening::starts;
-use opening::unsettled;
 ghost use mathlib.Core.Path.{_≡_};
 ghost use Prim.Native.Nat.{_≤_, _<_};
 ghost use lib.ListN.{length, drop};
@@ -29,7 +29,7 @@ fn settle(g: Game, s: &[u64], room: &mut [u16], z: Size, c: InSet, d: OutState)
     requires { ⌜ Given g z (now s) (bitsOf (c .0)) × (d .0 < z .outputs) × (lengthOf z ≤ length (now room)) ⌝ }
     ensures { λ r. ⌜ Filled (separatedOf g) z (At (separatedOf g) (d .0)) (now (room .entry)) (now (room .exit)) ⌝ }
 {
-    let inputs = resident::residents(s, z.inputs, c, d, d);
+    let inputs = controller_homeward::residents(s, z.inputs, c, d, d);
     if sets::is_empty(inputs.0) {
         return;
     }
@@ -39,8 +39,8 @@ fn settle(g: Game, s: &[u64], room: &mut [u16], z: Size, c: InSet, d: OutState)
         component,
         inputs,
     };
-    resident::approach(g, s, room, z, c, w);
-    visit::tour(g, room, z, w);
+    controller_homeward::approach(g, s, room, z, c, w);
+    controller_tour::tour(g, room, z, w);
 }
 
 // The rows with a home.
@@ -72,12 +72,12 @@ fn size_of(g: Game) -> Size
     ensures { λ r. ⌜ Sized g r × ByInput r ⌝ }
 {
     let inputs = g.input.states;
-    let counters = sizes::controller_counters(g);
+    let counters = table_sizes::controller_counters(g);
     Size {
         inputs,
         outputs: g.output.states,
         counters,
-        all: counters::below(counters),
+        all: table_counters::below(counters),
         base: inputs,
         width: inputs,
         leaders: InSet(sets::below(inputs)),
@@ -100,14 +100,14 @@ fn compact_size(g: Game, leaders: InSet) -> Size
     ensures { λ r. ⌜ Sized g r × ByComponent g r ⌝ }
 {
     let inputs = g.input.states;
-    let counters = sizes::controller_counters(g);
+    let counters = table_sizes::controller_counters(g);
     Size {
         inputs,
         outputs: g.output.states,
         counters,
-        all: counters::below(counters),
+        all: table_counters::below(counters),
         base: inputs + inputs,
-        width: component_ranks::components(g, leaders),
+        width: graph_ranks::components(g, leaders),
         leaders,
     }
 }
@@ -120,6 +120,6 @@ pub fn fill_compact(g: Game, s: &[u64], c: InSet, leaders: InSet, room: &mut [u1
 {
     let z = compact_size(g, leaders);
     starts::starts(room, s, z, c, game::in_initial(g), game::out_initial(g));
-    component_ranks::write_ranks(g, room);
+    graph_ranks::write_ranks(g, room);
     rows(g, s, room, z, c);
 }

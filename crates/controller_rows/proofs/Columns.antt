@@ -16,7 +16,7 @@ use lib.Dec.{eqb, ltb}
 use borrow.Author.Tests.{eqb-true, eq-eqb, lt-ltb, le-ltb}
 use Rattle.finite.specs.Bounded.{count, one}
 use Rattle.finite.proofs.Truth.{decide, and-intro, and-left, and-right}
-use Rattle.finite.proofs.Bounded.{least-below, least-member, count-in, count-out, count-past, count-reached}
+use Rattle.finite.proofs.Bounded.{least-below, least-member, count-in, count-out, count-past, count-reached, count-all}
 use Rattle.bits.specs.Member.{has}
 use Rattle.controller_rows.specs.declared.Size.{Size}
 use Rattle.controller_rows.specs.Writes.{leading, columnOf, inputOf}
@@ -80,7 +80,7 @@ module _ (z : Size) where
     -- every input leads
     module _ (full : z .width ≡ z .inputs) (j : ℕ) (l : j < z .inputs) where
       counted : (leading z j ≡ true) × (count j (leading z) ≡ j)
-      counted = count-all (leading z) (z .inputs) (sym e ∙ full) j l
+      counted = count-all (z .inputs) (leading z) (sym e ∙ full) j l
 
       pub own-column : inputOf z j ≡ j
       unfolding columnOf

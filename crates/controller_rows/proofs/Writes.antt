@@ -26,10 +26,10 @@ use Rattle.sets.specs.Words.{capacity}
 use Rattle.arena.specs.Table.{gives}
 use Rattle.theory.specs.Entries.{entry}
 use Rattle.scratch.specs.Stored.{rowAt, outReachAt, wonAt}
-use Rattle.counters.specs.Counters.{mostCounters}
-use Rattle.entries.specs.Step.{entryStep}
-use Rattle.entries.proofs.Packed.{none-entry, entry-small, entry-steps}
-use Rattle.columns.specs.Column.{Fits, Column}
+use Rattle.table_counters.specs.Counters.{mostCounters}
+use Rattle.table_entries.specs.Step.{entryStep}
+use Rattle.table_entries.proofs.Packed.{none-entry, entry-small, entry-steps}
+use Rattle.table_columns.specs.Column.{Fits, Column}
 use Rattle.controller_rows.specs.declared.Size.{Size}
 use Rattle.controller_rows.specs.Writes.{
   first,

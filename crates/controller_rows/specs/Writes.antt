@@ -29,11 +29,11 @@ use Rattle.sets.specs.Words.{capacity, bitsOf}
 use Rattle.arena.specs.Table.{none, gives}
 use Rattle.theory.specs.Entries.{entry}
 use Rattle.scratch.specs.Stored.{rowAt, outReachAt, wonAt}
-use Rattle.counters.specs.Counters.{mostCounters}
-use Rattle.entries.specs.Step.{entryStep}
-use Rattle.columns.specs.Column.{Column}
-use Rattle.layout.specs.declared.Layout.{Layout}
-use Rattle.layout.specs.Rows.{mostStarts}
+use Rattle.table_counters.specs.Counters.{mostCounters}
+use Rattle.table_entries.specs.Step.{entryStep}
+use Rattle.table_columns.specs.Column.{Column}
+use Rattle.table_layout.specs.declared.Layout.{Layout}
+use Rattle.table_layout.specs.Rows.{mostStarts}
 use Rattle.controller_rows.specs.declared.Size.{Size}
 use Rattle.controller_rows.specs.Each.{Each}
 

@@ -1,8 +1,8 @@
 // Rows of the controller's table, written into the caller's buffer. Functions that take one sort of states alone take plain numbers and sets.
-use counters::CounterSet;
 use game::InSet;
 use game::OutSet;
 use game::OutState;
+use table_counters::CounterSet;
 
 pub mod leaders; // columns of the rows
 pub mod rows; // rows of the table, for all counters at once

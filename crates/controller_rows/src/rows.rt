@@ -1,13 +1,13 @@
 // Rows of the table, for all counters at once.
 use crate::Size;
 use game::OutState;
-use layout::Layout;
+use table_layout::Layout;
 ghost use mathlib.Core.Path.{_≡_};
 ghost use Prim.Native.Nat.{_≤_, _<_};
 ghost use lib.ListN.{length};
 ghost use Rattle.sets.specs.Words.{capacity};
-ghost use Rattle.counters.specs.Counters.{mostCounters};
-ghost use Rattle.layout.specs.Rows.{mostStarts};
+ghost use Rattle.table_counters.specs.Counters.{mostCounters};
+ghost use Rattle.table_layout.specs.Rows.{mostStarts};
 ghost use Rattle.controller_rows.specs.Writes.{Stays, base as baseOf, layoutOf, Table, Row};
 
 // A pattern of entries: first + more × counter for each counter.
@@ -22,12 +22,12 @@ pub fn staying(p: usize) -> Pattern
 {
     if p < sets::CAPACITY {
         return Pattern {
-            first: entries::pack(p, 0),
-            more: entries::STEP,
+            first: table_entries::pack(p, 0),
+            more: table_entries::STEP,
         };
     }
     Pattern {
-        first: entries::NONE,
+        first: table_entries::NONE,
         more: 0,
     }
 }
@@ -58,5 +58,5 @@ pub fn write_row(room: &mut [u16], z: Size, o: OutState, b: usize, p: usize)
     ensures { λ r. ⌜ Row z (o .0) b p (now (room .entry)) (now (room .exit)) ⌝ }
 {
     let e = staying(p);
-    columns::column(room, base(z, o) + b, z.width, z.all, e.first, e.more);
+    table_columns::column(room, base(z, o) + b, z.width, z.all, e.first, e.more);
 }

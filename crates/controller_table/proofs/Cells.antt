@@ -12,8 +12,8 @@ use Rattle.arena.specs.Arena.{Separated}
 use Rattle.theory.specs.Choice.{guarantees}
 use Rattle.theory.specs.Entries.{controllerCounters}
 use Rattle.theory.proofs.Entries.{place-below}
-use Rattle.layout.specs.declared.Layout.{Layout}
-use Rattle.layout.specs.Rows.{place}
+use Rattle.table_layout.specs.declared.Layout.{Layout}
+use Rattle.table_layout.specs.Rows.{place}
 
 pub some-counter : (S : Separated) → 0 < controllerCounters S
 unfolding controllerCounters

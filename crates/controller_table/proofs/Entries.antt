@@ -33,7 +33,7 @@ use Rattle.theory.proofs.ControllerRow.{row-answers, answers-settles, homeward-
 use Rattle.controller_rows.specs.declared.Size.{Size}
 use Rattle.controller_rows.specs.Writes.{first, more, settlesAt, startOf}
 use Rattle.controller_table.specs.Filled.{Resides}
-use Rattle.entries.proofs.Packed.{none-entry, entry-steps}
+use Rattle.table_entries.proofs.Packed.{none-entry, entry-steps}
 use Rattle.controller_rows.proofs.Writes.{stays-state, stays-none}
 use Rattle.controller_table.proofs.Told.{in-both, Told, unsettled, row-home}
 

@@ -22,9 +22,9 @@ use Rattle.bits.specs.Member.{has}
 use Rattle.arena.specs.Arena.{Separated}
 use Rattle.theory.specs.Choice.{controllerRow}
 use Rattle.theory.specs.Entries.{entry, controllerCounters}
-use Rattle.columns.specs.Column.{Agrees, Columned}
-use Rattle.layout.specs.Rows.{place, Filled as FilledIn}
-use Rattle.layout.proofs.Places.{filled-none as none-in, filled-join as join-in, filled-part as part-in}
+use Rattle.table_columns.specs.Column.{Agrees, Columned}
+use Rattle.table_layout.specs.Rows.{place, Filled as FilledIn}
+use Rattle.table_layout.proofs.Places.{filled-none as none-in, filled-join as join-in, filled-part as part-in}
 use Rattle.controller_rows.specs.declared.Size.{Size}
 use Rattle.controller_rows.specs.Each.{Each, none, hit, miss}
 use Rattle.controller_rows.specs.Writes.{first, more, leading, columnOf, inputOf, base, layoutOf, lengthOf, Row}

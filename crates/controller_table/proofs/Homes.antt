@@ -25,9 +25,9 @@ use Rattle.game.specs.declared.Game.{Game}
 use Rattle.game.specs.declared.InSet.{InSet}
 use Rattle.game.specs.declared.OutSet.{OutSet}
 use Rattle.play.specs.Play.{graphOf, separatedOf}
-use Rattle.components.specs.Component.{together}
-use Rattle.components.proofs.Closed.{component-closed}
-use Rattle.ways.proofs.Kept.{pack-below, pack-holds}
+use Rattle.graph_components.specs.Component.{together}
+use Rattle.graph_components.proofs.Closed.{component-closed}
+use Rattle.graph_ways.proofs.Kept.{pack-below, pack-holds}
 use Rattle.theory.specs.Choice.{home}
 use Rattle.controller_rows.specs.declared.Size.{Size}
 use Rattle.controller_rows.specs.declared.Home.{Home}

@@ -12,8 +12,8 @@ use Rattle.game.specs.declared.Game.{Game}
 use Rattle.play.specs.Play.{separatedOf}
 use Rattle.theory.specs.Choice.{controllerRow}
 use Rattle.theory.specs.Entries.{controllerCounters}
-use Rattle.layout.specs.declared.Layout.{Layout}
-use Rattle.layout.specs.Rows.{Fits, Rows, Filled as FilledIn}
+use Rattle.table_layout.specs.declared.Layout.{Layout}
+use Rattle.table_layout.specs.Rows.{Fits, Rows, Filled as FilledIn}
 use Rattle.controller_rows.specs.declared.Size.{Size}
 use Rattle.controller_rows.specs.Writes.{inputOf, layoutOf, lengthOf}
 use Rattle.controller_rows.proofs.Writes.{width-few}

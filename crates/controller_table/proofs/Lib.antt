@@ -1,5 +1,6 @@
 -- Cells: the places of rows. Fills: writing right entries fills it. Told: what scratch tells. Entries: each entry is the right one.
--- Loops: so each loop fills its rows. Setting: what an accepted game gives to these. Laid: the table in its layout. Phases: the way home and the tour of one home.
+-- Loops: so each loop fills its rows. Setting: what an accepted game gives to these. Laid: the table in its layout. Phases: the way home and the tour of one
+-- home.
 -- Homes: all homes. Table: the whole table.
 pub mod Cells
 pub mod Fills

@@ -18,11 +18,11 @@ use Rattle.scratch.specs.Stored.{rowAt, outReachAt}
 use Rattle.graphs.specs.Component.{joined}
 use Rattle.graphs.proofs.Component.{joined-to, joined-sym}
 use Rattle.arena.specs.Arena.{Separated}
-use Rattle.filling.specs.Grows.{Right, Grows}
-use Rattle.filling.proofs.Grows.{grows-none, grows-more, grows-set, right-set}
+use Rattle.table_filling.specs.Grows.{Right, Grows}
+use Rattle.table_filling.proofs.Grows.{grows-none, grows-more, grows-set, right-set}
 use Rattle.theory.specs.Choice.{controllerStart}
 use Rattle.theory.specs.Entries.{entry}
-use Rattle.ways.proofs.Kept.{members-pack}
+use Rattle.graph_ways.proofs.Kept.{members-pack}
 use Rattle.controller_rows.specs.declared.Size.{Size}
 use Rattle.controller_rows.specs.declared.Home.{Home}
 use Rattle.controller_rows.specs.Each.{Each, none, hit, miss}
@@ -71,10 +71,12 @@ module _ (S : Separated) (z : Size) (Z : Sizes S z) where
 
   module _ (w : Home) (H : HomeOf S w) (few : S .output .states ≤ capacity) where
     -- who resides at the home, at any state of its component
-    pub resident-at : (o j : ℕ) → j < S .input .states → joined (S .output) (w .state .0) o ≡ true → has (bitsOf (w .inputs .0)) j ≡ true → Resides S o (w .state .0) j
+    pub resident-at : (o j : ℕ) → j < S .input .states → joined (S .output) (w .state .0) o ≡ true → has (bitsOf (w .inputs .0)) j ≡ true
+        → Resides S o (w .state .0) j
     resident-at o j a h i = resides-same S (w .state .0) o (w .state .0) j a h (H .resides j a i)
 
-    pub input-at : (o j : ℕ) → j < S .input .states → joined (S .output) (w .state .0) o ≡ true → Resides S o (w .state .0) j → has (bitsOf (w .inputs .0)) j ≡ true
+    pub input-at : (o j : ℕ) → j < S .input .states → joined (S .output) (w .state .0) o ≡ true → Resides S o (w .state .0) j
+        → has (bitsOf (w .inputs .0)) j ≡ true
     input-at o j a h r = H .resident j a (resides-same S o (w .state .0) (w .state .0) j a (joined-sym (S .output) (w .state .0) o h) r)
 
 -- ---- the starts

@@ -17,9 +17,9 @@ use Rattle.play.specs.Play.{graphOf, separatedOf}
 use Rattle.theory.specs.Choice.{guarantees}
 use Rattle.theory.specs.Entries.{controllerCounters}
 use Rattle.demands.proofs.Sizes.{guarantees-few}
-use Rattle.touring.specs.Goal.{Goals as Counted}
-use Rattle.touring.specs.Stretches.{metIn}
-use Rattle.touring.proofs.Tours.{met-pack, goal-below, goals-from}
+use Rattle.table_goals.specs.Goal.{Goals as Counted}
+use Rattle.table_goals.specs.Stretches.{metIn}
+use Rattle.table_goals.proofs.Tours.{met-pack, goal-below, goals-from}
 use Rattle.controller_rows.specs.declared.Size.{Size}
 use Rattle.controller_rows.specs.declared.Home.{Home}
 use Rattle.controller_table.specs.Filled.{Sized, HomeOf, Goals}
@@ -57,6 +57,7 @@ pub met-goals : (g : Game) (z : Size) → Sized g z → (w : Home) → HomeOf (s
     → q ≡ pack (length (guarantees (separatedOf g))) (metIn (guarantees (separatedOf g)) (bitsOf (w .component .0))) → Goals (separatedOf g) w q
 met-goals g z Z w H q e = record {
   is =
-      e ∙ met-pack (separatedOf g .output) (w .state .0) (bitsOf (w .component .0)) (few-outputs g z Z) (comp-in (separatedOf g) w H) (guarantees (separatedOf g))
+      e ∙ met-pack (separatedOf g .output) (w .state .0) (bitsOf (w .component .0)) (few-outputs g z Z) (comp-in (separatedOf g) w H)
+      (guarantees (separatedOf g))
       (length (guarantees (separatedOf g)));
 }

@@ -21,7 +21,7 @@ use Rattle.arena.specs.Arena.{Separated}
 use Rattle.game.specs.declared.Game.{Game}
 use Rattle.game.proofs.Laws.{Fits, accepted-fits}
 use Rattle.play.specs.Play.{graphOf, separatedOf}
-use Rattle.components.proofs.Closed.{has-pack-all, moved-edge}
+use Rattle.graph_components.proofs.Closed.{has-pack-all, moved-edge}
 use Rattle.sets.specs.Words.{capacity, setsIn, setCount}
 use Rattle.scratch.specs.Scratch.{scratchSets}
 use Rattle.scratch.specs.Stored.{rowAt, storedAt, storedRow}

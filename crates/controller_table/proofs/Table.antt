@@ -16,8 +16,8 @@ use Rattle.bits.specs.Member.{has}
 use Rattle.graphs.specs.Graph.{begins}
 use Rattle.graphs.proofs.Graph.{begins-initial, begins-intro}
 use Rattle.graphs.proofs.Closure.{reaches-to}
-use Rattle.filling.specs.Grows.{Right, Grows}
-use Rattle.filling.proofs.Grows.{grows-more, grows-done}
+use Rattle.table_filling.specs.Grows.{Right, Grows}
+use Rattle.table_filling.proofs.Grows.{grows-more, grows-done}
 use Rattle.game.specs.declared.Game.{Game}
 use Rattle.game.specs.declared.Graph.{Graph as Record}
 use Rattle.game.proofs.Laws.{Fits, GraphFits}
@@ -29,7 +29,7 @@ use Rattle.theory.specs.Entries.{entry, controllerCounters}
 use Rattle.theory.proofs.ControllerRow.{home-reached}
 use Rattle.controller_rows.specs.declared.Size.{Size}
 use Rattle.controller_rows.specs.Writes.{inputOf, layoutOf, lengthOf, settlesAt, Plains, startOf, Starts}
-use Rattle.layout.specs.Rows.{Filled as FilledIn}
+use Rattle.table_layout.specs.Rows.{Filled as FilledIn}
 use Rattle.controller_table.specs.Filled.{Sheet, Filled, Every, Below, Given}
 use Rattle.controller_table.proofs.Cells.{some-counter, cell-of}
 use Rattle.controller_table.proofs.Fills.{filled-more, filled-part}
@@ -42,7 +42,8 @@ use Rattle.controller_table.proofs.Setting.{fits-of, sizes-of, told-of}
 initial-begins : (h : Record) → GraphFits h → (s : ℕ) → has (bitsOf (h .initial)) s ≡ begins (graphOf h) s
 unfolding graphOf
 initial-begins h F s =
-    same-test (has (bitsOf (h .initial)) s) (begins (graphOf h) s) (λ e. begins-intro (graphOf h) s (F .initial-below s e) e) (λ e. begins-initial (graphOf h) s e)
+    same-test (has (bitsOf (h .initial)) s) (begins (graphOf h) s) (λ e. begins-intro (graphOf h) s (F .initial-below s e) e)
+    (λ e. begins-initial (graphOf h) s e)
 
 module _ (g : Game) (z : Size) (s : List ℕ) (inner : ℕ) (G : Given g z s inner) where
   T : Told (separatedOf g) (setsIn s) (z .inputs) inner (setsIn (g .output .moves))

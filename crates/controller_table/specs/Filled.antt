@@ -32,8 +32,8 @@ use Rattle.theory.specs.Region.{region, settles}
 use Rattle.theory.specs.Tour.{goalAt}
 use Rattle.theory.specs.Choice.{guarantees, home, controllerRow}
 use Rattle.theory.specs.Entries.{controllerCounters}
-use Rattle.layout.specs.declared.Layout.{Layout}
-use Rattle.layout.specs.Rows.{mostStarts, Rows, Filled as FilledIn}
+use Rattle.table_layout.specs.declared.Layout.{Layout}
+use Rattle.table_layout.specs.Rows.{mostStarts, Rows, Filled as FilledIn}
 use Rattle.controller_rows.specs.declared.Size.{Size}
 use Rattle.controller_rows.specs.declared.Home.{Home}
 use Rattle.controller_rows.specs.Writes.{leading, inputOf, layoutOf}

@@ -26,8 +26,8 @@ fn component_rows(g: Game, s: &[u64], inner: InSet, counters: usize, i: InState,
     if sets::lowest(c.0) != i.0 {
         return;
     }
-    let over = escape::escapes(g, s, inner, counters, c, i, room);
-    tours::tours(g, counters, c, over, room);
+    let over = environment_escape::escapes(g, s, inner, counters, c, i, room);
+    environment_tour::tours(g, counters, c, over, room);
 }
 
 // The rows of all nontrivial components.
@@ -48,8 +48,8 @@ pub fn fill(g: Game, s: &[u64], inner: InSet, room: &mut [u16])
     requires { ⌜ Solved g (now s) (bitsOf (inner .0)) (length (now room)) ⌝ }
     ensures { λ r. ⌜ now (room .exit) ≡ environmentEntries (separatedOf g) ++ drop (length (environmentEntries (separatedOf g))) (now (room .entry)) ⌝ }
 {
-    let counters = sizes::environment_counters(g);
-    room[0] = plain::start_entry(g, s, inner);
-    plain::plain_rows(g, s, inner, counters, room);
+    let counters = table_sizes::environment_counters(g);
+    room[0] = environment_plain::start_entry(g, s, inner);
+    environment_plain::plain_rows(g, s, inner, counters, room);
     walked_rows(g, s, inner, counters, room);
 }

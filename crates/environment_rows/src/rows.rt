@@ -1,5 +1,5 @@
 // Where the rows lie.
-use layout::Layout;
+use table_layout::Layout;
 ghost use Rattle.environment_table.specs.Table.{EnvironmentLayout};
 
 // Where the rows lie: by input, counter and output, after the start.

@@ -19,8 +19,8 @@ use Rattle.play.specs.Play.{separatedOf}
 use Rattle.theory.specs.Choice.{environmentStart}
 use Rattle.theory.specs.Entries.{entry, environmentCounters, environmentEntries}
 use Rattle.demands.proofs.Sizes.{environment-few}
-use Rattle.filling.specs.Grows.{Right, Grows}
-use Rattle.filling.proofs.Grows.{grows-set, grows-more, right-set, grows-done}
+use Rattle.table_filling.specs.Grows.{Right, Grows}
+use Rattle.table_filling.proofs.Grows.{grows-set, grows-more, right-set, grows-done}
 use Rattle.environment_table.specs.Table.{entriesOf, place, Solved, Roomy, Filled}
 use Rattle.environment_table.specs.Reading.{plain}
 use Rattle.environment_table.proofs.Places.{entries-length, some-counter}

@@ -23,7 +23,7 @@ use Rattle.finite.proofs.Bounded.{any-same, least-same, least-any, least-found,
 use Rattle.bits.specs.Member.{has, pack, within, both, meets}
 use Rattle.bits.proofs.Membership.{has-zero, has-pack-below, has-within}
 use Rattle.bits.proofs.Compare.{meets-intro, nonzero-member}
-use Rattle.ways.proofs.Kept.{pack-below}
+use Rattle.graph_ways.proofs.Kept.{pack-below}
 use Rattle.sets.specs.Words.{capacity, bitsOf, setsIn, setCount}
 use Rattle.graphs.specs.Graph.{edge, begins, stuck}
 use Rattle.graphs.specs.Component.{nontrivial}
@@ -33,7 +33,7 @@ use Rattle.game.specs.declared.InSet.{InSet}
 use Rattle.game.specs.declared.OutSet.{OutSet}
 use Rattle.game.specs.Access.{outInitial}
 use Rattle.game.proofs.Laws.{accepted-fits}
-use Rattle.components.proofs.Closed.{moved-edge}
+use Rattle.graph_components.proofs.Closed.{moved-edge}
 use Rattle.play.specs.Play.{graphOf, separatedOf}
 use Rattle.theory.specs.Region.{region, answers, opens}
 use Rattle.theory.specs.Choice.{environmentRow, environmentStart, refused}
@@ -45,8 +45,8 @@ use Rattle.scratch.proofs.Read.{ready-won}
 use Rattle.environment_table.specs.Table.{Known, Roomy, Filled, EnvironmentLayout, Pushes}
 use Rattle.environment_table.specs.Reading.{Shaped, refusedAt, openAt, unansweredAt, lostAt, Lone, unwalked, pushedAt, Pushed, plain}
 use Rattle.environment_table.specs.Pressing.{lostIn}
-use Rattle.layout.specs.declared.Layout.{Layout}
-use Rattle.layout.specs.Rows.{Entries, Wrote}
+use Rattle.table_layout.specs.declared.Layout.{Layout}
+use Rattle.table_layout.specs.Rows.{Entries, Wrote}
 use Rattle.environment_table.proofs.Laid.{laid-block}
 use Rattle.environment_table.proofs.Places.{pushed-state, some-counter, filled-none, filled-join, filled-same, below-next}
 use Rattle.environment_table.proofs.Reading.{unanswered-both}

@@ -17,9 +17,9 @@ use Rattle.game.specs.declared.Game.{Game}
 use Rattle.play.specs.Play.{separatedOf}
 use Rattle.theory.specs.Choice.{environmentRow}
 use Rattle.theory.specs.Entries.{entry, environmentCounters}
-use Rattle.layout.specs.declared.Layout.{Layout}
-use Rattle.layout.specs.Rows.{place as placeOf, Fits, Rows, Wrote}
-use Rattle.layout.specs.Rows.{Filled as FilledIn}
+use Rattle.table_layout.specs.declared.Layout.{Layout}
+use Rattle.table_layout.specs.Rows.{place as placeOf, Fits, Rows, Wrote}
+use Rattle.table_layout.specs.Rows.{Filled as FilledIn}
 use Rattle.environment_table.specs.Table.{entriesOf, place, Roomy, EnvironmentLayout, Filled}
 use Rattle.environment_table.proofs.Places.{entries-length, entry-at, some-counter, filled-same, every-counter}
 

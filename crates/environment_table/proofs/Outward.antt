@@ -28,8 +28,8 @@ use Rattle.graphs.specs.Way.{toward}
 use Rattle.graphs.proofs.Graph.{edge-to}
 use Rattle.graphs.proofs.Component.{joined-to, joined-self, joined-same, number-same, nontrivial-same}
 use Rattle.graphs.proofs.Way.{Leads}
-use Rattle.ways.specs.Kept.{kept}
-use Rattle.ways.proofs.Kept.{pack-below, pack-holds}
+use Rattle.graph_ways.specs.Kept.{kept}
+use Rattle.graph_ways.proofs.Kept.{pack-below, pack-holds}
 use Rattle.game.specs.declared.Game.{Game}
 use Rattle.play.specs.Play.{graphOf, separatedOf}
 use Rattle.arena.specs.Table.{gives}
@@ -38,8 +38,8 @@ use Rattle.theory.specs.Tour.{inside}
 use Rattle.theory.specs.Choice.{lost, wayOut, gate, outward, escapes, environmentRow}
 use Rattle.theory.proofs.Delay.{region-same}
 use Rattle.theory.proofs.EnvironmentRow.{lost-edge, lost-apart, lost-region, gate-joined, gate-out, gate-intro, escapes-same, row-lost, pushing-nontrivial, pressing-escapes, outward-here, outward-on, gate-leads}
-use Rattle.touring.proofs.Tours.{inside-kept, comp-has}
-use Rattle.components.specs.Component.{enters}
+use Rattle.table_goals.proofs.Tours.{inside-kept, comp-has}
+use Rattle.graph_components.specs.Component.{enters}
 use Rattle.scratch.specs.Stored.{wonAt}
 use Rattle.environment_table.specs.Table.{Known}
 use Rattle.environment_table.specs.Reading.{lostAt}

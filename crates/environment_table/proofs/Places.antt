@@ -29,9 +29,9 @@ use Rattle.theory.specs.Choice.{assumptions, environmentRow}
 use Rattle.theory.specs.Entries.{entry, environmentCounters}
 use Rattle.theory.proofs.Entries.{place-below, environment-long, environment-row-at}
 use Rattle.theory.proofs.EnvironmentRow.{pushed}
-use Rattle.filling.specs.Grows.{Right}
-use Rattle.filling.proofs.Grows.{grows-none, grows-more}
-use Rattle.entries.proofs.Packed.{gives-state}
+use Rattle.table_filling.specs.Grows.{Right}
+use Rattle.table_filling.proofs.Grows.{grows-none, grows-more}
+use Rattle.table_entries.proofs.Packed.{gives-state}
 use Rattle.environment_table.specs.Table.{entriesOf, place, Roomy, Filled}
 
 -- the length of the list, and what stands at the place of a row

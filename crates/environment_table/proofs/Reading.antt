@@ -19,7 +19,7 @@ use Rattle.bits.proofs.Membership.{has-zero, has-pack-below, has-within, within
 use Rattle.bits.proofs.Remove.{less-in, less-other, less-falls}
 use Rattle.bits.proofs.Visit.{small-word, lowest-below, lowest-in, lowest-less}
 use Rattle.sets.specs.Words.{capacity}
-use Rattle.ways.proofs.Kept.{pack-below}
+use Rattle.graph_ways.proofs.Kept.{pack-below}
 use Rattle.scratch.specs.Stored.{outReachAt, someWonAt, Reached}
 use Rattle.environment_table.specs.Reading.{refusedAt, openAt, unansweredAt}
 

@@ -17,7 +17,7 @@ use Rattle.sets.specs.Words.{capacity}
 use Rattle.graphs.specs.Graph.{stuck}
 use Rattle.graphs.specs.Component.{joined, meetsAt}
 use Rattle.graphs.proofs.Component.{joined-self}
-use Rattle.ways.proofs.Kept.{pack-below}
+use Rattle.graph_ways.proofs.Kept.{pack-below}
 use Rattle.game.specs.declared.Game.{Game}
 use Rattle.game.specs.declared.Acceptance.the-variants.{Accepted}
 use Rattle.game.specs.Acceptance.{acceptance}
@@ -30,9 +30,9 @@ use Rattle.theory.specs.Entries.{environmentCounters}
 use Rattle.theory.proofs.Delay.{region-same}
 use Rattle.theory.proofs.EnvironmentRow.{escapes-same, row-lost, pushing-nontrivial, pressing-tours}
 use Rattle.demands.proofs.Sizes.{assumptions-few}
-use Rattle.touring.specs.Goal.{Goals}
-use Rattle.touring.specs.Stretches.{metIn}
-use Rattle.touring.proofs.Tours.{met-pack, goal-below, goals-from}
+use Rattle.table_goals.specs.Goal.{Goals}
+use Rattle.table_goals.specs.Stretches.{metIn}
+use Rattle.table_goals.proofs.Tours.{met-pack, goal-below, goals-from}
 use Rattle.environment_table.specs.Table.{Roomy}
 use Rattle.environment_table.specs.Pressing.{Whole, pressedAt, touringAt}
 use Rattle.environment_table.specs.Touring.{Count, Left, Aims}

@@ -22,14 +22,14 @@ use Rattle.graphs.specs.Graph.{stuck}
 use Rattle.graphs.proofs.Graph.{edge-from}
 use Rattle.graphs.proofs.Component.{joined-self, joined-sym, number-joined, number-below, number-same, nontrivial-same, nontrivial-move}
 use Rattle.game.specs.declared.Game.{Game}
-use Rattle.components.specs.Component.{together}
-use Rattle.components.proofs.Closed.{component-closed}
+use Rattle.graph_components.specs.Component.{together}
+use Rattle.graph_components.proofs.Closed.{component-closed}
 use Rattle.play.specs.Play.{graphOf, separatedOf}
 use Rattle.theory.specs.Region.{region}
 use Rattle.theory.specs.Choice.{escapes}
 use Rattle.theory.proofs.Delay.{region-same}
 use Rattle.scratch.proofs.Areas.{in-closes}
-use Rattle.touring.proofs.Tours.{comp-has}
+use Rattle.table_goals.proofs.Tours.{comp-has}
 use Rattle.environment_table.specs.Table.{Known, Filled}
 use Rattle.environment_table.specs.Reading.{unwalked, plain}
 use Rattle.environment_table.specs.Pressing.{Whole, Escaped, pressedAt, leavingAt, touringAt}

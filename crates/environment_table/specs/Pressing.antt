@@ -21,7 +21,7 @@ use Rattle.game.specs.declared.Game.{Game}
 use Rattle.play.specs.Play.{graphOf, separatedOf}
 use Rattle.theory.specs.Region.{region}
 use Rattle.theory.specs.Choice.{escapes}
-use Rattle.components.specs.Component.{enters}
+use Rattle.graph_components.specs.Component.{enters}
 use Rattle.environment_table.specs.Table.{Filled}
 use Rattle.environment_table.specs.Reading.{lostAt}
 

@@ -24,9 +24,9 @@ use Rattle.arena.specs.Table.{gives}
 use Rattle.theory.specs.Choice.{environmentRow}
 use Rattle.theory.specs.Entries.{environmentCounters, environmentEntries}
 use Rattle.scratch.specs.Stored.{Ready}
-use Rattle.counters.specs.Counters.{mostCounters}
-use Rattle.filling.specs.Grows.{Right, Grows}
-use Rattle.layout.specs.declared.Layout.{Layout}
+use Rattle.table_counters.specs.Counters.{mostCounters}
+use Rattle.table_filling.specs.Grows.{Right, Grows}
+use Rattle.table_layout.specs.declared.Layout.{Layout}
 
 unfoldable pub entriesOf : Game → List ℕ
 entriesOf g = environmentEntries (separatedOf g)

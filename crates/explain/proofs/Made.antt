@@ -20,7 +20,7 @@ use Rattle.game.specs.Acceptance.{tests, firstFailing, acceptance}
 use Rattle.game.specs.Numbers.{firstOf}
 use Rattle.game.proofs.Numbers.{after, game-after}
 use Rattle.play.specs.Play.{graphOf, separatedOf}
-use Rattle.clearing.specs.Clearing.{cleared}
+use Rattle.scratch_clearing.specs.Clearing.{cleared}
 use Rattle.scratch.specs.Scratch.{scratchLength}
 use Rattle.grounds.specs.Ground.{
   Ground,

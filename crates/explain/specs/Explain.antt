@@ -20,7 +20,7 @@ use Rattle.game.specs.declared.Acceptance.the-variants.{Accepted, Refused as Fa
 use Rattle.game.specs.Acceptance.{acceptance}
 use Rattle.game.specs.Numbers.{firstOf, gameTests}
 use Rattle.play.specs.Play.{separatedOf}
-use Rattle.clearing.specs.Clearing.{cleared}
+use Rattle.scratch_clearing.specs.Clearing.{cleared}
 use Rattle.scratch.specs.Scratch.{scratchLength}
 use Rattle.grounds.specs.Ground.{Ground, ground}
 use Rattle.grounds.specs.Holds.{Explains}

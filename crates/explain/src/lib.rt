@@ -6,7 +6,7 @@ ghost use Rattle.game.specs.declared.Acceptance.the-variants.{Accepted};
 ghost use Rattle.game.specs.Acceptance.{acceptance};
 ghost use Rattle.game.specs.Fits.{Fits};
 ghost use Rattle.play.specs.Play.{separatedOf};
-ghost use Rattle.clearing.specs.Clearing.{cleared};
+ghost use Rattle.scratch_clearing.specs.Clearing.{cleared};
 ghost use Rattle.scratch.specs.Scratch.{scratchLength};
 ghost use Rattle.grounds.specs.Ground.{ground};
 ghost use Rattle.ground_search.specs.Told.{told};
@@ -25,7 +25,7 @@ fn explain_position(g: Game, scratch: &mut [u64], i: InState, o: OutState) -> Ex
 {
     let x = region::prepare(g, scratch);
     let r = ground_search::find(g, scratch, x.inputs, i, o);
-    clearing::clear(scratch, scratch::length(g));
+    scratch_clearing::clear(scratch, scratch::length(g));
     r
 }
 

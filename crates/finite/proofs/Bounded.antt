@@ -264,6 +264,19 @@ count-reached p (suc n) c h = go (decLt c (count n p)) (decide (p n)) (count-rea
     go (no b) (inl e) rec = (n, omega arith, e, omega (arith, count-in p n e))
     go (no b) (inr e) rec = absurd (omega (arith, count-out p n e))
 
+-- where all below n are counted, each is a member
+pub count-all : (n : ℕ) (p : ℕ → Bool) → count n p ≡ n → (k : ℕ) → k < n → (p k ≡ true) × (count k p ≡ k)
+unfolding count
+count-all zero p e k b = absurd (omega arith)
+count-all (suc n) p e k b =
+    elim (decide (p n)) [
+      | inl t ↦ last t (omega (arith, count-in p n t, e)) (count-all n p)
+      | inr f ↦ absurd (omega (arith, count-out p n f, e, count-le n p))
+    ]
+  where
+    last : p n ≡ true → count n p ≡ n → (count n p ≡ n → (i : ℕ) → i < n → (p i ≡ true) × (count i p ≡ i)) → (p k ≡ true) × (count k p ≡ k)
+    last t f before = elim (ℕ-discrete k n) [ yes q ↦ rw q (t, f) | no q ↦ before f k (omega arith) ]
+
 -- numbers past n that do not pass are not counted
 count-more : (n d : ℕ) (p : ℕ → Bool) → ((k : ℕ) → n ≤ k → p k ≡ false) → count (n + d) p ≡ count n p
 count-more n zero p f = rw (add-zero n) refl

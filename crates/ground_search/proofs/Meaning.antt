@@ -42,8 +42,8 @@ use Rattle.game.specs.declared.OutState.{OutState}
 use Rattle.game.specs.Access.{inMoves, outMoves}
 use Rattle.game.specs.Fits.{GraphFits}
 use Rattle.play.specs.Play.{graphOf, separatedOf}
-use Rattle.components.specs.Component.{together, nontrivialAt, enters}
-use Rattle.components.proofs.Closed.{component-closed, nontrivial-closed, moved-edge, leaving-closed}
+use Rattle.graph_components.specs.Component.{together, nontrivialAt, enters}
+use Rattle.graph_components.proofs.Closed.{component-closed, nontrivial-closed, moved-edge, leaving-closed}
 use Rattle.scratch.specs.Stored.{rowAt, outReachAt, outArea, wonAt}
 use Rattle.scratch.proofs.Areas.{in-closes, area-closes}
 use Rattle.scratch.proofs.Read.{stored-nontrivial, ready-won, ready-row}

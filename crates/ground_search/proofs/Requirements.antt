@@ -28,11 +28,11 @@ use Rattle.game.specs.declared.InState.{InState}
 use Rattle.game.specs.declared.OutState.{OutState}
 use Rattle.game.specs.Access.{requirementAt, assumptionAt, guaranteeAt}
 use Rattle.play.specs.Play.{graphOf, requirementOf, requirementsOf, separatedOf}
-use Rattle.components.specs.Component.{together}
-use Rattle.components.proofs.Closed.{component-closed}
+use Rattle.graph_components.specs.Component.{together}
+use Rattle.graph_components.proofs.Closed.{component-closed}
 use Rattle.scratch.specs.Stored.{outArea}
 use Rattle.scratch.proofs.Areas.{in-closes, area-closes}
-use Rattle.dues.specs.Dues.{inMeets, inMeetsAt, outMeets, outMeetsAt, dueIn, servedIn}
+use Rattle.region_dues.specs.Dues.{inMeets, inMeetsAt, outMeets, outMeetsAt, dueIn, servedIn}
 use Rattle.grounds.specs.Ground.{nthRequirement, owed, missed, firstOwed, firstMissed}
 use Rattle.ground_search.specs.Asked.{Asked, missedIn, owedIn}
 use Rattle.ground_search.proofs.Meaning.{meets-pack}

@@ -21,7 +21,7 @@ use Rattle.game.specs.Access.{requirementAt}
 use Rattle.play.specs.Play.{graphOf, separatedOf}
 use Rattle.theory.specs.Region.{region}
 use Rattle.scratch.specs.Stored.{Ready}
-use Rattle.dues.specs.Dues.{outMeetsAt, dueIn, servedIn}
+use Rattle.region_dues.specs.Dues.{outMeetsAt, dueIn, servedIn}
 
 pub record Asked (g : Game) (s : List ℕ) (c : InSet) (i : InState) (o : OutState) : Type 0 where
   pub ready : Ready g s (bitsOf (c .0))

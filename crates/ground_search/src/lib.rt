@@ -9,7 +9,7 @@ ghost use Rattle.theory.specs.Region.{answers, region};
 ghost use Rattle.theory.specs.Choice.{home as homeOf};
 ghost use Rattle.game.specs.Access.{requirementAt};
 ghost use Rattle.play.specs.Play.{graphOf, separatedOf};
-ghost use Rattle.dues.specs.Dues.{Few, dueIn};
+ghost use Rattle.region_dues.specs.Dues.{Few, dueIn};
 ghost use Rattle.grounds.specs.Ground.{unreplied as unrepliedAt, lostExit, ground};
 ghost use Rattle.ground_search.specs.Asked.{Asked, Staying, Exits, missedIn, owedIn};
 ghost use Rattle.ground_search.specs.Told.{told};
@@ -92,7 +92,7 @@ fn exits(g: Game, s: &[u64], c: InSet, i: InState, o: OutState) -> InSet
     let h = g.input;
     let n = h.states;
     let inside = scratch::in_component(s, n, i);
-    InSet(components::leaving(h, &h.moves, inside.0))
+    InSet(graph_components::leaving(h, &h.moves, inside.0))
 }
 
 // Whether j is one of the states x, and lost with o.

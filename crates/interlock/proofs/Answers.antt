@@ -28,10 +28,10 @@ use Rattle.game.specs.Numbers.{firstOf}
 use Rattle.game.proofs.Laws.{accepted-fits}
 use Rattle.game.proofs.Numbers.{after, game-after}
 use Rattle.play.specs.Play.{separatedOf}
-use Rattle.clearing.specs.Clearing.{cleared}
-use Rattle.clearing.proofs.Clearing.{cleared-same}
+use Rattle.scratch_clearing.specs.Clearing.{cleared}
+use Rattle.scratch_clearing.proofs.Clearing.{cleared-same}
 use Rattle.scratch.specs.Scratch.{scratchLength}
-use Rattle.marks.specs.Marks.{MapFilled}
+use Rattle.map_marks.specs.Marks.{MapFilled}
 use Rattle.map.specs.declared.Mapped.{Mapped}
 use Rattle.map.specs.declared.Mapped.the-variants.{Done, Refused as NotMapped}
 use Rattle.map.specs.Map.{
@@ -75,7 +75,8 @@ kept-rest s t u b h A e x y q = q ∙ cleared-same 4096 s t rest
   where
     later : drop 384 (setsIn t) ≡ drop 384 (setsIn s)
     later =
-        ext-getD 0 (drop 384 (setsIn t)) (drop 384 (setsIn s)) (length-drop 384 (setsIn t) ∙ ap (λ (k : ℕ). k - 384) (A .long) ∙ sym (length-drop 384 (setsIn s)))
+        ext-getD 0 (drop 384 (setsIn t)) (drop 384 (setsIn s))
+        (length-drop 384 (setsIn t) ∙ ap (λ (k : ℕ). k - 384) (A .long) ∙ sym (length-drop 384 (setsIn s)))
         (λ k c. getD-drop 384 (setsIn t) k 0 ∙ A .high (384 + k) (omega arith) ∙ sym (getD-drop 384 (setsIn s) k 0))
 
     rest : drop 4096 t ≡ drop 4096 s
@@ -106,7 +107,8 @@ map-made g s s′ m m′ t r a h k M c =
     let fits : plainFits g (length s) (length m) ≡ true =
     and-intro (le-leb (scratchLength g) (length s) (omega (arith, F .input .most, F .output .most))) (le-leb (wordsFor (g .input .states)) (length m) k) in
     let done : r ≡ Done = M .answer ∙ rw (a, plainAnswer) (rw (fits, plainRoom) refl) in (
-      prepared-rest g F s s′ t (ap (drop (scratchLength g)) (M .scratch ∙ ap (λ (x : Mapped). plainScratch g x s) done) ∙ front-rest (λ k. 0) s (scratchLength g)) c,
+      prepared-rest g F s s′ t
+          (ap (drop (scratchLength g)) (M .scratch ∙ ap (λ (x : Mapped). plainScratch g x s) done) ∙ front-rest (λ k. 0) s (scratchLength g)) c,
       subst (λ (x : Mapped). PlainAfter g x m m′) done (M .map),
     )
 

@@ -42,7 +42,7 @@ use Rattle.barred.specs.Region.{barredRegion, barredOpens, barredVerdict}
 use Rattle.barred.proofs.Arena.{unbarred-arena, unbarred-won}
 use Rattle.barred.proofs.Demands.{barred-two, barred-verdict}
 use Rattle.barred_region.specs.Region.{only}
-use Rattle.marks.specs.Marks.{mapRow, MapFilled}
+use Rattle.map_marks.specs.Marks.{mapRow, MapFilled}
 use Rattle.interlock.specs.Bars.{bars, barrable, someBarred, oneRequirement, marked, systemWins, barredRow, opensRow, RegionFilled, BarredFilled}
 
 pub barrable-in : (g : Game) (i : ℕ) → i < g .input .states → g .output .states ≡ barrable g i
@@ -93,7 +93,8 @@ module _ (g : Game) (b m m′ : List ℕ) where
   unfolding barredRow
   barred-filled l e f R = record {
     sets = R .sets ∙ ap (λ (x : List ℕ). x ++ drop (g .input .states) (setsIn m))
-        (same-tabulate (g .input .states) (λ i. getD l i 0) (barredRow g b) (λ i h. f i h ∙ ap (λ (p : Pairs). pack (g .output .states) (p i)) (sym (marked-some g b e))));
+        (same-tabulate (g .input .states) (λ i. getD l i 0) (barredRow g b)
+        (λ i h. f i h ∙ ap (λ (p : Pairs). pack (g .output .states) (p i)) (sym (marked-some g b e))));
     later = R .later;
   }
 
@@ -142,14 +143,16 @@ module _ (g : Game) (b m m′ : List ℕ) where
 
 module _ (g : Game) (F : Fits g) where
   -- a row of the region meets the initial outputs where the input opens
-  pub opens-region : (b : List ℕ) (l : List ℕ) → ((i : ℕ) → i < g .input .states → getD l i 0 ≡ pack (g .output .states) (barredRegion (separatedOf g) (bars b) (only g) i))
+  pub opens-region : (b : List ℕ) (l : List ℕ)
+      → ((i : ℕ) → i < g .input .states → getD l i 0 ≡ pack (g .output .states) (barredRegion (separatedOf g) (bars b) (only g) i))
       → all (g .input .states) (λ i. opensRow g (getD l i 0) i) ≡ barredVerdict (separatedOf g) (bars b) (only g)
   unfolding opensRow barredVerdict barredOpens separatedOf graphOf
   opens-region b l f = all-same (g .input .states) _ _ (λ i h. row i h)
     where
       row : (i : ℕ) → i < g .input .states
           → (not (has (bitsOf (g .input .initial)) i) || meets capacity (bitsOf (g .output .initial)) (getD l i 0))
-          ≡ (not (begins (graphOf (g .input)) i) || any (g .output .states) (λ o. begins (graphOf (g .output)) o && barredRegion (separatedOf g) (bars b) (only g) i o))
+          ≡ (not (begins (graphOf (g .input)) i) || any (g .output .states)
+          (λ o. begins (graphOf (g .output)) o && barredRegion (separatedOf g) (bars b) (only g) i o))
       row i h = same-or first opened
         where
           same-or : {p q u v : Bool} → p ≡ u → q ≡ v → (not p || q) ≡ (not u || v)
@@ -169,10 +172,12 @@ module _ (g : Game) (F : Fits g) where
               let k = F .output .initial-below (w .0) (w .2) in
               any-intro (g .output .states) (λ o. begins (graphOf (g .output)) o && barredRegion (separatedOf g) (bars b) (only g) i o) (w .0) k
               (and-intro (begins-intro (graphOf (g .output)) (w .0) k (w .2))
-              (sym (has-pack-below (g .output .states) (barredRegion (separatedOf g) (bars b) (only g) i) (w .0) k) ∙ ap (λ (x : ℕ). has x (w .0)) (sym (f i h)) ∙ w .3)))
+              (sym (has-pack-below (g .output .states) (barredRegion (separatedOf g) (bars b) (only g) i) (w .0) k)
+              ∙ ap (λ (x : ℕ). has x (w .0)) (sym (f i h)) ∙ w .3)))
               (λ e. let w = any-elim (g .output .states) (λ o. begins (graphOf (g .output)) o && barredRegion (separatedOf g) (bars b) (only g) i o) e in
               meets-intro capacity (bitsOf (g .output .initial)) (getD l i 0) (w .0) (omega (arith, w .1, F .output .most))
-              (begins-initial (graphOf (g .output)) (w .0) (and-left (begins (graphOf (g .output)) (w .0)) (barredRegion (separatedOf g) (bars b) (only g) i (w .0)) (w .2)))
+              (begins-initial (graphOf (g .output)) (w .0)
+              (and-left (begins (graphOf (g .output)) (w .0)) (barredRegion (separatedOf g) (bars b) (only g) i (w .0)) (w .2)))
               (ap (λ (x : ℕ). has x (w .0)) (f i h) ∙ has-pack-below (g .output .states) (barredRegion (separatedOf g) (bars b) (only g) i) (w .0) (w .1)
               ∙ and-right (begins (graphOf (g .output)) (w .0)) (barredRegion (separatedOf g) (bars b) (only g) i (w .0)) (w .2)))
 
@@ -194,5 +199,8 @@ module _ (g : Game) (b : List ℕ) where
           let t = barred-verdict (separatedOf g) (bars b) (only g) (one g (eqb-true (g .k) 1 (one-some g b e ∙ r))) .verdict in
           (λ h. t .0 (wins-some e ∙ h), λ w. sym (wins-some e) ∙ t .1 w)
       go (inr e) =
-          let a = unbarred-arena (separatedOf g) (bars b) (unbarred-none b e) in
-          (λ h. subst⁻¹ SystemWins a (verdict-wins (separatedOf g) (wins-none e ∙ h)), λ w. sym (wins-none e) ∙ wins-verdict (separatedOf g) (subst SystemWins a w))
+          let a = unbarred-arena (separatedOf g) (bars b) (unbarred-none b e) in (
+            λ h. subst⁻¹ SystemWins a (verdict-wins (separatedOf g) (wins-none e ∙ h)),
+            λ w. sym (wins-none e)
+                ∙ wins-verdict (separatedOf g) (subst SystemWins a w),
+          )

@@ -26,8 +26,8 @@ use Rattle.game.specs.declared.Acceptance.the-variants.{Accepted, Refused as Fa
 use Rattle.game.specs.Acceptance.{acceptance}
 use Rattle.game.specs.Numbers.{firstOf, gameTests}
 use Rattle.play.specs.Play.{separatedOf}
-use Rattle.clearing.specs.Clearing.{cleared}
-use Rattle.marks.specs.Marks.{MapFilled}
+use Rattle.scratch_clearing.specs.Clearing.{cleared}
+use Rattle.map_marks.specs.Marks.{MapFilled}
 use Rattle.map.specs.declared.Mapped.{Mapped}
 use Rattle.map.specs.declared.Mapped.the-variants.{Done, Refused as NotMapped}
 use Rattle.map.specs.Map.{numberOf as mapNumber}

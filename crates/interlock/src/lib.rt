@@ -10,8 +10,8 @@ ghost use Rattle.game.specs.declared.Acceptance.the-variants.{Accepted};
 ghost use Rattle.game.specs.Acceptance.{acceptance};
 ghost use Rattle.game.specs.Numbers.{firstOf};
 ghost use Rattle.play.specs.Play.{separatedOf};
-ghost use Rattle.clearing.specs.Clearing.{cleared};
-ghost use Rattle.marks.specs.Marks.{MapFilled};
+ghost use Rattle.scratch_clearing.specs.Clearing.{cleared};
+ghost use Rattle.map_marks.specs.Marks.{MapFilled};
 ghost use Rattle.barred.specs.Region.{barredVerdict};
 ghost use Rattle.barred_region.specs.Region.{only};
 ghost use Rattle.interlock.specs.Bars.{bars as barsOf, barrable as barrableOf, barsInside, someBarred, oneRequirement, systemWins, RegionFilled, BarredFilled, opensRow};
@@ -122,7 +122,7 @@ fn mark_barred(g: Game, bars: &[u64], scratch: &mut [u64], map: &mut [u64])
 {
     barred_region::keep(g, bars, scratch);
     write_map(g, scratch, map);
-    clearing::clear(scratch, 4096);
+    scratch_clearing::clear(scratch, 4096);
 }
 
 // Marks the positions that are won without bars.
@@ -131,7 +131,7 @@ fn mark_unbarred(g: Game, scratch: &mut [u64], map: &mut [u64])
     ensures { λ _. ⌜ (now (scratch .exit) ≡ cleared 4096 (now (scratch .entry))) × MapFilled g (now (map .entry)) (now (map .exit)) ⌝ }
 {
     map::won_map(g, scratch, map);
-    clearing::clear(scratch, 4096);
+    scratch_clearing::clear(scratch, 4096);
 }
 
 // Marks the won positions of an accepted game, bars and buffers being as they must be.
@@ -212,7 +212,7 @@ fn wins_barred(g: Game, bars: &[u64], scratch: &mut [u64]) -> bool
 {
     barred_region::keep(g, bars, scratch);
     let r = all_open(g, scratch);
-    clearing::clear(scratch, 4096);
+    scratch_clearing::clear(scratch, 4096);
     r
 }
 
@@ -222,8 +222,8 @@ fn wins_unbarred(g: Game, scratch: &mut [u64]) -> bool
     ensures { λ r. ⌜ (r ≡ verdict (separatedOf g)) × (now (scratch .exit) ≡ cleared 4096 (now (scratch .entry))) ⌝ }
 {
     let x = region::prepare(g, scratch);
-    let r = verdict::system_wins(g, scratch, x.inputs);
-    clearing::clear(scratch, 4096);
+    let r = region_verdict::system_wins(g, scratch, x.inputs);
+    scratch_clearing::clear(scratch, 4096);
     r
 }
 

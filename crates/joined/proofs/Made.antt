@@ -15,9 +15,9 @@ use Rattle.game.specs.declared.Acceptance.the-variants.{Accepted, Refused as Fa
 use Rattle.game.specs.Acceptance.{acceptance}
 use Rattle.game.specs.Numbers.{firstOf}
 use Rattle.game.proofs.Numbers.{after, game-after}
-use Rattle.clearing.specs.Clearing.{cleared}
-use Rattle.marks.specs.Marks.{MapFilled}
-use Rattle.marks.proofs.Marks.{marks}
+use Rattle.scratch_clearing.specs.Clearing.{cleared}
+use Rattle.map_marks.specs.Marks.{MapFilled}
+use Rattle.map_marks.proofs.Marks.{marks}
 use Rattle.joined.specs.declared.Mapped.{Mapped}
 use Rattle.joined.specs.declared.Mapped.the-variants.{Done, Refused as NotMapped}
 use Rattle.joined.specs.Joined.{

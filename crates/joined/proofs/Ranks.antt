@@ -23,8 +23,8 @@ use Rattle.joint.specs.Joint.{rankAt}
 use Rattle.joint.proofs.Settled.{settled-start, settled-next, settled-end}
 use Rattle.game.specs.declared.Game.{Game}
 use Rattle.play.specs.Play.{graphOf, separatedOf}
-use Rattle.clearing.specs.Clearing.{cleared}
-use Rattle.marks.specs.Marks.{mapRow}
+use Rattle.scratch_clearing.specs.Clearing.{cleared}
+use Rattle.map_marks.specs.Marks.{mapRow}
 use Rattle.joined_reach.specs.Words.{belongs, Small, Kept}
 use Rattle.joined_reach.specs.Reach.{Counted}
 use Rattle.joined_reach.proofs.Words.{belongs-has, belongs-below, belongs-in, kept-self, kept-then, kept-cleared, cleared-zero}

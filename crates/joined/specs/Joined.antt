@@ -20,8 +20,8 @@ use Rattle.game.specs.declared.Acceptance.the-variants.{Accepted, Refused as Fa
 use Rattle.game.specs.Acceptance.{acceptance}
 use Rattle.game.specs.Numbers.{firstOf, gameTests}
 use Rattle.demands.specs.Demands.{playOf}
-use Rattle.clearing.specs.Clearing.{cleared}
-use Rattle.marks.specs.Marks.{MapFilled}
+use Rattle.scratch_clearing.specs.Clearing.{cleared}
+use Rattle.map_marks.specs.Marks.{MapFilled}
 use Rattle.joined.specs.declared.Mapped.{Mapped}
 use Rattle.joined.specs.declared.Mapped.the-variants.{Done, Refused as NotMapped}
 

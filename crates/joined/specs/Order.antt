@@ -13,7 +13,7 @@ use Rattle.joint.specs.Joint.{rankAt}
 use Rattle.joint.specs.Solver.{Settled}
 use Rattle.game.specs.declared.Game.{Game}
 use Rattle.play.specs.Play.{separatedOf}
-use Rattle.marks.specs.Marks.{mapRow}
+use Rattle.map_marks.specs.Marks.{mapRow}
 use Rattle.joined_reach.specs.Words.{wonAt, Kept, Ranked}
 use Rattle.joined_component.specs.Component.{won, known}
 

@@ -8,8 +8,8 @@ ghost use Rattle.joint.specs.Joint.{rankAt};
 ghost use Rattle.game.specs.declared.Acceptance.the-variants.{Accepted};
 ghost use Rattle.game.specs.Acceptance.{acceptance};
 ghost use Rattle.play.specs.Play.{separatedOf};
-ghost use Rattle.clearing.specs.Clearing.{cleared};
-ghost use Rattle.marks.specs.Marks.{MapFilled};
+ghost use Rattle.scratch_clearing.specs.Clearing.{cleared};
+ghost use Rattle.map_marks.specs.Marks.{MapFilled};
 ghost use Rattle.joined_reach.specs.Words.{Small, Kept};
 ghost use Rattle.joined_component.specs.Component.{known};
 ghost use Rattle.joined.specs.Order.{Backward, Advanced, Passed, Solved};
@@ -88,7 +88,7 @@ fn solve<'a>(g: Game, ins: &'a [u64; ROW_WORDS], outs: &'a [u64; ROW_WORDS], s: 
     ensures { λ _. ⌜ Kept 0 2048 (now (s .entry)) (now (s .exit)) × Solved g (now (s .exit)) ⌝ }
 {
     joined_reach::count_ahead(g, ins, outs, s);
-    clearing::clear(s, 160);
+    scratch_clearing::clear(s, 160);
     let positions = g.input.states * g.output.states;
     let mut n: usize = 1;
     while n <= positions {
@@ -116,7 +116,7 @@ fn make_map(g: Game, scratch: &mut [u64], map: &mut [u64])
 {
     solve(g, &g.input.moves, &g.output.moves, scratch);
     write_map(g, scratch, map);
-    clearing::clear(scratch, 4096);
+    scratch_clearing::clear(scratch, 4096);
 }
 
 // The answer of the call.

@@ -43,7 +43,7 @@ use Rattle.joint.specs.Close.{Closing, Taken}
 use Rattle.joint.proofs.Close.{closing-start, closing-taken, closing-grows, closing-end}
 use Rattle.game.specs.declared.Game.{Game}
 use Rattle.play.specs.Play.{graphOf, separatedOf}
-use Rattle.clearing.specs.Clearing.{cleared}
+use Rattle.scratch_clearing.specs.Clearing.{cleared}
 use Rattle.joined_reach.specs.Words.{belongs, Small, Kept}
 use Rattle.joined_reach.specs.Reach.{Next, Grown, Entered, Waiting, Followed, Reached}
 use Rattle.joined_reach.proofs.Words.{

@@ -155,7 +155,7 @@ pub fn close(
 {
     let row = i.0;
     let output = o.0;
-    clearing::clear(s, 64);
+    scratch_clearing::clear(s, 64);
     s[FOUND + row] = bits::insert(0, output);
     let mut waiting = InWord(bits::insert(0, row));
     while waiting.0 != 0 {

@@ -41,10 +41,10 @@ use Rattle.solver.specs.Promise.{
   Decided,
   Solved,
 }
-use Rattle.drives.specs.declared.Kit.{Kit}
-use Rattle.drives.specs.Drive.{graphFrom, gameFrom}
-use Rattle.drives.specs.Acceptance.{kitAcceptance, kitTests}
-use Rattle.drives.proofs.Acceptance.{kit-fitting, kit-after}
+use Rattle.kit_drives.specs.declared.Kit.{Kit}
+use Rattle.kit_drives.specs.Drive.{graphFrom, gameFrom}
+use Rattle.kit_drives.specs.Acceptance.{kitAcceptance, kitTests}
+use Rattle.kit_drives.proofs.Acceptance.{kit-fitting, kit-after}
 use Rattle.kit_rows.specs.Rows.{kitLength, kitEntries}
 use Rattle.kit_rows.proofs.Kits.{entries-long}
 use Rattle.kit_runs.specs.Exchange.{Exchanged}

@@ -18,10 +18,10 @@ use Rattle.scratch.specs.Scratch.{scratchLength}
 use Rattle.solver.specs.declared.Verdict.{Verdict}
 use Rattle.solver.specs.declared.Verdict.the-variants.{System, Environment, Refused}
 use Rattle.solver.specs.Promise.{controllerLength, controllerAfter, Solved}
-use Rattle.drives.specs.declared.Kit.{Kit}
-use Rattle.drives.specs.Drive.{gameFrom}
-use Rattle.drives.specs.Acceptance.{kitAcceptance}
-use Rattle.drives.proofs.Acceptance.{kit-fitting}
+use Rattle.kit_drives.specs.declared.Kit.{Kit}
+use Rattle.kit_drives.specs.Drive.{gameFrom}
+use Rattle.kit_drives.specs.Acceptance.{kitAcceptance}
+use Rattle.kit_drives.proofs.Acceptance.{kit-fitting}
 use Rattle.kit_rows.specs.Rows.{counters, kitLength, kitEntries, KitReady}
 use Rattle.kit.specs.Promise.{KitSolved}
 use Rattle.kit.specs.Roomy.{Roomy}

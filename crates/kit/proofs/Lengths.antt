@@ -18,10 +18,10 @@ use Rattle.theory.specs.Entries.{controllerEntries}
 use Rattle.theory.proofs.Entries as entries
 use Rattle.demands.proofs.Sizes.{controller-few}
 use Rattle.solver.specs.Promise.{controllerLength}
-use Rattle.drives.specs.declared.Kit.{Kit}
-use Rattle.drives.specs.Drive.{graphFrom, gameFrom, Small}
-use Rattle.drives.specs.Acceptance.{entriesFit, kitAcceptance}
-use Rattle.drives.proofs.Acceptance.{kit-fitting, kit-small, drive-named}
+use Rattle.kit_drives.specs.declared.Kit.{Kit}
+use Rattle.kit_drives.specs.Drive.{graphFrom, gameFrom, Small}
+use Rattle.kit_drives.specs.Acceptance.{entriesFit, kitAcceptance}
+use Rattle.kit_drives.proofs.Acceptance.{kit-fitting, kit-small, drive-named}
 use Rattle.kit_rows.specs.Rows.{counters, kitLength, KitReady}
 
 pub controller-long : (k : Kit) → length (controllerEntries (separatedOf (gameFrom k))) ≡ controllerLength (gameFrom k)

@@ -21,9 +21,9 @@ use Rattle.scratch.specs.Scratch.{scratchLength}
 use Rattle.solver.specs.declared.Verdict.{Verdict}
 use Rattle.solver.specs.declared.Verdict.the-variants.{System, Environment, Refused}
 use Rattle.solver.specs.Promise.{controllerLength, environmentLength, numberOf, controllerAfter, environmentAfter, verdictScratch, Decided}
-use Rattle.drives.specs.declared.Kit.{Kit}
-use Rattle.drives.specs.Drive.{gameFrom}
-use Rattle.drives.specs.Acceptance.{kitAcceptance, kitTests}
+use Rattle.kit_drives.specs.declared.Kit.{Kit}
+use Rattle.kit_drives.specs.Drive.{gameFrom}
+use Rattle.kit_drives.specs.Acceptance.{kitAcceptance, kitTests}
 use Rattle.kit_rows.specs.Rows.{kitLength, kitEntries}
 use Rattle.kit_runs.specs.Exchange.{Exchanged}
 

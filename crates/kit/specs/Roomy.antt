@@ -7,9 +7,9 @@ use Rattle.game.specs.declared.Game.{Game}
 use Rattle.game.specs.declared.Acceptance.the-variants.{Accepted}
 use Rattle.scratch.specs.Scratch.{scratchLength}
 use Rattle.solver.specs.Promise.{controllerLength}
-use Rattle.drives.specs.declared.Kit.{Kit}
-use Rattle.drives.specs.Drive.{gameFrom}
-use Rattle.drives.specs.Acceptance.{kitAcceptance}
+use Rattle.kit_drives.specs.declared.Kit.{Kit}
+use Rattle.kit_drives.specs.Drive.{gameFrom}
+use Rattle.kit_drives.specs.Acceptance.{kitAcceptance}
 use Rattle.kit_rows.specs.Rows.{kitLength}
 
 pub record Roomy (k : Kit) (g : Game) (t s c n : ℕ) : Type 0 where

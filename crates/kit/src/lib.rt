@@ -2,13 +2,13 @@
 ghost use mathlib.Core.Path.{_≡_};
 ghost use lib.ListN.{length};
 ghost use Rattle.game.specs.declared.Acceptance.the-variants.{Accepted};
-ghost use Rattle.drives.specs.Acceptance.{kitAcceptance};
+ghost use Rattle.kit_drives.specs.Acceptance.{kitAcceptance};
 ghost use Rattle.kit_rows.specs.Rows.{kitLength, counters as countersOf};
 ghost use Rattle.kit.specs.Promise.{KitSolved};
 ghost use Rattle.kit.specs.Roomy.{Roomy};
-use drives::Kit;
 use game::Acceptance;
 use game::Game;
+use kit_drives::Kit;
 use solver::Verdict;
 
 // How many entries the kit's table has.
@@ -37,7 +37,12 @@ fn solve_fitting(
     let answer = solver::solve_into(g, scratch, controller, panel);
     match answer {
         Verdict::System(n) => {
-            kit_rows::fill(k, sizes::controller_counters(g), &controller[..n], room);
+            kit_rows::fill(
+                k,
+                table_sizes::controller_counters(g),
+                &controller[..n],
+                room,
+            );
             Verdict::System(t)
         },
         Verdict::Environment(n) => Verdict::Environment(n),
@@ -57,14 +62,14 @@ fn solve_accepted(
     ensures { λ r. ⌜ KitSolved k (now (scratch .entry)) (now (scratch .exit)) (now (controller .entry)) (now (controller .exit)) (now (panel .entry))
         (now (panel .exit)) (now (room .entry)) (now (room .exit)) r ⌝ }
 {
-    let g = drives::game_of(k);
+    let g = kit_drives::game_of(k);
     if scratch.len() < scratch::length(g) {
         return Verdict::Refused(8);
     }
-    if controller.len() < sizes::controller_length(g) {
+    if controller.len() < table_sizes::controller_length(g) {
         return Verdict::Refused(9);
     }
-    let t = table_length(k, sizes::controller_counters(g));
+    let t = table_length(k, table_sizes::controller_counters(g));
     if room.len() < t {
         return Verdict::Refused(9);
     }

@@ -1,14 +1,14 @@
 // Whether a kit is accepted: a test of its drives for each of 1, 17 and 18, then the numbers of its game.
-use drives::Drive;
-use drives::Kit;
 use game::Acceptance;
+use kit_drives::Drive;
+use kit_drives::Kit;
 ghost use mathlib.Core.Path.{_≡_};
 ghost use mathlib.Core.Bool.{_&&_};
 ghost use Prim.Native.Nat.{_<_};
 ghost use lib.Dec.{leb};
 ghost use Rattle.sets.specs.Words.{capacity};
 ghost use Rattle.finite.specs.Bounded.{all};
-ghost use Rattle.drives.specs.Acceptance.{modesFit, commandsFit, entryFits, entriesFit, both, KitAccepts};
+ghost use Rattle.kit_drives.specs.Acceptance.{modesFit, commandsFit, entryFits, entriesFit, both, KitAccepts};
 
 // Whether a count is 1 to most.
 fn count_fits(n: usize, most: usize) -> bool
@@ -43,7 +43,7 @@ fn entry_fits(next: &[u8; 2048], modes: usize, commands: usize, m: usize, u: usi
     requires { ⌜ (m < capacity) × (u < 16) ⌝ }
     ensures { λ r. ⌜ r ≡ entryFits (now (next .entry)) modes commands m u ⌝ }
 {
-    let t = drives::next_mode(next, m, u);
+    let t = kit_drives::next_mode(next, m, u);
     if t == 255 {
         return true;
     }
@@ -106,5 +106,5 @@ pub fn accept_kit(k: Kit) -> Acceptance
     if !entries_fit(k) {
         return Acceptance::Refused(18);
     }
-    acceptance::accept(drives::game_of(k))
+    acceptance::accept(kit_drives::game_of(k))
 }

@@ -11,9 +11,9 @@ use mathlib.Core.List.{List, _++_}
 use native.Mathlib.Omega.{arith}
 use native.Mathlib.Decide.{decLt}
 use lib.ListN.{length, getD, drop, set, length-set}
-use Rattle.filling.specs.Grows.{Right}
-use Rattle.filling.proofs.Grows.{grows-none, grows-more, grows-set, right-set, grows-done}
-use Rattle.drives.specs.declared.Drive.{Drive}
+use Rattle.table_filling.specs.Grows.{Right}
+use Rattle.table_filling.proofs.Grows.{grows-none, grows-more, grows-set, right-set, grows-done}
+use Rattle.kit_drives.specs.declared.Drive.{Drive}
 use Rattle.kit_rows.specs.Writing.{commandRow, Into, ModeFits, ModeAgrees, Moded, CountFits, CountAgrees, Counted, Started}
 
 module _ (E : List ℕ) where

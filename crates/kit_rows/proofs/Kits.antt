@@ -21,9 +21,9 @@ use Rattle.finite.proofs.Truth.{decide, clash}
 use Rattle.finite.proofs.Tabulate.{length-tabulate, getD-tabulate}
 use Rattle.sets.specs.Words.{capacity}
 use Rattle.theory.specs.Entries.{stride, answer, controllerTable}
-use Rattle.drives.specs.declared.Drive.{Drive}
-use Rattle.drives.specs.declared.Kit.{Kit}
-use Rattle.drives.specs.Drive.{nextIn, commandFor}
+use Rattle.kit_drives.specs.declared.Drive.{Drive}
+use Rattle.kit_drives.specs.declared.Kit.{Kit}
+use Rattle.kit_drives.specs.Drive.{nextIn, commandFor}
 use Rattle.kit_rows.specs.Rows.{counters, kitLength, commanded, kitRow, kitEntries, KitReady}
 use Rattle.kit_rows.specs.Writing.{lowestIn, commandsOf, translated, commandRow, Into, CountFits, CountAgrees, Outputs, Started}
 use Rattle.kit_rows.proofs.Blocks.{Rounds, next-row, into-none, into-join, into-done}

@@ -21,7 +21,7 @@ use Rattle.finite.proofs.Truth.{clash}
 use Rattle.finite.proofs.Tabulate.{getD-tabulate}
 use Rattle.sets.specs.Words.{capacity}
 use Rattle.theory.specs.Entries.{stride}
-use Rattle.drives.specs.Drive.{nextIn, madeBy}
+use Rattle.kit_drives.specs.Drive.{nextIn, madeBy}
 use Rattle.kit_rows.specs.Writing.{lowestIn, commandsOf, translated, commandRow}
 
 module _ (n : List ℕ) (o t : ℕ) where

@@ -18,9 +18,9 @@ use Rattle.finite.specs.Tabulate.{tabulate}
 use Rattle.arena.specs.Table.{Answer, none, gives, ControllerTable}
 use Rattle.play.specs.Play.{separatedOf}
 use Rattle.theory.specs.Entries.{controllerCounters, controllerTable}
-use Rattle.drives.specs.declared.Drive.{Drive}
-use Rattle.drives.specs.declared.Kit.{Kit}
-use Rattle.drives.specs.Drive.{nextMode, gameFrom, commandFor, Small}
+use Rattle.kit_drives.specs.declared.Drive.{Drive}
+use Rattle.kit_drives.specs.declared.Kit.{Kit}
+use Rattle.kit_drives.specs.Drive.{nextMode, gameFrom, commandFor, Small}
 
 unfoldable pub counters : Kit → ℕ
 counters k = controllerCounters (separatedOf (gameFrom k))

@@ -30,9 +30,9 @@ use Rattle.finite.specs.Bounded.{least}
 use Rattle.finite.specs.Tabulate.{tabulate}
 use Rattle.sets.specs.Words.{capacity}
 use Rattle.theory.specs.Entries.{stride}
-use Rattle.filling.specs.Grows.{Right, Grows}
-use Rattle.drives.specs.declared.Kit.{Kit}
-use Rattle.drives.specs.Drive.{nextIn}
+use Rattle.table_filling.specs.Grows.{Right, Grows}
+use Rattle.kit_drives.specs.declared.Kit.{Kit}
+use Rattle.kit_drives.specs.Drive.{nextIn}
 use Rattle.kit_rows.specs.Rows.{counters, kitEntries}
 
 unfoldable pub lowestIn : List ℕ → ℕ → ℕ → ℕ → ℕ

@@ -1,7 +1,7 @@
 // The kit's table, written from the controller's. Both begin with a start for each old mode. Then the controller's has a row for each output, counter
 // and old mode. In place of its row number x the kit's has block number x: a row for each old command. Such a row says by a command what the
 // controller does when that old command is given: what the controller's row of the mode that it leads to says by a mode.
-use drives::Kit;
+use kit_drives::Kit;
 ghost use mathlib.Core.Path.{_≡_};
 ghost use mathlib.Core.List.{_++_};
 ghost use Prim.Native.Nat.{_+_, _<_, _≤_};
@@ -24,7 +24,7 @@ fn lowest_command(next: &[u8; 2048], commands: usize, o: usize, t: usize) -> usi
 {
     let mut u: usize = 0;
     while u < commands {
-        if drives::next_mode(next, o, u) == t {
+        if kit_drives::next_mode(next, o, u) == t {
             return u;
         }
         u += 1;
@@ -58,7 +58,7 @@ fn row(
     requires { ⌜ (from .commands ≤ 16) × (from .mode < capacity) × (i < capacity) × (u < 16) × ReadsIn (now next) base i u (length (now controller)) ⌝ }
     ensures { λ r. ⌜ r ≡ commandRow (now (next .entry)) (commandsOf (now (new .entry)) (from .commands) (from .mode)) (now (controller .entry)) base i u ⌝ }
 {
-    let j = drives::next_mode(next, i, u);
+    let j = kit_drives::next_mode(next, i, u);
     if j == 255 {
         return 65535;
     }

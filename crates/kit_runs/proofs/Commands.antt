@@ -22,8 +22,8 @@ use Rattle.graphs.specs.Rows.{rel, rowsOf}
 use Rattle.graphs.proofs.Graph.{edge-to, edge-moves, edge-intro}
 use Rattle.graphs.proofs.Rows.{rel-rows, rel-holds}
 use Rattle.play.specs.Play.{graphOf}
-use Rattle.drives.specs.declared.Drive.{Drive}
-use Rattle.drives.specs.Drive.{nextIn, nextMode, allows, madeBy, graphFrom, commandFor, Small}
+use Rattle.kit_drives.specs.declared.Drive.{Drive}
+use Rattle.kit_drives.specs.Drive.{nextIn, nextMode, allows, madeBy, graphFrom, commandFor, Small}
 
 module _ (d : Drive) (S : Small d) where
   pub allowed-below : (m u : ℕ) → allows d m u ≡ true → u < d .commands

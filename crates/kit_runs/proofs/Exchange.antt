@@ -21,9 +21,9 @@ use Rattle.play.specs.Play.{requirementsOf, separatedOf}
 use Rattle.demands.specs.Demands.{playOf, controllerOf}
 use Rattle.endless.specs.Endless.{Endless, RecurringMeet}
 use Rattle.endless.proofs.Endless.{endless-meets}
-use Rattle.drives.specs.declared.Kit.{Kit}
-use Rattle.drives.specs.Drive.{nextMode, allows, gameFrom}
-use Rattle.drives.proofs.Acceptance.{Fitting}
+use Rattle.kit_drives.specs.declared.Kit.{Kit}
+use Rattle.kit_drives.specs.Drive.{nextMode, allows, gameFrom}
+use Rattle.kit_drives.proofs.Acceptance.{Fitting}
 use Rattle.kit_runs.specs.Exchange.{startsIn, KitFirst, KitTurn, KitMove, allowsAll, Answered, done, on, modeAt, Played, Exchanged}
 use Rattle.kit_runs.proofs.Turns.{Reads, Come, step-at, turn-kit, turn-controller, onward, first-controller, first-kit}
 

@@ -29,11 +29,11 @@ use Rattle.play.specs.Play.{graphOf, separatedOf}
 use Rattle.theory.specs.Entries.{answer, controllerTable}
 use Rattle.demands.specs.Demands.{playOf, controllerOf}
 use Rattle.demands.proofs.Sizes.{controller-few}
-use Rattle.drives.specs.declared.Drive.{Drive}
-use Rattle.drives.specs.declared.Kit.{Kit}
-use Rattle.drives.specs.Drive.{nextMode, allows, graphFrom, gameFrom, commandFor, Small}
-use Rattle.drives.specs.Acceptance.{entriesFit}
-use Rattle.drives.proofs.Acceptance.{Fitting, kit-small, drive-named}
+use Rattle.kit_drives.specs.declared.Drive.{Drive}
+use Rattle.kit_drives.specs.declared.Kit.{Kit}
+use Rattle.kit_drives.specs.Drive.{nextMode, allows, graphFrom, gameFrom, commandFor, Small}
+use Rattle.kit_drives.specs.Acceptance.{entriesFit}
+use Rattle.kit_drives.proofs.Acceptance.{Fitting, kit-small, drive-named}
 use Rattle.finite.proofs.Truth.{and-left}
 use Rattle.kit_rows.specs.Rows.{counters, commanded, kitRow, kitPlace, kitEntries}
 use Rattle.kit_rows.proofs.Kits.{start-in, row-in}

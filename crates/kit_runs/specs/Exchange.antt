@@ -24,9 +24,9 @@ use Rattle.arena.specs.Play.{Configuration, Reachable}
 use Rattle.play.specs.Play.{requirementsOf}
 use Rattle.theory.specs.Entries.{answer}
 use Rattle.endless.specs.Endless.{Endless, RecurringMeet}
-use Rattle.drives.specs.declared.Drive.{Drive}
-use Rattle.drives.specs.declared.Kit.{Kit}
-use Rattle.drives.specs.Drive.{nextMode, allows, gameFrom}
+use Rattle.kit_drives.specs.declared.Drive.{Drive}
+use Rattle.kit_drives.specs.declared.Kit.{Kit}
+use Rattle.kit_drives.specs.Drive.{nextMode, allows, gameFrom}
 use Rattle.kit_rows.specs.Rows.{counters, kitPlace}
 
 unfoldable pub startsIn : Drive → ℕ → Bool

@@ -15,10 +15,10 @@ use Rattle.game.specs.declared.Acceptance.the-variants.{Accepted, Refused as Fa
 use Rattle.game.specs.Acceptance.{acceptance}
 use Rattle.game.specs.Numbers.{firstOf, gameTests}
 use Rattle.game.proofs.Numbers.{after, game-after}
-use Rattle.clearing.specs.Clearing.{cleared}
+use Rattle.scratch_clearing.specs.Clearing.{cleared}
 use Rattle.scratch.specs.Scratch.{scratchLength}
-use Rattle.marks.specs.Marks.{MapFilled}
-use Rattle.marks.proofs.Marks.{marks}
+use Rattle.map_marks.specs.Marks.{MapFilled}
+use Rattle.map_marks.proofs.Marks.{marks}
 use Rattle.map.specs.declared.Mapped.{Mapped}
 use Rattle.map.specs.declared.Mapped.the-variants.{Done, Refused as NotMapped}
 use Rattle.map.specs.Map.{mapFits, mapRoom, mapAnswer, mapTests, numberOf, MapAfter, mapScratch, MapMade}

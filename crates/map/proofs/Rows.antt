@@ -7,7 +7,7 @@ use Rattle.sets.specs.Words.{setsIn}
 use Rattle.game.specs.declared.Game.{Game}
 use Rattle.scratch.specs.Stored.{wonAt, Ready}
 use Rattle.scratch.proofs.Read.{ready-row}
-use Rattle.marks.specs.Marks.{mapRow}
+use Rattle.map_marks.specs.Marks.{mapRow}
 
 pub map-row-read : {g : Game} {s : List ℕ} {c : ℕ} → Ready g s c → (i : ℕ) → i < g .input .states → {r : ℕ}
     → r ≡ pack (g .output .states) (wonAt (setsIn s) (g .input .states) c i) → r ≡ mapRow g i

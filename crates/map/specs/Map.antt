@@ -21,9 +21,9 @@ use Rattle.game.specs.declared.Acceptance.the-variants.{Accepted, Refused as Fa
 use Rattle.game.specs.Acceptance.{acceptance}
 use Rattle.game.specs.Numbers.{firstOf, gameTests}
 use Rattle.demands.specs.Demands.{playOf}
-use Rattle.clearing.specs.Clearing.{cleared}
+use Rattle.scratch_clearing.specs.Clearing.{cleared}
 use Rattle.scratch.specs.Scratch.{scratchLength}
-use Rattle.marks.specs.Marks.{MapFilled}
+use Rattle.map_marks.specs.Marks.{MapFilled}
 use Rattle.map.specs.declared.Mapped.{Mapped}
 use Rattle.map.specs.declared.Mapped.the-variants.{Done, Refused as NotMapped}
 

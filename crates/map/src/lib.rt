@@ -6,10 +6,10 @@ ghost use Rattle.sets.specs.Words.{bitsOf, setsIn, setCount, wordsFor};
 ghost use Rattle.game.specs.declared.Acceptance.the-variants.{Accepted};
 ghost use Rattle.game.specs.Acceptance.{acceptance};
 ghost use Rattle.game.specs.Fits.{Fits};
-ghost use Rattle.clearing.specs.Clearing.{cleared};
+ghost use Rattle.scratch_clearing.specs.Clearing.{cleared};
 ghost use Rattle.scratch.specs.Scratch.{scratchLength};
 ghost use Rattle.scratch.specs.Stored.{Ready};
-ghost use Rattle.marks.specs.Marks.{mapRow, MapFilled};
+ghost use Rattle.map_marks.specs.Marks.{mapRow, MapFilled};
 ghost use Rattle.map.specs.Map.{MapMade};
 use game::Acceptance;
 use game::Game;
@@ -47,7 +47,7 @@ fn make_map(g: Game, scratch: &mut [u64], map: &mut [u64])
 {
     let x = region::prepare(g, scratch);
     fill_map(g, scratch, x.inputs, map);
-    clearing::clear(scratch, scratch::length(g));
+    scratch_clearing::clear(scratch, scratch::length(g));
 }
 
 // The answer of the map's call.

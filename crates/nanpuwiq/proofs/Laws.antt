@@ -19,17 +19,17 @@ use Rattle.solver.specs.Compact.{SolvedCompact}
 use Rattle.compact_moves.specs.declared.Move.{Move}
 use Rattle.compact_moves.specs.declared.Count.{Count}
 use Rattle.compact_moves.specs.Promise.{MovedOver, MovedBack, Counted}
-use Rattle.drives.specs.declared.Kit.{Kit}
+use Rattle.kit_drives.specs.declared.Kit.{Kit}
 use Rattle.kit.specs.Promise.{KitSolved}
 use Rattle.text.specs.declared.WriteAnswer.{WriteAnswer}
 use Rattle.text.specs.Write.{Writes}
-use Rattle.results.specs.declared.SolveResult.{SolveResult}
-use Rattle.results.specs.declared.ExplainResult.{ExplainResult}
-use Rattle.results.specs.declared.JudgeResult.{JudgeResult}
-use Rattle.results.specs.declared.WriteResult.{WriteResult}
-use Rattle.results.specs.declared.MoveResult.{MoveResult}
-use Rattle.results.specs.declared.CountResult.{CountResult}
-use Rattle.results.specs.Results.{solveResult, writeResult, explainResult, judgeResult, moveResult, countResult}
+use Rattle.nanpuwiq_results.specs.declared.SolveResult.{SolveResult}
+use Rattle.nanpuwiq_results.specs.declared.ExplainResult.{ExplainResult}
+use Rattle.nanpuwiq_results.specs.declared.JudgeResult.{JudgeResult}
+use Rattle.nanpuwiq_results.specs.declared.WriteResult.{WriteResult}
+use Rattle.nanpuwiq_results.specs.declared.MoveResult.{MoveResult}
+use Rattle.nanpuwiq_results.specs.declared.CountResult.{CountResult}
+use Rattle.nanpuwiq_results.specs.Results.{solveResult, writeResult, explainResult, judgeResult, moveResult, countResult}
 use Rattle.nanpuwiq.specs.Calls.{MapCalled, JoinedCalled, BarredCalled, JudgeCalled, SolveCalled, KitCalled, WriteCalled, ExplainCalled}
 use Rattle.nanpuwiq.specs.Calls.{CompactCalled, OverCalled, BackCalled, CountCalled}
 

@@ -32,20 +32,20 @@ use Rattle.checker.specs.Check.{Checks}
 use Rattle.solver.specs.Promise.{verdictAnswer, Solved}
 use Rattle.solver.specs.Compact.{compactAnswer, SolvedCompact}
 use Rattle.compact_moves.specs.Promise.{overAnswer, backAnswer, countAnswer, MovedOver, MovedBack, Counted}
-use Rattle.drives.specs.declared.Kit.{Kit}
+use Rattle.kit_drives.specs.declared.Kit.{Kit}
 use Rattle.kit.specs.Promise.{kitAnswer, KitSolved}
 use Rattle.text.specs.declared.Reading.{Reading}
 use Rattle.text.specs.Read.{Reads}
 use Rattle.text.specs.Write.{writeAnswer, writeBuffer}
-use Rattle.results.specs.declared.SolveResult.{SolveResult}
-use Rattle.results.specs.declared.ExplainResult.{ExplainResult}
-use Rattle.results.specs.declared.CheckResult.{CheckResult}
-use Rattle.results.specs.declared.JudgeResult.{JudgeResult}
-use Rattle.results.specs.declared.ReadResult.{ReadResult}
-use Rattle.results.specs.declared.WriteResult.{WriteResult}
-use Rattle.results.specs.declared.MoveResult.{MoveResult}
-use Rattle.results.specs.declared.CountResult.{CountResult}
-use Rattle.results.specs.Results.{solveResult, explainResult, checkResult, judgeResult, readResult, writeResult, moveResult, countResult}
+use Rattle.nanpuwiq_results.specs.declared.SolveResult.{SolveResult}
+use Rattle.nanpuwiq_results.specs.declared.ExplainResult.{ExplainResult}
+use Rattle.nanpuwiq_results.specs.declared.CheckResult.{CheckResult}
+use Rattle.nanpuwiq_results.specs.declared.JudgeResult.{JudgeResult}
+use Rattle.nanpuwiq_results.specs.declared.ReadResult.{ReadResult}
+use Rattle.nanpuwiq_results.specs.declared.WriteResult.{WriteResult}
+use Rattle.nanpuwiq_results.specs.declared.MoveResult.{MoveResult}
+use Rattle.nanpuwiq_results.specs.declared.CountResult.{CountResult}
+use Rattle.nanpuwiq_results.specs.Results.{solveResult, explainResult, checkResult, judgeResult, readResult, writeResult, moveResult, countResult}
 
 -- `made` says what both buffers hold, and carries demand 2
 pub record MapCalled (g : Game) (s s′ m m′ : List ℕ) (r : ℕ) : Type 0 where

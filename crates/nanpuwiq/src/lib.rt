@@ -5,29 +5,29 @@ ghost use Rattle.game.specs.Numbers.{firstOf, gameTests};
 ghost use Rattle.player.specs.Player.{movedOf, beginning, stepping, Advanced};
 ghost use Rattle.recorder.specs.Recorded.{compared};
 ghost use Rattle.panel_player.specs.Panel.{panelFirst, panelBegin, panelNext, panelStep};
-ghost use Rattle.results.specs.Results.{compareResult, panelMoved, nowhere};
-ghost use Rattle.drives.specs.Acceptance.{kitTests};
+ghost use Rattle.nanpuwiq_results.specs.Results.{compareResult, panelMoved, nowhere};
+ghost use Rattle.kit_drives.specs.Acceptance.{kitTests};
 ghost use Rattle.compact_view.specs.Rows.{Looked};
 ghost use Rattle.nanpuwiq.specs.Calls.{MapCalled, JoinedCalled, SolveCalled, CompactCalled, KitCalled, ReadCalled, WriteCalled, ExplainCalled, CheckCalled, BarredCalled, JudgeCalled};
 ghost use Rattle.nanpuwiq.specs.Calls.{OverCalled, BackCalled, CountCalled};
-use drives::Kit;
 use game::Game;
 use game::InState;
 use game::OutState;
-use place::Position;
+use kit_drives::Kit;
+use nanpuwiq_results::CheckResult;
+use nanpuwiq_results::CompareResult;
+use nanpuwiq_results::CountResult;
+use nanpuwiq_results::ExplainResult;
+use nanpuwiq_results::JudgeResult;
+use nanpuwiq_results::MoveResult;
+use nanpuwiq_results::PanelMoved;
+use nanpuwiq_results::ReadResult;
+use nanpuwiq_results::SolveResult;
+use nanpuwiq_results::WriteResult;
 use player::Moved;
+use player_place::Position;
 use recorder::InRecording;
 use recorder::OutRecording;
-use results::CheckResult;
-use results::CompareResult;
-use results::CountResult;
-use results::ExplainResult;
-use results::JudgeResult;
-use results::MoveResult;
-use results::PanelMoved;
-use results::ReadResult;
-use results::SolveResult;
-use results::WriteResult;
 use view::RowIndex;
 
 // Whether the game is accepted.
@@ -35,7 +35,7 @@ use view::RowIndex;
 pub extern "C" fn nanpuwiq_accept(g: Game) -> u8
     ensures { λ r. ⌜ r ≡ firstOf (gameTests g) ⌝ }
 {
-    results::accept_code(acceptance::accept(g))
+    nanpuwiq_results::accept_code(acceptance::accept(g))
 }
 
 // Marks the won positions: one set of outputs for each input.
@@ -43,7 +43,7 @@ pub extern "C" fn nanpuwiq_accept(g: Game) -> u8
 pub extern "C" fn nanpuwiq_won_map(g: Game, scratch: &mut [u64], map: &mut [u64]) -> u8
     ensures { λ r. ⌜ MapCalled g (now (scratch .entry)) (now (scratch .exit)) (now (map .entry)) (now (map .exit)) r ⌝ }
 {
-    results::map_code(map::won_map(g, scratch, map))
+    nanpuwiq_results::map_code(map::won_map(g, scratch, map))
 }
 
 // Marks the won positions of a game of at most 32 states a graph, on the joined positions.
@@ -51,7 +51,7 @@ pub extern "C" fn nanpuwiq_won_map(g: Game, scratch: &mut [u64], map: &mut [u64]
 pub extern "C" fn nanpuwiq_joined_map(g: Game, scratch: &mut [u64], map: &mut [u64]) -> u8
     ensures { λ r. ⌜ JoinedCalled g (now (scratch .entry)) (now (scratch .exit)) (now (map .entry)) (now (map .exit)) r ⌝ }
 {
-    results::joined_code(joined::joined_map(g, scratch, map))
+    nanpuwiq_results::joined_code(joined::joined_map(g, scratch, map))
 }
 
 // Marks the won positions of a game with bars: some outputs are barred with certain inputs.
@@ -64,7 +64,7 @@ pub extern "C" fn nanpuwiq_barred_map(
 ) -> u8
     ensures { λ r. ⌜ BarredCalled g (now (bars .entry)) (now (scratch .entry)) (now (scratch .exit)) (now (map .entry)) (now (map .exit)) r ⌝ }
 {
-    results::map_code(interlock::barred_map(g, bars, scratch, map))
+    nanpuwiq_results::map_code(interlock::barred_map(g, bars, scratch, map))
 }
 
 // Which side wins a game with bars.
@@ -72,7 +72,7 @@ pub extern "C" fn nanpuwiq_barred_map(
 pub extern "C" fn nanpuwiq_barred_verdict(g: Game, bars: &[u64], scratch: &mut [u64]) -> JudgeResult
     ensures { λ r. ⌜ JudgeCalled g (now (bars .entry)) (now (scratch .entry)) (now (scratch .exit)) r ⌝ }
 {
-    results::judge_result(interlock::barred_verdict(g, bars, scratch))
+    nanpuwiq_results::judge_result(interlock::barred_verdict(g, bars, scratch))
 }
 
 // What made the position of an input and an output won or lost.
@@ -85,7 +85,7 @@ pub extern "C" fn nanpuwiq_explain(
 ) -> ExplainResult
     ensures { λ r. ⌜ ExplainCalled g (now (scratch .entry)) (now (scratch .exit)) i o r ⌝ }
 {
-    results::explain_result(explain::explain(g, scratch, i, o))
+    nanpuwiq_results::explain_result(explain::explain(g, scratch, i, o))
 }
 
 // Names the side that wins and writes its table into the front of its buffer.
@@ -99,7 +99,7 @@ pub extern "C" fn nanpuwiq_solve(
     ensures { λ r. ⌜ SolveCalled g (now (scratch .entry)) (now (scratch .exit)) (now (controller .entry)) (now (controller .exit)) (now (panel .entry))
         (now (panel .exit)) r ⌝ }
 {
-    results::solve_result(solver::solve_into(g, scratch, controller, panel))
+    nanpuwiq_results::solve_result(solver::solve_into(g, scratch, controller, panel))
 }
 
 // The same, the controller's table in the compact layout, with its rows by component.
@@ -113,7 +113,7 @@ pub extern "C" fn nanpuwiq_solve_compact(
     ensures { λ r. ⌜ CompactCalled g (now (scratch .entry)) (now (scratch .exit)) (now (controller .entry)) (now (controller .exit)) (now (panel .entry))
         (now (panel .exit)) r ⌝ }
 {
-    results::solve_result(solver::solve_compact_into(g, scratch, controller, panel))
+    nanpuwiq_results::solve_result(solver::solve_compact_into(g, scratch, controller, panel))
 }
 
 // Whether a controller's table wins; else what shows that it does not, with the walk at the front of the room.
@@ -121,7 +121,7 @@ pub extern "C" fn nanpuwiq_solve_compact(
 pub extern "C" fn nanpuwiq_check(g: Game, table: &[u16], room: &mut [u16]) -> CheckResult
     ensures { λ r. ⌜ CheckCalled g (now (table .entry)) (now (room .entry)) (now (room .exit)) r ⌝ }
 {
-    results::check_result(checker::check(g, table, room))
+    nanpuwiq_results::check_result(checker::check(g, table, room))
 }
 
 // How many components the input graph has: the count that the compact layout asks for.
@@ -129,7 +129,7 @@ pub extern "C" fn nanpuwiq_check(g: Game, table: &[u16], room: &mut [u16]) -> Ch
 pub extern "C" fn nanpuwiq_components(g: Game) -> CountResult
     ensures { λ r. ⌜ CountCalled g r ⌝ }
 {
-    results::count_result(compact_moves::count_components(g))
+    nanpuwiq_results::count_result(compact_moves::count_components(g))
 }
 
 // Writes a controller's table of the full layout in the compact one, with its rows by component, into the front of the room.
@@ -137,7 +137,7 @@ pub extern "C" fn nanpuwiq_components(g: Game) -> CountResult
 pub extern "C" fn nanpuwiq_to_compact(g: Game, table: &[u16], room: &mut [u16]) -> MoveResult
     ensures { λ r. ⌜ OverCalled g (now (table .entry)) (now (room .entry)) (now (room .exit)) r ⌝ }
 {
-    results::move_result(compact_moves::to_compact(g, table, room))
+    nanpuwiq_results::move_result(compact_moves::to_compact(g, table, room))
 }
 
 // Writes a controller's table of the compact layout in the full one into the front of the room.
@@ -145,7 +145,7 @@ pub extern "C" fn nanpuwiq_to_compact(g: Game, table: &[u16], room: &mut [u16]) 
 pub extern "C" fn nanpuwiq_to_full(g: Game, table: &[u16], room: &mut [u16]) -> MoveResult
     ensures { λ r. ⌜ BackCalled g (now (table .entry)) (now (room .entry)) (now (room .exit)) r ⌝ }
 {
-    results::move_result(compact_moves::to_full(g, table, room))
+    nanpuwiq_results::move_result(compact_moves::to_full(g, table, room))
 }
 
 // The entry of a row of a table of the compact layout: that of an output, a counter and the new input.
@@ -174,7 +174,7 @@ pub extern "C" fn nanpuwiq_compact_row(
 pub extern "C" fn nanpuwiq_accept_kit(k: Kit) -> u8
     ensures { λ r. ⌜ r ≡ firstOf (kitTests k) ⌝ }
 {
-    results::accept_code(kit_checks::accept_kit(k))
+    nanpuwiq_results::accept_code(kit_checks::accept_kit(k))
 }
 
 // Names the side that wins the kit's game. Where the system does, the front of room becomes the kit's table.
@@ -189,7 +189,7 @@ pub extern "C" fn nanpuwiq_solve_kit(
     ensures { λ r. ⌜ KitCalled k (now (scratch .entry)) (now (scratch .exit)) (now (controller .entry)) (now (controller .exit)) (now (panel .entry))
         (now (panel .exit)) (now (room .entry)) (now (room .exit)) r ⌝ }
 {
-    results::solve_result(kit::solve_kit(k, scratch, controller, panel, room))
+    nanpuwiq_results::solve_result(kit::solve_kit(k, scratch, controller, panel, room))
 }
 
 // The game that a text describes.
@@ -197,7 +197,7 @@ pub extern "C" fn nanpuwiq_solve_kit(
 pub extern "C" fn nanpuwiq_read(text: &[u8]) -> ReadResult
     ensures { λ r. ⌜ ReadCalled (now (text .entry)) r ⌝ }
 {
-    results::read_result(text::read(text))
+    nanpuwiq_results::read_result(text::read(text))
 }
 
 // Writes the text of a game into the front of the buffer.
@@ -205,7 +205,7 @@ pub extern "C" fn nanpuwiq_read(text: &[u8]) -> ReadResult
 pub extern "C" fn nanpuwiq_write(g: Game, buffer: &mut [u8]) -> WriteResult
     ensures { λ r. ⌜ WriteCalled g (now (buffer .entry)) (now (buffer .exit)) r ⌝ }
 {
-    results::write_result(text::write(g, buffer))
+    nanpuwiq_results::write_result(text::write(g, buffer))
 }
 
 // The first position: `first` with the output and the counter that the table's start gives. On a refusal the position is all zero.
@@ -213,7 +213,7 @@ pub extern "C" fn nanpuwiq_write(g: Game, buffer: &mut [u8]) -> WriteResult
 pub extern "C" fn nanpuwiq_begin(g: Game, table: &[u16], first: InState) -> Moved
     ensures { λ r. ⌜ r ≡ movedOf nowhere (beginning g (now (table .entry)) first) ⌝ }
 {
-    results::first_move(player::begin(g, table, first))
+    nanpuwiq_results::first_move(player::begin(g, table, first))
 }
 
 // The position after the next input, with the output and the counter that the table's row gives. On a refusal the position is the old one.
@@ -237,7 +237,7 @@ pub extern "C" fn nanpuwiq_advance(g: Game, table: &[u16], at: &mut Position, ne
 pub extern "C" fn nanpuwiq_panel_first(g: Game, table: &[u16]) -> PanelMoved
     ensures { λ r. ⌜ r ≡ panelMoved (panelFirst g (now (table .entry))) ⌝ }
 {
-    results::panel_move(panel_player::first(g, table))
+    nanpuwiq_results::panel_move(panel_player::first(g, table))
 }
 
 // The first position against a panel's table: the input and the counter of its start with the output `first`. On a refusal the position is all zero.
@@ -245,7 +245,7 @@ pub extern "C" fn nanpuwiq_panel_first(g: Game, table: &[u16]) -> PanelMoved
 pub extern "C" fn nanpuwiq_panel_begin(g: Game, table: &[u16], first: OutState) -> Moved
     ensures { λ r. ⌜ r ≡ movedOf nowhere (panelBegin g (now (table .entry)) first) ⌝ }
 {
-    results::first_move(panel_player::begin(g, table, first))
+    nanpuwiq_results::first_move(panel_player::begin(g, table, first))
 }
 
 // The panel's next input and counter at a position, by the row of its table.
@@ -253,7 +253,7 @@ pub extern "C" fn nanpuwiq_panel_begin(g: Game, table: &[u16], first: OutState) 
 pub extern "C" fn nanpuwiq_panel_next(g: Game, table: &[u16], at: Position) -> PanelMoved
     ensures { λ r. ⌜ r ≡ panelMoved (panelNext g (now (table .entry)) at) ⌝ }
 {
-    results::panel_move(panel_player::next(g, table, at))
+    nanpuwiq_results::panel_move(panel_player::next(g, table, at))
 }
 
 // The position after that move, with the output `next`. On a refusal the position is the old one.
@@ -274,5 +274,5 @@ pub extern "C" fn nanpuwiq_compare<'a, 'b, 'c>(
 ) -> CompareResult
     ensures { λ r. ⌜ r ≡ compareResult (compared g (now (table .entry)) (now (inputs .entry .states)) (now (outputs .entry .states))) ⌝ }
 {
-    results::compare_result(recorder::compare(g, table, inputs, outputs))
+    nanpuwiq_results::compare_result(recorder::compare(g, table, inputs, outputs))
 }

@@ -13,8 +13,8 @@ use Rattle.finite.proofs.Truth.{and-intro, and-left, and-right, and-false-left,
 use Rattle.arena.specs.Table.{Answer, none, gives, Names}
 use Rattle.theory.specs.Entries.{answer}
 use Rattle.game.specs.declared.OutState.{OutState}
-use Rattle.place.specs.declared.Position.{Position}
-use Rattle.place.specs.declared.Played.the-variants.{At}
+use Rattle.player_place.specs.declared.Position.{Position}
+use Rattle.player_place.specs.declared.Played.the-variants.{At}
 use Rattle.panel_place.specs.declared.PanelMove.{PanelMove}
 use Rattle.panel_place.specs.declared.Picked.{Picked}
 use Rattle.panel_place.specs.declared.Picked.the-variants.{To, Refused}

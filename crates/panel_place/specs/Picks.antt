@@ -11,8 +11,8 @@ use lib.Dec.{ltb}
 use Rattle.arena.specs.Table.{Answer, none, gives}
 use Rattle.game.specs.declared.InState.{InState}
 use Rattle.game.specs.declared.OutState.{OutState}
-use Rattle.place.specs.declared.Played.{Played}
-use Rattle.place.specs.declared.Played.the-variants as played·
+use Rattle.player_place.specs.declared.Played.{Played}
+use Rattle.player_place.specs.declared.Played.the-variants as played·
 use Rattle.panel_place.specs.declared.Picked.{Picked}
 use Rattle.panel_place.specs.declared.Picked.the-variants.{To, Refused}
 

@@ -2,8 +2,8 @@
 use game::Game;
 use game::InState;
 use game::OutState;
-use place::Played;
-use place::Position;
+use player_place::Played;
+use player_place::Position;
 ghost use mathlib.Core.Path.{_≡_};
 ghost use Prim.Native.Nat.{_≤_, _<_};
 ghost use Rattle.sets.specs.Words.{capacity};
@@ -32,7 +32,7 @@ pub fn opens_with(g: Game, o: OutState) -> bool
     ensures { λ r. ⌜ r ≡ begins (graphOf (g .output)) (o .0) ⌝ }
 {
     let h = g.output;
-    place::holds(h.initial, h.states, o.0)
+    player_place::holds(h.initial, h.states, o.0)
 }
 
 // Whether output o, a state of the game, moves to p.
@@ -42,7 +42,7 @@ pub fn replies_with(g: Game, o: OutState, p: OutState) -> bool
 {
     let h = g.output;
     let s = o.0;
-    place::holds(sets::row_of(&h.moves, s), h.states, p.0)
+    player_place::holds(sets::row_of(&h.moves, s), h.states, p.0)
 }
 
 // The input that an entry names, if it is not none.

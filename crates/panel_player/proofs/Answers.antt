@@ -25,13 +25,13 @@ use Rattle.play.specs.Play.{graphOf, separatedOf}
 use Rattle.theory.specs.Entries.{answer, environmentCounters, environmentEntries, environmentTable}
 use Rattle.demands.specs.Demands.{environmentOf}
 use Rattle.demands.proofs.Sizes.{environment-few}
-use Rattle.place.specs.declared.Position.{Position}
-use Rattle.place.specs.declared.Played.{Played}
-use Rattle.place.specs.declared.Played.the-variants as played·
-use Rattle.place.specs.Place.{provided, names, hasPosition}
-use Rattle.place.specs.Place as place
-use Rattle.place.proofs.Moves.{inputs-most, outputs-most}
-use Rattle.place.proofs.Tests.{held, refused, position-in}
+use Rattle.player_place.specs.declared.Position.{Position}
+use Rattle.player_place.specs.declared.Played.{Played}
+use Rattle.player_place.specs.declared.Played.the-variants as played·
+use Rattle.player_place.specs.Place.{provided, names, hasPosition}
+use Rattle.player_place.specs.Place as place
+use Rattle.player_place.proofs.Moves.{inputs-most, outputs-most}
+use Rattle.player_place.proofs.Tests.{held, refused, position-in}
 use Rattle.player.specs.Player.{afterAcceptance, Plays}
 use Rattle.player.proofs.Answers.{provided-number, after-number}
 use Rattle.panel_place.specs.declared.Picked.{Picked}

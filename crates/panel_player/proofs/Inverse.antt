@@ -18,9 +18,9 @@ use Rattle.game.specs.Acceptance.{acceptance}
 use Rattle.play.specs.Play.{graphOf, separatedOf}
 use Rattle.theory.specs.Entries.{environmentCounters, environmentTable}
 use Rattle.demands.specs.Demands.{playOf, environmentOf}
-use Rattle.place.specs.declared.Position.{Position}
-use Rattle.place.specs.declared.Played.the-variants.{At}
-use Rattle.place.specs.Place.{provided, hasPosition}
+use Rattle.player_place.specs.declared.Position.{Position}
+use Rattle.player_place.specs.declared.Played.the-variants.{At}
+use Rattle.player_place.specs.Place.{provided, hasPosition}
 use Rattle.player.specs.Runs.{configuration}
 use Rattle.player.proofs.Inverse.{provided-from, accepted-from}
 use Rattle.panel_place.specs.Picks.{joined}

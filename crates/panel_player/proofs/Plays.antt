@@ -32,11 +32,11 @@ use Rattle.theory.specs.Region.{verdict}
 use Rattle.theory.specs.Entries.{environmentCounters, environmentEntries, environmentTable}
 use Rattle.demands.specs.Demands.{playOf, environmentOf}
 use Rattle.demands.proofs.Demands.{demand-three-environment}
-use Rattle.place.specs.declared.Position.{Position}
-use Rattle.place.specs.declared.Played.{Played}
-use Rattle.place.specs.declared.Played.the-variants.{At, Refused}
-use Rattle.place.specs.Place.{hasPosition}
-use Rattle.place.proofs.Tests.{counter-last}
+use Rattle.player_place.specs.declared.Position.{Position}
+use Rattle.player_place.specs.declared.Played.{Played}
+use Rattle.player_place.specs.declared.Played.the-variants.{At, Refused}
+use Rattle.player_place.specs.Place.{hasPosition}
+use Rattle.player_place.proofs.Tests.{counter-last}
 use Rattle.player.specs.Runs.{configuration, positionOf}
 use Rattle.panel_place.specs.declared.PanelMove.{PanelMove}
 use Rattle.panel_place.specs.declared.Picked.the-variants.{To}

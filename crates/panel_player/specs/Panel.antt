@@ -29,9 +29,9 @@ use Rattle.game.specs.Numbers.{firstOf, gameTests}
 use Rattle.play.specs.Play.{graphOf, separatedOf}
 use Rattle.theory.specs.Entries.{environmentCounters, environmentEntries}
 use Rattle.demands.specs.Demands.{environmentOf}
-use Rattle.place.specs.declared.Position.{Position}
-use Rattle.place.specs.declared.Played.{Played}
-use Rattle.place.specs.Place.{provided, names, hasPosition}
+use Rattle.player_place.specs.declared.Position.{Position}
+use Rattle.player_place.specs.declared.Played.{Played}
+use Rattle.player_place.specs.Place.{provided, names, hasPosition}
 use Rattle.player.specs.Player.{afterAcceptance}
 use Rattle.panel_place.specs.declared.Picked.{Picked}
 use Rattle.panel_place.specs.declared.Picked.the-variants.{Refused}

@@ -24,10 +24,10 @@ use Rattle.game.specs.declared.Game.{Game}
 use Rattle.play.specs.Play.{graphOf, separatedOf}
 use Rattle.theory.specs.Entries.{environmentCounters}
 use Rattle.demands.specs.Demands.{playOf, environmentOf}
-use Rattle.place.specs.declared.Position.{Position}
-use Rattle.place.specs.Place.{hasPosition}
-use Rattle.place.specs.declared.Played.{Played}
-use Rattle.place.specs.declared.Played.the-variants.{At, Refused}
+use Rattle.player_place.specs.declared.Position.{Position}
+use Rattle.player_place.specs.Place.{hasPosition}
+use Rattle.player_place.specs.declared.Played.{Played}
+use Rattle.player_place.specs.declared.Played.the-variants.{At, Refused}
 use Rattle.player.specs.Runs.{configuration, positionOf}
 use Rattle.panel_place.specs.declared.PanelMove.{PanelMove}
 use Rattle.panel_place.specs.declared.Picked.the-variants.{To}

@@ -3,16 +3,16 @@ use game::Acceptance;
 use game::Game;
 use game::OutState;
 use panel_place::Picked;
-use place::Played;
-use place::Position;
 use player::Moved;
+use player_place::Played;
+use player_place::Position;
 ghost use mathlib.Core.Bool.{true};
 ghost use mathlib.Core.Path.{_≡_};
 ghost use Rattle.game.specs.Acceptance.{acceptance};
 ghost use Rattle.game.specs.declared.Acceptance.the-variants.{Accepted};
 ghost use Rattle.play.specs.Play.{separatedOf};
 ghost use Rattle.theory.specs.Entries.{environmentCounters};
-ghost use Rattle.place.specs.Place.{hasPosition};
+ghost use Rattle.player_place.specs.Place.{hasPosition};
 ghost use Rattle.player.specs.Player.{Plays, movedOf};
 ghost use Rattle.panel_player.specs.Panel.{
   startMove,
@@ -39,8 +39,8 @@ fn start_move(g: Game, table: &[u16]) -> Picked
     ensures { λ r. ⌜ r ≡ startMove g (now (table .entry)) ⌝ }
 {
     let entry = view::entry(table, 0);
-    let allowed = place::begins_with(g, panel_place::named(entry));
-    panel_place::pick(sizes::environment_counters(g), entry, allowed)
+    let allowed = player_place::begins_with(g, panel_place::named(entry));
+    panel_place::pick(table_sizes::environment_counters(g), entry, allowed)
 }
 
 // The entry of the row at a position that the game has.
@@ -60,7 +60,7 @@ fn row_move(g: Game, table: &[u16], counters: usize, at: Position) -> Picked
     ensures { λ r. ⌜ r ≡ rowMove g (now (table .entry)) at ⌝ }
 {
     let entry = row_entry(g, table, counters, at);
-    let allowed = place::moves_to(g, at.input, panel_place::named(entry));
+    let allowed = player_place::moves_to(g, at.input, panel_place::named(entry));
     panel_place::pick(counters, entry, allowed)
 }
 
@@ -69,7 +69,7 @@ fn first_accepted(g: Game, table: &[u16]) -> Picked
     requires { ⌜ acceptance g ≡ Accepted ⌝ }
     ensures { λ r. ⌜ r ≡ firstMove g (now (table .entry)) ⌝ }
 {
-    if table.len() != sizes::environment_length(g) {
+    if table.len() != table_sizes::environment_length(g) {
         return Picked::Refused(16);
     }
     start_move(g, table)
@@ -80,7 +80,7 @@ fn begin_accepted(g: Game, table: &[u16], first: OutState) -> Played
     requires { ⌜ acceptance g ≡ Accepted ⌝ }
     ensures { λ r. ⌜ r ≡ firstPlace g (now (table .entry)) first ⌝ }
 {
-    if table.len() != sizes::environment_length(g) {
+    if table.len() != table_sizes::environment_length(g) {
         return Played::Refused(16);
     }
     if !panel_place::opens_with(g, first) {
@@ -94,11 +94,11 @@ fn next_accepted(g: Game, table: &[u16], at: Position) -> Picked
     requires { ⌜ acceptance g ≡ Accepted ⌝ }
     ensures { λ r. ⌜ r ≡ nextMove g (now (table .entry)) at ⌝ }
 {
-    if table.len() != sizes::environment_length(g) {
+    if table.len() != table_sizes::environment_length(g) {
         return Picked::Refused(16);
     }
-    let counters = sizes::environment_counters(g);
-    if !place::has_position(g, counters, at) {
+    let counters = table_sizes::environment_counters(g);
+    if !player_place::has_position(g, counters, at) {
         return Picked::Refused(16);
     }
     row_move(g, table, counters, at)
@@ -109,11 +109,11 @@ fn step_accepted(g: Game, table: &[u16], at: Position, next: OutState) -> Played
     requires { ⌜ acceptance g ≡ Accepted ⌝ }
     ensures { λ r. ⌜ r ≡ nextPlace g (now (table .entry)) at next ⌝ }
 {
-    if table.len() != sizes::environment_length(g) {
+    if table.len() != table_sizes::environment_length(g) {
         return Played::Refused(16);
     }
-    let counters = sizes::environment_counters(g);
-    if !place::has_position(g, counters, at) {
+    let counters = table_sizes::environment_counters(g);
+    if !player_place::has_position(g, counters, at) {
         return Played::Refused(16);
     }
     if !panel_place::replies_with(g, at.output, next) {

@@ -25,17 +25,17 @@ use Rattle.arena.specs.Table.{Answer, none, gives}
 use Rattle.play.specs.Play.{graphOf, separatedOf}
 use Rattle.theory.specs.Entries.{answer, controllerCounters, controllerEntries, controllerTable}
 use Rattle.demands.specs.Demands.{controllerOf}
-use Rattle.sizes.proofs.Lengths.{controller-most}
-use Rattle.place.specs.declared.Position.{Position}
+use Rattle.table_sizes.proofs.Lengths.{controller-most}
+use Rattle.player_place.specs.declared.Position.{Position}
 use Rattle.view.specs.declared.RowIndex.{RowIndex}
-use Rattle.place.specs.declared.Played.{Played}
-use Rattle.place.specs.declared.Played.the-variants.{At, Refused}
+use Rattle.player_place.specs.declared.Played.{Played}
+use Rattle.player_place.specs.declared.Played.the-variants.{At, Refused}
 use Rattle.view.specs.Rows.{rowEntry}
-use Rattle.place.specs.Place.{provided, arrives, names, numberOf, hasPosition}
+use Rattle.player_place.specs.Place.{provided, arrives, names, numberOf, hasPosition}
 use Rattle.player.specs.Player.{fitting, begun, stepped, afterAcceptance, beginning, stepping, beginTests, stepTests, Plays}
 use Rattle.view.proofs.Range.{in-range, row-read}
-use Rattle.place.proofs.Tests.{held, refused, position-in}
-use Rattle.place.proofs.Moves.{inputs-most, outputs-most, initial-outputs, output-moves}
+use Rattle.player_place.proofs.Tests.{held, refused, position-in}
+use Rattle.player_place.proofs.Moves.{inputs-most, outputs-most, initial-outputs, output-moves}
 
 -- ---- the beginning
 

@@ -21,12 +21,12 @@ use Rattle.game.specs.Acceptance.{acceptance}
 use Rattle.play.specs.Play.{graphOf, separatedOf}
 use Rattle.theory.specs.Entries.{controllerCounters}
 use Rattle.demands.specs.Demands.{controllerOf}
-use Rattle.place.specs.declared.Position.{Position}
-use Rattle.place.specs.declared.Played.{Played}
-use Rattle.place.specs.declared.Played.the-variants.{At, Refused}
-use Rattle.place.specs.Place.{provided, arrives, hasPosition}
+use Rattle.player_place.specs.declared.Position.{Position}
+use Rattle.player_place.specs.declared.Played.{Played}
+use Rattle.player_place.specs.declared.Played.the-variants.{At, Refused}
+use Rattle.player_place.specs.Place.{provided, arrives, hasPosition}
 use Rattle.player.specs.Player.{fitting, begun, stepped, afterAcceptance, beginning, stepping}
-use Rattle.place.proofs.Tests.{held}
+use Rattle.player_place.proofs.Tests.{held}
 
 pub provided-from : (b : Bool) (n : ℕ) (a : Played) (p : Position) → provided b n a ≡ At p → (b ≡ true) × (a ≡ At p)
 unfolding provided

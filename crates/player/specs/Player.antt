@@ -26,11 +26,11 @@ use Rattle.game.specs.Numbers.{firstOf, gameTests}
 use Rattle.play.specs.Play.{graphOf, separatedOf}
 use Rattle.theory.specs.Entries.{controllerCounters, controllerEntries}
 use Rattle.demands.specs.Demands.{controllerOf}
-use Rattle.place.specs.declared.Position.{Position}
-use Rattle.place.specs.Place.{provided, arrives, names, numberOf, hasPosition}
+use Rattle.player_place.specs.declared.Position.{Position}
+use Rattle.player_place.specs.Place.{provided, arrives, names, numberOf, hasPosition}
 use Rattle.player.specs.declared.Moved.{Moved}
-use Rattle.place.specs.declared.Played.{Played}
-use Rattle.place.specs.declared.Played.the-variants.{At, Refused}
+use Rattle.player_place.specs.declared.Played.{Played}
+use Rattle.player_place.specs.declared.Played.the-variants.{At, Refused}
 
 -- "16 table not of the controller's length"
 unfoldable pub fitting : Game → List ℕ → Bool

@@ -21,9 +21,9 @@ use Rattle.game.specs.declared.InState.{InState}
 use Rattle.game.specs.declared.Game.{Game}
 use Rattle.play.specs.Play.{graphOf}
 use Rattle.demands.specs.Demands.{playOf, controllerOf}
-use Rattle.place.specs.declared.Position.{Position}
-use Rattle.place.specs.declared.Played.{Played}
-use Rattle.place.specs.declared.Played.the-variants.{At, Refused}
+use Rattle.player_place.specs.declared.Position.{Position}
+use Rattle.player_place.specs.declared.Played.{Played}
+use Rattle.player_place.specs.declared.Played.the-variants.{At, Refused}
 use Rattle.player.specs.Player.{beginning, stepping}
 
 -- "A configuration is input, output and memory." "its counters being the memory"

@@ -2,8 +2,8 @@
 use game::Acceptance;
 use game::Game;
 use game::InState;
-use place::Played;
-use place::Position;
+use player_place::Played;
+use player_place::Position;
 ghost use mathlib.Core.Path.{_≡_};
 ghost use Rattle.game.specs.Acceptance.{acceptance};
 ghost use Rattle.game.specs.declared.Acceptance.the-variants.{Accepted};
@@ -21,14 +21,14 @@ pub fn begin_accepted(g: Game, table: &[u16], first: InState) -> Played
     requires { ⌜ acceptance g ≡ Accepted ⌝ }
     ensures { λ r. ⌜ r ≡ begun g (now (table .entry)) first ⌝ }
 {
-    if table.len() != sizes::controller_length(g) {
+    if table.len() != table_sizes::controller_length(g) {
         return Played::Refused(16);
     }
-    if !place::begins_with(g, first) {
+    if !player_place::begins_with(g, first) {
         return Played::Refused(14);
     }
-    let counters = sizes::controller_counters(g);
-    place::arrive(
+    let counters = table_sizes::controller_counters(g);
+    player_place::arrive(
         counters,
         game::out_initial(g),
         first,
@@ -41,18 +41,23 @@ pub fn step_accepted(g: Game, table: &[u16], at: Position, next: InState) -> Pla
     requires { ⌜ acceptance g ≡ Accepted ⌝ }
     ensures { λ r. ⌜ r ≡ stepped g (now (table .entry)) at next ⌝ }
 {
-    if table.len() != sizes::controller_length(g) {
+    if table.len() != table_sizes::controller_length(g) {
         return Played::Refused(16);
     }
-    let counters = sizes::controller_counters(g);
-    if !place::has_position(g, counters, at) {
+    let counters = table_sizes::controller_counters(g);
+    if !player_place::has_position(g, counters, at) {
         return Played::Refused(16);
     }
-    if !place::moves_to(g, at.input, next) {
+    if !player_place::moves_to(g, at.input, next) {
         return Played::Refused(14);
     }
-    let entry = view::read(table, g.input.states, counters, place::row_of(at, next));
-    place::arrive(counters, game::out_moves(g, at.output), next, entry)
+    let entry = view::read(
+        table,
+        g.input.states,
+        counters,
+        player_place::row_of(at, next),
+    );
+    player_place::arrive(counters, game::out_moves(g, at.output), next, entry)
 }
 
 // The first position: `first` with the output and the counter that the table's start gives.

@@ -18,8 +18,8 @@ use Rattle.solver.specs.Promise.{verdictAnswer}
 use Rattle.text.specs.declared.Answer.{Answer}
 use Rattle.text.specs.declared.Answer.the-variants.{Read, Misshapen, Refused as NotRead}
 use Rattle.text.specs.declared.Reading.{Reading}
-use Rattle.answer_lines.specs.Line.{refusedLine, misshapenLine}
-use Rattle.answers.specs.Print.{controllerPrint, environmentPrint}
+use Rattle.print_lines.specs.Line.{refusedLine, misshapenLine}
+use Rattle.print_tables.specs.Print.{controllerPrint, environmentPrint}
 
 unfoldable pub tablePrint : Game → Verdict → List ℕ
 tablePrint g (System n) = controllerPrint (g .input .states) (g .output .states) (length (guarantees (separatedOf g))) (controllerEntries (separatedOf g))

@@ -26,9 +26,9 @@ use Rattle.game.specs.Numbers.{firstOf}
 use Rattle.game.proofs.Numbers.{after, game-after}
 use Rattle.play.specs.Play.{separatedOf}
 use Rattle.theory.specs.Entries.{controllerEntries}
-use Rattle.place.specs.declared.Position.{Position}
-use Rattle.place.specs.declared.Played.{Played}
-use Rattle.place.specs.declared.Played.the-variants.{At, Refused as Stopped}
+use Rattle.player_place.specs.declared.Position.{Position}
+use Rattle.player_place.specs.declared.Played.{Played}
+use Rattle.player_place.specs.declared.Played.the-variants.{At, Refused as Stopped}
 use Rattle.player.specs.Player.{fitting, begun, stepped, afterAcceptance, beginning, stepping}
 use Rattle.recorder.specs.declared.Compared.{Compared}
 use Rattle.recorder.specs.declared.Compared.the-variants.{Agree, Differ, Ended, Fault, Refused}

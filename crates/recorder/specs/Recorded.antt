@@ -20,9 +20,9 @@ use Rattle.game.specs.declared.Game.{Game}
 use Rattle.game.specs.declared.Acceptance.the-variants.{Accepted, Refused as Faulty}
 use Rattle.game.specs.Acceptance.{acceptance}
 use Rattle.game.specs.Numbers.{firstOf, gameTests}
-use Rattle.place.specs.declared.Position.{Position}
-use Rattle.place.specs.declared.Played.{Played}
-use Rattle.place.specs.declared.Played.the-variants.{At, Refused as Stopped}
+use Rattle.player_place.specs.declared.Position.{Position}
+use Rattle.player_place.specs.declared.Played.{Played}
+use Rattle.player_place.specs.declared.Played.the-variants.{At, Refused as Stopped}
 use Rattle.player.specs.Player.{fitting, beginning, stepping}
 use Rattle.recorder.specs.declared.Compared.{Compared}
 use Rattle.recorder.specs.declared.Compared.the-variants.{Agree, Differ, Ended, Fault, Refused}

@@ -3,8 +3,8 @@ use game::Acceptance;
 use game::Game;
 use game::InState;
 use game::OutState;
-use place::Played;
-use place::Position;
+use player_place::Played;
+use player_place::Position;
 ghost use mathlib.Core.Path.{_≡_};
 ghost use Prim.Native.Nat.{_≤_, _<_};
 ghost use lib.ListN.{length, getD, drop};
@@ -102,7 +102,7 @@ fn compare_states(g: Game, table: &[u16], inputs: &[u8], outputs: &[u8]) -> Comp
     match acceptance::accept(g) {
         Acceptance::Refused(n) => Compared::Refused(n),
         Acceptance::Accepted => {
-            if table.len() != sizes::controller_length(g) {
+            if table.len() != table_sizes::controller_length(g) {
                 return Compared::Refused(16);
             }
             follow(g, table, inputs, outputs)

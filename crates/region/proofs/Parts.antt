@@ -15,9 +15,9 @@ use Rattle.scratch.specs.declared.Nontrivial.{Nontrivial}
 use Rattle.scratch.specs.Scratch.{scratchSets, Kept}
 use Rattle.scratch.specs.Stored.{outArea, NontrivialOf, Laid}
 use Rattle.scratch.proofs.Areas.{area-closes}
-use Rattle.dues.specs.Dues.{Serves, Serving}
-use Rattle.dues.proofs.Meaning.{serving-closed}
-use Rattle.ranks.specs.Fill.{Filling, PastKept}
+use Rattle.region_dues.specs.Dues.{Serves, Serving}
+use Rattle.region_dues.proofs.Meaning.{serving-closed}
+use Rattle.region_ranks.specs.Fill.{Filling, PastKept}
 
 module _ {g : Game} {s : List ℕ} (F : Fits g) (L : Laid g s) where
   -- nothing reaches no state, so all that the first rows need stands

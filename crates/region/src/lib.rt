@@ -6,11 +6,11 @@ ghost use Rattle.sets.specs.Words.{bitsOf};
 ghost use Rattle.game.specs.Fits.{Fits};
 ghost use Rattle.scratch.specs.Scratch.{scratchLength};
 ghost use Rattle.scratch.specs.Stored.{Ready};
-ghost use Rattle.dues.specs.Dues.{serverList, Serving};
-ghost use Rattle.ranks.specs.Fill.{Filling, PastKept};
+ghost use Rattle.region_dues.specs.Dues.{serverList, Serving};
+ghost use Rattle.region_ranks.specs.Fill.{Filling, PastKept};
 ghost use Rattle.region.specs.Fill.{Prepared};
-use dues::Servers;
 use game::Game;
+use region_dues::Servers;
 use scratch::Nontrivial;
 
 // Writes all rows, those of the inputs that reach fewer states first.
@@ -27,7 +27,7 @@ fn fill<'a>(
 {
     let mut k: usize = 1;
     while k <= g.input.states {
-        ranks::fill_rank(g, ins, outs, t, s, x, k);
+        region_ranks::fill_rank(g, ins, outs, t, s, x, k);
         k += 1;
     }
 }
@@ -39,7 +39,7 @@ pub fn prepare(g: Game, s: &mut [u64]) -> Nontrivial
 {
     scratch::close(g, s);
     let x = scratch::nontrivial_states(g, s);
-    let t = dues::served(g, s);
+    let t = region_dues::served(g, s);
     fill(g, &g.input.moves, &g.output.moves, t, s, x);
     x
 }

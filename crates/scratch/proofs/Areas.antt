@@ -22,8 +22,8 @@ use Rattle.graphs.proofs.Front.{rows-length, rows-row, rows-rest}
 use Rattle.game.specs.declared.Graph.{Graph}
 use Rattle.game.specs.declared.Game.{Game}
 use Rattle.play.specs.Play.{graphOf}
-use Rattle.closure.specs.Sweep.{Closed}
-use Rattle.components.specs.Closes.{Closes}
+use Rattle.graph_closure.specs.Sweep.{Closed}
+use Rattle.graph_components.specs.Closes.{Closes}
 use Rattle.scratch.specs.Scratch.{scratchSets, scratchLength, Kept}
 use Rattle.scratch.specs.Stored.{inReachAt, rowAt, outReachAt, outArea, RowPut, Laid}
 use Rattle.scratch.specs.Areas.{ClosedAt}

@@ -6,7 +6,7 @@ ghost use lib.ListN.{length as lengthOf, drop};
 ghost use Rattle.finite.specs.Bounded.{count as members};
 ghost use Rattle.bits.specs.Member.{has, pack};
 ghost use Rattle.sets.specs.Words.{capacity, bitsOf, setsIn, setCount};
-ghost use Rattle.components.specs.Component.{together, nontrivialAt};
+ghost use Rattle.graph_components.specs.Component.{together, nontrivialAt};
 ghost use Rattle.game.specs.Fits.{Fits};
 ghost use Rattle.scratch.specs.Scratch.{scratchSets, scratchLength, Kept};
 ghost use Rattle.scratch.specs.Stored.{inReachAt, rowAt, outReachAt, outArea, wonAt, someWonAt, Reached, RowPut, NontrivialOf, Laid};
@@ -70,7 +70,7 @@ pub fn in_component(s: &[u64], n: usize, i: InState) -> InSet
     requires { ⌜ (n ≤ capacity) × (i .0 < n) × (n ≤ setCount (now s)) ⌝ }
     ensures { λ r. ⌜ bitsOf (r .0) ≡ pack n (together (setsIn (now (s .entry))) (i .0)) ⌝ }
 {
-    InSet(components::component(s, n, i.0))
+    InSet(graph_components::component(s, n, i.0))
 }
 
 // The component of output o, of m outputs.
@@ -79,7 +79,7 @@ pub fn out_component(s: &[u64], n: usize, m: usize, o: OutState) -> OutSet
     ensures { λ r. ⌜ bitsOf (r .0) ≡ pack m (together (outArea (setsIn (now (s .entry))) n) (o .0)) ⌝ }
 {
     let at = sets::words(n + n);
-    OutSet(components::component(&s[at..], m, o.0))
+    OutSet(graph_components::component(&s[at..], m, o.0))
 }
 
 // The closure of f, from set number at of s on.
@@ -88,7 +88,7 @@ fn close_at(f: Graph, s: &mut [u64], at: usize)
     ensures { λ _. ⌜ ClosedAt f at (setsIn (now (s .entry))) (setsIn (now (s .exit))) ⌝ }
 {
     let start = sets::words(at);
-    closure::close(f, &mut s[start..]);
+    graph_closure::close(f, &mut s[start..]);
 }
 
 // Works out both closures.
@@ -107,7 +107,7 @@ fn nontrivial_at(f: Graph, s: &[u64], at: usize) -> Set
     ensures { λ r. ⌜ bitsOf r ≡ pack (f .states) (nontrivialAt (setsIn (f .moves)) (drop at (setsIn (now (s .entry)))) (f .states)) ⌝ }
 {
     let start = sets::words(at);
-    components::nontrivial(f, &s[start..])
+    graph_components::nontrivial(f, &s[start..])
 }
 
 // The states in nontrivial components, from both closures.

@@ -16,7 +16,7 @@ use Rattle.play.specs.Play.{separatedOf}
 use Rattle.theory.specs.Choice.{guarantees, assumptions}
 use Rattle.theory.specs.Entries.{controllerCounters, environmentCounters, controllerEntries, environmentEntries}
 use Rattle.demands.proofs.Sizes.{controller-few, environment-few}
-use Rattle.sizes.proofs.Lengths.{controller-length, environment-length, inputs-most, outputs-most}
+use Rattle.table_sizes.proofs.Lengths.{controller-length, environment-length, inputs-most, outputs-most}
 use Rattle.solver.specs.declared.Verdict.{Verdict}
 use Rattle.solver.specs.declared.Verdict.the-variants.{System, Environment, Refused as NotSolved}
 use Rattle.solver.specs.Promise.{verdictAnswer}
@@ -28,11 +28,11 @@ use Rattle.text.specs.declared.Answer.{Answer}
 use Rattle.text.specs.declared.Answer.the-variants.{Read, Misshapen, Refused as NotRead}
 use Rattle.text.specs.declared.Reading.{Reading}
 use Rattle.text.specs.Read.{Reads}
-use Rattle.put.specs.Put.{Puts}
-use Rattle.put.proofs.Buffer.{puts-as}
-use Rattle.answers.specs.Print.{inRange, controllerFits, environmentFits, onlyIf, controllerPrint, environmentPrint, controllerAnswer, environmentAnswer}
-use Rattle.answer_lines.specs.Line.{refusedLine, misshapenLine}
-use Rattle.answers.proofs.Room.{controller-room, environment-room, refused-room, misshapen-room, entries-small}
+use Rattle.text_put.specs.Put.{Puts}
+use Rattle.text_put.proofs.Buffer.{puts-as}
+use Rattle.print_tables.specs.Print.{inRange, controllerFits, environmentFits, onlyIf, controllerPrint, environmentPrint, controllerAnswer, environmentAnswer}
+use Rattle.print_lines.specs.Line.{refusedLine, misshapenLine}
+use Rattle.print_tables.proofs.Room.{controller-room, environment-room, refused-room, misshapen-room, entries-small}
 use Rattle.prints.specs.Prints.{tablePrint, gamePrint, answerPrint, readingPrint}
 use Rattle.solve.specs.Printed.{Made, Printed}
 

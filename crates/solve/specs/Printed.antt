@@ -4,7 +4,7 @@
 --   Printed s d n e    == the same for the print of the file s
 use Prim.Native.Nat.{ℕ, _≤_}
 use mathlib.Core.List.{List}
-use Rattle.put.specs.Put.{Puts}
+use Rattle.text_put.specs.Put.{Puts}
 use Rattle.text.specs.declared.Reading.{Reading}
 use Rattle.text.specs.Read.{Reads}
 use Rattle.prints.specs.Prints.{readingPrint}

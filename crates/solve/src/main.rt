@@ -6,7 +6,7 @@ ghost use Rattle.game.specs.declared.Acceptance.the-variants.{Accepted};
 ghost use Rattle.game.specs.Acceptance.{acceptance};
 ghost use Rattle.play.specs.Play.{separatedOf};
 ghost use Rattle.theory.specs.Choice.{guarantees, assumptions};
-ghost use Rattle.answers.specs.Print.{controllerAnswer, environmentAnswer};
+ghost use Rattle.print_tables.specs.Print.{controllerAnswer, environmentAnswer};
 ghost use Rattle.prints.specs.Prints.{gamePrint};
 ghost use Rattle.solve.specs.Printed.{Made, Printed};
 use game::Game;
@@ -50,8 +50,8 @@ fn put_system(buffer: &mut [u8], g: Game, table: &[u16]) -> usize
     ensures { λ r. ⌜ Made (now (buffer .entry)) (controllerAnswer (g .input .states) (g .output .states) (length (guarantees (separatedOf g)))
         (now (table .entry))) r (now (buffer .exit)) ⌝ }
 {
-    let sets = sizes::guarantee_count(g);
-    answers::put_controller(buffer, g.input.states, g.output.states, sets, table)
+    let sets = table_sizes::guarantee_count(g);
+    print_tables::put_controller(buffer, g.input.states, g.output.states, sets, table)
 }
 
 // The print of the panel's table.
@@ -60,8 +60,8 @@ fn put_panel(buffer: &mut [u8], g: Game, table: &[u16]) -> usize
     ensures { λ r. ⌜ Made (now (buffer .entry)) (environmentAnswer (g .input .states) (g .output .states) (length (assumptions (separatedOf g)))
         (now (table .entry))) r (now (buffer .exit)) ⌝ }
 {
-    let sets = sizes::assumption_count(g);
-    answers::put_environment(buffer, g.input.states, g.output.states, sets, table)
+    let sets = table_sizes::assumption_count(g);
+    print_tables::put_environment(buffer, g.input.states, g.output.states, sets, table)
 }
 
 // A room, made by a function of its own so that no proof looks into 32,768 zeros.
@@ -95,7 +95,7 @@ fn solve(buffer: &mut [u8], g: Game) -> usize
         &mut panel,
     );
     if refusal != 0 {
-        return answer_lines::put_refused(buffer, refusal);
+        return print_lines::put_refused(buffer, refusal);
     }
     if system {
         return put_system(buffer, g, table);
@@ -110,8 +110,8 @@ fn answer(buffer: &mut [u8], file: &[u8]) -> usize
     let r = text::read(file);
     let a = r.answer;
     match a {
-        Answer::Misshapen(p) => answer_lines::put_misshapen(buffer, p),
-        Answer::Refused(n) => answer_lines::put_refused(buffer, n),
+        Answer::Misshapen(p) => print_lines::put_misshapen(buffer, p),
+        Answer::Refused(n) => print_lines::put_refused(buffer, n),
         Answer::Read => {
             let g = r.game;
             solve(buffer, g)

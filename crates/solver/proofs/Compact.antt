@@ -27,7 +27,7 @@ use Rattle.compact.specs.Compact.{compactLength, compactEntries, compactCell, c
 use Rattle.compact.proofs.Rank.{rank-below}
 use Rattle.compact.proofs.Entries.{compact-entries-length, compact-rank, rows-equal}
 use Rattle.compact.proofs.Claims.{rows-by-component}
-use Rattle.clearing.specs.Clearing.{cleared}
+use Rattle.scratch_clearing.specs.Clearing.{cleared}
 use Rattle.scratch.specs.Scratch.{scratchLength}
 use Rattle.solver.specs.declared.Verdict.{Verdict}
 use Rattle.solver.specs.declared.Verdict.the-variants.{System, Environment, Refused as NotSolved}
@@ -45,7 +45,7 @@ use Rattle.solver.specs.Compact.{
   SolvedCompact,
 }
 use Rattle.solver.proofs.Verdicts.{environment-long}
-use Rattle.winner.specs.Written.{WrittenCompact}
+use Rattle.solver_winner.specs.Written.{WrittenCompact}
 
 -- ---- the number
 

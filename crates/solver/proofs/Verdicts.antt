@@ -23,7 +23,7 @@ use Rattle.demands.specs.Demands.{playOf, controllerOf, environmentOf}
 use Rattle.demands.proofs.Demands.{demand-three-system, demand-three-environment}
 use Rattle.solver.specs.declared.Verdict.{Verdict}
 use Rattle.solver.specs.declared.Verdict.the-variants.{System, Environment, Refused as NotSolved}
-use Rattle.clearing.specs.Clearing.{cleared}
+use Rattle.scratch_clearing.specs.Clearing.{cleared}
 use Rattle.scratch.specs.Scratch.{scratchLength}
 use Rattle.solver.specs.Promise.{
   controllerLength,
@@ -41,7 +41,7 @@ use Rattle.solver.specs.Promise.{
   Decided,
   Solved,
 }
-use Rattle.winner.specs.Written.{Written}
+use Rattle.solver_winner.specs.Written.{Written}
 
 pub controller-long : (g : Game) → length (controllerEntries (separatedOf g)) ≡ controllerLength g
 unfolding controllerLength separatedOf graphOf

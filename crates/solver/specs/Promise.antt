@@ -23,7 +23,7 @@ use Rattle.theory.specs.Entries.{controllerCounters, environmentCounters, contr
 use Rattle.demands.specs.Demands.{playOf, controllerOf, environmentOf}
 use Rattle.solver.specs.declared.Verdict.{Verdict}
 use Rattle.solver.specs.declared.Verdict.the-variants.{System, Environment, Refused as NotSolved}
-use Rattle.clearing.specs.Clearing.{cleared}
+use Rattle.scratch_clearing.specs.Clearing.{cleared}
 use Rattle.scratch.specs.Scratch.{scratchLength}
 
 -- "inputs + outputs × max(1, G) × inputs entries"; "1 + inputs × max(1, H) × outputs entries"

@@ -21,16 +21,16 @@ pub fn solve_accepted(
     if scratch.len() < scratch::length(g) {
         return Verdict::Refused(8);
     }
-    let leaders = component_ranks::leading(g);
-    let c = compact_sizes::compact_length(g, component_ranks::components(g, leaders));
+    let leaders = graph_ranks::leading(g);
+    let c = compact_sizes::compact_length(g, graph_ranks::components(g, leaders));
     if controller.len() < c {
         return Verdict::Refused(9);
     }
-    let e = sizes::environment_length(g);
+    let e = table_sizes::environment_length(g);
     if panel.len() < e {
         return Verdict::Refused(10);
     }
-    if winner::by_component::write_winner(g, leaders, scratch, controller, panel) {
+    if solver_winner::by_component::write_winner(g, leaders, scratch, controller, panel) {
         return Verdict::System(c);
     }
     Verdict::Environment(e)

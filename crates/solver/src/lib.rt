@@ -30,15 +30,15 @@ fn solve_accepted(
     if scratch.len() < scratch::length(g) {
         return Verdict::Refused(8);
     }
-    let c = sizes::controller_length(g);
+    let c = table_sizes::controller_length(g);
     if controller.len() < c {
         return Verdict::Refused(9);
     }
-    let e = sizes::environment_length(g);
+    let e = table_sizes::environment_length(g);
     if panel.len() < e {
         return Verdict::Refused(10);
     }
-    if winner::write_winner(g, scratch, controller, panel) {
+    if solver_winner::write_winner(g, scratch, controller, panel) {
         return Verdict::System(c);
     }
     Verdict::Environment(e)

@@ -13,12 +13,12 @@ use Rattle.sets.specs.Words.{capacity, rowWords, bitsOf, setOf, setsIn, WordsFi
 use Rattle.sets.proofs.Rows.{no-states, set-is, sets-all, words-sets}
 use Rattle.bits.specs.Member.{has, within}
 use Rattle.bits.proofs.Membership.{has-within, zero-within}
-use Rattle.grammar.specs.Format.{Run}
-use Rattle.grammar.specs.Format.Run.{got, fault}
-use Rattle.grammar.specs.Place.{reading}
-use Rattle.grammar.proofs.Format.{by-cases}
+use Rattle.text_grammar.specs.Format.{Run}
+use Rattle.text_grammar.specs.Format.Run.{got, fault}
+use Rattle.text_grammar.specs.Place.{reading}
+use Rattle.text_grammar.proofs.Format.{by-cases}
 use Rattle.finite.proofs.Lists.{any-default}
-use Rattle.grammar.proofs.Place.{one-value, read-got, read-fault-none}
+use Rattle.text_grammar.proofs.Place.{one-value, read-got, read-fault-none}
 use Rattle.game.specs.Access.{noInput, noOutput, noRequirement, requirementAt}
 use Rattle.game.specs.Acceptance.{acceptance}
 use Rattle.game.specs.declared.InSet.{InSet}
@@ -29,12 +29,12 @@ use Rattle.game.specs.declared.Game.{Game}
 use Rattle.game.specs.declared.Acceptance.{Acceptance}
 use Rattle.game.specs.declared.Acceptance.the-variants.{Accepted, Refused}
 use Rattle.game.proofs.Laws.{GraphFits, RequirementFits, accepted-fits}
-use Rattle.shape.specs.Text.{plain, recordOf, gameText, inWords, outWords, inSets, outSets}
-use Rattle.shape.specs.Text.{ShapedGraph, ShapedSets, ShapedRequirement, Shaped, emptyRequirement}
-use Rattle.shape.specs.Shape.{gameFormat}
-use Rattle.shape.proofs.Graphs.{empty-shaped}
-use Rattle.shape.proofs.Shape.{game-sound, game-complete, game-live}
-use Rattle.put.proofs.Pieces.{in-word, out-word}
+use Rattle.text_shape.specs.Text.{plain, recordOf, gameText, inWords, outWords, inSets, outSets}
+use Rattle.text_shape.specs.Text.{ShapedGraph, ShapedSets, ShapedRequirement, Shaped, emptyRequirement}
+use Rattle.text_shape.specs.Shape.{gameFormat}
+use Rattle.text_shape.proofs.Graphs.{empty-shaped}
+use Rattle.text_shape.proofs.Shape.{game-sound, game-complete, game-live}
+use Rattle.text_put.proofs.Pieces.{in-word, out-word}
 use Rattle.text.specs.Read.{Reads, refused, misshapen, judged}
 use Rattle.text.specs.OneText.{Arrays, IsText, OneText}
 use Rattle.text.specs.declared.Answer.the-variants.{Read, Misshapen, Refused as NotRead}

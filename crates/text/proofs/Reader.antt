@@ -4,13 +4,13 @@ use native.Mathlib.Omega.{arith}
 use mathlib.Core.List.{List, _++_}
 use mathlib.Core.Path.{_≡_, refl, sym, _∙_, ap, subst}
 use lib.ListN.{length, take}
-use Rattle.grammar.specs.Format.{TextOf, run}
-use Rattle.grammar.specs.Format.Run.{got, fault}
-use Rattle.grammar.specs.Place.{bytes, Begins, Longest, atEnd, reading}
-use Rattle.grammar.proofs.Place.{one-value, read-got, read-fault, read-fault-none, end-here, end-before}
+use Rattle.text_grammar.specs.Format.{TextOf, run}
+use Rattle.text_grammar.specs.Format.Run.{got, fault}
+use Rattle.text_grammar.specs.Place.{bytes, Begins, Longest, atEnd, reading}
+use Rattle.text_grammar.proofs.Place.{one-value, read-got, read-fault, read-fault-none, end-here, end-before}
 use Rattle.game.specs.declared.Game.{Game}
-use Rattle.shape.specs.Text.{gameText, Shaped}
-use Rattle.shape.specs.Shape.{gameFormat}
+use Rattle.text_shape.specs.Text.{gameText, Shaped}
+use Rattle.text_shape.specs.Shape.{gameFormat}
 use Rattle.game.specs.Acceptance.{acceptance, numberOf as gameNumber}
 use Rattle.game.specs.Numbers.{firstOf, gameTests}
 use Rattle.game.proofs.Numbers.{accepts}
@@ -19,7 +19,7 @@ use Rattle.game.specs.declared.Acceptance.the-variants.{Accepted, Refused}
 use Rattle.text.specs.Read.{BeginsText, LongestFront, refused, misshapen, judgedBy, judged, numberOf, placeOf, Reads}
 use Rattle.text.specs.declared.Answer.the-variants.{Read}
 use Rattle.text.specs.declared.Reading.{Reading}
-use Rattle.shape.proofs.Shape.{game-sound, game-complete, game-live}
+use Rattle.text_shape.proofs.Shape.{game-sound, game-complete, game-live}
 
 -- well-shaped by the format, and by the games
 pub text-of : (s : List ℕ) (g : Game) → Shaped g → s ≡ gameText g → TextOf gameFormat s g

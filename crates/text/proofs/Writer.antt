@@ -14,10 +14,10 @@ use Rattle.game.specs.declared.Acceptance.the-variants.{Accepted, Refused}
 use Rattle.game.proofs.Laws.{accepted-fits}
 use Rattle.game.specs.Numbers.{firstOf}
 use Rattle.game.proofs.Numbers.{after, game-after}
-use Rattle.shape.specs.Text.{gameText}
-use Rattle.put.specs.Put.{overlay, Writable}
-use Rattle.put.proofs.Buffer.{overlay-front}
-use Rattle.put.proofs.Bounds.{game-short}
+use Rattle.text_shape.specs.Text.{gameText}
+use Rattle.text_put.specs.Put.{overlay, Writable}
+use Rattle.text_put.proofs.Buffer.{overlay-front}
+use Rattle.text_put.proofs.Bounds.{game-short}
 use Rattle.text.specs.Write.{answerBy, bufferBy, writeAnswer, writeBuffer, writeTests, numberOf, Writes}
 use Rattle.text.specs.declared.WriteAnswer.{WriteAnswer}
 use Rattle.text.specs.declared.WriteAnswer.the-variants.{Written, Refused as NotWritten}

@@ -12,7 +12,7 @@ use Rattle.game.specs.Access.{requirementAt, assumptionAt, guaranteeAt}
 use Rattle.game.specs.Acceptance.{acceptance}
 use Rattle.game.specs.declared.Game.{Game}
 use Rattle.game.specs.declared.Acceptance.the-variants.{Accepted}
-use Rattle.shape.specs.Text.{gameText, Shaped}
+use Rattle.text_shape.specs.Text.{gameText, Shaped}
 use Rattle.text.specs.declared.Answer.the-variants.{Read}
 use Rattle.text.specs.declared.Reading.{Reading}
 use Rattle.text.specs.Read.{Reads, refused}

@@ -18,7 +18,7 @@ use Rattle.game.specs.Numbers.{firstOf, gameTests}
 use Rattle.game.specs.declared.Game.{Game}
 use Rattle.game.specs.declared.Acceptance.{Acceptance}
 use Rattle.game.specs.declared.Acceptance.the-variants.{Accepted, Refused}
-use Rattle.shape.specs.Text.{gameText, Shaped, emptyGame}
+use Rattle.text_shape.specs.Text.{gameText, Shaped, emptyGame}
 use Rattle.text.specs.declared.Answer.{Answer}
 use Rattle.text.specs.declared.Answer.the-variants.{Read, Misshapen, Refused as NotRead}
 use Rattle.text.specs.declared.Reading.{Reading}

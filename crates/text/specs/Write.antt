@@ -16,7 +16,7 @@ use Rattle.game.specs.Numbers.{firstOf, gameTests}
 use Rattle.game.specs.declared.Game.{Game}
 use Rattle.game.specs.declared.Acceptance.{Acceptance}
 use Rattle.game.specs.declared.Acceptance.the-variants.{Accepted, Refused}
-use Rattle.shape.specs.Text.{gameText}
+use Rattle.text_shape.specs.Text.{gameText}
 use Rattle.text.specs.declared.WriteAnswer.{WriteAnswer}
 use Rattle.text.specs.declared.WriteAnswer.the-variants.{Written, Refused as NotWritten}
 

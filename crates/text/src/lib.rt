@@ -1,8 +1,8 @@
 // The text of a game, read and written.
 use game::Acceptance;
 use game::Game;
-use pieces::Step;
-use scan::whole;
+use text_pieces::Step;
+use text_scan::whole;
 ghost use mathlib.Core.Path.{_≡_};
 ghost use Rattle.text.specs.Write.{Writes};
 ghost use Rattle.text.specs.Read.{Reads, refused as noGame, misshapen as noShape, judged};
@@ -91,11 +91,11 @@ pub fn write(g: Game, buffer: &mut [u8]) -> WriteAnswer
         Acceptance::Accepted => {
             // the length is found by writing into a buffer that nobody reads
             let mut scratch = [0u8; 1];
-            let n = put::put_game(&mut scratch, 0, g);
+            let n = text_put::put_game(&mut scratch, 0, g);
             if buffer.len() < n {
                 return WriteAnswer::Refused(13);
             }
-            put::put_game(buffer, 0, g);
+            text_put::put_game(buffer, 0, g);
             WriteAnswer::Written(n)
         }
     }

@@ -56,8 +56,18 @@ loop-again c =
     let l = e .before .before .before .before in
     let more : l .loop .j < requirementAt (l .before .before .before .args .t1) 0 .guaranteed = omega arith in
     ⊎-elim
-    (λ w. (omega arith, e .settle .kept .1 .0 ∙ l .loop .inv .1, rw (w .1) (passed-less _ _ (l .loop .j) _ _ (l .loop .inv .2) _ _ (e .settle .ensures) more (w .0 .taken))))
-    (λ w. (omega arith, e .settle .kept .1 .0 ∙ l .loop .inv .1, rw (w .1) (passed-same _ _ (l .loop .j) _ _ (l .loop .inv .2) _ _ (e .settle .ensures) more (w .0 .left))))
+    (λ w. (
+      omega arith,
+      e .settle .kept .1 .0
+          ∙ l .loop .inv .1,
+      rw (w .1) (passed-less _ _ (l .loop .j) _ _ (l .loop .inv .2) _ _ (e .settle .ensures) more (w .0 .taken)),
+    ))
+    (λ w. (
+      omega arith,
+      e .settle .kept .1 .0
+          ∙ l .loop .inv .1,
+      rw (w .1) (passed-same _ _ (l .loop .j) _ _ (l .loop .inv .2) _ _ (e .settle .ensures) more (w .0 .left)),
+    ))
     (c .if1 .came)
 
 same-length : tie.Need-same-length Inv-loop μ-loop

@@ -15,8 +15,13 @@ meet-requires : tie.Need-meet-requires
 meet-requires c κs =
     let r = c .before .before .before in
     let b = r .before .before .before in
-    let most = b .pre .0 .input .most in
-    (omega (arith, b .pre .1, count-same (r .reach .last .1 .0) (b .args .s .now) (r .reach .kept .1 .0)), omega (arith, most), omega (arith, most), inr (omega (arith, most)))
+    let most = b .pre .0 .input .most in (
+      omega (arith, b .pre .1, count-same (r .reach .last .1 .0) (b .args .s .now) (r .reach .kept .1 .0)),
+      omega (arith, most),
+      omega (arith, most),
+      inr
+          (omega (arith, most)),
+    )
 
 trim-requires : tie.Need-trim-requires
 trim-requires c κs =

@@ -18,8 +18,12 @@ empty-requires-2 c κs = search needs
 stay-requires : tie.Need-stay-requires
 stay-requires c κs =
     let e = c .before .before .before in
-    let b = e .before .before .before .before in
-    (b .pre .0, omega (arith, b .pre .1, count-same (e .empty2 .last .0) (b .args .s .now) (e .empty2 .kept .0)), emptied-within _ (b .pre .0) _ _ (e .empty2 .ensures) (b .pre .2))
+    let b = e .before .before .before .before in (
+      b .pre .0,
+      omega (arith, b .pre .1, count-same (e .empty2 .last .0) (b .args .s .now) (e .empty2 .kept .0)),
+      emptied-within _ (b .pre .0) _ _
+          (e .empty2 .ensures) (b .pre .2),
+    )
 
 copy-requires : tie.Need-copy-requires
 copy-requires c κs =

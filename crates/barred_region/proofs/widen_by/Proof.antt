@@ -15,8 +15,13 @@ unite-requires : tie.Need-unite-requires
 unite-requires c κs =
     let t = c .before .before .before in
     let b = t .before .before .before in
-    let most = b .pre .0 .input .most in
-    (omega (arith, b .pre .1, count-same (t .stay .last .1 .0) (b .args .s .now) (t .stay .kept .1 .0)), omega (arith, most), omega (arith, most), inr (omega (arith, most)))
+    let most = b .pre .0 .input .most in (
+      omega (arith, b .pre .1, count-same (t .stay .last .1 .0) (b .args .s .now) (t .stay .kept .1 .0)),
+      omega (arith, most),
+      omega (arith, most),
+      inr
+          (omega (arith, most)),
+    )
 
 same-length : tie.Need-same-length
 same-length c = search needs

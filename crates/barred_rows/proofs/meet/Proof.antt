@@ -73,12 +73,14 @@ loop-again c =
     let old = other .before .before in
     let l = old .before .before .before in
     let b = l .before .before in
-    let fits : b .args .to + l .loop .i < length (setsIn (l .loop .s)) = omega (arith, b .pre .0, b .pre .2, count-same (l .loop .s) (b .args .s .now) (l .loop .inv .1), sets-long (l .loop .s)) in
+    let fits : b .args .to + l .loop .i < length (setsIn (l .loop .s)) = omega
+    (arith, b .pre .0, b .pre .2, count-same (l .loop .s) (b .args .s .now) (l .loop .inv .1), sets-long (l .loop .s)) in
     ⊎-elim
     (λ w. (
       omega arith,
       ap length (w .6) ∙ w .3 .kept .0 ∙ l .loop .inv .1,
-      rw (w .6, w .3 .ensures, w .7) (met-next (b .args .n) _ _ (b .pre .3) _ (l .loop .i) _ _ (l .loop .inv .2) (omega arith) _ _ _ (old .row .ensures) (other .row2 .ensures)
+      rw (w .6, w .3 .ensures, w .7)
+          (met-next (b .args .n) _ _ (b .pre .3) _ (l .loop .i) _ _ (l .loop .inv .2) (omega arith) _ _ _ (old .row .ensures) (other .row2 .ensures)
           (d .difference .ensures) _ (w .2 .ensures) (is-some _ (t .is-empty .ensures) (w .0 .taken)) fits),
     ))
     (λ w. (

@@ -41,7 +41,8 @@ returns c =
     let g = k .before in
     let z = g .before in
     let b = z .before .before in
-    target-told (setsIn (b .args .s .now)) (b .args .j .0) _ _ _ _ _ _ _ _ (z .row .ensures) (y .row2 .ensures) (x .row3 .ensures) (k .member .ensures) (g .intersection .ensures)
+    target-told (setsIn (b .args .s .now)) (b .args .j .0) _ _ _ _ _ _ _ _ (z .row .ensures) (y .row2 .ensures) (x .row3 .ensures) (k .member .ensures)
+    (g .intersection .ensures)
     (u .union-if .ensures) (c .union .ensures)
 
 pub target-spec : {M : Type 1} → statement M

@@ -1,7 +1,7 @@
 -- `put_figures` meets its contract.
 use native.Mathlib.Omega.{arith}
 use borrow.Author.Needs.{needs}
-use Rattle.put.proofs.Buffer.{puts-then}
+use Rattle.text_put.proofs.Buffer.{puts-then}
 use Rattle.catalogue_lines.specs.Figures.{figuresPrint}
 use Rattle.catalogue_lines.proofs.put_figures.Statement.{statement}
 use Rattle.catalogue_lines.proofs.put_figures.Tie as tie

@@ -1,7 +1,7 @@
 -- `put_number_line` meets its contract.
 use native.Mathlib.Omega.{arith}
 use borrow.Author.Needs.{needs}
-use Rattle.put.proofs.Buffer.{puts-then, puts-as}
+use Rattle.text_put.proofs.Buffer.{puts-then, puts-as}
 use Rattle.catalogue_lines.proofs.Lines.{numberOpening, number-pieces, number-unmet, number-line-short}
 use Rattle.catalogue_lines.proofs.put_number_line.Statement.{statement}
 use Rattle.catalogue_lines.proofs.put_number_line.Tie as tie

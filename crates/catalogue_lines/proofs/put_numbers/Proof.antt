@@ -2,7 +2,7 @@
 use native.Mathlib.Omega.{arith}
 use Prim.Native.Nat.{_+_, _*_, _-_, _^_, _≤_}
 use mathlib.Core.Path.{refl}
-use Rattle.put.proofs.Buffer.{Remains, remains-as, remains-all, remains-step, remains-none, puts-length}
+use Rattle.text_put.proofs.Buffer.{Remains, remains-as, remains-all, remains-step, remains-none, puts-length}
 use Rattle.catalogue_lines.specs.Figures.{numberLines}
 use Rattle.catalogue_lines.proofs.Lines.{numbers-none, numbers-take, numbers-last}
 use Rattle.catalogue_lines.proofs.put_numbers.Statement.{statement}

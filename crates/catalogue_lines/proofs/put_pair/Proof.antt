@@ -1,8 +1,8 @@
 -- `put_pair` meets its contract.
 use native.Mathlib.Omega.{arith}
 use borrow.Author.Needs.{needs}
-use Rattle.put.proofs.Buffer.{puts-then}
-use Rattle.answer_lines.proofs.Lines.{number-short}
+use Rattle.text_put.proofs.Buffer.{puts-then}
+use Rattle.print_lines.proofs.Lines.{number-short}
 use Rattle.catalogue_lines.specs.Figures.{pairText}
 use Rattle.catalogue_lines.proofs.put_pair.Statement.{statement}
 use Rattle.catalogue_lines.proofs.put_pair.Tie as tie

@@ -3,8 +3,8 @@ use native.Mathlib.Omega.{arith}
 use Prim.Native.Nat.{_+_, _-_, _^_, _≤_}
 use mathlib.Core.Path.{refl}
 use lib.ListN.{length, drop}
-use Rattle.put.proofs.Buffer.{Remains, remains-all, puts-length}
-use Rattle.put.proofs.Pieces.{bytes-step, bytes-room, bytes-end}
+use Rattle.text_put.proofs.Buffer.{Remains, remains-all, puts-length}
+use Rattle.text_put.proofs.Pieces.{bytes-step, bytes-room, bytes-end}
 use Rattle.catalogue_lines.proofs.put_text.Statement.{statement}
 use Rattle.catalogue_lines.proofs.put_text.Tie as tie
 

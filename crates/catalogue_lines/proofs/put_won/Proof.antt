@@ -1,7 +1,7 @@
 -- `put_won` meets its contract.
 use native.Mathlib.Omega.{arith}
 use borrow.Author.Needs.{needs}
-use Rattle.put.proofs.Buffer.{puts-then, puts-as}
+use Rattle.text_put.proofs.Buffer.{puts-then, puts-as}
 use Rattle.catalogue_lines.proofs.Lines.{wonOpening, won-pieces, won-short}
 use Rattle.catalogue_lines.proofs.put_won.Statement.{statement}
 use Rattle.catalogue_lines.proofs.put_won.Tie as tie

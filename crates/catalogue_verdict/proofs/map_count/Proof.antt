@@ -49,7 +49,11 @@ loop-again c =
     )
 
 returns : tie.Need-returns Inv-loop μ-loop
-returns c = (c .before .loop .inv .5 ∙ ap (marks (setsIn (c .before .before .before .args .map .now)) (c .before .before .before .args .m)) (omega arith), omega arith)
+returns c = (
+  c .before .loop .inv .5
+      ∙ ap (marks (setsIn (c .before .before .before .args .map .now)) (c .before .before .before .args .m)) (omega arith),
+  omega arith,
+)
 
 pub map-count-spec : {M : Type 1} → statement M
 map-count-spec =

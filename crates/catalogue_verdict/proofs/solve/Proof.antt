@@ -3,7 +3,7 @@ use native.Mathlib.Omega.{arith}
 use borrow.Author.Needs.{needs}
 use mathlib.Core.Path.{refl}
 use native.Mathlib.Nat.{mul-le-mul}
-use Rattle.sizes.proofs.Lengths.{inputs-most, outputs-most}
+use Rattle.table_sizes.proofs.Lengths.{inputs-most, outputs-most}
 use Rattle.catalogue_verdict.proofs.Counting.{comes-refused, comes-system, comes-environment}
 use Rattle.catalogue_verdict.proofs.solve.Statement.{statement}
 use Rattle.catalogue_verdict.proofs.solve.Tie as tie

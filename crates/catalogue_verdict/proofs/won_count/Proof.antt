@@ -1,7 +1,7 @@
 -- `won_count` meets its contract.
 use borrow.Author.Needs.{needs}
 use mathlib.Core.Path.{refl}
-use Rattle.sizes.proofs.Lengths.{inputs-most, outputs-most}
+use Rattle.table_sizes.proofs.Lengths.{inputs-most, outputs-most}
 use Rattle.catalogue_verdict.proofs.Counting.{map-long, map-census}
 use Rattle.catalogue_verdict.proofs.won_count.Statement.{statement}
 use Rattle.catalogue_verdict.proofs.won_count.Tie as tie

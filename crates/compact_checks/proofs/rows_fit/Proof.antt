@@ -8,7 +8,7 @@ use Rattle.finite.proofs.Loops.{failed, passed}
 use Rattle.game.proofs.Laws.{accepted-fits}
 use Rattle.play.specs.Play.{separatedOf}
 use Rattle.theory.specs.Entries.{controllerCounters}
-use Rattle.sizes.proofs.Lengths.{controller-rows}
+use Rattle.table_sizes.proofs.Lengths.{controller-rows}
 use Rattle.compact_checks.specs.Firsts.{Same}
 use Rattle.compact_checks.proofs.Game.{firsts-below, rows-long, parts-none, parts-next, parts-stop, parts-end}
 use borrow.Author.Needs.{needs}

@@ -2,7 +2,7 @@
 use Prim.Native.Nat.{_*_}
 use mathlib.Core.Path.{ap}
 use native.Mathlib.Omega.{arith}
-use Rattle.sizes.proofs.Lengths.{controller-rows}
+use Rattle.table_sizes.proofs.Lengths.{controller-rows}
 use Rattle.compact_moves.proofs.Written.{full-fits, full-written}
 use borrow.Author.Needs.{needs}
 use Rattle.compact_moves.proofs.write_full.Statement.{statement}

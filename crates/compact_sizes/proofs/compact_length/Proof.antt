@@ -1,7 +1,7 @@
 -- `compact_length` by the table's dimensions, none of whose products wraps.
 use native.Mathlib.Omega.{arith}
 use borrow.Author.Needs.{needs}
-use Rattle.sizes.proofs.Lengths.{inputs-most, controller-rows}
+use Rattle.table_sizes.proofs.Lengths.{inputs-most, controller-rows}
 use Rattle.compact_sizes.proofs.Lengths.{length-is, rows-most}
 use Rattle.compact_sizes.proofs.compact_length.Statement.{statement}
 use Rattle.compact_sizes.proofs.compact_length.Tie as tie

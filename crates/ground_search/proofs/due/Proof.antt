@@ -7,7 +7,7 @@ use borrow.Author.Needs.{needs}
 use Rattle.finite.proofs.Loops.{all-start, all-turn, all-stop, all-end, failed, passed}
 use Rattle.sets.specs.Words.{bitsOf}
 use Rattle.game.specs.Access.{requirementAt}
-use Rattle.dues.specs.Dues.{dueIn, inMeets, inMeetsAt}
+use Rattle.region_dues.specs.Dues.{dueIn, inMeets, inMeetsAt}
 use Rattle.ground_search.proofs.due.Statement.{statement}
 use Rattle.ground_search.proofs.due.Tie as tie
 

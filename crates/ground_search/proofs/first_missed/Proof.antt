@@ -7,7 +7,7 @@ use borrow.Author.Needs.{needs}
 use Rattle.finite.specs.Bounded.{any}
 use Rattle.finite.proofs.Loops.{any-start, any-turn}
 use Rattle.sets.specs.Words.{bitsOf}
-use Rattle.dues.specs.Dues.{outMeetsAt}
+use Rattle.region_dues.specs.Dues.{outMeetsAt}
 use Rattle.ground_search.specs.Asked.{missedIn}
 use Rattle.ground_search.proofs.Search.{search-found, search-none}
 use Rattle.ground_search.proofs.first_missed.Statement.{statement}

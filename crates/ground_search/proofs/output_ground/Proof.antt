@@ -1,6 +1,6 @@
 -- `output_ground`.
 use native.Mathlib.Omega.{arith}
-use Rattle.dues.proofs.Meaning.{fits-few}
+use Rattle.region_dues.proofs.Meaning.{fits-few}
 use Rattle.ground_search.proofs.Meaning.{output-means}
 use Rattle.ground_search.proofs.Requirements.{first-owed-means, first-missed-means}
 use Rattle.ground_search.proofs.Told.{told-pushedOn, owed-below, told-unserved}

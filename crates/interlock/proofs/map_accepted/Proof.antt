@@ -54,7 +54,8 @@ returns-3 c =
     let e = w .before in
     let f = e .before in
     let b = f .before .before .before .before in
-    map-done _ _ _ _ (b .pre) (sym (f .fault .ensures) ∙ e .if1 .left) _ _ (omega (arith, w .words .ensures, t .if2 .left)) (m .mark .ensures .0) (m .mark .ensures .1)
+    map-done _ _ _ _ (b .pre) (sym (f .fault .ensures) ∙ e .if1 .left) _ _ (omega (arith, w .words .ensures, t .if2 .left)) (m .mark .ensures .0)
+    (m .mark .ensures .1)
 
 pub map-accepted-spec : {M : Type 1} → statement M
 map-accepted-spec =

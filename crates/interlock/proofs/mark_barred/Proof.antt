@@ -19,8 +19,11 @@ write-map-requires c κs =
     let g = k .before .before in
     let b = g .before .before .before in
     let F = accepted-fits _ (b .pre .0) in
-    let long = scratch-sets (b .args .scratch .now) (b .pre .2) in
-    (omega (arith, F .input .most, long, count-same (k .keep .last .1 .1 .0) (b .args .scratch .now) (k .keep .kept .1 .1 .0)), words-held (b .args .map .now) _ (b .pre .3))
+    let long = scratch-sets (b .args .scratch .now) (b .pre .2) in (
+      omega (arith, F .input .most, long, count-same (k .keep .last .1 .1 .0) (b .args .scratch .now) (k .keep .kept .1 .1 .0)),
+      words-held
+          (b .args .map .now) _ (b .pre .3),
+    )
 
 clear-requires : tie.Need-clear-requires
 clear-requires c κs = search needs

@@ -8,7 +8,7 @@ use Rattle.finite.specs.Tabulate.{tabulate}
 use Rattle.finite.proofs.Front.{front-none, front-rest}
 use Rattle.sets.specs.Words.{setsIn}
 use Rattle.sets.proofs.Rows.{count-same, sets-long, rest-words}
-use Rattle.marks.proofs.Rows.{rows-more, rows-end}
+use Rattle.map_marks.proofs.Rows.{rows-more, rows-end}
 use Rattle.interlock.proofs.write_map.Statement.{statement}
 use Rattle.interlock.proofs.write_map.Tie as tie
 

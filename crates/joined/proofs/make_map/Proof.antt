@@ -1,7 +1,7 @@
 -- `make_map`.
 use mathlib.Core.Path.{_∙_}
 use native.Mathlib.Omega.{arith}
-use Rattle.clearing.proofs.Clearing.{cleared-same}
+use Rattle.scratch_clearing.proofs.Clearing.{cleared-same}
 use Rattle.joined.proofs.Ranks.{kept-drop}
 use borrow.Author.Needs.{needs}
 use Rattle.joined.proofs.make_map.Statement.{statement}

@@ -2,7 +2,7 @@
 use mathlib.Core.Path.{_∙_, ap}
 use Rattle.finite.proofs.Loops.{failed, passed}
 use Rattle.game.specs.Acceptance.{acceptance}
-use Rattle.drives.proofs.Acceptance.{refused-1, refused-17, refused-18, kit-game, kit-small, kit-accepts}
+use Rattle.kit_drives.proofs.Acceptance.{refused-1, refused-17, refused-18, kit-game, kit-small, kit-accepts}
 use borrow.Author.Needs.{needs}
 use Rattle.kit_checks.proofs.accept_kit.Statement.{statement}
 use Rattle.kit_checks.proofs.accept_kit.Tie as tie

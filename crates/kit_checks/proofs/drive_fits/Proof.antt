@@ -6,7 +6,7 @@ use native.Mathlib.Omega.{arith}
 use Rattle.finite.specs.Bounded.{all}
 use Rattle.finite.proofs.Loops.{all-start, all-turn, all-stop, all-end, failed, passed}
 use Rattle.sets.specs.Words.{capacity}
-use Rattle.drives.specs.Acceptance.{entryFits, entriesFit}
+use Rattle.kit_drives.specs.Acceptance.{entryFits, entriesFit}
 use Rattle.kit_checks.proofs.drive_fits.Statement.{statement}
 use Rattle.kit_checks.proofs.drive_fits.Tie as tie
 

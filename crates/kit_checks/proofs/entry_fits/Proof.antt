@@ -1,6 +1,6 @@
 -- `entry_fits` tests one place.
 use borrow.Author.Needs.{needs}
-use Rattle.drives.proofs.Acceptance.{entry-barred, entry-past-modes, entry-past-commands, entry-names}
+use Rattle.kit_drives.proofs.Acceptance.{entry-barred, entry-past-modes, entry-past-commands, entry-names}
 use Rattle.kit_checks.proofs.entry_fits.Statement.{statement}
 use Rattle.kit_checks.proofs.entry_fits.Tie as tie
 

@@ -5,7 +5,7 @@ use mathlib.Core.Bool.{true}
 use native.Mathlib.Omega.{arith}
 use Rattle.finite.specs.Bounded.{all}
 use Rattle.finite.proofs.Loops.{all-start, all-turn, all-stop, all-end, failed, passed}
-use Rattle.drives.specs.Acceptance.{entryFits}
+use Rattle.kit_drives.specs.Acceptance.{entryFits}
 use Rattle.kit_checks.proofs.mode_fits.Statement.{statement}
 use Rattle.kit_checks.proofs.mode_fits.Tie as tie
 

@@ -3,7 +3,7 @@ use Prim.Native.Nat.{_≤_, _-_}
 use mathlib.Core.Path.{_≡_}
 use mathlib.Core.Bool.{false}
 use native.Mathlib.Omega.{arith}
-use Rattle.drives.specs.Drive.{madeBy}
+use Rattle.kit_drives.specs.Drive.{madeBy}
 use Rattle.kit_rows.proofs.Search.{lowest-start, lowest-past, lowest-here, lowest-none}
 use Rattle.kit_rows.proofs.lowest_command.Statement.{statement}
 use Rattle.kit_rows.proofs.lowest_command.Tie as tie

@@ -7,8 +7,8 @@ use Rattle.finite.specs.Tabulate.{tabulate}
 use Rattle.finite.proofs.Front.{front-none}
 use Rattle.sets.specs.Words.{setsIn}
 use Rattle.sets.proofs.Rows.{count-same, sets-long}
-use Rattle.marks.specs.Marks.{mapRow}
-use Rattle.marks.proofs.Rows.{rows-more, rows-end, map-filled}
+use Rattle.map_marks.specs.Marks.{mapRow}
+use Rattle.map_marks.proofs.Rows.{rows-more, rows-end, map-filled}
 use native.Mathlib.Omega.{arith}
 use Rattle.map.proofs.fill_map.Statement.{statement}
 use Rattle.map.proofs.fill_map.Tie as tie

@@ -49,7 +49,8 @@ returns-3 c =
     let e = m .before .before .before in
     let w = e .before in
     let b = w .before .before in
-    map-done _ _ _ _ _ (b .before .before .before .pre) (omega (arith, b .length .ensures, w .before .if1 .left)) (omega (arith, w .words .ensures, e .if2 .left))
+    map-done _ _ _ _ _ (b .before .before .before .pre) (omega (arith, b .length .ensures, w .before .if1 .left))
+    (omega (arith, w .words .ensures, e .if2 .left))
     (m .make-map .ensures .0) (m .make-map .ensures .1)
 
 pub map-accepted-spec : {M : Type 1} → statement M

@@ -65,9 +65,9 @@ use Rattle.game.proofs.Game as G
 use Rattle.game.proofs.Game.Laws as G′
 use Rattle.game.proofs.InState as N
 use Rattle.game.proofs.InState.Laws as N′
-use Rattle.place.specs.declared.Position.{Position}
+use Rattle.player_place.specs.declared.Position.{Position}
 use Rattle.player.specs.Player.{stepping, Advanced}
-use Rattle.place.proofs.Position as P
+use Rattle.player_place.proofs.Position as P
 use Rattle.player.proofs.advance as player
 use Rattle.player.proofs.advance.Symbol as player-def
 use Rattle.player.proofs.advance.Symbol.{name as #player·advance}

@@ -76,14 +76,14 @@ use Rattle.recorder.proofs.compare as recorder
 use Rattle.recorder.proofs.compare.Symbol as recorder-def
 use Rattle.recorder.proofs.compare.Symbol.{name as #recorder·compare}
 use Rattle.recorder.proofs.compare.Met as recorder-thm
-use Rattle.results.specs.declared.CompareResult.{CompareResult}
-use Rattle.results.specs.Results.{compareResult}
-use Rattle.results.proofs.CompareResult as T
-use Rattle.results.proofs.CompareResult.Laws as T′
-use Rattle.results.proofs.compare_result as results
-use Rattle.results.proofs.compare_result.Symbol as results-def
-use Rattle.results.proofs.compare_result.Symbol.{name as #results·compare-result}
-use Rattle.results.proofs.compare_result.Met as results-thm
+use Rattle.nanpuwiq_results.specs.declared.CompareResult.{CompareResult}
+use Rattle.nanpuwiq_results.specs.Results.{compareResult}
+use Rattle.nanpuwiq_results.proofs.CompareResult as T
+use Rattle.nanpuwiq_results.proofs.CompareResult.Laws as T′
+use Rattle.nanpuwiq_results.proofs.compare_result as results
+use Rattle.nanpuwiq_results.proofs.compare_result.Symbol as results-def
+use Rattle.nanpuwiq_results.proofs.compare_result.Symbol.{name as #results·compare-result}
+use Rattle.nanpuwiq_results.proofs.compare_result.Met as results-thm
 use Rattle.nanpuwiq.proofs.nanpuwiq_compare.Key.{name as #nanpuwiq·compare}
 use Rattle.nanpuwiq.proofs.nanpuwiq_compare as compare
 use Rattle.nanpuwiq.proofs.nanpuwiq_compare.Statement as stated
@@ -285,5 +285,5 @@ nanpuwiq-compare-spec 𝓤 H 𝓜 𝓖 𝓡 =
     (compare-meets 𝓤 H (𝓖 .A) (givenOf 𝓤 H 𝓜 𝓖) (𝓜 .mem) (𝓡 .run) (tablesOf 𝓤 H 𝓜 (tables 𝓤 H 𝓜 𝓡 code.env))
     (cited 𝓤 H (Recorder 𝓤 H (𝓖 .A) (𝓜 .mem) (𝓡 .run)) 𝓜 𝓡 code.env #recorder·compare recorder-def.routine code.calls-recorder·compare
     (recorder-thm.met 𝓤 H 𝓜 𝓖 𝓡))
-    (cited 𝓤 H (Results 𝓤 H (𝓖 .A) (𝓜 .mem) (𝓡 .run)) 𝓜 𝓡 code.env #results·compare-result results-def.routine code.calls-results·compare-result
+    (cited 𝓤 H (Results 𝓤 H (𝓖 .A) (𝓜 .mem) (𝓡 .run)) 𝓜 𝓡 code.env #results·compare-result results-def.routine code.calls-nanpuwiq-results·compare-result
     (results-thm.met 𝓤 H 𝓜 𝓖 𝓡)))

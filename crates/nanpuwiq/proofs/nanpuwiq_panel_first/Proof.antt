@@ -1,7 +1,7 @@
 -- `nanpuwiq_panel_first` meets its contract.
 use mathlib.Core.Path.{ap, _∙_}
 use borrow.Author.Needs.{needs}
-use Rattle.results.specs.Results.{panelMoved}
+use Rattle.nanpuwiq_results.specs.Results.{panelMoved}
 use Rattle.nanpuwiq.proofs.nanpuwiq_panel_first.Statement.{statement}
 use Rattle.nanpuwiq.proofs.nanpuwiq_panel_first.Tie as tie
 

@@ -1,5 +1,5 @@
 -- `opens_with` from what `holds` ensures.
-use Rattle.place.proofs.Moves.{begins-of, outputs-most}
+use Rattle.player_place.proofs.Moves.{begins-of, outputs-most}
 use Rattle.panel_place.proofs.opens_with.Statement.{statement}
 use Rattle.panel_place.proofs.opens_with.Tie as tie
 

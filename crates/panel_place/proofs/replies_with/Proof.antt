@@ -1,6 +1,6 @@
 -- `replies_with` from what `holds` ensures.
 use borrow.Author.Needs.{needs}
-use Rattle.place.proofs.Moves.{edge-of}
+use Rattle.player_place.proofs.Moves.{edge-of}
 use Rattle.panel_place.proofs.replies_with.Statement.{statement}
 use Rattle.panel_place.proofs.replies_with.Tie as tie
 

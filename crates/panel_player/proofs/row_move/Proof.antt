@@ -1,7 +1,7 @@
 -- `row_move` tests the input that the row's entry names.
 use borrow.Author.Needs.{needs}
-use Rattle.place.proofs.Moves.{inputs-most}
-use Rattle.place.proofs.Tests.{position-in}
+use Rattle.player_place.proofs.Moves.{inputs-most}
+use Rattle.player_place.proofs.Tests.{position-in}
 use Rattle.panel_player.proofs.Answers.{row-picked}
 use Rattle.panel_player.proofs.row_move.Statement.{statement}
 use Rattle.panel_player.proofs.row_move.Tie as tie

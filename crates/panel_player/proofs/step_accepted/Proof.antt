@@ -1,8 +1,8 @@
 -- `step_accepted` tests the length, the position, the output and the row in order.
 use borrow.Author.Needs.{needs}
 use Rattle.finite.proofs.Loops.{failed, passed}
-use Rattle.place.proofs.Moves.{outputs-most}
-use Rattle.place.proofs.Tests.{position-in}
+use Rattle.player_place.proofs.Moves.{outputs-most}
+use Rattle.player_place.proofs.Tests.{position-in}
 use Rattle.panel_player.proofs.Answers.{fits, fits-not, not-fitting, not-there, both-hold, step-refused, step-output, step-at}
 use Rattle.panel_player.proofs.step_accepted.Statement.{statement}
 use Rattle.panel_player.proofs.step_accepted.Tie as tie

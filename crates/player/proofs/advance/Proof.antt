@@ -118,11 +118,11 @@ use Rattle.game.proofs.Game as G
 use Rattle.game.proofs.Game.Laws as G′
 use Rattle.game.proofs.InState as N
 use Rattle.game.proofs.InState.Laws as N′
-use Rattle.place.specs.declared.Position.{Position}
+use Rattle.player_place.specs.declared.Position.{Position}
 use Rattle.player.specs.declared.Moved.{Moved}
 use Rattle.player.specs.Player.{stepping, movedOf}
-use Rattle.place.proofs.Position as P
-use Rattle.place.proofs.Position.Laws as P′
+use Rattle.player_place.proofs.Position as P
+use Rattle.player_place.proofs.Position.Laws as P′
 use Rattle.player.proofs.Moved as Q
 use Rattle.player.proofs.Moved.Laws as Q′
 use Rattle.player.proofs.step_or_stay as step
@@ -231,7 +231,8 @@ module _ {M : Type 1} (𝓤 : URA M) (H : Heap 𝓤) (A : Atoms 𝓤) (W : Given
         move ! (14 ∷ 15 ∷ 16 ∷ []) $ opens ! tt P.the-row {h = h} b o
         (λ vs. spelt ! P.the-row (Is P.the-row) (shows 𝓤 H A P.the-row) (LL.vals P.the-type P′.the-laws) (LL.tells P.the-type P′.the-laws) fullShare h vs b o $
         move ! (1 ∷ []) $ facts ! P.the-row (Is P.the-row) (shows 𝓤 H A P.the-row) h (LL.vals P.the-type P′.the-laws h) (λ ish.
-        -- [the position's cell; the open borrow; obs; auth; room for _6; …; room for _5; …; _4; …; _3; …; _2; …; _1; …; room for _0; …; what the slice owns, twice; true; 'a's token]
+        -- [the position's cell; the open borrow; obs; auth; room for _6; …; room for _5; …; _4; …; _3; …; _2; …; _1; …; room for _0; …; what the slice owns,
+        -- twice; true; 'a's token]
         assigns ! (of-opd ! (load ! (from ! (hop ! (look ! 10 refl) (stop !))) (look-raw ! 0 refl))) (from ! (stop !))
         (init ! 4 refl (LL.lawful P.the-type P′.the-laws 𝓤 H A W .typed h _ ish .0)) $
         move ! (21 ∷ 20 ∷ []) $ join ! $ move ! (19 ∷ 0 ∷ []) $ use2 W (raw (Step 𝓤 H A at-mem run .pre to)) (goes-step ish) $
@@ -242,7 +243,8 @@ module _ {M : Type 1} (𝓤 : URA M) (H : Heap 𝓤) (A : Atoms 𝓤) (W : Given
         (ensured 𝓤 H A step.ended (step.clauses 𝓤 H A at-mem run) (κ, tt) given tt m)))) (id⊢ 𝓤 _) $ await ! tt $ pick ! (λ m.
         split ! $ move ! (1 ∷ []) $ use1 W (raw (fact 𝓤 (m ≡ found))) (said m) $ heard ! (m ≡ found) (λ e. split ! $ move ! (1 ∷ []) $
         facts ! Q.the-row (Is Q.the-row) (shows 𝓤 H A Q.the-row) m (u ∷ []) (λ ism.
-        -- ['a's token and true; the position's cell; the open borrow; obs; auth; _6; …; room for _5; …; _4; …; _3; …; _2; …; _1; …; room for _0; …; what the slice owns]
+        -- ['a's token and true; the position's cell; the open borrow; obs; auth; _6; …; room for _5; …; _4; …; _3; …; _2; …; _1; …; room for _0; …; what the
+        -- slice owns]
         land ! (from ! (stop !)) (init ! 7 refl (LL.lawful Q.the-type Q′.the-laws 𝓤 H A W .typed m _ ism .0)) $
         rewrite ! 7 (λ (us : List Val). ‵ (fat fullShare Q′.mir l₅ 0 (only us))) (LL.tells Q.the-type Q′.the-laws m (u ∷ []) ism) refl $
         assigns ! (of-opd ! (load ! (from ! (fld ! refl (stop !))) (look-in ! 7 (sub ! 0 refl (whole !))))) (from ! (hop ! (look ! 11 refl) (stop !)))

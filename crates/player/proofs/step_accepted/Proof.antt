@@ -1,8 +1,8 @@
 -- `step_accepted` tests the length, the position, the input and the entry in order.
 use native.Mathlib.Omega.{arith}
 use Rattle.finite.proofs.Loops.{failed, passed}
-use Rattle.place.proofs.Moves.{inputs-most, outputs-most}
-use Rattle.place.proofs.Tests.{position-in}
+use Rattle.player_place.proofs.Moves.{inputs-most, outputs-most}
+use Rattle.player_place.proofs.Tests.{position-in}
 use Rattle.player.proofs.Answers.{fits, fits-not, stepped-length, stepped-position, stepped-input, stepped-at}
 use borrow.Author.Needs.{needs}
 use Rattle.player.proofs.step_accepted.Statement.{statement}

@@ -79,7 +79,8 @@ loop-again c =
       omega arith,
       omega arith,
       l .loop .inv .2 ∙ step-same _ _ _ _ (at-step .loop .n) _ (at-loop-test .loop-test .taken) _ (at-state-at .state-at .ensures)
-          _ (at-answer-at .answer-at .ensures) _ (at-answer2 .answer2 .given .1) (c .before .before .before .if1 .left) _ (c .before .before .state-at2 .ensures)
+          _ (at-answer-at .answer-at .ensures) _ (at-answer2 .answer2 .given .1) (c .before .before .before .if1 .left) _
+          (c .before .before .state-at2 .ensures)
           (c .if2 .left),
     )
 

@@ -1,7 +1,7 @@
 -- `fill`. Invariant: the rows of the inputs that reach fewer than k states stand.
 use Prim.Native.Nat.{_+_, _-_, _≤_}
-use Rattle.ranks.specs.Fill.{Filling, PastKept}
-use Rattle.ranks.proofs.Order.{kept-none, kept-more, filling-done}
+use Rattle.region_ranks.specs.Fill.{Filling, PastKept}
+use Rattle.region_ranks.proofs.Order.{kept-none, kept-more, filling-done}
 use native.Mathlib.Omega.{arith}
 use Rattle.region.proofs.fill.Statement.{statement}
 use Rattle.region.proofs.fill.Tie as tie

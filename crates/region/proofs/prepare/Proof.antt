@@ -1,5 +1,5 @@
 -- `prepare` works out the closures, then the components, then the rows.
-use Rattle.dues.proofs.Meaning.{fits-few}
+use Rattle.region_dues.proofs.Meaning.{fits-few}
 use Rattle.region.proofs.Parts.{filling-first, serving-first, kept-words}
 use mathlib.Core.Path.{refl}
 use native.Mathlib.Omega.{arith}

@@ -5,7 +5,7 @@ use mathlib.Core.List.{List}
 use Rattle.bits.specs.Member.{pack}
 use Rattle.sets.specs.Words.{setsIn}
 use Rattle.sets.proofs.Rows.{words-long}
-use Rattle.components.specs.Component.{nontrivialAt}
+use Rattle.graph_components.specs.Component.{nontrivialAt}
 use Rattle.scratch.proofs.Areas.{part-sets, part-count}
 use native.Mathlib.Omega.{arith}
 use borrow.Author.Needs.{needs}

@@ -1,6 +1,6 @@
 -- `nontrivial_states` reads both closures.
 use mathlib.Core.Path.{_∙_}
-use Rattle.components.proofs.Closed.{nontrivial-closed}
+use Rattle.graph_components.proofs.Closed.{nontrivial-closed}
 use Rattle.scratch.proofs.Areas.{in-closes, out-closes}
 use borrow.Author.Needs.{needs}
 use Rattle.scratch.proofs.nontrivial_states.Statement.{statement}

@@ -4,7 +4,7 @@ use mathlib.Core.Path.{_∙_, ap}
 use mathlib.Core.List.{List}
 use Rattle.bits.specs.Member.{pack}
 use Rattle.sets.proofs.Rows.{words-long}
-use Rattle.components.specs.Component.{together}
+use Rattle.graph_components.specs.Component.{together}
 use Rattle.scratch.specs.Stored.{outArea}
 use Rattle.scratch.proofs.Areas.{part-sets, part-count}
 use native.Mathlib.Omega.{arith}

@@ -1,6 +1,6 @@
 -- `read` meets its contract.
 use borrow.Author.Needs.{needs}
-use Rattle.scan.proofs.WholeSteps.{got-game, fault-game}
+use Rattle.text_scan.proofs.WholeSteps.{got-game, fault-game}
 use Rattle.text.proofs.Reader.{reads-long, reads-place, reads-extra, reads-game}
 use Rattle.text.proofs.read.Statement.{statement}
 use Rattle.text.proofs.read.Tie as tie

@@ -1,0 +1,49 @@
+// The rows at a home: the tour past the guarantees.
+use controller_rows::Home;
+use controller_rows::Size;
+use controller_rows::leaders;
+use controller_rows::rows;
+use game::Game;
+use table_counters::CounterSet;
+ghost use Prim.Native.Nat.{_≤_};
+ghost use mathlib.Core.Logic.{_≢_};
+ghost use lib.ListN.{length};
+ghost use Rattle.play.specs.Play.{separatedOf};
+ghost use Rattle.controller_rows.specs.Writes.{lengthOf};
+ghost use Rattle.controller_table.specs.Filled.{Filled, There, Sized, HomeOf, Goals};
+
+// The rows at a home for every goal of q, one requirement after the other.
+fn seek_all(g: Game, room: &mut [u16], z: Size, w: Home, q: CounterSet)
+    requires { ⌜ Sized g z × HomeOf (separatedOf g) w × Goals (separatedOf g) w (q .0) × (q .0 ≢ 0)
+        × (lengthOf z ≤ length (now room)) ⌝ }
+    ensures { λ r. ⌜ Filled (separatedOf g) z (There (separatedOf g) (w .state .0)) (now (room .entry)) (now (room .exit)) ⌝ }
+{
+    let h = g.output;
+    let y = rows::layout_of(z);
+    let component = w.component;
+    let over = leaders::columns_of(z, w.inputs);
+    let mut n: usize = 0;
+    let mut r: usize = 0;
+    while r < g.k {
+        let t = table_sizes::guarantees_of(g.requirements[r], n);
+        table_tours::aim_some(&h.moves, room, y, component.0, over, q, t);
+        n += t.count;
+        r += 1;
+    }
+}
+
+// The rows at a home. The goals are found once for all counters.
+pub fn tour(g: Game, room: &mut [u16], z: Size, w: Home)
+    requires { ⌜ Sized g z × HomeOf (separatedOf g) w × (lengthOf z ≤ length (now room)) ⌝ }
+    ensures { λ r. ⌜ Filled (separatedOf g) z (There (separatedOf g) (w .state .0)) (now (room .entry)) (now (room .exit)) ⌝ }
+{
+    let component = w.component;
+    let q = table_sizes::guarantees_met(g, component);
+    if table_counters::is_empty(q) {
+        let h = g.output;
+        let over = leaders::columns_of(z, w.inputs);
+        table_tours::stay(&h.moves, room, rows::layout_of(z), component.0, over);
+        return;
+    }
+    seek_all(g, room, z, w, q);
+}

@@ -1,0 +1,45 @@
+// Tours of a nontrivial component past the assumptions, for the outputs with which it has no way out.
+use environment_rows::rows;
+use game::Game;
+use game::InSet;
+use game::OutSet;
+use table_counters::CounterSet;
+ghost use mathlib.Core.Path.{_≡_};
+ghost use mathlib.Core.Bool.{true};
+ghost use lib.ListN.{length};
+ghost use Rattle.bits.specs.Member.{has};
+ghost use Rattle.sets.specs.Words.{bitsOf};
+ghost use Rattle.environment_table.specs.Table.{Roomy, Filled};
+ghost use Rattle.environment_table.specs.Touring.{Left, Aims};
+
+// The rows towards all goals, one requirement after the other.
+fn aims(g: Game, counters: usize, c: InSet, q: CounterSet, over: OutSet, room: &mut [u16])
+    requires { ⌜ Roomy g counters (length (now room)) × Aims g (bitsOf (c .0)) (q .0) (bitsOf (over .0)) counters ⌝ }
+    ensures { λ r. ⌜ Filled g (λ k h b. (has (bitsOf (c .0)) k ≡ true) × (has (bitsOf (over .0)) b ≡ true)) (now (room .entry)) (now (room .exit)) ⌝ }
+{
+    let h = g.input;
+    let z = rows::layout_of(h.states, counters, g.output.states);
+    let mut n: usize = 0;
+    let mut r: usize = 0;
+    while r < g.k {
+        let t = table_sizes::assumptions_of(g.requirements[r], n);
+        table_tours::aim_some(&h.moves, room, z, c.0, over.0, q, t);
+        n += t.count;
+        r += 1;
+    }
+}
+
+// The rows of the component c and the outputs of `over`, those with which it has no way out. The goals are found once for all of them.
+pub fn tours(g: Game, counters: usize, c: InSet, over: OutSet, room: &mut [u16])
+    requires { ⌜ Roomy g counters (length (now room)) × Left g (bitsOf (c .0)) (bitsOf (over .0)) ⌝ }
+    ensures { λ r. ⌜ Filled g (λ k h b. (has (bitsOf (c .0)) k ≡ true) × (has (bitsOf (over .0)) b ≡ true)) (now (room .entry)) (now (room .exit)) ⌝ }
+{
+    let q = table_sizes::assumptions_met(g, c);
+    if table_counters::is_empty(q) {
+        let h = g.input;
+        let z = rows::layout_of(h.states, counters, g.output.states);
+        table_tours::stay(&h.moves, room, z, c.0, over.0);
+        return;
+    }
+    aims(g, counters, c, q, over, room);
+}

@@ -1,0 +1,95 @@
+// The reach of every state of a graph, by sweeps over all states.
+use game::Graph;
+use sets::Set;
+ghost use mathlib.Core.Path.{_≡_};
+ghost use Prim.Native.Nat.{ℕ, _≤_};
+ghost use Rattle.sets.specs.Words.{capacity, bitsOf, setsIn, setCount};
+ghost use Rattle.graph_closure.specs.Sweep.{grown, firstRows, Ran, Closed};
+
+// Row s becomes s and its moves. A move past the count is none.
+fn start(h: Graph, rows: &mut [u64])
+    requires { ⌜ (h .states ≤ capacity) × (h .states ≤ setCount (now rows)) ⌝ }
+    ensures { λ r. ⌜ setsIn (now (rows .exit)) ≡ firstRows h (setsIn (now (rows .entry))) ⌝ }
+{
+    let states = sets::below(h.states);
+    let mut s = 0;
+    while s < h.states {
+        let moves = sets::row_of(&h.moves, s);
+        sets::put(rows, s, sets::insert(sets::intersection(moves, states), s));
+        s += 1;
+    }
+}
+
+// The set x with the rows of its members below n, which are in its low word, those that join on the way included.
+fn joined_low(rows: &[u64], n: usize, x: Set) -> Set
+    requires { ⌜ (n ≤ 64) × (n ≤ setCount (now rows)) ⌝ }
+    ensures { λ r. ⌜ bitsOf r ≡ grown (setsIn (now (rows .entry))) n (bitsOf x) ⌝ }
+{
+    let mut y = x;
+    let mut t = 0;
+    while t < n {
+        if sets::member_low(y, t) {
+            y = sets::union(y, sets::row(rows, t));
+        }
+        t += 1;
+    }
+    y
+}
+
+// The same on, for the members from 64 on, which are in the high word.
+fn joined_high(rows: &[u64], n: usize, x: Set) -> Set
+    requires { ⌜ (64 ≤ n) × (n ≤ capacity) × (n ≤ setCount (now rows)) ⌝ }
+    ensures { λ r. ⌜ ((z : ℕ) → bitsOf x ≡ grown (setsIn (now (rows .entry))) 64 z → bitsOf r ≡ grown (setsIn (now (rows .entry))) n z) ⌝ }
+{
+    let mut y = x;
+    let mut t = 64;
+    while t < n {
+        if sets::member_high(y, t) {
+            y = sets::union(y, sets::row(rows, t));
+        }
+        t += 1;
+    }
+    y
+}
+
+// The set x with the rows of its members below n, those that join on the way included. By halves, as a turn then looks at one word of the set alone.
+fn joined(rows: &[u64], n: usize, x: Set) -> Set
+    requires { ⌜ (n ≤ capacity) × (n ≤ setCount (now rows)) ⌝ }
+    ensures { λ r. ⌜ bitsOf r ≡ grown (setsIn (now (rows .entry))) n (bitsOf x) ⌝ }
+{
+    if n <= 64 {
+        return joined_low(rows, n, x);
+    }
+    joined_high(rows, n, joined_low(rows, 64, x))
+}
+
+// One sweep over the states below n, in place, which moves the count of sweeps on. Whether it added a state to a row.
+fn sweep(rows: &mut [u64], n: usize, sweeps: &mut usize) -> bool
+    requires { ⌜ (n ≤ capacity) × (n ≤ setCount (now rows)) × (now sweeps ≤ capacity) ⌝ }
+    ensures { λ r. ⌜ Ran n (setsIn (now (rows .entry))) (setsIn (now (rows .exit))) r (now (sweeps .entry)) (now (sweeps .exit)) ⌝ }
+{
+    let mut added = false;
+    let mut s = 0;
+    while s < n {
+        let old = sets::row(rows, s);
+        let new = joined(rows, n, old);
+        if !sets::same(new, old) {
+            sets::put(rows, s, new);
+            added = true;
+        }
+        s += 1;
+    }
+    *sweeps += 1;
+    added
+}
+
+// Row s becomes the set of the states that s reaches; later sets stay. Sweeps end at the first that adds no state; their number is the answer.
+pub fn close(h: Graph, rows: &mut [u64]) -> usize
+    requires { ⌜ (h .states ≤ capacity) × (h .states ≤ setCount (now rows)) ⌝ }
+    ensures { λ r. ⌜ Closed h (setsIn (now (rows .entry))) (setsIn (now (rows .exit))) r ⌝ }
+{
+    start(h, rows);
+    let mut sweeps = 0;
+    while sweep(rows, h.states, &mut sweeps) {}
+    sweeps
+}

@@ -1,0 +1,333 @@
+-- The loops of the search for a component.
+--
+--   Going, going-start, -below, -next, -falls, -end      : forward from a state
+--   Sweeping, sweeping-start, -below, -next, -end        : one sweep backward
+--   Backing, backing-start, -next, -falls, -end          : sweeps until one finds nothing
+use Prim.Native.Nat.{ℕ, _<_}
+use mathlib.Core.Path.{_≡_, refl, sym, _∙_, ap}
+use mathlib.Core.Bool.{Bool, true, false, _&&_, _||_, not}
+use mathlib.Core.List.{List}
+use mathlib.Core.Logic.{_⊎_, inl, inr, _≢_}
+use lib.Dec.{eqb, ltb}
+use lib.ListN.{getD}
+use borrow.Author.Tests.{eqb-true, eq-eqb, ltb-true, lt-ltb}
+use Rattle.finite.specs.Bounded.{least, count, any}
+use Rattle.finite.proofs.Truth.{decide, clash, false-of, and-intro, and-left, and-right, or-left, or-right, or-cases, not-true}
+use Rattle.finite.proofs.Bounded.{count-less, any-elim, any-false}
+use Rattle.bits.specs.Member.{has, meets}
+use Rattle.bits.proofs.Membership.{has-zero, ext}
+use Rattle.bits.proofs.Compare.{meets-intro, meets-elim}
+use Rattle.bits.proofs.Remove.{less-in, less-out, less-falls}
+use Rattle.bits.proofs.Visit.{small-word, lowest-below, lowest-in, lowest-less}
+use Rattle.sets.specs.Words.{capacity}
+use Rattle.graph_ranks.specs.Search.{Narrow, Ahead, Swept, Behind}
+
+not-of : {b : Bool} → b ≡ false → not b ≡ true
+not-of e = rw e refl
+
+-- a set with one member
+module _ (s x : ℕ) (d : (t : ℕ) → has x t ≡ (has 0 t || eqb t s)) where
+  single-own : has x s ≡ true
+  single-own = d s ∙ or-right (has 0 s) (eq-eqb s s refl)
+
+  single-is : (t : ℕ) → has x t ≡ true → t ≡ s
+  single-is t e =
+      elim (or-cases (has 0 t) (eqb t s) (sym (d t) ∙ e)) [
+        | inl z ↦ clash z (has-zero t)
+        | inr q ↦ eqb-true t s q
+      ]
+
+-- what is left of a set without its lowest member
+module _ (w h r : ℕ) (small : (t : ℕ) → has w t ≡ true → t < capacity) (some : w ≢ 0) (e : h ≡ least capacity (has w))
+    (d : (s : ℕ) → has r s ≡ (has w s && not (eqb s (least capacity (has w))))) where
+  taken : has w h ≡ true
+  taken = lowest-in capacity w h (small-word capacity w small) some e
+
+  others : (s : ℕ) → has r s ≡ (has w s && not (eqb s h))
+  others = lowest-less capacity w h r e d
+
+  -- a member is the lowest or is left
+  left-or : (s : ℕ) → has w s ≡ true → (s ≡ h) ⊎ (has r s ≡ true)
+  left-or s m =
+      elim (decide (eqb s h)) [
+        | inl q ↦ inl (eqb-true s h q)
+        | inr q ↦ inr (others s ∙ and-intro m (not-of q))
+      ]
+
+-- ---- forward
+
+pub record Going (rows : List ℕ) (s found waiting : ℕ) : Type 0 where
+  pub own : has found s ≡ true
+  pub seen : (t : ℕ) → has waiting t ≡ true → has found t ≡ true
+  pub small : (t : ℕ) → has found t ≡ true → t < capacity
+  pub moves : (t u : ℕ) → has found t ≡ true → has waiting t ≡ false → has (getD rows t 0) u ≡ true → has found u ≡ true
+  pub least : (p : ℕ → Bool) → p s ≡ true → ((t u : ℕ) → p t ≡ true → has (getD rows t 0) u ≡ true → p u ≡ true)
+      → (t : ℕ) → has found t ≡ true → p t ≡ true
+
+-- a state that is not found, or whose moves have not been followed
+unfoldable pub pending : ℕ → ℕ → ℕ → Bool
+pending found waiting t = not (has found t) || has waiting t
+
+module _ (rows : List ℕ) (s : ℕ) where
+  pub going-start : s < capacity → (x : ℕ) → ((t : ℕ) → has x t ≡ (has 0 t || eqb t s)) → Going rows s x x
+  going-start b x d = record {
+    own = single-own s x d;
+    seen = λ t e. e;
+    small = λ t e. let q = single-is s x d t e in rw q b;
+    moves = λ t u e f m. clash e f;
+    least = λ p o m t e. let q = single-is s x d t e in rw q o;
+  }
+
+  pub going-below : (f w : ℕ) → Going rows s f w → w ≢ 0 → (h : ℕ) → h ≡ least capacity (has w) → h < capacity
+  going-below f w G some h e = lowest-below capacity w h (small-word capacity w (λ t m. G .small t (G .seen t m))) some e
+
+  pub going-end : (f w : ℕ) → Going rows s f w → w ≡ 0 → Ahead rows s f × ((t : ℕ) → has f t ≡ true → t < capacity)
+  going-end f w G e = (
+    record {
+      own = G .own;
+      moves = λ t u m r. G .moves t u m (ap (λ (x : ℕ). has x t) e ∙ has-zero t) r;
+      least = G .least;
+    },
+    G .small,
+  )
+
+  module _ (N : Narrow rows) (f w h row next f′ v w′ : ℕ) (G : Going rows s f w) (some : w ≢ 0) (e : h ≡ least capacity (has w))
+      (r : row ≡ getD rows h 0) (dn : (t : ℕ) → has next t ≡ (has row t && not (has f t))) (df : (t : ℕ) → has f′ t ≡ (has f t || has next t))
+      (dv : (t : ℕ) → has v t ≡ (has w t && not (eqb t (least capacity (has w))))) (dw : (t : ℕ) → has w′ t ≡ (has v t || has next t)) where
+    waits-small : (t : ℕ) → has w t ≡ true → t < capacity
+    waits-small t m = G .small t (G .seen t m)
+
+    here : has w h ≡ true
+    here = taken w h v waits-small some e dv
+
+    next-move : (t : ℕ) → has next t ≡ true → has (getD rows h 0) t ≡ true
+    next-move t m = let q = and-left (has row t) (not (has f t)) (sym (dn t) ∙ m) in rw r at q
+
+    next-new : (t : ℕ) → has next t ≡ true → has f t ≡ false
+    next-new t m = not-true (has f t) (and-right (has row t) (not (has f t)) (sym (dn t) ∙ m))
+
+    kept : (t : ℕ) → has f t ≡ true → has f′ t ≡ true
+    kept t m = df t ∙ or-left (has next t) m
+
+    gained : (t : ℕ) → has next t ≡ true → has f′ t ≡ true
+    gained t m = df t ∙ or-right (has f t) m
+
+    -- what the lowest waiting state moves to is found now
+    followed : (u : ℕ) → has (getD rows h 0) u ≡ true → has f′ u ≡ true
+    followed u m =
+        elim (decide (has f u)) [
+          | inl q ↦ kept u q
+          | inr q ↦ gained u (dn u ∙ and-intro (ap (λ (x : ℕ). has x u) r ∙ m) (not-of q))
+        ]
+
+    not-next : (t : ℕ) → has f t ≡ true → has next t ≡ false
+    not-next t m = false-of (has next t) (λ q. clash m (next-new t q))
+
+    -- a state that was found and no longer waits did not wait, or is the lowest
+    unwaiting : (t : ℕ) → has w′ t ≡ false → (t ≡ h) ⊎ (has w t ≡ false)
+    unwaiting t q =
+        elim (decide (has w t)) [
+          | inl m ↦ elim (left-or w h v waits-small some e dv t m) [
+            | inl i ↦ inl i
+            | inr l ↦ clash (dw t ∙ or-left (has next t) l) q
+          ]
+          | inr m ↦ inr m
+        ]
+
+    cases : (t : ℕ) → has f′ t ≡ true → (has f t ≡ true) ⊎ (has next t ≡ true)
+    cases t m = or-cases (has f t) (has next t) (sym (df t) ∙ m)
+
+    pub going-next : Going rows s f′ w′
+    going-next = record {
+      own = kept s (G .own);
+      seen = λ t m. elim (or-cases (has v t) (has next t) (sym (dw t) ∙ m)) [
+        | inl q ↦ kept t (G .seen t (less-in w h v (others w h v waits-small some e dv) t q))
+        | inr q ↦ gained t q
+      ];
+      small = λ t m. elim (cases t m) [ inl q ↦ G .small t q | inr q ↦ N h t (waits-small h here) (next-move t q) ];
+      moves = λ t u m q r. elim (cases t m) [
+        | inl o ↦ elim (unwaiting t q) [
+          | inl i ↦ followed u (rw i at r)
+          | inr l ↦ kept u (G .moves t u o l r)
+        ]
+        | inr o ↦ clash (dw t ∙ or-right (has v t) o) q
+      ];
+      least = λ p o m t q. elim (cases t q) [
+        | inl k ↦ G .least p o m t k
+        | inr k ↦ m h t (G .least p o m h (G .seen h here)) (next-move t k)
+      ];
+    }
+
+    pub going-falls : count capacity (pending f′ w′) < count capacity (pending f w)
+    unfolding pending
+    going-falls =
+        count-less capacity (pending f′ w′) (pending f w) (λ t b m. before t m) h (waits-small h here) after-h (or-right (not (has f h)) here)
+      where
+        before : (t : ℕ) → pending f′ w′ t ≡ true → pending f w t ≡ true
+        before t m =
+            elim (or-cases (not (has f′ t)) (has w′ t) m) [
+              | inl q ↦ or-left (has w t) (not-of (false-of (has f t) (λ k. clash (kept t k) (not-true (has f′ t) q))))
+              | inr q ↦ elim (or-cases (has v t) (has next t) (sym (dw t) ∙ q)) [
+                | inl k ↦ or-right (not (has f t)) (less-in w h v (others w h v waits-small some e dv) t k)
+                | inr k ↦ or-left (has w t) (not-of (next-new t k))
+              ]
+            ]
+
+        after-h : pending f′ w′ h ≡ false
+        after-h =
+            false-of (pending f′ w′ h) (λ m. elim (or-cases (not (has f′ h)) (has w′ h) m) [
+              | inl q ↦ clash (kept h (G .seen h here)) (not-true (has f′ h) q)
+              | inr q ↦ elim (or-cases (has v h) (has next h) (sym (dw h) ∙ q)) [
+                | inl k ↦ clash k (less-out w h v (others w h v waits-small some e dv))
+                | inr k ↦ clash (G .seen h here) (next-new h k)
+              ]
+            ])
+
+-- ---- one sweep backward
+
+pub record Sweeping (rows : List ℕ) (left found more rest : ℕ) : Type 0 where
+  pub keeps : (t : ℕ) → has found t ≡ true → has more t ≡ true
+  pub inside : (t : ℕ) → has rest t ≡ true → has left t ≡ true
+  pub moves : (t u : ℕ) → has left t ≡ true → has rest t ≡ false → has (getD rows t 0) u ≡ true → has found u ≡ true → has more t ≡ true
+  pub least : (p : ℕ → Bool) → ((t : ℕ) → has found t ≡ true → p t ≡ true)
+      → ((t u : ℕ) → has left t ≡ true → has (getD rows t 0) u ≡ true → p u ≡ true → p t ≡ true) → (t : ℕ) → has more t ≡ true → p t ≡ true
+
+module _ (rows : List ℕ) (left found : ℕ) where
+  pub sweeping-start : Sweeping rows left found found left
+  sweeping-start = record {
+    keeps = λ t m. m;
+    inside = λ t m. m;
+    moves = λ t u m q r f. clash m q;
+    least = λ p f m t q. f t q;
+  }
+
+  pub sweeping-end : (more rest : ℕ) → Sweeping rows left found more rest → rest ≡ 0 → Swept rows left found more
+  sweeping-end more rest W e = record {
+    keeps = W .keeps;
+    moves = λ t u m r f. W .moves t u m (ap (λ (x : ℕ). has x t) e ∙ has-zero t) r f;
+    least = W .least;
+  }
+
+  module _ (small : (t : ℕ) → has left t ≡ true → t < capacity) (more rest h : ℕ) (W : Sweeping rows left found more rest) (some : rest ≢ 0)
+      (e : h ≡ least capacity (has rest)) where
+    rest-small : (t : ℕ) → has rest t ≡ true → t < capacity
+    rest-small t m = small t (W .inside t m)
+
+    pub sweeping-in : has rest h ≡ true
+    sweeping-in = lowest-in capacity rest h (small-word capacity rest rest-small) some e
+
+    pub sweeping-below : h < capacity
+    sweeping-below = rest-small h sweeping-in
+
+    module _ (v : ℕ) (dv : (t : ℕ) → has v t ≡ (has rest t && not (eqb t (least capacity (has rest))))) where
+      pub sweeping-falls : count capacity (has v) < count capacity (has rest)
+      sweeping-falls = less-falls rest h v (others rest h v rest-small some e dv) capacity sweeping-below sweeping-in
+
+      module _ (N : Narrow rows) (row : ℕ) (ok : Bool) (r : row ≡ getD rows h 0) (q : ok ≡ meets capacity row more) (m′ : ℕ)
+          (d : (t : ℕ) → has m′ t ≡ (has more t || (ok && eqb t h))) where
+        grown : (t : ℕ) → has more t ≡ true → has m′ t ≡ true
+        grown t m = d t ∙ or-left (ok && eqb t h) m
+
+        met : (u : ℕ) → has (getD rows h 0) u ≡ true → has more u ≡ true → has m′ h ≡ true
+        met u a b =
+            let t : ok ≡ true = q ∙ meets-intro capacity row more u (N h u sweeping-below a) (ap (λ (x : ℕ). has x u) r ∙ a) b in
+            d h ∙ or-right (has more h) (and-intro t (eq-eqb h h refl))
+
+        entered : (t : ℕ) → (ok && eqb t h) ≡ true → (t ≡ h) × ((u : ℕ) × (has (getD rows h 0) u ≡ true) × (has more u ≡ true))
+        entered t m =
+            let x = meets-elim capacity row more (sym q ∙ and-left ok (eqb t h) m) in
+            (eqb-true t h (and-right ok (eqb t h) m), (x .0, ap (λ (y : ℕ). has y (x .0)) (sym r) ∙ x .2, x .3))
+
+        pub sweeping-next : Sweeping rows left found m′ v
+        sweeping-next = record {
+          keeps = λ t m. grown t (W .keeps t m);
+          inside = λ t m. W .inside t (less-in rest h v (others rest h v rest-small some e dv) t m);
+          moves = λ t u m o a b. elim (decide (has rest t)) [
+            | inl k ↦ elim (left-or rest h v rest-small some e dv t k) [
+              | inl i ↦ let c : has (getD rows h 0) u ≡ true = rw i at a in rw i (met u c (W .keeps u b))
+              | inr l ↦ clash l o
+            ]
+            | inr k ↦ grown t (W .moves t u m k a b)
+          ];
+          least = λ p f m t k. elim (or-cases (has more t) (ok && eqb t h) (sym (d t) ∙ k)) [
+            | inl a ↦ W .least p f m t a
+            | inr a ↦
+                let x = entered t a in
+                let i = x .0 in
+                rw i (m h (x .1 .0) (W .inside h sweeping-in) (x .1 .1) (W .least p f m (x .1 .0) (x .1 .2)))
+          ];
+        }
+
+-- ---- sweeps until one finds nothing
+
+pub record Backing (rows : List ℕ) (inside s found more : ℕ) : Type 0 where
+  pub own : has found s ≡ true
+  pub keeps : (t : ℕ) → has found t ≡ true → has more t ≡ true
+  pub moves : (t u : ℕ) → has inside t ≡ true → has (getD rows t 0) u ≡ true → has found u ≡ true → has more t ≡ true
+  pub least : (p : ℕ → Bool) → p s ≡ true
+      → ((t u : ℕ) → has inside t ≡ true → has (getD rows t 0) u ≡ true → p u ≡ true → p t ≡ true) → (t : ℕ) → has more t ≡ true → p t ≡ true
+
+unfoldable pub missing : ℕ → ℕ → Bool
+missing found t = not (has found t)
+
+module _ (rows : List ℕ) (inside s : ℕ) where
+  pub backing-start : (x m : ℕ) → ((t : ℕ) → has x t ≡ (has 0 t || eqb t s)) → Swept rows inside x m → Backing rows inside s x m
+  backing-start x m d W = record {
+    own = single-own s x d;
+    keeps = W .keeps;
+    moves = W .moves;
+    least = λ p o f. W .least p (λ t e. let q = single-is s x d t e in rw q o) f;
+  }
+
+  pub backing-end : (f m : ℕ) → Backing rows inside s f m → m ≡ f → Behind rows inside s f
+  backing-end f m B e = record {
+    own = B .own;
+    moves = λ t u i r h. let k = B .moves t u i r h in rw e at k;
+    least = λ p o g t h. B .least p o g t (B .keeps t h);
+  }
+
+  module _ (f m l n : ℕ) (B : Backing rows inside s f m) (d : (t : ℕ) → has l t ≡ (has inside t && not (has m t))) (W : Swept rows l m n) where
+    pub backing-next : Backing rows inside s m n
+    backing-next = record {
+      own = B .keeps s (B .own);
+      keeps = W .keeps;
+      moves = λ t u i r h. elim (decide (has m t)) [
+        | inl q ↦ W .keeps t q
+        | inr q ↦ W .moves t u (d t ∙ and-intro i (not-of q)) r h
+      ];
+      least = λ p o g. W .least p (B .least p o g) (λ t u i. g t u (and-left (has inside t) (not (has m t)) (sym (d t) ∙ i)));
+    }
+
+  pub left-small : (m l : ℕ) → ((t : ℕ) → has inside t ≡ true → t < capacity) → ((t : ℕ) → has l t ≡ (has inside t && not (has m t)))
+      → (t : ℕ) → has l t ≡ true → t < capacity
+  left-small m l small d t e = small t (and-left (has inside t) (not (has m t)) (sym (d t) ∙ e))
+
+  module _ (small : (t : ℕ) → has inside t ≡ true → t < capacity) (b : s < capacity) (f m : ℕ) (B : Backing rows inside s f m) (ne : m ≢ f) where
+    more-small : (t : ℕ) → has m t ≡ true → t < capacity
+    more-small t e =
+        ltb-true t capacity (B .least (λ k. ltb k capacity) (lt-ltb s capacity b) (λ k u i r q. lt-ltb k capacity (small k i)) t e)
+
+    new : (t : ℕ) × (t < capacity) × ((has m t && not (has f t)) ≡ true)
+    new =
+        elim (decide (any capacity (λ t. has m t && not (has f t)))) [
+          | inl q ↦ any-elim capacity (λ t. has m t && not (has f t)) q
+          | inr q ↦ absurd (ne (ext m f (λ t. same t q)))
+        ]
+      where
+        same : (t : ℕ) → any capacity (λ t. has m t && not (has f t)) ≡ false → has m t ≡ has f t
+        same t q =
+            elim (decide (has m t)) [
+              | inl k ↦ elim (decide (has f t)) [
+                | inl j ↦ k ∙ sym j
+                | inr j ↦ clash (and-intro k (not-of j)) (any-false capacity (λ t. has m t && not (has f t)) q t (more-small t k))
+              ]
+              | inr k ↦ k ∙ sym (false-of (has f t) (λ j. clash (B .keeps t j) k))
+            ]
+
+    pub backing-falls : count capacity (missing m) < count capacity (missing f)
+    unfolding missing
+    backing-falls =
+        let k = and-left (has m (new .0)) (not (has f (new .0))) (new .2) in
+        count-less capacity (missing m) (missing f)
+        (λ t c q. not-of (false-of (has f t) (λ j. clash (B .keeps t j) (not-true (has m t) q)))) (new .0) (new .1) (rw k refl)
+        (and-right (has m (new .0)) (not (has f (new .0))) (new .2))

@@ -1,0 +1,189 @@
+// The components of the input graph and their ranks, found with a few sets and no scratch: forward from a state, then backward to it.
+use game::Game;
+use game::InSet;
+use game::InState;
+use sets::Set;
+ghost use mathlib.Core.Path.{_≡_};
+ghost use mathlib.Core.Bool.{true};
+ghost use Prim.Native.Nat.{ℕ, _+_, _≤_, _<_};
+ghost use lib.ListN.{length};
+ghost use Rattle.bits.specs.Member.{has, pack};
+ghost use Rattle.sets.specs.Words.{capacity, bitsOf, setsIn};
+ghost use Rattle.graphs.specs.Component.{joined};
+ghost use Rattle.game.specs.Acceptance.{acceptance};
+ghost use Rattle.game.specs.declared.Acceptance.the-variants.{Accepted};
+ghost use Rattle.play.specs.Play.{graphOf, separatedOf};
+ghost use Rattle.compact.specs.Rank.{leads, componentCount};
+ghost use Rattle.compact.specs.Moving.{ranksFit};
+ghost use Rattle.graph_ranks.specs.Search.{Narrow, Ahead, Swept, Behind, Component, Extended};
+ghost use Rattle.graph_ranks.specs.Ranks.{Put, ranked as holds, RanksWritten};
+
+// The states that s reaches.
+fn ahead(moves: &[u64; sets::ROW_WORDS], s: usize) -> Set
+    requires { ⌜ Narrow (setsIn (now moves)) × (s < capacity) ⌝ }
+    ensures { λ r. ⌜ Ahead (setsIn (now (moves .entry))) s (bitsOf r) × ((t : ℕ) → has (bitsOf r) t ≡ true → t < capacity) ⌝ }
+{
+    let mut found = sets::insert(sets::empty(), s);
+    let mut waiting = found;
+    while !sets::is_empty(waiting) {
+        let t = sets::lowest(waiting);
+        let next = sets::difference(sets::row_of(moves, t), found);
+        found = sets::union(found, next);
+        waiting = sets::union(sets::without_lowest(waiting), next);
+    }
+    found
+}
+
+// What is found, with the states of `left` that have a move to something found. A state that is found is seen by those after it.
+fn sweep(moves: &[u64; sets::ROW_WORDS], left: Set, found: Set) -> Set
+    requires { ⌜ Narrow (setsIn (now moves)) × ((t : ℕ) → has (bitsOf left) t ≡ true → t < capacity) ⌝ }
+    ensures { λ r. ⌜ Swept (setsIn (now (moves .entry))) (bitsOf left) (bitsOf found) (bitsOf r) ⌝ }
+{
+    let mut more = found;
+    let mut rest = left;
+    while !sets::is_empty(rest) {
+        let t = sets::lowest(rest);
+        more = sets::insert_if(more, t, sets::meets(sets::row_of(moves, t), more));
+        rest = sets::without_lowest(rest);
+    }
+    more
+}
+
+// The states of a set that reach s by way of its states, with s.
+fn behind(moves: &[u64; sets::ROW_WORDS], inside: Set, s: usize) -> Set
+    requires { ⌜ Narrow (setsIn (now moves)) × ((t : ℕ) → has (bitsOf inside) t ≡ true → t < capacity) × (s < capacity) ⌝ }
+    ensures { λ r. ⌜ Behind (setsIn (now (moves .entry))) (bitsOf inside) s (bitsOf r) ⌝ }
+{
+    let mut found = sets::insert(sets::empty(), s);
+    let mut more = sweep(moves, inside, found);
+    while !sets::same(more, found) {
+        found = more;
+        more = sweep(moves, sets::difference(inside, found), found);
+    }
+    found
+}
+
+// The component of s.
+fn around(moves: &[u64; sets::ROW_WORDS], s: usize) -> Set
+    requires { ⌜ Narrow (setsIn (now moves)) × (s < capacity) ⌝ }
+    ensures { λ r. ⌜ Component (setsIn (now (moves .entry))) s (bitsOf r) ⌝ }
+{
+    behind(moves, ahead(moves, s), s)
+}
+
+// What is done, with the component of s where s is not done.
+fn extended(moves: &[u64; sets::ROW_WORDS], done: Set, s: usize) -> Set
+    requires { ⌜ Narrow (setsIn (now moves)) × (s < capacity) ⌝ }
+    ensures { λ r. ⌜ Extended (setsIn (now (moves .entry))) (bitsOf done) s (bitsOf r) ⌝ }
+{
+    if sets::member(done, s) {
+        return done;
+    }
+    sets::union(done, around(moves, s))
+}
+
+// The component of input j.
+pub fn component(g: Game, j: InState) -> InSet
+    requires { ⌜ (acceptance g ≡ Accepted) × (j .0 < g .input .states) ⌝ }
+    ensures { λ r. ⌜ bitsOf (r .0) ≡ pack (g .input .states) (joined (graphOf (g .input)) (j .0)) ⌝ }
+{
+    let h = g.input;
+    InSet(around(&h.moves, j.0))
+}
+
+// The inputs that are the smallest of their components.
+pub fn leading(g: Game) -> InSet
+    requires { ⌜ acceptance g ≡ Accepted ⌝ }
+    ensures { λ r. ⌜ bitsOf (r .0) ≡ pack (g .input .states) (leads (separatedOf g)) ⌝ }
+{
+    let h = g.input;
+    let mut leaders = sets::empty();
+    let mut done = sets::empty();
+    let mut j: usize = 0;
+    while j < g.input.states {
+        leaders = sets::insert_if(leaders, j, !sets::member(done, j));
+        done = extended(&h.moves, done, j);
+        j += 1;
+    }
+    InSet(leaders)
+}
+
+// How many components there are, from the inputs that are the smallest of theirs.
+pub fn components(g: Game, leaders: InSet) -> usize
+    requires { ⌜ (acceptance g ≡ Accepted) × (bitsOf (leaders .0) ≡ pack (g .input .states) (leads (separatedOf g))) ⌝ }
+    ensures { λ r. ⌜ r ≡ componentCount (separatedOf g) ⌝ }
+{
+    sets::count(leaders.0)
+}
+
+// Writes a rank at n + t for each t of c.
+fn put_rank(room: &mut [u16], n: usize, c: Set, rank: u16)
+    requires { ⌜ ((t : ℕ) → has (bitsOf c) t ≡ true → (t < capacity) × (n + t < length (now room))) ⌝ }
+    ensures { λ r. ⌜ Put n (bitsOf c) rank (now (room .entry)) (now (room .exit)) ⌝ }
+{
+    let mut rest = c;
+    while !sets::is_empty(rest) {
+        let t = sets::lowest(rest);
+        room[n + t] = rank;
+        rest = sets::without_lowest(rest);
+    }
+}
+
+// Whether a rank stands at n + t for each t of c.
+fn ranked(table: &[u16], n: usize, c: Set, rank: u16) -> bool
+    requires { ⌜ ((t : ℕ) → has (bitsOf c) t ≡ true → (t < capacity) × (n + t < length (now table))) ⌝ }
+    ensures { λ r. ⌜ r ≡ holds n (bitsOf c) rank (now (table .entry)) ⌝ }
+{
+    let mut rest = c;
+    while !sets::is_empty(rest) {
+        let t = sets::lowest(rest);
+        if table[n + t] != rank {
+            return false;
+        }
+        rest = sets::without_lowest(rest);
+    }
+    true
+}
+
+// Writes the rank of each input's component behind the starts.
+pub fn write_ranks(g: Game, room: &mut [u16])
+    requires { ⌜ (acceptance g ≡ Accepted) × (g .input .states + g .input .states ≤ length (now room)) ⌝ }
+    ensures { λ r. ⌜ RanksWritten g (now (room .entry)) (now (room .exit)) ⌝ }
+{
+    let h = g.input;
+    let mut done = sets::empty();
+    let mut rank: u16 = 0;
+    let mut j: usize = 0;
+    while j < g.input.states {
+        if !sets::member(done, j) {
+            let c = around(&h.moves, j);
+            put_rank(room, g.input.states, c, rank);
+            done = sets::union(done, c);
+            rank += 1;
+        }
+        j += 1;
+    }
+}
+
+// Whether the ranks behind the starts are the game's.
+pub fn ranks_fit(g: Game, table: &[u16]) -> bool
+    requires { ⌜ (acceptance g ≡ Accepted) × (g .input .states + g .input .states ≤ length (now table)) ⌝ }
+    ensures { λ r. ⌜ r ≡ ranksFit (separatedOf g) (now (table .entry)) ⌝ }
+{
+    let h = g.input;
+    let mut done = sets::empty();
+    let mut rank: u16 = 0;
+    let mut j: usize = 0;
+    while j < g.input.states {
+        if !sets::member(done, j) {
+            let c = around(&h.moves, j);
+            if !ranked(table, g.input.states, c, rank) {
+                return false;
+            }
+            done = sets::union(done, c);
+            rank += 1;
+        }
+        j += 1;
+    }
+    true
+}

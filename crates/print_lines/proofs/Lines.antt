@@ -1,0 +1,178 @@
+-- The pieces of an answer's lines, and their lengths.
+use Prim.Native.Nat.{ℕ, zero, suc, _+_, _*_, _/_, _%_, _≤_, _<_, max}
+use native.Mathlib.Omega.{arith}
+use native.Mathlib.Nat.{div-le-self, mod-le, le-trans, lt-of-le-of-lt}
+use mathlib.Core.Bool.{Bool, true, false}
+use mathlib.Core.List.{List, [], _∷_, _++_, append-assoc, append-nil}
+use mathlib.Core.Path.{_≡_, refl, sym, _∙_, ap}
+use lib.Dec.{ltb, eqb}
+use lib.ListN.{length, length-append}
+use borrow.Author.Tests.{ltb-true, ltb-false, eq-eqb, ne-eqb}
+use Rattle.text_grammar.specs.Number.{decimal}
+use Rattle.text_grammar.proofs.Format.{by-cases}
+use Rattle.text_grammar.proofs.Number.{decimal-one, decimal-step}
+use Rattle.text_shape.specs.Text.{word, line, bracket, items, gapText}
+use Rattle.text_shape.specs.Shape.{opening}
+use Rattle.text_shape.proofs.Opening.{opening-length}
+use Rattle.text_shape.proofs.WordTable.{word-short}
+use Rattle.text_put.specs.Put.{overlay, Puts}
+use Rattle.text_put.proofs.Buffer.{puts-as}
+use Rattle.print_lines.specs.Line.{unlessNone, winnerWord, winsLine, startLine, environmentStart, rowLine, stepLine, refusedLine, misshapenLine}
+
+-- a number of 64 bits has at most 20 digits
+tens : ℕ → ℕ
+tens zero = 10
+tens (suc k) = 10 * tens k
+
+digits-count : (k v : ℕ) → v < tens k → length (decimal v) ≤ suc k
+unfolding tens
+digits-count zero v h = omega (arith, ap length (decimal-one v h))
+digits-count (suc k) v h =
+    by-cases (ltb v 10)
+    (λ b. omega (arith, ap length (decimal-one v (ltb-true v 10 b))))
+    (λ b.
+    let l = ltb-false v 10 b in
+    omega (arith, ap length (decimal-step v l), length-append (decimal (v / 10)) ((48 + v % 10) ∷ []), digits-count k (v / 10) (omega arith)))
+
+pub number-short : (v b : ℕ) → v < 18446744073709551616 → length (decimal v ++ b ∷ []) ≤ 21
+unfolding tens
+number-short v b h = omega (arith, length-append (decimal v) (b ∷ []), digits-count 19 v (omega arith))
+
+pub two-digits : (v : ℕ) → v < 100 → length (decimal v) ≤ 2
+unfolding tens
+two-digits v h = digits-count 1 v h
+
+pub three-digits : (v : ℕ) → v < 1000 → length (decimal v) ≤ 3
+unfolding tens
+three-digits v h = digits-count 2 v h
+
+pub six-digits : (v : ℕ) → v < 1000000 → length (decimal v) ≤ 6
+unfolding tens
+six-digits v h = digits-count 5 v h
+
+pub opening-short : (w : ℕ) → length (opening w) ≤ 13
+opening-short w = omega (arith, opening-length w, word-short w)
+
+-- rows of none
+pub puts-nothing : (d : List ℕ) (at : ℕ) → Puts d at [] at d
+unfolding overlay
+puts-nothing d at = record { next = omega arith; kept = refl }
+
+pub none-line : (d : List ℕ) (at e : ℕ) (t : List ℕ) → e ≡ 65535 → Puts d at (unlessNone e t) at d
+unfolding unlessNone
+none-line d at e t h =
+    let empty : unlessNone e t ≡ [] = rw (eq-eqb e 65535 h, unlessNone) in
+    puts-as (sym empty) (puts-nothing d at)
+
+some-line : (e : ℕ) (t : List ℕ) → (e ≡ 65535 → ⊥) → t ≡ unlessNone e t
+unfolding unlessNone
+some-line e t h = sym (rw (ne-eqb e 65535 h, unlessNone))
+
+pub unless-short : (e n : ℕ) (t : List ℕ) → length t ≤ n → length (unlessNone e t) ≤ n
+unfolding unlessNone
+unless-short e n t h =
+    by-cases (eqb e 65535)
+    (λ b. let empty : unlessNone e t ≡ [] = rw (b, unlessNone) in omega (arith, ap length empty))
+    (λ b. let whole : unlessNone e t ≡ t = rw (b, unlessNone) in omega (arith, ap length whole))
+
+-- the lines
+wins-pieces : (b : Bool) → opening 4 ++ (word (winnerWord b) ++ 41 ∷ 10 ∷ []) ≡ winsLine b
+unfolding winsLine line bracket items gapText opening
+wins-pieces b = simp (append-assoc, append-nil)
+
+pub start-text : (i e : ℕ)
+    → opening 5 ++ ((decimal i ++ 32 ∷ []) ++ ((decimal (e % 128) ++ 41 ∷ []) ++ 10 ∷ [])) ≡ line (word 5 ∷ decimal i ∷ decimal (e % 128) ∷ [])
+unfolding line bracket items gapText opening
+start-text i e = simp (append-assoc, append-nil)
+
+pub start-pieces : (i e : ℕ) → (e ≡ 65535 → ⊥) → opening 5 ++ ((decimal i ++ 32 ∷ []) ++ ((decimal (e % 128) ++ 41 ∷ []) ++ 10 ∷ [])) ≡ startLine i e
+unfolding startLine
+start-pieces i e h = start-text i e ∙ some-line e _ h
+
+pub environment-text : (e : ℕ) → opening 5 ++ ((decimal (e % 128) ++ 41 ∷ []) ++ 10 ∷ []) ≡ line (word 5 ∷ decimal (e % 128) ∷ [])
+unfolding line bracket items gapText opening
+environment-text e = simp (append-assoc, append-nil)
+
+pub environment-pieces : (e : ℕ) → (e ≡ 65535 → ⊥) → opening 5 ++ ((decimal (e % 128) ++ 41 ∷ []) ++ 10 ∷ []) ≡ environmentStart e
+unfolding environmentStart
+environment-pieces e h = environment-text e ∙ some-line e _ h
+
+pub row-pieces : (a g b e : ℕ)
+    → opening 6
+    ++ ((decimal a ++ 32 ∷ [])
+    ++ ((decimal g ++ 32 ∷ []) ++ ((decimal b ++ 32 ∷ []) ++ ((decimal (e % 128) ++ 32 ∷ []) ++ ((decimal (e / 128) ++ 41 ∷ []) ++ 10 ∷ [])))))
+    ≡ rowLine a g b e
+unfolding rowLine line bracket items gapText opening
+row-pieces a g b e = simp (append-assoc, append-nil)
+
+pub step-row : (c n r e m k : ℕ) → (e ≡ 65535 → ⊥) → m ≡ max 1 n → k ≡ max 1 c → rowLine (r / m / k) (r / m % k) (r % m) e ≡ stepLine c n r e
+unfolding stepLine
+step-row c n r e m k h p q =
+    (λ i. rowLine (r / p i / q i) (r / p i % q i) (r % p i) e) ∙ some-line e _ h
+
+pub refused-pieces : (n : ℕ) → opening 7 ++ ((decimal n ++ 41 ∷ []) ++ 10 ∷ []) ≡ refusedLine n
+unfolding refusedLine line bracket items gapText opening
+refused-pieces n = simp (append-assoc, append-nil)
+
+pub misshapen-pieces : (p : ℕ) → opening 7 ++ ((decimal 11 ++ 32 ∷ []) ++ ((decimal p ++ 41 ∷ []) ++ 10 ∷ [])) ≡ misshapenLine p
+unfolding misshapenLine line bracket items gapText opening
+misshapen-pieces p = simp (append-assoc, append-nil)
+
+pub winner-word : (b : Bool) (w : ℕ) → w ≡ winnerWord b → (w < 10) × (opening 4 ++ (word w ++ 41 ∷ 10 ∷ []) ≡ winsLine b)
+unfolding winnerWord
+winner-word true w h = (omega arith, ap (λ (v : ℕ). opening 4 ++ (word v ++ 41 ∷ 10 ∷ [])) h ∙ wins-pieces true)
+winner-word false w h = (omega arith, ap (λ (v : ℕ). opening 4 ++ (word v ++ 41 ∷ 10 ∷ [])) h ∙ wins-pieces false)
+
+-- no line is longer than 160 bytes
+pub record Short (t : List ℕ) (n : ℕ) : Type 0 where
+  pub size : length t ≤ n
+
+pub then-short : {t u : List ℕ} {m n : ℕ} → Short t m → Short u n → Short (t ++ u) (m + n)
+then-short {t} {u} T U = let a = T .size in let b = U .size in record { size = omega (arith, length-append t u) }
+
+opened : (w : ℕ) → Short (opening w) 13
+opened w = record { size = opening-short w }
+
+number : (v b : ℕ) → v < 18446744073709551616 → Short (decimal v ++ b ∷ []) 21
+number v b h = record { size = number-short v b h }
+
+pub ended : Short (10 ∷ []) 1
+ended = record { size = omega arith }
+
+pub wins-short : (b : Bool) → length (winsLine b) ≤ 160
+wins-short b =
+    omega (
+      arith,
+      ap length (wins-pieces b),
+      length-append (opening 4) (word (winnerWord b) ++ 41 ∷ 10 ∷ []),
+      length-append (word (winnerWord b)) (41 ∷ 10 ∷ []),
+      opening-short 4,
+      word-short (winnerWord b),
+    )
+
+pub start-short : (i e : ℕ) → i < 18446744073709551616 → length (startLine i e) ≤ 160
+unfolding startLine
+start-short i e h =
+    let all = then-short (opened 5) (then-short (number i 32 h) (then-short (number (e % 128) 41 (omega arith)) ended)) .size in
+    unless-short e 160 _ (omega (arith, all, ap length (start-text i e)))
+
+pub environment-short : (e : ℕ) → length (environmentStart e) ≤ 160
+unfolding environmentStart
+environment-short e =
+    let all = then-short (opened 5) (then-short (number (e % 128) 41 (omega arith)) ended) .size in
+    unless-short e 160 _ (omega (arith, all, ap length (environment-text e)))
+
+row-short : (a g b e : ℕ) → a < 18446744073709551616 → g < 18446744073709551616 → b < 18446744073709551616 → e < 65536 → length (rowLine a g b e) ≤ 160
+row-short a g b e p q s h =
+    let next = then-short (number (e % 128) 32 (omega arith)) (then-short (number (e / 128) 41 (omega arith)) ended) in
+    let all = then-short (opened 6) (then-short (number a 32 p) (then-short (number g 32 q) (then-short (number b 32 s) next))) .size in
+    omega (arith, all, ap length (row-pieces a g b e))
+
+pub step-short : (c n r e : ℕ) → r < 18446744073709551616 → e < 65536 → length (stepLine c n r e) ≤ 160
+unfolding stepLine
+step-short c n r e h l =
+    let q : r / max 1 n ≤ r = div-le-self r (max 1 n) in
+    let a : r / max 1 n / max 1 c ≤ r / max 1 n = div-le-self (r / max 1 n) (max 1 c) in
+    let g : r / max 1 n % max 1 c ≤ r / max 1 n = mod-le (r / max 1 n) (max 1 c) in
+    let b : r % max 1 n ≤ r = mod-le r (max 1 n) in
+    unless-short e 160 _ (row-short _ _ _ e (lt-of-le-of-lt (le-trans a q) h) (lt-of-le-of-lt (le-trans g q) h) (lt-of-le-of-lt b h) l)

@@ -1,0 +1,141 @@
+// The lines of an answer: parts of the program `solve`. Each function writes a text at a place of the buffer and answers the place behind it. What
+// lies past the buffer's end is left out; that in the program nothing is, `Made` shows (solve/specs). 160 bytes hold every line.
+use text_shape::words;
+ghost use mathlib.Core.Path.{_≡_};
+ghost use Prim.Native.Nat.{_+_, _<_, _≤_, _^_, max};
+ghost use lib.ListN.{length};
+ghost use Rattle.text_shape.specs.Text.{word};
+ghost use Rattle.text_put.specs.Put.{Puts};
+ghost use Rattle.print_lines.specs.Line.{winnerWord, winsLine, startLine, environmentStart, rowLine, stepLine, refusedLine, misshapenLine};
+
+// The entry of a row of none.
+const NONE: u16 = 65535;
+
+// The letters of the word w.
+fn put_word(buffer: &mut [u8], at: usize, w: usize) -> usize
+    requires { ⌜ (w < 10) × (at + length (word w) ≤ 2 ^ 32) ⌝ }
+    ensures { λ r. ⌜ Puts (now (buffer .entry)) at (word w) r (now (buffer .exit)) ⌝ }
+{
+    let n = words::letters(w);
+    let mut to = at;
+    let mut k = 0;
+    while k < n {
+        let b = words::letter(w, k);
+        to = text_put::put_byte(buffer, to, b);
+        k += 1;
+    }
+    to
+}
+
+// The word of the winner.
+fn winner(system: bool) -> usize
+    ensures { λ r. ⌜ r ≡ winnerWord system ⌝ }
+{
+    if system {
+        return 8;
+    }
+    9
+}
+
+// (wins system), (wins environment).
+pub fn put_wins(buffer: &mut [u8], system: bool) -> usize
+    ensures { λ r. ⌜ Puts (now (buffer .entry)) 0 (winsLine system) r (now (buffer .exit)) ⌝ }
+{
+    let w = winner(system);
+    let a = text_put::put_opening(buffer, 0, 4);
+    let b = put_word(buffer, a, w);
+    text_put::put_end(buffer, b)
+}
+
+// The controller's start for an input; no byte where the entry is none.
+pub fn put_start(buffer: &mut [u8], at: usize, input: usize, entry: u16) -> usize
+    requires { ⌜ at + 160 ≤ 2 ^ 32 ⌝ }
+    ensures { λ r. ⌜ Puts (now (buffer .entry)) at (startLine input entry) r (now (buffer .exit)) ⌝ }
+{
+    if entry == NONE {
+        return at;
+    }
+    let e = entry as usize;
+    let a = text_put::put_opening(buffer, at, 5);
+    let b = text_put::put_number_then(buffer, a, input, 32);
+    let c = text_put::put_number_then(buffer, b, e % 128, 41);
+    text_put::put_byte(buffer, c, 10)
+}
+
+// The environment's start; no byte where the entry is none.
+pub fn put_environment_start(buffer: &mut [u8], at: usize, entry: u16) -> usize
+    requires { ⌜ at + 160 ≤ 2 ^ 32 ⌝ }
+    ensures { λ r. ⌜ Puts (now (buffer .entry)) at (environmentStart entry) r (now (buffer .exit)) ⌝ }
+{
+    if entry == NONE {
+        return at;
+    }
+    let e = entry as usize;
+    let a = text_put::put_opening(buffer, at, 5);
+    let b = text_put::put_number_then(buffer, a, e % 128, 41);
+    text_put::put_byte(buffer, b, 10)
+}
+
+// (step a g b next-state next-counter).
+fn put_row(buffer: &mut [u8], at: usize, a: usize, g: usize, b: usize, entry: u16) -> usize
+    requires { ⌜ at + 160 ≤ 2 ^ 32 ⌝ }
+    ensures { λ r. ⌜ Puts (now (buffer .entry)) at (rowLine a g b entry) r (now (buffer .exit)) ⌝ }
+{
+    let e = entry as usize;
+    let m = text_put::put_opening(buffer, at, 6);
+    let n = text_put::put_number_then(buffer, m, a, 32);
+    let o = text_put::put_number_then(buffer, n, g, 32);
+    let p = text_put::put_number_then(buffer, o, b, 32);
+    let q = text_put::put_number_then(buffer, p, e % 128, 32);
+    let r = text_put::put_number_then(buffer, q, e / 128, 41);
+    text_put::put_byte(buffer, r, 10)
+}
+
+pub fn at_least_one(n: usize) -> usize
+    ensures { λ r. ⌜ r ≡ max 1 n ⌝ }
+{
+    if n == 0 {
+        return 1;
+    }
+    n
+}
+
+// The line of a row, by its number; no byte where the entry is none. `sets` counts the sets that the counter runs over, `last` the
+// states that run fastest.
+pub fn put_step(
+    buffer: &mut [u8],
+    at: usize,
+    sets: usize,
+    last: usize,
+    row: usize,
+    entry: u16,
+) -> usize
+    requires { ⌜ at + 160 ≤ 2 ^ 32 ⌝ }
+    ensures { λ r. ⌜ Puts (now (buffer .entry)) at (stepLine sets last row entry) r (now (buffer .exit)) ⌝ }
+{
+    if entry == NONE {
+        return at;
+    }
+    let n = at_least_one(last);
+    let m = at_least_one(sets);
+    put_row(buffer, at, row / n / m, row / n % m, row % n, entry)
+}
+
+// (refused N).
+pub fn put_refused(buffer: &mut [u8], n: u8) -> usize
+    ensures { λ r. ⌜ Puts (now (buffer .entry)) 0 (refusedLine n) r (now (buffer .exit)) ⌝ }
+{
+    let a = text_put::put_opening(buffer, 0, 7);
+    let b = text_put::put_number_then(buffer, a, n as usize, 41);
+    text_put::put_byte(buffer, b, 10)
+}
+
+// (refused 11 P).
+pub fn put_misshapen(buffer: &mut [u8], p: usize) -> usize
+    ensures { λ r. ⌜ Puts (now (buffer .entry)) 0 (misshapenLine p) r (now (buffer .exit)) ⌝ }
+{
+    let a = text_put::put_opening(buffer, 0, 7);
+    let b = text_put::put_number_then(buffer, a, 11, 32);
+    let c = text_put::put_number_then(buffer, b, p, 41);
+    text_put::put_byte(buffer, c, 10)
+}

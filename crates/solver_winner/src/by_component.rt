@@ -1,0 +1,44 @@
+// The winner's table, the controller's with its rows by component.
+use game::Game;
+use game::InSet;
+ghost use mathlib.Core.Path.{_≡_};
+ghost use Prim.Native.Nat.{_≤_};
+ghost use lib.ListN.{length};
+ghost use Rattle.bits.specs.Member.{pack};
+ghost use Rattle.sets.specs.Words.{bitsOf};
+ghost use Rattle.game.specs.declared.Acceptance.the-variants.{Accepted};
+ghost use Rattle.game.specs.Acceptance.{acceptance};
+ghost use Rattle.play.specs.Play.{separatedOf};
+ghost use Rattle.theory.specs.Entries.{environmentEntries};
+ghost use Rattle.compact.specs.Rank.{leads};
+ghost use Rattle.compact.specs.Compact.{compactLength};
+ghost use Rattle.scratch.specs.Scratch.{scratchLength};
+ghost use Rattle.solver_winner.specs.Written.{WrittenCompact};
+
+// Writes the winner's table of an accepted game and clears scratch; the leaders are the smallest inputs of the components. Answers whether that is the
+// system's.
+pub fn write_winner(
+    g: Game,
+    leaders: InSet,
+    scratch: &mut [u64],
+    controller: &mut [u16],
+    panel: &mut [u16],
+) -> bool
+    requires { ⌜ (acceptance g ≡ Accepted) × (bitsOf (leaders .0) ≡ pack (g .input .states) (leads (separatedOf g)))
+        × (scratchLength g ≤ length (now scratch)) × (compactLength (separatedOf g) ≤ length (now controller))
+        × (length (environmentEntries (separatedOf g)) ≤ length (now panel)) ⌝ }
+    ensures { λ r. ⌜ WrittenCompact g (now (scratch .entry)) (now (scratch .exit)) (now (controller .entry)) (now (controller .exit)) (now (panel .entry))
+        (now (panel .exit)) r ⌝ }
+{
+    let used = scratch::length(g);
+    let x = region::prepare(g, scratch);
+    let inner = x.inputs;
+    if region_verdict::system_wins(g, scratch, inner) {
+        controller::fill_compact(g, scratch, inner, leaders, controller);
+        scratch_clearing::clear(scratch, used);
+        return true;
+    }
+    environment::fill(g, scratch, inner, panel);
+    scratch_clearing::clear(scratch, used);
+    false
+}

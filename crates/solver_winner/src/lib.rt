@@ -1,0 +1,33 @@
+// The winner's table.
+ghost use mathlib.Core.Path.{_≡_};
+ghost use Prim.Native.Nat.{_≤_};
+ghost use lib.ListN.{length};
+ghost use Rattle.game.specs.declared.Acceptance.the-variants.{Accepted};
+ghost use Rattle.game.specs.Acceptance.{acceptance};
+ghost use Rattle.play.specs.Play.{separatedOf};
+ghost use Rattle.theory.specs.Entries.{controllerEntries, environmentEntries};
+ghost use Rattle.scratch.specs.Scratch.{scratchLength};
+ghost use Rattle.solver_winner.specs.Written.{Written};
+use game::Game;
+
+pub mod by_component; // with the controller's rows by component
+
+// Writes the winner's table of an accepted game and clears scratch. Answers whether that is the system's.
+pub fn write_winner(g: Game, scratch: &mut [u64], controller: &mut [u16], panel: &mut [u16]) -> bool
+    requires { ⌜ (acceptance g ≡ Accepted) × (scratchLength g ≤ length (now scratch)) × (length (controllerEntries (separatedOf g)) ≤ length (now controller))
+        × (length (environmentEntries (separatedOf g)) ≤ length (now panel)) ⌝ }
+    ensures { λ r. ⌜ Written g (now (scratch .entry)) (now (scratch .exit)) (now (controller .entry)) (now (controller .exit)) (now (panel .entry))
+        (now (panel .exit)) r ⌝ }
+{
+    let used = scratch::length(g);
+    let x = region::prepare(g, scratch);
+    let inner = x.inputs;
+    if region_verdict::system_wins(g, scratch, inner) {
+        controller::fill(g, scratch, inner, controller);
+        scratch_clearing::clear(scratch, used);
+        return true;
+    }
+    environment::fill(g, scratch, inner, panel);
+    scratch_clearing::clear(scratch, used);
+    false
+}

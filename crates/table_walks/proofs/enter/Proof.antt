@@ -1,0 +1,123 @@
+-- `enter` goes through the states of own.
+use mathlib.Core.Path.{refl}
+use Prim.Native.Nat.{_<_}
+use mathlib.Core.Logic.{_≢_}
+use borrow.Author.Needs.{needs}
+use Rattle.finite.specs.Bounded.{count}
+use Rattle.bits.specs.Member.{has}
+use Rattle.sets.specs.Words.{capacity, bitsOf, setsIn}
+use Rattle.sets.proofs.Rows.{is-none, is-some}
+use Rattle.table_layout.proofs.Places.{fits-same}
+use Rattle.table_walks.proofs.Staying.{
+  Entered,
+  staying-stamps,
+  staying-self,
+  entered-start,
+  entered-small,
+  entered-in,
+  entered-falls,
+  entered-next,
+  entered-end,
+  step-small,
+}
+use Rattle.table_walks.proofs.enter.Statement.{statement}
+use Rattle.table_walks.proofs.enter.Tie as tie
+
+abbrev Inv-loop : tie.InvT-loop
+Inv-loop rows room₀ z target w rest₀ room rest =
+    Entered (setsIn rows) z (bitsOf rest₀) (bitsOf target) (bitsOf (w .over)) (bitsOf rest) room₀ room
+
+abbrev μ-loop : tie.MeasureT-loop
+μ-loop rows room₀ z target w rest₀ room rest = count capacity (has (bitsOf rest))
+
+some-left : (c : tie.Then1 Inv-loop μ-loop) → bitsOf (c .before .before .loop .rest) ≢ 0
+some-left c = is-some _ (c .before .is-empty .ensures) (c .if1 .taken)
+
+small : (c : tie.After-lowest Inv-loop μ-loop) → c .lowest .result < capacity
+small c = entered-small _ _ _ _ _ (c .before .before .before .loop .inv) (some-left (c .before)) (c .lowest .ensures)
+
+counter-stays-requires : tie.Need-counter-stays-requires Inv-loop μ-loop
+counter-stays-requires c κs = c .before .pre .0 .counters
+
+loop-holds : tie.Need-loop-holds Inv-loop μ-loop
+loop-holds c = let p = c .before .before .pre in entered-start _ _ _ _ _ _ (p .0 .states) (p .1)
+
+is-empty-requires : tie.Need-is-empty-requires Inv-loop μ-loop
+is-empty-requires c κs = search needs
+
+lowest-requires : tie.Need-lowest-requires Inv-loop μ-loop
+lowest-requires c κs = search needs
+
+row-of-requires : tie.Need-row-of-requires Inv-loop μ-loop
+row-of-requires c κs = small c
+
+intersection-requires : tie.Need-intersection-requires Inv-loop μ-loop
+intersection-requires c κs = search needs
+
+lowest-requires-2 : tie.Need-lowest-requires-2 Inv-loop μ-loop
+lowest-requires-2 c κs = search needs
+
+write-move-requires : tie.Need-write-move-requires Inv-loop μ-loop
+write-move-requires c κs =
+    let i = c .before .before in
+    let o = i .before .before in
+    let l = o .before .before .before in
+    let w = l .before in
+    let p = w .before .before .pre in
+    let inside = entered-in _ _ _ _ _ (l .loop .inv) (some-left (o .before)) (o .lowest .ensures) in (
+      fits-same _ _ _ (l .loop .inv .long) (p .0),
+      p .1 .below _ inside,
+      step-small _ _ _ _ _ _ _ (p .1) inside (i .before .row-of .ensures .1) (i .intersection .ensures) (c .lowest2 .ensures),
+      staying-stamps _ _ _ (w .counter-stays .ensures),
+    )
+
+without-lowest-requires : tie.Need-without-lowest-requires Inv-loop μ-loop
+without-lowest-requires c κs =
+    let f = c .before .before .before in
+    let o = f .before .before .before .before in
+    some-left (o .before)
+
+loop-less : tie.Need-loop-less Inv-loop μ-loop
+loop-less c =
+    let f = c .before .before .before .before in
+    let o = f .before .before .before .before in
+    entered-falls _ _ _ _ _ (o .before .before .before .loop .inv) (some-left (o .before)) (o .lowest .ensures) _ (c .without-lowest .ensures)
+
+loop-again : tie.Need-loop-again Inv-loop μ-loop
+loop-again c =
+    let f = c .before .before .before .before in
+    let i = f .before .before in
+    let o = i .before .before in
+    let l = o .before .before .before in
+    let w = l .before in
+    entered-next _ _ _ _ _ (l .loop .inv) (some-left (o .before)) (o .lowest .ensures) _ (c .without-lowest .ensures) _ _ _ _
+    (staying-self _ _ _ (w .counter-stays .ensures)) (w .before .before .pre .1) (i .before .row-of .ensures .1) (i .intersection .ensures)
+    (f .lowest2 .ensures) (c .before .before .before .write-move .ensures) refl
+
+same-length : tie.Need-same-length Inv-loop μ-loop
+same-length c = c .before .before .loop .inv .long
+
+returns : tie.Need-returns Inv-loop μ-loop
+returns c =
+    let l = c .before .before in
+    entered-end _ _ _ _ _ _ (l .before .counter-stays .ensures .columns) (l .loop .inv) (is-none _ (c .before .is-empty .ensures) (c .if1 .left))
+
+pub enter-spec : {M : Type 1} → statement M
+enter-spec =
+    tie.close
+    (tie.spec
+    Inv-loop
+    μ-loop
+    counter-stays-requires
+    loop-holds
+    is-empty-requires
+    lowest-requires
+    row-of-requires
+    intersection-requires
+    lowest-requires-2
+    write-move-requires
+    without-lowest-requires
+    loop-less
+    loop-again
+    same-length
+    returns)

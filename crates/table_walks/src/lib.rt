@@ -1,0 +1,201 @@
+// Walks by the shortest way to a set of states, for both sides: a breadth-first search over sets that goes backward from the set and writes the rows
+// of a state in the round in which it finds the state's move. There is no list of moves. Nothing here knows of sides.
+use sets::Set;
+use table_counters::CounterSet;
+use table_layout::Layout;
+ghost use mathlib.Core.Path.{_≡_};
+ghost use mathlib.Core.Bool.{true};
+ghost use Prim.Native.Nat.{_≤_, _<_};
+ghost use lib.ListN.{length};
+ghost use Rattle.bits.specs.Member.{within};
+ghost use Rattle.sets.specs.Words.{capacity, bitsOf, setsIn};
+ghost use Rattle.table_counters.specs.Counters.{mostCounters};
+ghost use Rattle.table_layout.specs.Rows.{Fits, Wrote};
+ghost use Rattle.table_walks.specs.Walk.{firstOf, Stamps, Settled, Ground, Walks};
+ghost use Rattle.table_walks.specs.Trying.{Trying};
+ghost use Rattle.table_walks.specs.Staying.{Staying, Entering, Enters, Approaches};
+
+// What a state's move to p writes, for the columns of `over` and the counters of `which`: p with the counter `hit` where p is in the set `goal`, else with
+// the counter `miss`, and `more` × counter. So a counter stays where more is the step between counters and the others are 0.
+pub struct Stamp {
+    pub over: Set,
+    pub which: CounterSet,
+    pub goal: Set,
+    pub hit: usize,
+    pub miss: usize,
+    pub more: u16,
+}
+
+// The entry of a move to p, without its share of the counter.
+fn first_of(w: Stamp, p: usize) -> u16
+    requires { ⌜ (p < capacity) × (w .hit < mostCounters) × (w .miss < mostCounters) ⌝ }
+    ensures { λ r. ⌜ r ≡ firstOf w p ⌝ }
+{
+    let goal = w.goal;
+    if sets::member(goal, p) {
+        return table_entries::pack(p, w.hit);
+    }
+    table_entries::pack(p, w.miss)
+}
+
+// The rows of state s, whose move is p.
+pub fn write_move(room: &mut [u16], z: Layout, s: usize, p: usize, w: Stamp)
+    requires { ⌜ Fits z (length (now room)) × (s < z .states) × (p < capacity) × Stamps z w ⌝ }
+    ensures { λ r. ⌜ Wrote z s (bitsOf (w .over)) (w .which .0) (firstOf w p) (w .more) (now (room .entry)) (now (room .exit)) ⌝ }
+{
+    let first = first_of(w, p);
+    let over = w.over;
+    let which = w.which;
+    table_layout::write(room, z, s, over, which, first, w.more);
+}
+
+// A part of a round: the states that settled in it, and those that are still to be tried.
+struct Tried {
+    settled: Set,
+    rest: Set,
+}
+
+// The part of a round that tries the states of the low word: each with a move into `reached` gets its rows. Most sets have no others.
+fn settle_low(
+    rows: &[u64; sets::ROW_WORDS],
+    room: &mut [u16],
+    z: Layout,
+    inside: Set,
+    left: Set,
+    reached: Set,
+    w: Stamp,
+) -> Tried
+    requires { ⌜ Fits z (length (now room)) × Stamps z w × (within (bitsOf reached) (z .states) ≡ true) ⌝ }
+    ensures { λ r. ⌜ Trying (setsIn (now (rows .entry))) z (bitsOf inside) (bitsOf left) (bitsOf reached) w (now (room .entry)) (now (room .exit))
+        (bitsOf (r .settled)) (bitsOf (r .rest)) ⌝ }
+{
+    let mut settled = sets::empty();
+    let mut rest = sets::intersection(left, sets::below(z.states));
+    while sets::begins_low(rest) {
+        let s = sets::lowest_low(rest);
+        let open = graph_ways::choices(rows, inside, left, reached, s);
+        if !sets::is_empty(open) {
+            write_move(room, z, s, graph_ways::prefer(s, open), w);
+            settled = sets::insert(settled, s);
+        }
+        rest = sets::without_lowest_low(rest);
+    }
+    Tried { settled, rest }
+}
+
+// One round: every state of `left` with a move into `reached` gets its rows. The answer is the set of these states.
+fn settle(
+    rows: &[u64; sets::ROW_WORDS],
+    room: &mut [u16],
+    z: Layout,
+    inside: Set,
+    left: Set,
+    reached: Set,
+    w: Stamp,
+) -> Set
+    requires { ⌜ Fits z (length (now room)) × Stamps z w × (within (bitsOf reached) (z .states) ≡ true) ⌝ }
+    ensures { λ r. ⌜ Settled (setsIn (now (rows .entry))) z (bitsOf inside) (bitsOf left) (bitsOf reached) w (now (room .entry)) (now (room .exit))
+        (bitsOf r) ⌝ }
+{
+    let low = settle_low(rows, room, z, inside, left, reached, w);
+    let mut settled = low.settled;
+    let mut rest = low.rest;
+    while !sets::is_empty(rest) {
+        let t = sets::lowest(rest);
+        let moves = graph_ways::choices(rows, inside, left, reached, t);
+        if !sets::is_empty(moves) {
+            write_move(room, z, t, graph_ways::prefer(t, moves), w);
+            settled = sets::insert(settled, t);
+        }
+        rest = sets::without_lowest(rest);
+    }
+    settled
+}
+
+// The rows of the states of `own` with a way inside a set to the target: the move with the shortest way. All states inside that are not of `own` are
+// of the target.
+pub fn walk(
+    rows: &[u64; sets::ROW_WORDS],
+    room: &mut [u16],
+    z: Layout,
+    inside: Set,
+    target: Set,
+    own: Set,
+    w: Stamp,
+)
+    requires { ⌜ Fits z (length (now room)) × Stamps z w × Ground (z .states) (bitsOf inside) (bitsOf target) (bitsOf own) ⌝ }
+    ensures { λ r. ⌜ Walks (setsIn (now (rows .entry))) z (bitsOf inside) (bitsOf target) (bitsOf own) w (now (room .entry)) (now (room .exit)) ⌝ }
+{
+    let mut reached = target;
+    let mut left = own;
+    while !sets::is_empty(left) {
+        let settled = settle(rows, room, z, inside, left, reached, w);
+        if sets::is_empty(settled) {
+            return;
+        }
+        reached = sets::union(reached, settled);
+        left = sets::difference(left, settled);
+    }
+}
+
+// What a state's move writes for the columns of `over` where the counter stays, for all counters.
+fn counter_stays(z: Layout, over: Set) -> Stamp
+    requires { ⌜ z .counters ≤ mostCounters ⌝ }
+    ensures { λ r. ⌜ Staying z (bitsOf over) r ⌝ }
+{
+    Stamp {
+        over,
+        which: table_counters::below(z.counters),
+        goal: sets::empty(),
+        hit: 0,
+        miss: 0,
+        more: table_entries::STEP,
+    }
+}
+
+// The rows of the states of `own`, for the columns of `over`: the lowest move into the target; the counter stays. Each has such a move.
+pub fn enter(
+    rows: &[u64; sets::ROW_WORDS],
+    room: &mut [u16],
+    z: Layout,
+    own: Set,
+    target: Set,
+    over: Set,
+)
+    requires { ⌜ Fits z (length (now room)) × Entering (setsIn (now rows)) (z .states) (bitsOf own) (bitsOf target) ⌝ }
+    ensures { λ r. ⌜ Enters (setsIn (now (rows .entry))) z (bitsOf own) (bitsOf target) (bitsOf over) (now (room .entry)) (now (room .exit)) ⌝ }
+{
+    let w = counter_stays(z, over);
+    let mut rest = own;
+    while !sets::is_empty(rest) {
+        let s = sets::lowest(rest);
+        let open = sets::intersection(sets::row_of(rows, s), target);
+        write_move(room, z, s, sets::lowest(open), w);
+        rest = sets::without_lowest(rest);
+    }
+}
+
+// The rows of the states inside a set that are not of the target and have a way there, for the columns of `over`: the move with the shortest way; the
+// counter stays.
+pub fn approach(
+    rows: &[u64; sets::ROW_WORDS],
+    room: &mut [u16],
+    z: Layout,
+    inside: Set,
+    target: Set,
+    over: Set,
+)
+    requires { ⌜ Fits z (length (now room)) × (within (bitsOf target) (z .states) ≡ true) ⌝ }
+    ensures { λ r. ⌜ Approaches (setsIn (now (rows .entry))) z (bitsOf inside) (bitsOf target) (bitsOf over) (now (room .entry)) (now (room .exit)) ⌝ }
+{
+    let w = counter_stays(z, over);
+    walk(
+        rows,
+        room,
+        z,
+        inside,
+        target,
+        sets::difference(inside, target),
+        w,
+    );
+}

@@ -1,0 +1,272 @@
+-- What is left of a text under way, and the pieces that it is made of.
+use Prim.Native.Nat.{ℕ, zero, suc, _+_, _-_, _≤_, _<_}
+use native.Mathlib.Omega.{arith}
+use native.Mathlib.Numerals.{add-one}
+use mathlib.Core.Bool.{Bool, true, false}
+use mathlib.Core.List.{List, [], _∷_, _++_, map, append-assoc, append-nil}
+use mathlib.Core.Path.{_≡_, refl, sym, _∙_, ap, subst}
+use lib.ListN.{length, getD, drop, length-append, drop-of-length-le}
+use lib.Seq.{drop-cons}
+use Rattle.sets.specs.Words.{capacity, bitsOf, setsIn, noStates}
+use Rattle.sets.proofs.Rows.{no-bits}
+use Rattle.finite.specs.Bounded.{one}
+use Rattle.finite.proofs.Truth.{clash}
+use Rattle.bits.specs.Member.{has}
+use Rattle.text_grammar.specs.Number.{decimal}
+use Rattle.game.specs.Access.{noRequirement}
+use Rattle.game.specs.declared.InSet.{InSet}
+use Rattle.game.specs.declared.OutSet.{OutSet}
+use Rattle.game.specs.declared.Graph.{Graph}
+use Rattle.game.specs.declared.Requirement.{Requirement}
+use Rattle.game.specs.declared.Game.{Game}
+use Rattle.text_shape.specs.Text.{
+  PlainGraph,
+  plain,
+  gapText,
+  items,
+  bracket,
+  line,
+  members,
+  setText,
+  cells,
+  setsText,
+  headerLine,
+  stateLine,
+  stateLines,
+  inWords,
+  outWords,
+  requirementLine,
+  requirementLines,
+  gameText,
+  emptyRequirement,
+}
+use Rattle.text_shape.specs.Shape.{opening}
+use Rattle.text_shape.proofs.Members.{members-take, members-skip}
+use Rattle.text_shape.proofs.SetLists.{part-cons, item-text}
+use Rattle.text_put.specs.Put.{Puts}
+use Rattle.text_put.proofs.Buffer.{Remains, remains-step, remains-none, remains-room}
+
+-- fixed bytes, one at a time
+pub bytes-step : {d : List ℕ} {i : ℕ} {e : List ℕ} {at : ℕ} (l : List ℕ) (k b : ℕ) {r : ℕ} {f : List ℕ} → Remains d i l e at (drop k l) → k < length l
+    → b ≡ getD l k 0
+    → Puts e at (b ∷ []) r f → Remains d i l f r (drop (k + 1) l)
+bytes-step l k b R h g P = remains-step (b ∷ []) (drop (k + 1) l) R (drop-cons l k 0 h ∙ (λ n. sym g n ∷ drop (sym (add-one k) n) l)) P
+
+pub bytes-room : {d : List ℕ} {i : ℕ} {e : List ℕ} {at : ℕ} (l : List ℕ) (k n : ℕ) → Remains d i l e at (drop k l) → k < length l → i + length l ≤ n
+    → at + 1 ≤ n
+bytes-room l k n R h g = remains-room (getD l k 0 ∷ []) (drop (suc k) l) n R (drop-cons l k 0 h) g
+
+pub bytes-end : {d : List ℕ} {i : ℕ} {e : List ℕ} {at : ℕ} (l : List ℕ) (k : ℕ) → Remains d i l e at (drop k l) → length l ≤ k → Puts d i l at e
+bytes-end {d} {i} {e} {at} l k R h = remains-none (subst (λ (t : List ℕ). Remains d i l e at t) (drop-of-length-le l h) R)
+
+-- a set: the members from s on, and the closing bracket
+unfoldable pub setRest : Bool → ℕ → ℕ → List ℕ
+setRest gap s x = items gap (map decimal (members (capacity - s) s x)) ++ 41 ∷ []
+
+pub set-open : (x : ℕ) → 40 ∷ [] ++ setRest false 0 x ≡ setText x
+unfolding setRest setText bracket
+set-open x = refl
+
+module _ (gap : Bool) (s x : ℕ) where
+  pub set-take : s < capacity → has x s ≡ true → setRest gap s x ≡ (gapText gap ++ decimal s) ++ setRest true (s + 1) x
+  unfolding setRest
+  set-take l h =
+      let split : capacity - s ≡ suc (capacity - (s + 1)) = omega arith in
+      ap (λ (n : ℕ). items gap (map decimal (members n s x)) ++ 41 ∷ []) split
+      ∙ ap (λ (ms : List ℕ). items gap (map decimal ms) ++ 41 ∷ []) (members-take (capacity - (s + 1)) s x h)
+      ∙ ap (λ (n : ℕ). items gap (map decimal (s ∷ members (capacity - (s + 1)) n x)) ++ 41 ∷ []) (sym (add-one s))
+      ∙ item-text gap (decimal s) (map decimal (members (capacity - (s + 1)) (s + 1) x)) ∙ sym (append-assoc (gapText gap) (decimal s) _)
+
+  pub set-skip : s < capacity → has x s ≡ false → setRest gap s x ≡ setRest gap (s + 1) x
+  unfolding setRest
+  set-skip l h =
+      let split : capacity - s ≡ suc (capacity - (s + 1)) = omega arith in
+      ap (λ (n : ℕ). items gap (map decimal (members n s x)) ++ 41 ∷ []) split
+      ∙ ap (λ (ms : List ℕ). items gap (map decimal ms) ++ 41 ∷ []) (members-skip (capacity - (s + 1)) s x h)
+      ∙ ap (λ (n : ℕ). items gap (map decimal (members (capacity - (s + 1)) n x)) ++ 41 ∷ []) (sym (add-one s))
+
+  pub set-last : capacity ≤ s → setRest gap s x ≡ 41 ∷ []
+  unfolding setRest members items
+  set-last l = let none : capacity - s ≡ 0 = omega arith in ap (λ (n : ℕ). items gap (map decimal (members n s x)) ++ 41 ∷ []) none
+
+-- a list of sets: those from j on, and the closing bracket
+unfoldable pub setsRest : Bool → ℕ → ℕ → List ℕ → List ℕ
+setsRest gap j n ws = items gap (map setText (cells (n - j) j ws)) ++ 41 ∷ []
+
+pub sets-open : (n : ℕ) (ws : List ℕ) → 40 ∷ [] ++ setsRest false 0 n ws ≡ setsText n ws
+unfolding setsRest setsText bracket
+sets-open n ws = let all : n - 0 ≡ n = omega arith in ap (λ (k : ℕ). 40 ∷ (items false (map setText (cells k 0 ws)) ++ 41 ∷ [])) all
+
+module _ (gap : Bool) (j n : ℕ) (ws : List ℕ) where
+  pub sets-take : (x : ℕ) → j < n → x ≡ getD ws j 0 → setsRest gap j n ws ≡ (gapText gap ++ setText x) ++ setsRest true (j + 1) n ws
+  unfolding setsRest
+  sets-take x l h =
+      let split : n - j ≡ suc (n - (j + 1)) = omega arith in
+      ap (λ (k : ℕ). items gap (map setText (cells k j ws)) ++ 41 ∷ []) split
+      ∙ ap (λ (t : List ℕ). items gap (map setText t) ++ 41 ∷ []) (part-cons (n - (j + 1)) j ws)
+      ∙ ap (λ (y : ℕ). items gap (map setText (y ∷ cells (n - (j + 1)) (suc j) ws)) ++ 41 ∷ []) (sym h)
+      ∙ ap (λ (i : ℕ). items gap (map setText (x ∷ cells (n - (j + 1)) i ws)) ++ 41 ∷ []) (sym (add-one j))
+      ∙ item-text gap (setText x) (map setText (cells (n - (j + 1)) (j + 1) ws)) ∙ sym (append-assoc (gapText gap) (setText x) _)
+
+  pub sets-last : n ≤ j → setsRest gap j n ws ≡ 41 ∷ []
+  unfolding setsRest items cells
+  sets-last l = let none : n - j ≡ 0 = omega arith in ap (λ (k : ℕ). items gap (map setText (cells k j ws)) ++ 41 ∷ []) none
+
+-- the number of a set among others
+pub in-word : (xs : List InSet) (j : ℕ) → bitsOf (getD xs j (record { 0 = noStates }) .0) ≡ getD (inWords xs) j 0
+in-word [] j = no-bits
+in-word (x ∷ xs) zero = refl
+in-word (x ∷ xs) (suc j) = in-word xs j
+
+pub out-word : (xs : List OutSet) (j : ℕ) → bitsOf (getD xs j (record { 0 = noStates }) .0) ≡ getD (outWords xs) j 0
+out-word [] j = no-bits
+out-word (x ∷ xs) zero = refl
+out-word (x ∷ xs) (suc j) = out-word xs j
+
+-- lines
+pub header-pieces : (i o k : ℕ)
+    → opening 0 ++ ((decimal i ++ 32 ∷ []) ++ ((decimal o ++ 32 ∷ []) ++ ((decimal k ++ 41 ∷ []) ++ 10 ∷ []))) ≡ headerLine i o k
+unfolding headerLine line bracket items gapText opening
+header-pieces i o k = simp (append-assoc, append-nil)
+
+pub state-pieces : (w s f x : ℕ) → opening w ++ ((decimal s ++ 32 ∷ []) ++ ((decimal f ++ 32 ∷ []) ++ (setText x ++ 41 ∷ 10 ∷ []))) ≡ stateLine w s f x
+unfolding stateLine line bracket items gapText opening
+state-pieces w s f x = simp (append-assoc, append-nil)
+
+pub requirement-pieces : (q : Requirement)
+    → opening 3 ++ (setsText (q .assumed) (inWords (q .assumptions)) ++ (32 ∷ [] ++ (setsText (q .guaranteed) (outWords (q .guarantees)) ++ 41 ∷ 10 ∷ [])))
+    ≡ requirementLine q
+unfolding requirementLine line bracket items gapText opening
+requirement-pieces q = simp (append-assoc, append-nil)
+
+-- states
+module _ (w n s : ℕ) (h : Graph) where
+  pub states-take : (f x : ℕ) → s < n → f ≡ one (has (bitsOf (h .initial)) s) → x ≡ getD (setsIn (h .moves)) s 0
+      → stateLines w (n - s) s (plain h) ≡ stateLine w s f x ++ stateLines w (n - (s + 1)) (s + 1) (plain h)
+  unfolding stateLines plain
+  states-take f x l p q =
+      let split : n - s ≡ suc (n - (s + 1)) = omega arith in
+      ap (λ (k : ℕ). stateLines w k s (plain h)) split
+      ∙ (λ i. stateLine w s (sym p i) (sym q i) ++ stateLines w (n - (s + 1)) (sym (add-one s) i) (plain h))
+
+  pub states-last : n ≤ s → stateLines w (n - s) s (plain h) ≡ []
+  unfolding stateLines
+  states-last l = let none : n - s ≡ 0 = omega arith in ap (λ (k : ℕ). stateLines w k s (plain h)) none
+
+-- requirements
+module _ (n r : ℕ) (qs : List Requirement) where
+  pub requirements-take : (q : Requirement) → r < n → requirementLine q ≡ requirementLine (getD qs r emptyRequirement)
+      → requirementLines (n - r) r qs ≡ requirementLine q ++ requirementLines (n - (r + 1)) (r + 1) qs
+  unfolding requirementLines
+  requirements-take q l h =
+      let split : n - r ≡ suc (n - (r + 1)) = omega arith in
+      ap (λ (k : ℕ). requirementLines k r qs) split
+      ∙ ap (λ (t : List ℕ). t ++ requirementLines (n - (r + 1)) (suc r) qs) (sym h)
+      ∙ ap (λ (i : ℕ). requirementLine q ++ requirementLines (n - (r + 1)) i qs) (sym (add-one r))
+
+  pub requirements-last : n ≤ r → requirementLines (n - r) r qs ≡ []
+  unfolding requirementLines
+  requirements-last l = let none : n - r ≡ 0 = omega arith in ap (λ (k : ℕ). requirementLines k r qs) none
+
+-- a blank, where one is due
+pub gap-on : (gap : Bool) (t : List ℕ) → gap ≡ true → 32 ∷ [] ++ t ≡ gapText gap ++ t
+unfolding gapText
+gap-on true t h = refl
+gap-on false t h = clash refl (sym h)
+
+pub gap-off : (gap : Bool) (t : List ℕ) → gap ≡ false → t ≡ gapText gap ++ t
+unfolding gapText
+gap-off true t h = clash refl h
+gap-off false t h = refl
+
+module _ (gap : Bool) (t : List ℕ) (at n : ℕ) where
+  pub gap-room : gap ≡ true → at + length (gapText gap ++ t) ≤ n → at + 1 ≤ n
+  gap-room h l = omega (arith, ap length (gap-on gap t h))
+
+  pub gap-rest : gap ≡ true → at + length (gapText gap ++ t) ≤ n → at + 1 + length t ≤ n
+  gap-rest h l = omega (arith, ap length (gap-on gap t h))
+
+  pub gap-none : gap ≡ false → at + length (gapText gap ++ t) ≤ n → at + length t ≤ n
+  gap-none h l = omega (arith, ap length (gap-off gap t h))
+
+-- the room of a bracket and what follows it
+pub set-room : (at x n : ℕ) → at + length (setText x) ≤ n → at + 1 + length (setRest false 0 x) ≤ n
+set-room at x n l = omega (arith, ap length (set-open x))
+
+pub sets-room : (at k n : ℕ) (ws : List ℕ) → at + length (setsText k ws) ≤ n → at + 1 + length (setsRest false 0 k ws) ≤ n
+sets-room at k n ws l = omega (arith, ap length (sets-open k ws))
+
+-- the room of the next piece
+module _ {d : List ℕ} {i : ℕ} {all e : List ℕ} {at : ℕ} where
+  pub member-room : (gap : Bool) (s x n : ℕ) → Remains d i all e at (setRest gap s x) → s < capacity → has x s ≡ true → i + length all ≤ n
+      → at + length (gapText gap ++ decimal s) ≤ n
+  member-room gap s x n R l h g = remains-room (gapText gap ++ decimal s) (setRest true (s + 1) x) n R (set-take gap s x l h) g
+
+  pub item-room : (gap : Bool) (j k : ℕ) (ws : List ℕ) (x n : ℕ) → Remains d i all e at (setsRest gap j k ws) → j < k → x ≡ getD ws j 0 → i + length all ≤ n
+      → at + length (gapText gap ++ setText x) ≤ n
+  item-room gap j k ws x n R l h g = remains-room (gapText gap ++ setText x) (setsRest true (j + 1) k ws) n R (sets-take gap j k ws x l h) g
+
+  pub state-room : (w k s : ℕ) (h : Graph) (f x n : ℕ) → Remains d i all e at (stateLines w (k - s) s (plain h)) → s < k
+      → f ≡ one (has (bitsOf (h .initial)) s) → x ≡ getD (setsIn (h .moves)) s 0
+      → i + length all ≤ n → at + length (stateLine w s f x) ≤ n
+  state-room w k s h f x n R l p q g = remains-room (stateLine w s f x) (stateLines w (k - (s + 1)) (s + 1) (plain h)) n R (states-take w k s h f x l p q) g
+
+  pub requirement-room : (k r : ℕ) (qs : List Requirement) (q : Requirement) (n : ℕ) → Remains d i all e at (requirementLines (k - r) r qs) → r < k
+      → requirementLine q ≡ requirementLine (getD qs r emptyRequirement) → i + length all ≤ n → at + length (requirementLine q) ≤ n
+  requirement-room k r qs q n R l h g =
+      remains-room (requirementLine q) (requirementLines (k - (r + 1)) (r + 1) qs) n R (requirements-take k r qs q l h) g
+
+-- the lengths of lines
+pub header-length : (i o k : ℕ)
+    → length (headerLine i o k) ≡ length (opening 0) + (length (decimal i ++ 32 ∷ []) + (length (decimal o ++ 32 ∷ []) + (length (decimal k ++ 41 ∷ []) + 1)))
+header-length i o k =
+    ap length (sym (header-pieces i o k)) ∙ length-append (opening 0) _
+    ∙ ap (λ (n : ℕ). length (opening 0) + n) (length-append (decimal i ++ 32 ∷ []) _
+    ∙ ap (λ (n : ℕ). length (decimal i ++ 32 ∷ []) + n) (length-append (decimal o ++ 32 ∷ []) _
+    ∙ ap (λ (n : ℕ). length (decimal o ++ 32 ∷ []) + n) (length-append (decimal k ++ 41 ∷ []) (10 ∷ []))))
+
+pub state-length : (w s f x : ℕ)
+    → length (stateLine w s f x) ≡ length (opening w) + (length (decimal s ++ 32 ∷ []) + (length (decimal f ++ 32 ∷ []) + (length (setText x) + 2)))
+state-length w s f x =
+    ap length (sym (state-pieces w s f x)) ∙ length-append (opening w) _
+    ∙ ap (λ (n : ℕ). length (opening w) + n) (length-append (decimal s ++ 32 ∷ []) _
+    ∙ ap (λ (n : ℕ). length (decimal s ++ 32 ∷ []) + n) (length-append (decimal f ++ 32 ∷ []) _
+    ∙ ap (λ (n : ℕ). length (decimal f ++ 32 ∷ []) + n) (length-append (setText x) (41 ∷ 10 ∷ []))))
+
+pub requirement-length : (q : Requirement)
+    → length (requirementLine q)
+    ≡ length (opening 3) + (length (setsText (q .assumed) (inWords (q .assumptions))) +
+    (1 + (length (setsText (q .guaranteed) (outWords (q .guarantees))) + 2)))
+requirement-length q =
+    ap length (sym (requirement-pieces q)) ∙ length-append (opening 3) _
+    ∙ ap (λ (n : ℕ). length (opening 3) + n) (length-append (setsText (q .assumed) (inWords (q .assumptions))) _
+    ∙ ap (λ (n : ℕ). length (setsText (q .assumed) (inWords (q .assumptions))) + n)
+    (length-append {A = ℕ} (32 ∷ []) (setsText (q .guaranteed) (outWords (q .guarantees)) ++ 41 ∷ 10 ∷ [])
+    ∙ ap (λ (n : ℕ). 1 + n) (length-append (setsText (q .guaranteed) (outWords (q .guarantees))) (41 ∷ 10 ∷ []))))
+
+pub game-length : (g : Game)
+    → length (gameText g)
+    ≡ length (headerLine (g .input .states) (g .output .states) (g .k))
+    + (length (stateLines 1 (g .input .states) 0 (plain (g .input))) +
+    (length (stateLines 2 (g .output .states) 0 (plain (g .output))) + length (requirementLines (g .k) 0 (g .requirements))))
+unfolding gameText
+game-length g =
+    length-append (headerLine (g .input .states) (g .output .states) (g .k)) _
+    ∙ ap (λ (n : ℕ). length (headerLine (g .input .states) (g .output .states) (g .k)) + n)
+    (length-append (stateLines 1 (g .input .states) 0 (plain (g .input))) _
+    ∙ ap (λ (n : ℕ). length (stateLines 1 (g .input .states) 0 (plain (g .input))) + n)
+    (length-append (stateLines 2 (g .output .states) 0 (plain (g .output))) _))
+
+-- a requirement past the end of a list has no sets
+pub requirement-past : (qs : List Requirement) (r : ℕ) → requirementLine (getD qs r noRequirement) ≡ requirementLine (getD qs r emptyRequirement)
+unfolding requirementLine emptyRequirement setsText cells
+requirement-past [] r = refl
+requirement-past (q ∷ qs) zero = refl
+requirement-past (q ∷ qs) (suc r) = requirement-past qs r
+
+-- nothing is written yet
+pub states-none : (w n : ℕ) (h : PlainGraph) → stateLines w n 0 h ≡ stateLines w (n - 0) 0 h
+states-none w n h = let all : n ≡ n - 0 = omega arith in ap (λ (k : ℕ). stateLines w k 0 h) all
+
+pub requirements-none : (n : ℕ) (qs : List Requirement) → requirementLines n 0 qs ≡ requirementLines (n - 0) 0 qs
+requirements-none n qs = let all : n ≡ n - 0 = omega arith in ap (λ (k : ℕ). requirementLines k 0 qs) all
