@@ -187,6 +187,91 @@ fn worst() -> Vec<Named> {
     all
 }
 
+/// Upward: state s stays or goes to the next one.
+fn up(n: usize) -> Graph {
+    graph(n, 1, |s| 1 << s | 1 << (s + 1).min(n - 1))
+}
+
+/// States in circles of two, one pair after the other; from the second of a pair the next pair can be entered.
+fn pairs(n: usize) -> Graph {
+    graph(n, 1, |s| if s % 2 == 0 { 1 << (s + 1) } else { 1 << (s - 1) | 1 << (s + 1).min(n - 1) })
+}
+
+/// Games of n states a graph whose time a plain count of entries does not foretell, most with small tables.
+fn families(n: usize) -> Vec<Named> {
+    let mut all = Vec::new();
+    let mut add = |name: &str, g: Game| all.push((format!("{n}: {name}"), g));
+    // every output is its own home, and nothing is ever due
+    add("ladder", game(up(n), up(n), &full(|_| 0, |_| 0)));
+    add("ladder, no sets", game(up(n), up(n), &[]));
+    add("chain of pairs, no sets", game(pairs(n), pairs(n), &[]));
+    // Inputs in a circle, each with a way out to a state of its own, which stays. Of those every eighth makes one requirement due, and every eighth output
+    // does not meet it: so the ways out change with each output.
+    let half = n / 2;
+    let gates = graph(n, 1, |s| if s < half { 1 << ((s + 1) % half) | 1 << (half + s) } else { 1 << s });
+    let stays = graph(n, range(0, n), |s| 1 << s);
+    let every = |from: usize, r: usize| (from..n).filter(|s| s % 8 == r).fold(0, |x, s| x | 1 << s);
+    let turns = full(|a| every(half, a / 4), |a| range(0, n) & !every(0, a / 4));
+    add("gates by turns", game(gates, stays, &turns));
+    add("gates by turns, one set each", game(gates, stays, &turns.iter().map(one_each).collect::<Vec<_>>()));
+    let mut r = Random(88_172_645_463_325_252);
+    for (name, least) in [("random, four sets", 1), ("random, four sets, latching", 0)] {
+        let draw = |r: &mut Random| {
+            let rows: Vec<u128> = (0..n)
+                .map(|_| {
+                    let k = least + r.below(3);
+                    r.set(n, k)
+                })
+                .collect();
+            graph(n, 1, |s| rows[s])
+        };
+        let (input, output) = (draw(&mut r), draw(&mut r));
+        let few = [requirement(&[r.set(n, 4), r.set(n, 4)], &[r.set(n, n / 4), r.set(n, n / 4)]); 2];
+        add(name, game(input, output, &few));
+    }
+    all
+}
+
+/// The requirement with its first sets alone.
+fn one_each(q: &Requirement) -> Requirement {
+    requirement(&[bits(q.assumptions[0].0)], &[bits(q.guarantees[0].0)])
+}
+
+fn bits(x: Set) -> u128 {
+    x.states().fold(0, |x, s| x | 1 << s)
+}
+
+/// The cleaning robots of source document 000, section 4.1: both go along a corridor of rooms and clean some; the second is to clean those that the first
+/// left. A state is the rooms passed and which of them are clean. Two requirements a room, so four rooms are the most.
+fn cleaning(rooms: usize) -> Named {
+    let states: Vec<(usize, u32)> = (0..=rooms).flat_map(|p| (0..1 << p).map(move |clean| (p, clean))).collect();
+    let number = |at: (usize, u32)| states.iter().position(|s| *s == at).expect("a state");
+    let robot = graph(states.len(), 1, |s| match states[s] {
+        at if at.0 == rooms => 1 << s,
+        (p, clean) => 1 << number((p + 1, clean)) | 1 << number((p + 1, clean | 1 << p)),
+    });
+    let done = |fits: &dyn Fn(u32) -> bool| (0..states.len()).filter(|s| states[*s].0 == rooms && fits(states[*s].1)).fold(0, |x, s| x | 1 << s);
+    let mut each = Vec::new();
+    for room in 0..rooms {
+        let (clean, left) = (done(&|c| c >> room & 1 == 1), done(&|c| c >> room & 1 == 0));
+        each.extend([requirement(&[clean | left, left], &[clean]), requirement(&[clean | left, clean], &[left])]);
+    }
+    (format!("cleaning {rooms}"), game(robot, robot, &each))
+}
+
+/// The railway signals of source document 000, section 4.1, without the frequency: rails 1 to 4 overlap, 3 to 6, 5 to 8. The old system turns on one signal or
+/// none; the new one as many as overlap no other that is on, and every signal that recurs in the old one recurs in the new.
+fn railways(rails: usize) -> Named {
+    let overlap = |a: usize, b: usize| a != b && (0..rails).step_by(2).any(|k| (k..k + 4).contains(&a) && (k..k + 4).contains(&b));
+    let free = |on: u32, a: usize| (0..rails).all(|b| on >> b & 1 == 0 || !overlap(a, b));
+    let maximal: Vec<u32> = (0..1u32 << rails).filter(|&on| (0..rails).all(|a| (on >> a & 1 == 1) == free(on, a))).collect();
+    let target = graph(rails + 1, 1, |_| range(0, rails + 1));
+    let adaptee = graph(maximal.len(), range(0, maximal.len()), |_| range(0, maximal.len()));
+    let on = |a: usize| (0..maximal.len()).filter(|s| maximal[*s] >> a & 1 == 1).fold(0, |x, s| x | 1 << s);
+    let each: Vec<Requirement> = (0..rails).map(|a| requirement(&[1 << (a + 1)], &[on(a)])).collect();
+    (format!("railways {rails}"), game(target, adaptee, &each))
+}
+
 /// The largest games: tables of 524,416 and 524,289 entries.
 fn largest() -> Vec<Named> {
     let n = STATES;
@@ -205,10 +290,13 @@ fn largest() -> Vec<Named> {
 pub fn named(front: &str) -> Vec<Named> {
     let mut all = drives();
     all.extend([2, 4, 8].map(modes));
+    all.extend([2, 3, 4].map(cleaning));
+    all.extend([2, 4, 8].map(railways));
     if "random".starts_with(front) || front.starts_with("random") {
         all.extend([16, 32, 64, 128].into_iter().flat_map(random));
     }
     all.extend(worst());
+    all.extend([64, 128].into_iter().flat_map(families));
     all.extend(largest());
     all.retain(|(name, _)| name.starts_with(front));
     all

@@ -1,5 +1,4 @@
 //! Times: the best of many runs, and the loops that a time is compared with.
-use std::hint::black_box;
 use std::time::{Duration, Instant};
 
 /// The best time of one call in seconds, from batches of calls that take a millisecond or more, for a third of a second.
@@ -32,10 +31,11 @@ pub fn plain_loop(entries: &mut [u16]) {
     }
 }
 
-/// Writes every entry by a store of its own.
+/// Writes every entry by a store of its own, the counter staying in a register.
 #[inline(never)]
 pub fn single_stores(entries: &mut [u16]) {
     for (k, e) in entries.iter_mut().enumerate() {
-        *e = black_box(k) as u16;
+        // SAFETY: the reference is to an entry of the slice.
+        unsafe { std::ptr::write_volatile(e, k as u16) };
     }
 }

@@ -49,10 +49,10 @@ fn main() {
         assert_eq!((game.to_compact(&table), game.to_full(&moved)), (Ok(moved.clone()), Ok(table.clone())));
         let micros = |call: &mut dyn FnMut()| 1e6 * best(call);
         let times = [
-            micros(&mut || drop(black_box(game.solve_into(black_box(&mut scratch), black_box(&mut full), &mut panel)))),
-            micros(&mut || drop(black_box(game.solve_compact_into(black_box(&mut scratch), black_box(&mut compact), &mut panel)))),
-            micros(&mut || drop(black_box(game.to_compact_into(black_box(&table), black_box(&mut room))))),
-            micros(&mut || drop(black_box(game.to_full_into(black_box(&moved), black_box(&mut room))))),
+            micros(&mut || { let _ = black_box(game.solve_into(black_box(&mut scratch), black_box(&mut full), &mut panel)); }),
+            micros(&mut || { let _ = black_box(game.solve_compact_into(black_box(&mut scratch), black_box(&mut compact), &mut panel)); }),
+            micros(&mut || { let _ = black_box(game.to_compact_into(black_box(&table), black_box(&mut room))); }),
+            micros(&mut || { let _ = black_box(game.to_full_into(black_box(&moved), black_box(&mut room))); }),
             micros(&mut || copy(black_box(&table), black_box(&mut room))),
         ];
         let [a, b, c, d, e] = times.map(|time| format!("{time:.2}"));
