@@ -53,7 +53,7 @@ pub record RowsByComponent (G : Game) : Type 0 where
       → Input (separatedOf G) (firstOf (separatedOf G) c) × (rankOf (separatedOf G) (firstOf (separatedOf G) c) ≡ c)
   pub smallest : (j : ℕ) → Input (separatedOf G) j → firstOf (separatedOf G) (rankOf (separatedOf G) j) ≡ number (separatedOf G .input) j
   pub rises : (c d : ℕ) → c < d → d < componentCount (separatedOf G) → firstOf (separatedOf G) c < firstOf (separatedOf G) d
-  -- "The solver can write this layout directly, and every row read from it equals the row of the full one."
+  -- "The solver can write this layout directly, and every row read from it equals the row of the old one."
   pub entries : length (compactEntries (separatedOf G)) ≡ compactLength (separatedOf G)
   pub starts : (i : ℕ) → Input (separatedOf G) i
       → getD (compactEntries (separatedOf G)) i 65535 ≡ getD (controllerEntries (separatedOf G)) i 65535
