@@ -1,16 +1,16 @@
 -- What the search finds is the component.
 --
 --   narrow              : the moves of an accepted graph
---   component-found     : the component, as a set
+--   component-found     : what is found inside a set that has the whole component is the component, as a set
 use Prim.Native.Nat.{ℕ, _<_}
 use mathlib.Core.Path.{_≡_, refl, sym, _∙_, ap}
-use mathlib.Core.Bool.{true, _&&_}
+use mathlib.Core.Bool.{Bool, true}
 use native.Mathlib.Omega.{arith}
 use native.Mathlib.Decide.{decLt}
 use lib.Dec.{ltb}
 use lib.ListN.{getD}
 use borrow.Author.Tests.{lt-ltb}
-use Rattle.finite.proofs.Truth.{clash, same-test, and-intro, and-left, and-right}
+use Rattle.finite.proofs.Truth.{clash, same-test, and-intro, and-right}
 use Rattle.bits.specs.Member.{has, pack}
 use Rattle.bits.proofs.Membership.{has-zero, has-pack, ext}
 use Rattle.sets.specs.Words.{setsIn}
@@ -18,14 +18,14 @@ use Rattle.graphs.specs.Graph.{edge}
 use Rattle.graphs.specs.Closure.{reaches}
 use Rattle.graphs.specs.Component.{joined}
 use Rattle.graphs.specs.Walk.{stay, step}
-use Rattle.graphs.proofs.Graph.{edge-from}
-use Rattle.graphs.proofs.Closure.{Path, reaches-self, reaches-edge, reaches-trans, reaches-to, reaches-path}
+use Rattle.graphs.proofs.Graph.{edge-from, edge-to}
+use Rattle.graphs.proofs.Closure.{Path, reaches-self, reaches-edge, reaches-trans, reaches-to, reaches-path, path-reaches}
 use Rattle.graphs.proofs.Component.{joined-intro, joined-there, joined-back, joined-to}
 use Rattle.game.specs.declared.Graph.{Graph as Record}
 use Rattle.game.specs.Fits.{GraphFits}
 use Rattle.play.specs.Play.{graphOf}
 use Rattle.graph_components.proofs.Closed.{moved-edge}
-use Rattle.graph_ranks.specs.Search.{Narrow, Component}
+use Rattle.graph_ranks.specs.Search.{Narrow, Onward, Backward, Component}
 
 module _ (h : Record) (F : GraphFits h) where
   pub narrow : Narrow (setsIn (h .moves))
@@ -39,45 +39,49 @@ module _ (h : Record) (F : GraphFits h) where
   unfolding graphOf
   move-of t u e = moved-edge h F t u (edge-from (graphOf h) t u e) ∙ e
 
-  module _ (s r : ℕ) (b : s < h .states) (C : Component (setsIn (h .moves)) s r) where
-    front-reached : (t : ℕ) → has (C .front) t ≡ true → reaches (graphOf h) s t ≡ true
+  module _ (inside s r : ℕ) (b : s < h .states) (below : (t : ℕ) → has inside t ≡ true → t < h .states)
+      (whole : (t : ℕ) → joined (graphOf h) s t ≡ true → has inside t ≡ true) (C : Component (setsIn (h .moves)) inside s r) where
+    reached : (t : ℕ) → has r t ≡ true → reaches (graphOf h) s t ≡ true
     unfolding graphOf
-    front-reached =
-        C .ahead .least (reaches (graphOf h) s) (reaches-self (graphOf h) s b)
-        (λ t u p m. reaches-trans (graphOf h) s t u p
+    reached =
+        C .ahead (reaches (graphOf h) s) (reaches-self (graphOf h) s b)
+        (λ t u p m i. reaches-trans (graphOf h) s t u p
         (reaches-edge (graphOf h) t u (sym (moved-edge h F t u (reaches-to (graphOf h) s t p)) ∙ m)))
 
-    -- what is ahead of something in front is in front
-    front-on : (t u : ℕ) → Path (graphOf h) t u → has (C .front) t ≡ true → has (C .front) u ≡ true
-    front-on t u stay m = m
-    front-on t u (step {b = k} e w) m = front-on k u w (C .ahead .moves t k m (move-of t k e))
-
-    back-reaches : (t : ℕ) → has r t ≡ true → (reaches (graphOf h) t s && has (C .front) t) ≡ true
+    reaching : (t : ℕ) → has r t ≡ true → reaches (graphOf h) t s ≡ true
     unfolding graphOf
-    back-reaches =
-        C .behind .least (λ t. reaches (graphOf h) t s && has (C .front) t) (and-intro (reaches-self (graphOf h) s b) (C .ahead .own))
-        (λ t u i m p. and-intro
-        (reaches-trans (graphOf h) t u s
-        (reaches-edge (graphOf h) t u (sym (moved-edge h F t u (reaches-to (graphOf h) s t (front-reached t i))) ∙ m))
-        (and-left (reaches (graphOf h) u s) (has (C .front) u) p))
-        i)
+    reaching =
+        C .behind (λ t. reaches (graphOf h) t s) (reaches-self (graphOf h) s b)
+        (λ t u i m p. reaches-trans (graphOf h) t u s (reaches-edge (graphOf h) t u (sym (moved-edge h F t u (below t i)) ∙ m)) p)
 
-    -- a state in front from which a path leads back to s
-    path-back : (t u : ℕ) → u ≡ s → Path (graphOf h) t u → has (C .front) t ≡ true → has r t ≡ true
-    path-back t u e stay m = rw e (C .behind .own)
-    path-back t u e (step {b = k} d w) m =
-        C .behind .moves t k m (move-of t k d) (path-back k u e w (C .ahead .moves t k m (move-of t k d)))
+    -- a path from s to a state that reaches s stays in the component, hence inside
+    module _ (p : ℕ → Bool) where
+      forth : Onward (setsIn (h .moves)) inside p → (t u : ℕ) → Path (graphOf h) t u → reaches (graphOf h) s t ≡ true
+          → reaches (graphOf h) u s ≡ true → p t ≡ true → p u ≡ true
+      forth m t u stay a c k = k
+      forth m t u (step {b = v} e w) a c k =
+          let d = reaches-trans (graphOf h) s t v a (reaches-edge (graphOf h) t v e) in
+          let f = reaches-trans (graphOf h) v u s (path-reaches (graphOf h) v u (edge-to (graphOf h) t v e) w) c in
+          forth m v u w d c (m t v k (move-of t v e) (whole v (joined-intro (graphOf h) s v d f)))
+
+      back : Backward (setsIn (h .moves)) inside p → (t u : ℕ) → u ≡ s → Path (graphOf h) t u → reaches (graphOf h) s t ≡ true
+          → p s ≡ true → p t ≡ true
+      back m t u q stay a k = rw q k
+      back m t u q (step {b = v} e w) a k =
+          let d = reaches-trans (graphOf h) s t v a (reaches-edge (graphOf h) t v e) in
+          let f : reaches (graphOf h) t s ≡ true = rw q at (path-reaches (graphOf h) t u (edge-from (graphOf h) t v e) (step e w)) in
+          m t v (whole t (joined-intro (graphOf h) s t a f)) (move-of t v e) (back m v u q w d k)
 
     member : (t : ℕ) → has r t ≡ true → joined (graphOf h) s t ≡ true
-    member t m =
-        let p = back-reaches t m in
-        joined-intro (graphOf h) s t (front-reached t (and-right (reaches (graphOf h) t s) (has (C .front) t) p))
-        (and-left (reaches (graphOf h) t s) (has (C .front) t) p)
+    member t m = joined-intro (graphOf h) s t (reached t m) (reaching t m)
 
     joined-member : (t : ℕ) → joined (graphOf h) s t ≡ true → has r t ≡ true
+    unfolding graphOf
     joined-member t j =
-        path-back t s refl (reaches-path (graphOf h) t s (joined-back (graphOf h) s t j))
-        (front-on s t (reaches-path (graphOf h) s t (joined-there (graphOf h) s t j)) (C .ahead .own))
+        let a = joined-there (graphOf h) s t j in
+        let c = joined-back (graphOf h) s t j in
+        C .whole t (λ p o m. forth p m s t (reaches-path (graphOf h) s t a) (reaches-self (graphOf h) s b) c o)
+        (λ p o m. back p m t s refl (reaches-path (graphOf h) t s c) a o)
 
     pub component-found : r ≡ pack (h .states) (joined (graphOf h) s)
     unfolding graphOf

@@ -1,6 +1,6 @@
 -- Walking the components by their smallest states, and the ranks that are written or read on the way.
 --
---   Done, done-start, done-leads, done-next, done-skip       : the inputs whose component's smallest state has been passed
+--   Left, left-start, -below, -above, -leads, -whole, -next, -skip : the inputs whose component's smallest state has not been passed
 --   Putting, putting-start, -below, -next, -falls, -end      : one rank written for the members of a set
 --   Checking, checking-start, -below, -next, -falls, -end, -fails : one rank read for them
 --   Ranking, ranking-start, -next, -skip, -end               : the ranks written
@@ -16,7 +16,7 @@ use native.Mathlib.Decide.{ℕ-discrete, decLt}
 use lib.Dec.{eqb, ltb}
 use lib.ListN.{length, getD, set, length-set}
 use lib.Seq.{getD-set-same, getD-set-other}
-use borrow.Author.Tests.{eqb-true, eq-eqb, ne-eqb, ltb-true, lt-ltb}
+use borrow.Author.Tests.{eqb-true, eq-eqb, ne-eqb, ltb-true, ltb-false, lt-ltb, le-ltb}
 use Rattle.finite.specs.Bounded.{least, count}
 use Rattle.finite.proofs.Truth.{decide, clash, false-of, same-test, and-intro, and-left, and-right, or-left, or-right, or-cases, or-false, or-false-left, or-false-right, not-true, not-false}
 use Rattle.finite.proofs.Bounded.{all-intro, all-elim, all-fails, all-false}
@@ -26,7 +26,7 @@ use Rattle.bits.proofs.Remove.{less-in, less-other, less-falls}
 use Rattle.bits.proofs.Visit.{small-word, lowest-in, lowest-less}
 use Rattle.sets.specs.Words.{capacity}
 use Rattle.graphs.specs.Component.{joined, number}
-use Rattle.graphs.proofs.Component.{joined-sym, number-same, number-joined, number-below, number-least, joined-self}
+use Rattle.graphs.proofs.Component.{joined-sym, joined-to, number-same, number-joined, number-below, number-least, joined-self}
 use Rattle.arena.specs.Arena.{Separated}
 use Rattle.compact.specs.Rank.{leads, rankOf}
 use Rattle.compact.specs.Moving.{ranksFit}
@@ -40,15 +40,33 @@ module _ (S : Separated) where
 
   -- ---- the walk
 
-  abbrev pub Done : ℕ → ℕ → Type 0
-  Done j done = (t : ℕ) → has done t ≡ (ltb t n && ltb (number (S .input) t) j)
+  -- left: the inputs whose component's smallest state has not been passed
+  abbrev pub Left : ℕ → ℕ → Type 0
+  Left j left = (t : ℕ) → has left t ≡ (ltb t n && not (ltb (number (S .input) t) j))
 
-  pub done-start : (done : ℕ) → done ≡ 0 → Done 0 done
-  done-start done e t =
-      ap (λ (x : ℕ). has x t) e
-      ∙ has-zero t
-      ∙ sym (false-of (ltb t n && ltb (number (S .input) t) 0)
-      (λ m. absurd (omega (arith, ltb-true (number (S .input) t) 0 (and-right (ltb t n) (ltb (number (S .input) t) 0) m)))))
+  left-intro : (j left t : ℕ) → Left j left → t < n → j ≤ number (S .input) t → has left t ≡ true
+  left-intro j left t L a b = L t ∙ and-intro (lt-ltb t n a) (ap not (le-ltb (number (S .input) t) j b))
+
+  pub left-below : (j left t : ℕ) → Left j left → has left t ≡ true → t < n
+  left-below j left t L m = ltb-true t n (and-left (ltb t n) (not (ltb (number (S .input) t) j)) (sym (L t) ∙ m))
+
+  left-number : (j left t : ℕ) → Left j left → has left t ≡ true → j ≤ number (S .input) t
+  left-number j left t L m =
+      ltb-false (number (S .input) t) j
+      (not-true (ltb (number (S .input) t) j) (and-right (ltb t n) (not (ltb (number (S .input) t) j)) (sym (L t) ∙ m)))
+
+  -- what is left, told by its members
+  left-is : (j left : ℕ) → ((t : ℕ) → has left t ≡ true → (t < n) × (j ≤ number (S .input) t))
+      → ((t : ℕ) → t < n → j ≤ number (S .input) t → has left t ≡ true) → Left j left
+  left-is j left f g t =
+      same-test (has left t) (ltb t n && not (ltb (number (S .input) t) j))
+      (λ m. let x = f t m in and-intro (lt-ltb t n (x .0)) (ap not (le-ltb (number (S .input) t) j (x .1))))
+      (λ m. g t (ltb-true t n (and-left (ltb t n) (not (ltb (number (S .input) t) j)) m))
+      (ltb-false (number (S .input) t) j
+      (not-true (ltb (number (S .input) t) j) (and-right (ltb t n) (not (ltb (number (S .input) t) j)) m))))
+
+  pub left-start : (left : ℕ) → ((t : ℕ) → has left t ≡ ltb t n) → Left 0 left
+  left-start left d = left-is 0 left (λ t m. (ltb-true t n (sym (d t) ∙ m), omega arith)) (λ t a b. d t ∙ lt-ltb t n a)
 
   leads-elim : (j : ℕ) → leads S j ≡ true → number (S .input) j ≡ j
   unfolding leads
@@ -61,19 +79,13 @@ module _ (S : Separated) where
   number-le : (j : ℕ) → j < n → number (S .input) j ≤ j
   number-le j b = number-least (S .input) j j (joined-self (S .input) j b)
 
-  pub done-leads : (j done : ℕ) → Done j done → j < n → not (has done j) ≡ leads S j
-  done-leads j done D b =
-      same-test (not (has done j)) (leads S j)
-      (λ m. leads-intro j (at (not-true (has done j) m) (decLt (number (S .input) j) j)))
-      (λ m. ap not (false-of (has done j) (λ d. absurd (omega (
-        arith,
-        leads-elim j m,
-        ltb-true (number (S .input) j) j (and-right (ltb j n) (ltb (number (S .input) j) j) (sym (D j) ∙ d)),
-      )))))
-    where
-      at : has done j ≡ false → Dec (number (S .input) j < j) → number (S .input) j ≡ j
-      at m (yes l) = clash (D j ∙ and-intro (lt-ltb j n b) (lt-ltb (number (S .input) j) j l)) m
-      at m (no l) = omega (arith, number-le j b)
+  pub left-above : (j left t : ℕ) → Left j left → has left t ≡ true → j ≤ t
+  left-above j left t L m = omega (arith, left-number j left t L m, number-le t (left-below j left t L m))
+
+  pub left-leads : (j left : ℕ) → Left j left → j < n → has left j ≡ leads S j
+  left-leads j left L b =
+      same-test (has left j) (leads S j) (λ m. leads-intro j (omega (arith, number-le j b, left-number j left j L m)))
+      (λ m. left-intro j left j L b (omega (arith, leads-elim j m)))
 
   -- the members of a component have its smallest state for their number
   member-number : (j t : ℕ) → leads S j ≡ true → joined (S .input) j t ≡ true → number (S .input) t ≡ j
@@ -83,57 +95,46 @@ module _ (S : Separated) where
   number-member j t b e =
       joined-sym (S .input) t j (ap (joined (S .input) t) (sym e) ∙ number-joined (S .input) t b)
 
-  pub done-next : (j done c r : ℕ) → Done j done → j < n → leads S j ≡ true → c ≡ pack n (joined (S .input) j)
-      → ((t : ℕ) → has r t ≡ (has done t || has c t)) → Done (j + 1) r
-  done-next j done c r D b l e d t =
-      same-test (has r t) (ltb t n && ltb (number (S .input) t) (j + 1)) (λ m. there (or-cases (has done t) (has c t) (sym (d t) ∙ m)))
-      (λ m. back (ltb-true t n (and-left (ltb t n) (ltb (number (S .input) t) (j + 1)) m))
-      (ltb-true (number (S .input) t) (j + 1) (and-right (ltb t n) (ltb (number (S .input) t) (j + 1)) m)))
+  -- a component whose smallest state comes next is left as a whole
+  pub left-whole : (j left t : ℕ) → Left j left → leads S j ≡ true → joined (S .input) j t ≡ true → has left t ≡ true
+  left-whole j left t L l m = left-intro j left t L (joined-to (S .input) j t m) (omega (arith, member-number j t l m))
+
+  pub left-next : (j left c r : ℕ) → Left j left → leads S j ≡ true → c ≡ pack n (joined (S .input) j)
+      → ((t : ℕ) → has r t ≡ (has left t && not (has c t))) → Left (j + 1) r
+  left-next j left c r L l e d = left-is (j + 1) r (λ t m. there t (sym (d t) ∙ m)) back
     where
-      member : has c t ≡ (ltb t n && joined (S .input) j t)
-      member = ap (λ (x : ℕ). has x t) e ∙ has-pack n (joined (S .input) j) t
+      member : (t : ℕ) → t < n → has c t ≡ joined (S .input) j t
+      member t a = ap (λ (x : ℕ). has x t) e ∙ has-pack-below n (joined (S .input) j) t a
 
-      there : (has done t ≡ true) ⊎ (has c t ≡ true) → (ltb t n && ltb (number (S .input) t) (j + 1)) ≡ true
-      there (inl m) =
-          let p = sym (D t) ∙ m in
-          and-intro (and-left (ltb t n) (ltb (number (S .input) t) j) p)
-          (lt-ltb (number (S .input) t) (j + 1)
-          (omega (arith, ltb-true (number (S .input) t) j (and-right (ltb t n) (ltb (number (S .input) t) j) p))))
-      there (inr m) =
-          let p = sym member ∙ m in
-          and-intro (and-left (ltb t n) (joined (S .input) j t) p)
-          (lt-ltb (number (S .input) t) (j + 1) (omega (arith, member-number j t l (and-right (ltb t n) (joined (S .input) j t) p))))
-
-      back : t < n → number (S .input) t < j + 1 → has r t ≡ true
-      back a m =
-          elim (decLt (number (S .input) t) j) [
-            | yes k ↦ d t ∙ or-left (has c t) (D t ∙ and-intro (lt-ltb t n a) (lt-ltb (number (S .input) t) j k))
-            | no k ↦ d t ∙ or-right (has done t) (member ∙ and-intro (lt-ltb t n a) (number-member j t a (omega arith)))
+      there : (t : ℕ) → (has left t && not (has c t)) ≡ true → (t < n) × (j + 1 ≤ number (S .input) t)
+      there t m =
+          let o = and-left (has left t) (not (has c t)) m in
+          let a = left-below j left t L o in
+          elim (ℕ-discrete (number (S .input) t) j) [
+            | yes k ↦ clash (member t a ∙ number-member j t a k) (not-true (has c t) (and-right (has left t) (not (has c t)) m))
+            | no k ↦ (a, omega (arith, left-number j left t L o))
           ]
+
+      back : (t : ℕ) → t < n → j + 1 ≤ number (S .input) t → has r t ≡ true
+      back t a b =
+          d t
+          ∙ and-intro (left-intro j left t L a (omega arith))
+          (ap not (false-of (has c t) (λ m. absurd (omega (arith, member-number j t l (sym (member t a) ∙ m))))))
 
   -- no input's component has a smallest state that is not one
   not-number : (j t : ℕ) → leads S j ≡ false → t < n → number (S .input) t ≢ j
   not-number j t l b e =
       clash (leads-intro j (sym (number-same (S .input) t j (joined-sym (S .input) j t (number-member j t b e))) ∙ e)) l
 
-  pub done-skip : (j done : ℕ) → Done j done → leads S j ≡ false → Done (j + 1) done
-  done-skip j done D l t =
-      same-test (has done t) (ltb t n && ltb (number (S .input) t) (j + 1)) (λ m. there (sym (D t) ∙ m))
-      (λ m. back (ltb-true t n (and-left (ltb t n) (ltb (number (S .input) t) (j + 1)) m))
-      (ltb-true (number (S .input) t) (j + 1) (and-right (ltb t n) (ltb (number (S .input) t) (j + 1)) m)))
-    where
-      there : (ltb t n && ltb (number (S .input) t) j) ≡ true → (ltb t n && ltb (number (S .input) t) (j + 1)) ≡ true
-      there p =
-          and-intro (and-left (ltb t n) (ltb (number (S .input) t) j) p)
-          (lt-ltb (number (S .input) t) (j + 1)
-          (omega (arith, ltb-true (number (S .input) t) j (and-right (ltb t n) (ltb (number (S .input) t) j) p))))
-
-      back : t < n → number (S .input) t < j + 1 → has done t ≡ true
-      back a m =
-          elim (ℕ-discrete (number (S .input) t) j) [
-            | yes k ↦ absurd (not-number j t l a k)
-            | no k ↦ D t ∙ and-intro (lt-ltb t n a) (lt-ltb (number (S .input) t) j (omega arith))
-          ]
+  pub left-skip : (j left : ℕ) → Left j left → leads S j ≡ false → Left (j + 1) left
+  left-skip j left L l =
+      left-is (j + 1) left (λ t m.
+      let a = left-below j left t L m in
+      elim (ℕ-discrete (number (S .input) t) j) [
+        | yes k ↦ absurd (not-number j t l a k)
+        | no k ↦ (a, omega (arith, left-number j left t L m))
+      ])
+      (λ t a b. left-intro j left t L a (omega arith))
 
   pub count-next : (j k : ℕ) → k ≡ count j (leads S) → leads S j ≡ true → k + 1 ≡ count (j + 1) (leads S)
   count-next j k e l = rw (add-one j) (omega (arith, count-in (leads S) j l))

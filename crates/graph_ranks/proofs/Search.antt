@@ -1,13 +1,18 @@
 -- The loops of the search for a component.
 --
 --   Going, going-start, -below, -next, -falls, -end      : forward from a state
+--   alone-component, unmarked-component                  : a state with no move to another; one that no other moves to
+--   search-component                                     : what backward and forward search find
+--   entered-start, -next                                 : the states that a higher one moves to
 --   Sweeping, sweeping-start, -below, -next, -end        : one sweep backward
 --   Backing, backing-start, -next, -falls, -end          : sweeps until one finds nothing
-use Prim.Native.Nat.{ℕ, _<_}
+use Prim.Native.Nat.{ℕ, _+_, _<_}
 use mathlib.Core.Path.{_≡_, refl, sym, _∙_, ap}
 use mathlib.Core.Bool.{Bool, true, false, _&&_, _||_, not}
 use mathlib.Core.List.{List}
 use mathlib.Core.Logic.{_⊎_, inl, inr, _≢_}
+use native.Mathlib.Decide.{ℕ-discrete}
+use native.Mathlib.Numerals.{add-one}
 use lib.Dec.{eqb, ltb}
 use lib.ListN.{getD}
 use borrow.Author.Tests.{eqb-true, eq-eqb, ltb-true, lt-ltb}
@@ -20,7 +25,7 @@ use Rattle.bits.proofs.Compare.{meets-intro, meets-elim}
 use Rattle.bits.proofs.Remove.{less-in, less-out, less-falls}
 use Rattle.bits.proofs.Visit.{small-word, lowest-below, lowest-in, lowest-less}
 use Rattle.sets.specs.Words.{capacity}
-use Rattle.graph_ranks.specs.Search.{Narrow, Ahead, Swept, Behind}
+use Rattle.graph_ranks.specs.Search.{Narrow, Small, Onward, Backward, Entered, Marks, Ahead, Swept, Behind, Component}
 
 not-of : {b : Bool} → b ≡ false → not b ≡ true
 not-of e = rw e refl
@@ -56,43 +61,40 @@ module _ (w h r : ℕ) (small : (t : ℕ) → has w t ≡ true → t < capacity)
 
 -- ---- forward
 
-pub record Going (rows : List ℕ) (s found waiting : ℕ) : Type 0 where
+pub record Going (rows : List ℕ) (inside s found waiting : ℕ) : Type 0 where
   pub own : has found s ≡ true
   pub seen : (t : ℕ) → has waiting t ≡ true → has found t ≡ true
-  pub small : (t : ℕ) → has found t ≡ true → t < capacity
-  pub moves : (t u : ℕ) → has found t ≡ true → has waiting t ≡ false → has (getD rows t 0) u ≡ true → has found u ≡ true
-  pub least : (p : ℕ → Bool) → p s ≡ true → ((t u : ℕ) → p t ≡ true → has (getD rows t 0) u ≡ true → p u ≡ true)
-      → (t : ℕ) → has found t ≡ true → p t ≡ true
+  pub small : Small found
+  pub moves : (t u : ℕ) → has found t ≡ true → has waiting t ≡ false → has (getD rows t 0) u ≡ true → has inside u ≡ true → has found u ≡ true
+  pub least : (p : ℕ → Bool) → p s ≡ true → Onward rows inside p → (t : ℕ) → has found t ≡ true → p t ≡ true
 
 -- a state that is not found, or whose moves have not been followed
 unfoldable pub pending : ℕ → ℕ → ℕ → Bool
 pending found waiting t = not (has found t) || has waiting t
 
-module _ (rows : List ℕ) (s : ℕ) where
-  pub going-start : s < capacity → (x : ℕ) → ((t : ℕ) → has x t ≡ (has 0 t || eqb t s)) → Going rows s x x
+module _ (rows : List ℕ) (inside s : ℕ) where
+  pub going-start : s < capacity → (x : ℕ) → ((t : ℕ) → has x t ≡ (has 0 t || eqb t s)) → Going rows inside s x x
   going-start b x d = record {
     own = single-own s x d;
     seen = λ t e. e;
     small = λ t e. let q = single-is s x d t e in rw q b;
-    moves = λ t u e f m. clash e f;
+    moves = λ t u e f m i. clash e f;
     least = λ p o m t e. let q = single-is s x d t e in rw q o;
   }
 
-  pub going-below : (f w : ℕ) → Going rows s f w → w ≢ 0 → (h : ℕ) → h ≡ least capacity (has w) → h < capacity
+  pub going-below : (f w : ℕ) → Going rows inside s f w → w ≢ 0 → (h : ℕ) → h ≡ least capacity (has w) → h < capacity
   going-below f w G some h e = lowest-below capacity w h (small-word capacity w (λ t m. G .small t (G .seen t m))) some e
 
-  pub going-end : (f w : ℕ) → Going rows s f w → w ≡ 0 → Ahead rows s f × ((t : ℕ) → has f t ≡ true → t < capacity)
-  going-end f w G e = (
-    record {
-      own = G .own;
-      moves = λ t u m r. G .moves t u m (ap (λ (x : ℕ). has x t) e ∙ has-zero t) r;
-      least = G .least;
-    },
-    G .small,
-  )
+  pub going-end : (f w : ℕ) → Going rows inside s f w → w ≡ 0 → Ahead rows inside s f
+  going-end f w G e = record {
+    own = G .own;
+    onward = λ t u m r i. G .moves t u m (ap (λ (x : ℕ). has x t) e ∙ has-zero t) r i;
+    least = G .least;
+  }
 
-  module _ (N : Narrow rows) (f w h row next f′ v w′ : ℕ) (G : Going rows s f w) (some : w ≢ 0) (e : h ≡ least capacity (has w))
-      (r : row ≡ getD rows h 0) (dn : (t : ℕ) → has next t ≡ (has row t && not (has f t))) (df : (t : ℕ) → has f′ t ≡ (has f t || has next t))
+  module _ (N : Small inside) (f w h row there next f′ v w′ : ℕ) (G : Going rows inside s f w) (some : w ≢ 0) (e : h ≡ least capacity (has w))
+      (r : row ≡ getD rows h 0) (dt : (t : ℕ) → has there t ≡ (has row t && has inside t))
+      (dn : (t : ℕ) → has next t ≡ (has there t && not (has f t))) (df : (t : ℕ) → has f′ t ≡ (has f t || has next t))
       (dv : (t : ℕ) → has v t ≡ (has w t && not (eqb t (least capacity (has w))))) (dw : (t : ℕ) → has w′ t ≡ (has v t || has next t)) where
     waits-small : (t : ℕ) → has w t ≡ true → t < capacity
     waits-small t m = G .small t (G .seen t m)
@@ -100,11 +102,17 @@ module _ (rows : List ℕ) (s : ℕ) where
     here : has w h ≡ true
     here = taken w h v waits-small some e dv
 
+    next-there : (t : ℕ) → has next t ≡ true → (has row t && has inside t) ≡ true
+    next-there t m = sym (dt t) ∙ and-left (has there t) (not (has f t)) (sym (dn t) ∙ m)
+
     next-move : (t : ℕ) → has next t ≡ true → has (getD rows h 0) t ≡ true
-    next-move t m = let q = and-left (has row t) (not (has f t)) (sym (dn t) ∙ m) in rw r at q
+    next-move t m = let q = and-left (has row t) (has inside t) (next-there t m) in rw r at q
+
+    next-inside : (t : ℕ) → has next t ≡ true → has inside t ≡ true
+    next-inside t m = and-right (has row t) (has inside t) (next-there t m)
 
     next-new : (t : ℕ) → has next t ≡ true → has f t ≡ false
-    next-new t m = not-true (has f t) (and-right (has row t) (not (has f t)) (sym (dn t) ∙ m))
+    next-new t m = not-true (has f t) (and-right (has there t) (not (has f t)) (sym (dn t) ∙ m))
 
     kept : (t : ℕ) → has f t ≡ true → has f′ t ≡ true
     kept t m = df t ∙ or-left (has next t) m
@@ -112,12 +120,12 @@ module _ (rows : List ℕ) (s : ℕ) where
     gained : (t : ℕ) → has next t ≡ true → has f′ t ≡ true
     gained t m = df t ∙ or-right (has f t) m
 
-    -- what the lowest waiting state moves to is found now
-    followed : (u : ℕ) → has (getD rows h 0) u ≡ true → has f′ u ≡ true
-    followed u m =
+    -- what the lowest waiting state moves to inside is found now
+    followed : (u : ℕ) → has (getD rows h 0) u ≡ true → has inside u ≡ true → has f′ u ≡ true
+    followed u m i =
         elim (decide (has f u)) [
           | inl q ↦ kept u q
-          | inr q ↦ gained u (dn u ∙ and-intro (ap (λ (x : ℕ). has x u) r ∙ m) (not-of q))
+          | inr q ↦ gained u (dn u ∙ and-intro (dt u ∙ and-intro (ap (λ (x : ℕ). has x u) r ∙ m) i) (not-of q))
         ]
 
     not-next : (t : ℕ) → has f t ≡ true → has next t ≡ false
@@ -137,24 +145,24 @@ module _ (rows : List ℕ) (s : ℕ) where
     cases : (t : ℕ) → has f′ t ≡ true → (has f t ≡ true) ⊎ (has next t ≡ true)
     cases t m = or-cases (has f t) (has next t) (sym (df t) ∙ m)
 
-    pub going-next : Going rows s f′ w′
+    pub going-next : Going rows inside s f′ w′
     going-next = record {
       own = kept s (G .own);
       seen = λ t m. elim (or-cases (has v t) (has next t) (sym (dw t) ∙ m)) [
         | inl q ↦ kept t (G .seen t (less-in w h v (others w h v waits-small some e dv) t q))
         | inr q ↦ gained t q
       ];
-      small = λ t m. elim (cases t m) [ inl q ↦ G .small t q | inr q ↦ N h t (waits-small h here) (next-move t q) ];
-      moves = λ t u m q r. elim (cases t m) [
+      small = λ t m. elim (cases t m) [ inl q ↦ G .small t q | inr q ↦ N t (next-inside t q) ];
+      moves = λ t u m q r i. elim (cases t m) [
         | inl o ↦ elim (unwaiting t q) [
-          | inl i ↦ followed u (rw i at r)
-          | inr l ↦ kept u (G .moves t u o l r)
+          | inl k ↦ followed u (rw k at r) i
+          | inr l ↦ kept u (G .moves t u o l r i)
         ]
         | inr o ↦ clash (dw t ∙ or-right (has v t) o) q
       ];
       least = λ p o m t q. elim (cases t q) [
         | inl k ↦ G .least p o m t k
-        | inr k ↦ m h t (G .least p o m h (G .seen h here)) (next-move t k)
+        | inr k ↦ m h t (G .least p o m h (G .seen h here)) (next-move t k) (next-inside t k)
       ];
     }
 
@@ -189,8 +197,7 @@ pub record Sweeping (rows : List ℕ) (left found more rest : ℕ) : Type 0 wher
   pub keeps : (t : ℕ) → has found t ≡ true → has more t ≡ true
   pub inside : (t : ℕ) → has rest t ≡ true → has left t ≡ true
   pub moves : (t u : ℕ) → has left t ≡ true → has rest t ≡ false → has (getD rows t 0) u ≡ true → has found u ≡ true → has more t ≡ true
-  pub least : (p : ℕ → Bool) → ((t : ℕ) → has found t ≡ true → p t ≡ true)
-      → ((t u : ℕ) → has left t ≡ true → has (getD rows t 0) u ≡ true → p u ≡ true → p t ≡ true) → (t : ℕ) → has more t ≡ true → p t ≡ true
+  pub least : (p : ℕ → Bool) → ((t : ℕ) → has found t ≡ true → p t ≡ true) → Backward rows left p → (t : ℕ) → has more t ≡ true → p t ≡ true
 
 module _ (rows : List ℕ) (left found : ℕ) where
   pub sweeping-start : Sweeping rows left found found left
@@ -208,7 +215,7 @@ module _ (rows : List ℕ) (left found : ℕ) where
     least = W .least;
   }
 
-  module _ (small : (t : ℕ) → has left t ≡ true → t < capacity) (more rest h : ℕ) (W : Sweeping rows left found more rest) (some : rest ≢ 0)
+  module _ (small : Small left) (more rest h : ℕ) (W : Sweeping rows left found more rest) (some : rest ≢ 0)
       (e : h ≡ least capacity (has rest)) where
     rest-small : (t : ℕ) → has rest t ≡ true → t < capacity
     rest-small t m = small t (W .inside t m)
@@ -264,8 +271,7 @@ pub record Backing (rows : List ℕ) (inside s found more : ℕ) : Type 0 where
   pub own : has found s ≡ true
   pub keeps : (t : ℕ) → has found t ≡ true → has more t ≡ true
   pub moves : (t u : ℕ) → has inside t ≡ true → has (getD rows t 0) u ≡ true → has found u ≡ true → has more t ≡ true
-  pub least : (p : ℕ → Bool) → p s ≡ true
-      → ((t u : ℕ) → has inside t ≡ true → has (getD rows t 0) u ≡ true → p u ≡ true → p t ≡ true) → (t : ℕ) → has more t ≡ true → p t ≡ true
+  pub least : (p : ℕ → Bool) → p s ≡ true → Backward rows inside p → (t : ℕ) → has more t ≡ true → p t ≡ true
 
 unfoldable pub missing : ℕ → ℕ → Bool
 missing found t = not (has found t)
@@ -279,12 +285,19 @@ module _ (rows : List ℕ) (inside s : ℕ) where
     least = λ p o f. W .least p (λ t e. let q = single-is s x d t e in rw q o) f;
   }
 
-  pub backing-end : (f m : ℕ) → Backing rows inside s f m → m ≡ f → Behind rows inside s f
-  backing-end f m B e = record {
-    own = B .own;
-    moves = λ t u i r h. let k = B .moves t u i r h in rw e at k;
-    least = λ p o g t h. B .least p o g t (B .keeps t h);
-  }
+  backing-small : Small inside → s < capacity → (f m : ℕ) → Backing rows inside s f m → Small m
+  backing-small small b f m B t e =
+      ltb-true t capacity (B .least (λ k. ltb k capacity) (lt-ltb s capacity b) (λ k u i r q. lt-ltb k capacity (small k i)) t e)
+
+  pub backing-end : Small inside → s < capacity → (f m : ℕ) → Backing rows inside s f m → m ≡ f → Behind rows inside s f × Small f
+  backing-end small b f m B e = (
+    record {
+      own = B .own;
+      backward = λ t u i r h. let k = B .moves t u i r h in rw e at k;
+      least = λ p o g t h. B .least p o g t (B .keeps t h);
+    },
+    λ t h. backing-small small b f m B t (B .keeps t h),
+  )
 
   module _ (f m l n : ℕ) (B : Backing rows inside s f m) (d : (t : ℕ) → has l t ≡ (has inside t && not (has m t))) (W : Swept rows l m n) where
     pub backing-next : Backing rows inside s m n
@@ -298,15 +311,11 @@ module _ (rows : List ℕ) (inside s : ℕ) where
       least = λ p o g. W .least p (B .least p o g) (λ t u i. g t u (and-left (has inside t) (not (has m t)) (sym (d t) ∙ i)));
     }
 
-  pub left-small : (m l : ℕ) → ((t : ℕ) → has inside t ≡ true → t < capacity) → ((t : ℕ) → has l t ≡ (has inside t && not (has m t)))
+  pub left-small : (m l : ℕ) → Small inside → ((t : ℕ) → has l t ≡ (has inside t && not (has m t)))
       → (t : ℕ) → has l t ≡ true → t < capacity
   left-small m l small d t e = small t (and-left (has inside t) (not (has m t)) (sym (d t) ∙ e))
 
-  module _ (small : (t : ℕ) → has inside t ≡ true → t < capacity) (b : s < capacity) (f m : ℕ) (B : Backing rows inside s f m) (ne : m ≢ f) where
-    more-small : (t : ℕ) → has m t ≡ true → t < capacity
-    more-small t e =
-        ltb-true t capacity (B .least (λ k. ltb k capacity) (lt-ltb s capacity b) (λ k u i r q. lt-ltb k capacity (small k i)) t e)
-
+  module _ (small : Small inside) (b : s < capacity) (f m : ℕ) (B : Backing rows inside s f m) (ne : m ≢ f) where
     new : (t : ℕ) × (t < capacity) × ((has m t && not (has f t)) ≡ true)
     new =
         elim (decide (any capacity (λ t. has m t && not (has f t)))) [
@@ -319,7 +328,7 @@ module _ (rows : List ℕ) (inside s : ℕ) where
             elim (decide (has m t)) [
               | inl k ↦ elim (decide (has f t)) [
                 | inl j ↦ k ∙ sym j
-                | inr j ↦ clash (and-intro k (not-of j)) (any-false capacity (λ t. has m t && not (has f t)) q t (more-small t k))
+                | inr j ↦ clash (and-intro k (not-of j)) (any-false capacity (λ t. has m t && not (has f t)) q t (backing-small small b f m B t k))
               ]
               | inr k ↦ k ∙ sym (false-of (has f t) (λ j. clash (B .keeps t j) k))
             ]
@@ -331,3 +340,97 @@ module _ (rows : List ℕ) (inside s : ℕ) where
         count-less capacity (missing m) (missing f)
         (λ t c q. not-of (false-of (has f t) (λ j. clash (B .keeps t j) (not-true (has m t) q)))) (new .0) (new .1) (rw k refl)
         (and-right (has m (new .0)) (not (has f (new .0))) (new .2))
+
+-- ---- the component
+
+module _ (rows : List ℕ) (inside s : ℕ) where
+  -- a state with no move to another state inside
+  module _ (row x from : ℕ) (small : Small inside) (r : row ≡ getD rows s 0) (d : (t : ℕ) → has x t ≡ (has 0 t || eqb t s))
+      (f : (t : ℕ) → has from t ≡ (has inside t && not (has x t))) (e : meets capacity row from ≡ false) where
+    own-move : (u : ℕ) → has (getD rows s 0) u ≡ true → has inside u ≡ true → u ≡ s
+    own-move u m i =
+        elim (decide (has x u)) [
+          | inl k ↦ single-is s x d u k
+          | inr k ↦ clash (meets-intro capacity row from u (small u i) (ap (λ (y : ℕ). has y u) r ∙ m) (f u ∙ and-intro i (not-of k))) e
+        ]
+
+    pub alone-component : Component rows inside s x
+    alone-component = record {
+      ahead = λ p o m t k. let q = single-is s x d t k in rw q o;
+      behind = λ p o m t k. let q = single-is s x d t k in rw q o;
+      whole = λ t a b.
+          let q = a (λ u. eqb u s) (eq-eqb s s refl) (λ u v k m i.
+          let j = eqb-true u s k in
+          eq-eqb v s (own-move v (rw j at m) i)) in
+          let j = eqb-true t s q in
+          rw j (single-own s x d);
+    }
+
+  -- a state that no other state inside moves to
+  module _ (x marked : ℕ) (d : (t : ℕ) → has x t ≡ (has 0 t || eqb t s)) (M : Marks rows marked inside s) (e : has marked s ≡ false) where
+    only-own : (t : ℕ) → has inside t ≡ true → has (getD rows t 0) s ≡ true → t ≡ s
+    only-own t i m =
+        elim (ℕ-discrete t s) [
+          | yes q ↦ q
+          | no q ↦ clash (M t i q m) e
+        ]
+
+    pub unmarked-component : Component rows inside s x
+    unmarked-component = record {
+      ahead = λ p o m t k. let q = single-is s x d t k in rw q o;
+      behind = λ p o m t k. let q = single-is s x d t k in rw q o;
+      whole = λ t a b.
+          let q = b (λ u. eqb u s) (eq-eqb s s refl) (λ u v i m k.
+          let j = eqb-true v s k in
+          eq-eqb u s (only-own u i (rw j at m))) in
+          let j = eqb-true t s q in
+          rw j (single-own s x d);
+    }
+
+  module _ (back r : ℕ) (own : has inside s ≡ true) (B : Behind rows inside s back) (A : Ahead rows back s r) where
+    back-inside : (t : ℕ) → has back t ≡ true → has inside t ≡ true
+    back-inside = B .least (has inside) own (λ t u i m p. i)
+
+    found-back : (t : ℕ) → has r t ≡ true → has back t ≡ true
+    found-back = A .least (has back) (B .own) (λ t u p m i. i)
+
+    -- found, or inside and not behind: what such a state moves to is such a state
+    unfoldable foundOr : ℕ → Bool
+    foundOr t = has r t || (has inside t && not (has back t))
+
+    goes-on : Onward rows inside foundOr
+    unfolding foundOr
+    goes-on t u q m i =
+        elim (decide (has back u)) [
+          | inl k ↦ elim (or-cases (has r t) (has inside t && not (has back t)) q) [
+            | inl l ↦ or-left (has inside u && not (has back u)) (A .onward t u l m k)
+            | inr l ↦ clash (B .backward t u (and-left (has inside t) (not (has back t)) l) m k)
+                (not-true (has back t) (and-right (has inside t) (not (has back t)) l))
+          ]
+          | inr k ↦ or-right (has r u) (and-intro i (not-of k))
+        ]
+
+    pub search-component : Component rows inside s r
+    unfolding foundOr
+    search-component = record {
+      ahead = λ p o m t k. A .least p o (λ u v h q i. m u v h q (back-inside v i)) t k;
+      behind = λ p o m t k. B .least p o m t (found-back t k);
+      whole = λ t a b.
+          let f = b (has back) (B .own) (B .backward) in
+          elim (or-cases (has r t) (has inside t && not (has back t)) (a foundOr (or-left (has inside s && not (has back s)) (A .own)) goes-on)) [
+            | inl k ↦ k
+            | inr k ↦ clash f (not-true (has back t) (and-right (has inside t) (not (has back t)) k))
+          ];
+    }
+
+-- ---- the states that a higher one moves to
+
+module _ (rows : List ℕ) where
+  pub entered-start : (x : ℕ) → x ≡ 0 → Entered rows 0 x
+  unfolding any
+  entered-start x e s = ap (λ (y : ℕ). has y s) e ∙ has-zero s
+
+  pub entered-next : (n row below lower x y : ℕ) → Entered rows n x → row ≡ getD rows n 0 → ((s : ℕ) → has below s ≡ ltb s n)
+      → ((s : ℕ) → has lower s ≡ (has row s && has below s)) → ((s : ℕ) → has y s ≡ (has lower s || has x s)) → Entered rows (n + 1) y
+  unfolding any
+  entered-next n row below lower x y E r b l d s = rw (add-one n) (d s ∙ rw (l s, b s, r, E s) refl)

@@ -1,28 +1,32 @@
 -- The walk by smallest states, for an accepted game.
 --
---   around-joined    : what the search finds is the component in the game's terms
+--   around-joined, around-all : what the search finds is the component in the game's terms
 --   leads-now        : which input is the smallest of its component
---   done-extended    : the walk goes one input on
+--   left-marks       : an input that is left is entered from above, or alone
+--   left-reduced     : the walk goes one input on
 --   members-fit      : the places of a component's ranks lie in a list that has all ranks
 --   counted          : the count of the smallest states is that of the components
 --   Walked, walked-start, -rank, -next, -skip     : the walk, with the rank that comes next
 --   written-next, -skip, -end                     : the ranks written on it
 --   read-next, -skip, -end, -fails                : the ranks read on it
-use Prim.Native.Nat.{ℕ, _+_, _-_, _≤_, _<_}
+use Prim.Native.Nat.{ℕ, _+_, _≤_, _<_}
 use mathlib.Core.Path.{_≡_, refl, sym, _∙_, ap}
-use mathlib.Core.Bool.{true, false, _||_, not}
+use lib.Dec.{ltb}
+use lib.ListN.{getD}
+use borrow.Author.Tests.{ltb-true, lt-ltb}
+use mathlib.Core.Bool.{true, false, _&&_, not}
 use mathlib.Core.List.{List}
 use mathlib.Core.Logic.{inl, inr}
 use native.Mathlib.Omega.{arith}
 use Rattle.finite.specs.Bounded.{count}
-use Rattle.finite.proofs.Truth.{decide}
-use Rattle.finite.proofs.Bounded.{count-le, count-same, count-wide}
+use Rattle.finite.proofs.Truth.{decide, and-intro}
+use Rattle.finite.proofs.Bounded.{any-intro, count-le, count-same, count-wide}
 use Rattle.bits.specs.Member.{has, pack}
 use Rattle.bits.proofs.Membership.{has-pack-below, has-pack-past}
 use Rattle.sets.specs.declared.Set.{Set}
 use Rattle.sets.specs.Words.{capacity, bitsOf, setsIn}
 use Rattle.graphs.specs.Component.{joined}
-use Rattle.graphs.proofs.Component.{number-below}
+use Rattle.graphs.proofs.Component.{joined-to, number-below}
 use Rattle.game.specs.declared.Game.{Game}
 use Rattle.game.specs.declared.Acceptance.the-variants.{Accepted}
 use Rattle.game.specs.Acceptance.{acceptance}
@@ -30,15 +34,18 @@ use Rattle.game.proofs.Laws.{accepted-fits}
 use Rattle.play.specs.Play.{graphOf, separatedOf}
 use Rattle.compact.specs.Rank.{leads, componentCount}
 use Rattle.compact.specs.Moving.{ranksFit}
-use Rattle.graph_ranks.specs.Search.{Narrow, Component, Extended}
+use Rattle.graph_ranks.specs.Search.{Narrow, Small, Entered, Marks, Component, Reduced}
 use Rattle.graph_ranks.specs.Ranks.{Put, ranked, RanksWritten}
 use Rattle.graph_ranks.proofs.Found.{narrow, component-found}
 use Rattle.graph_ranks.proofs.Ranks.{
-  Done,
-  done-start,
-  done-leads,
-  done-next,
-  done-skip,
+  Left,
+  left-below,
+  left-above,
+  left-start,
+  left-leads,
+  left-whole,
+  left-next,
+  left-skip,
   count-next,
   count-skip,
   members-below,
@@ -54,47 +61,72 @@ use Rattle.graph_ranks.proofs.Ranks.{
   ranked-fails,
 }
 
-pub record Walked (g : Game) (j done rank : ℕ) : Type 0 where
+pub record Walked (g : Game) (j left rank : ℕ) : Type 0 where
   pub most : j ≤ g .input .states
-  pub passed : Done (separatedOf g) j done
+  pub remains : Left (separatedOf g) j left
   pub counted : rank ≡ count j (leads (separatedOf g))
 
 module _ (g : Game) (A : acceptance g ≡ Accepted) where
   pub moves-narrow : Narrow (setsIn (g .input .moves))
   moves-narrow = narrow (g .input) (accepted-fits g A .input)
 
-  pub around-joined : (j c : ℕ) → j < g .input .states → Component (setsIn (g .input .moves)) j c
-      → c ≡ pack (g .input .states) (joined (graphOf (g .input)) j)
-  around-joined j c b C = component-found (g .input) (accepted-fits g A .input) j c b C
+  -- the component of an input that leads it, found among the inputs that are left
+  pub around-joined : (j left c : ℕ) → j < g .input .states → Left (separatedOf g) j left → leads (separatedOf g) j ≡ true
+      → Component (setsIn (g .input .moves)) left j c → c ≡ pack (g .input .states) (joined (graphOf (g .input)) j)
+  unfolding separatedOf graphOf
+  around-joined j left c b L l C =
+      component-found (g .input) (accepted-fits g A .input) left j c b (λ t m. left-below (separatedOf g) j left t L m)
+      (λ t m. left-whole (separatedOf g) j left t L l m) C
+
+  -- the component of an input, found among all
+  pub around-all : (j all c : ℕ) → j < g .input .states → ((t : ℕ) → has all t ≡ ltb t (g .input .states))
+      → Component (setsIn (g .input .moves)) all j c → c ≡ pack (g .input .states) (joined (graphOf (g .input)) j)
+  unfolding graphOf
+  around-all j all c b d C =
+      component-found (g .input) (accepted-fits g A .input) all j c b (λ t m. ltb-true t (g .input .states) (sym (d t) ∙ m))
+      (λ t m. d t ∙ lt-ltb t (g .input .states) (joined-to (graphOf (g .input)) j t m)) C
 
   pub input-small : (j : ℕ) → j < g .input .states → j < capacity
   input-small j b = omega (arith, accepted-fits g A .input .most)
 
-  pub leads-now : (j done : ℕ) → Done (separatedOf g) j done → j < g .input .states → not (has done j) ≡ leads (separatedOf g) j
-  unfolding separatedOf graphOf
-  leads-now j done D b = done-leads (separatedOf g) j done D b
+  pub all-small : (all : ℕ) → ((t : ℕ) → has all t ≡ ltb t (g .input .states)) → Small all
+  all-small all d t m = input-small t (ltb-true t (g .input .states) (sym (d t) ∙ m))
 
-  pub done-extended : (j done r : ℕ) → Done (separatedOf g) j done → j < g .input .states → Extended (setsIn (g .input .moves)) done j r
-      → Done (separatedOf g) (j + 1) r
+  pub left-all : (left : ℕ) → ((t : ℕ) → has left t ≡ ltb t (g .input .states)) → Left (separatedOf g) 0 left
   unfolding separatedOf graphOf
-  done-extended j done r D b E =
-      elim (decide (has done j)) [
+  left-all left d = left-start (separatedOf g) left d
+
+  pub left-small : (j left : ℕ) → Left (separatedOf g) j left → Small left
+  unfolding separatedOf graphOf
+  left-small j left L t m = input-small t (left-below (separatedOf g) j left t L m)
+
+  -- no input that is left is below the next one
+  pub left-marks : (j left x : ℕ) → Left (separatedOf g) j left → Entered (setsIn (g .input .moves)) (g .input .states) x
+      → Marks (setsIn (g .input .moves)) x left j
+  unfolding separatedOf graphOf
+  left-marks j left x L E t i q m =
+      E j
+      ∙ any-intro (g .input .states) (λ u. has (getD (setsIn (g .input .moves)) u 0) j && ltb j u) t (left-below (separatedOf g) j left t L i)
+      (and-intro m (lt-ltb j t (omega (arith, left-above (separatedOf g) j left t L i))))
+
+  pub leads-now : (j left : ℕ) → Left (separatedOf g) j left → j < g .input .states → has left j ≡ leads (separatedOf g) j
+  unfolding separatedOf graphOf
+  leads-now j left L b = left-leads (separatedOf g) j left L b
+
+  pub left-reduced : (j left r : ℕ) → Left (separatedOf g) j left → j < g .input .states → Reduced (setsIn (g .input .moves)) left j r
+      → Left (separatedOf g) (j + 1) r
+  unfolding separatedOf graphOf
+  left-reduced j left r L b R =
+      elim (decide (has left j)) [
         | inl m ↦
-            let l : leads (separatedOf g) j ≡ false = sym (done-leads (separatedOf g) j done D b) ∙ ap not m in
-            let e = E .passed m in
-            rw e (done-skip (separatedOf g) j done D l)
+            let l : leads (separatedOf g) j ≡ true = sym (left-leads (separatedOf g) j left L b) ∙ m in
+            let x = R .found m in
+            left-next (separatedOf g) j left (x .0) r L l (around-joined j left (x .0) b L l (x .1)) (x .2)
         | inr m ↦
-            let l : leads (separatedOf g) j ≡ true = sym (done-leads (separatedOf g) j done D b) ∙ ap not m in
-            let x = E .found m in
-            done-next (separatedOf g) j done (x .0) r D b l (around-joined j (x .0) b (x .1)) (x .2)
+            let l : leads (separatedOf g) j ≡ false = sym (left-leads (separatedOf g) j left L b) ∙ m in
+            let e = R .passed m in
+            rw e (left-skip (separatedOf g) j left L l)
       ]
-
-  pub members-fit : (j c k : ℕ) → j < g .input .states → g .input .states + g .input .states ≤ k → Component (setsIn (g .input .moves)) j c
-      → (t : ℕ) → has c t ≡ true → (t < capacity) × (g .input .states + t < k)
-  unfolding separatedOf graphOf
-  members-fit j c k b f C t m =
-      let l = members-below (separatedOf g) j c (around-joined j c b C) t m in
-      (input-small t l, omega arith)
 
   pub counted : (x k : ℕ) → x ≡ pack (g .input .states) (leads (separatedOf g)) → k ≡ count capacity (has x) → k ≡ componentCount (separatedOf g)
   unfolding componentCount separatedOf graphOf
@@ -107,63 +139,67 @@ module _ (g : Game) (A : acceptance g ≡ Accepted) where
 
   -- ---- the ranks of the inputs passed, written or read
 
-  pub walked-start : (done : ℕ) → done ≡ 0 → Walked g 0 done 0
+  pub walked-start : (left : ℕ) → ((t : ℕ) → has left t ≡ ltb t (g .input .states)) → Walked g 0 left 0
   unfolding count
-  walked-start done e = record { most = omega arith; passed = done-start (separatedOf g) done e; counted = refl }
+  walked-start left d = record { most = omega arith; remains = left-all left d; counted = refl }
 
-  module _ (j done rank : ℕ) (W : Walked g j done rank) (b : j < g .input .states) where
+  module _ (j left rank : ℕ) (W : Walked g j left rank) (b : j < g .input .states) where
     pub walked-rank : rank < capacity
     walked-rank = omega (arith, W .counted, count-le j (leads (separatedOf g)), input-small j b)
 
-    leads-not : has done j ≡ false → leads (separatedOf g) j ≡ true
-    leads-not m = sym (leads-now j done (W .passed) b) ∙ ap not m
+    leads-left : has left j ≡ true → leads (separatedOf g) j ≡ true
+    leads-left m = sym (leads-now j left (W .remains) b) ∙ m
 
-    leads-passed : has done j ≡ true → leads (separatedOf g) j ≡ false
-    leads-passed m = sym (leads-now j done (W .passed) b) ∙ ap not m
+    leads-not : has left j ≡ false → leads (separatedOf g) j ≡ false
+    leads-not m = sym (leads-now j left (W .remains) b) ∙ m
 
-    pub walked-next : (c : ℕ) (r : Set) → has done j ≡ false → Component (setsIn (g .input .moves)) j c
-        → ((t : ℕ) → has (bitsOf r) t ≡ (has done t || has c t)) → Walked g (j + 1) (bitsOf r) (rank + 1)
-    unfolding separatedOf graphOf
-    walked-next c r m C d = record {
-      most = omega arith;
-      passed = done-next (separatedOf g) j done c (bitsOf r) (W .passed) b (leads-not m) (around-joined j c b C) d;
-      counted = count-next (separatedOf g) j rank (W .counted) (leads-not m);
-    }
-
-    pub walked-skip : has done j ≡ true → Walked g (j + 1) done rank
+    pub walked-skip : has left j ≡ false → Walked g (j + 1) left rank
     walked-skip m = record {
       most = omega arith;
-      passed = done-skip (separatedOf g) j done (W .passed) (leads-passed m);
-      counted = count-skip (separatedOf g) j rank (W .counted) (leads-passed m);
+      remains = left-skip (separatedOf g) j left (W .remains) (leads-not m);
+      counted = count-skip (separatedOf g) j rank (W .counted) (leads-not m);
     }
 
-    module _ (l m : List ℕ) (R : Ranking (separatedOf g) j l m) where
-      pub written-next : (c : ℕ) (r : List ℕ) → has done j ≡ false → Component (setsIn (g .input .moves)) j c → Put (g .input .states) c rank m r
-          → Ranking (separatedOf g) (j + 1) l r
+    pub written-skip : (l m : List ℕ) → Ranking (separatedOf g) j l m → has left j ≡ false → Ranking (separatedOf g) (j + 1) l m
+    written-skip l m R e = ranking-skip (separatedOf g) j l m (leads-not e) R
+
+    pub read-skip : (l : List ℕ) → Reading (separatedOf g) j l → has left j ≡ false → Reading (separatedOf g) (j + 1) l
+    read-skip l R e = reading-skip (separatedOf g) j l (leads-not e) R
+
+    -- the component of j, which is left
+    module _ (c : ℕ) (m : has left j ≡ true) (C : Component (setsIn (g .input .moves)) left j c) where
+      found : c ≡ pack (g .input .states) (joined (graphOf (g .input)) j)
+      found = around-joined j left c b (W .remains) (leads-left m) C
+
+      pub members-fit : (k : ℕ) → g .input .states + g .input .states ≤ k → (t : ℕ) → has c t ≡ true → (t < capacity) × (g .input .states + t < k)
       unfolding separatedOf graphOf
-      written-next c r e C P = ranking-next (separatedOf g) j c (around-joined j c b C) rank l m r (leads-not e) (W .counted) R P
+      members-fit k f t i =
+          let l = members-below (separatedOf g) j c found t i in
+          (input-small t l, omega arith)
 
-      pub written-skip : has done j ≡ true → Ranking (separatedOf g) (j + 1) l m
-      written-skip e = ranking-skip (separatedOf g) j l m (leads-passed e) R
-
-    module _ (l : List ℕ) (R : Reading (separatedOf g) j l) where
-      pub read-next : (c : ℕ) → has done j ≡ false → Component (setsIn (g .input .moves)) j c → ranked (g .input .states) c rank l ≡ true
-          → Reading (separatedOf g) (j + 1) l
+      pub walked-next : (r : Set) → ((t : ℕ) → has (bitsOf r) t ≡ (has left t && not (has c t))) → Walked g (j + 1) (bitsOf r) (rank + 1)
       unfolding separatedOf graphOf
-      read-next c e C q =
-          let f = around-joined j c b C in
-          reading-next (separatedOf g) j c rank l f (leads-not e) (W .counted) R
-          (ranked-elim (g .input .states) c rank l (λ t m. input-small t (members-below (separatedOf g) j c f t m)) q)
+      walked-next r d = record {
+        most = omega arith;
+        remains = left-next (separatedOf g) j left c (bitsOf r) (W .remains) (leads-left m) found d;
+        counted = count-next (separatedOf g) j rank (W .counted) (leads-left m);
+      }
 
-      pub read-skip : has done j ≡ true → Reading (separatedOf g) (j + 1) l
-      read-skip e = reading-skip (separatedOf g) j l (leads-passed e) R
+      pub written-next : (l q r : List ℕ) → Ranking (separatedOf g) j l q → Put (g .input .states) c rank q r → Ranking (separatedOf g) (j + 1) l r
+      unfolding separatedOf graphOf
+      written-next l q r R P = ranking-next (separatedOf g) j c found rank l q r (leads-left m) (W .counted) R P
 
-    pub read-fails : (c : ℕ) (l : List ℕ) → has done j ≡ false → Component (setsIn (g .input .moves)) j c → ranked (g .input .states) c rank l ≡ false
-        → false ≡ ranksFit (separatedOf g) l
-    unfolding separatedOf graphOf
-    read-fails c l e C q =
-        let x = ranked-fails (g .input .states) c rank l q in
-        sym (reading-fails (separatedOf g) j c rank l (around-joined j c b C) (leads-not e) (W .counted) (x .0) (x .1) (x .2))
+      pub read-next : (l : List ℕ) → Reading (separatedOf g) j l → ranked (g .input .states) c rank l ≡ true → Reading (separatedOf g) (j + 1) l
+      unfolding separatedOf graphOf
+      read-next l R q =
+          reading-next (separatedOf g) j c rank l found (leads-left m) (W .counted) R
+          (ranked-elim (g .input .states) c rank l (λ t i. input-small t (members-below (separatedOf g) j c found t i)) q)
+
+      pub read-fails : (l : List ℕ) → ranked (g .input .states) c rank l ≡ false → false ≡ ranksFit (separatedOf g) l
+      unfolding separatedOf graphOf
+      read-fails l q =
+          let x = ranked-fails (g .input .states) c rank l q in
+          sym (reading-fails (separatedOf g) j c rank l found (leads-left m) (W .counted) (x .0) (x .1) (x .2))
 
   pub read-end : (j : ℕ) (l : List ℕ) → g .input .states ≤ j → Reading (separatedOf g) j l → true ≡ ranksFit (separatedOf g) l
   unfolding separatedOf graphOf

@@ -15,19 +15,20 @@ ghost use Rattle.game.specs.declared.Acceptance.the-variants.{Accepted};
 ghost use Rattle.play.specs.Play.{graphOf, separatedOf};
 ghost use Rattle.compact.specs.Rank.{leads, componentCount};
 ghost use Rattle.compact.specs.Moving.{ranksFit};
-ghost use Rattle.graph_ranks.specs.Search.{Narrow, Ahead, Swept, Behind, Component, Extended};
+ghost use Rattle.graph_ranks.specs.Search.{Narrow, Small, Entered, Marks, Ahead, Swept, Behind, Component, Reduced};
 ghost use Rattle.graph_ranks.specs.Ranks.{Put, ranked as holds, RanksWritten};
 
-// The states that s reaches.
-fn ahead(moves: &[u64; sets::ROW_WORDS], s: usize) -> Set
-    requires { ⌜ Narrow (setsIn (now moves)) × (s < capacity) ⌝ }
-    ensures { λ r. ⌜ Ahead (setsIn (now (moves .entry))) s (bitsOf r) × ((t : ℕ) → has (bitsOf r) t ≡ true → t < capacity) ⌝ }
+// The states that s reaches by way of states of a set, with s.
+fn ahead(moves: &[u64; sets::ROW_WORDS], inside: Set, s: usize) -> Set
+    requires { ⌜ Small (bitsOf inside) × (s < capacity) ⌝ }
+    ensures { λ r. ⌜ Ahead (setsIn (now (moves .entry))) (bitsOf inside) s (bitsOf r) ⌝ }
 {
     let mut found = sets::insert(sets::empty(), s);
     let mut waiting = found;
     while !sets::is_empty(waiting) {
         let t = sets::lowest(waiting);
-        let next = sets::difference(sets::row_of(moves, t), found);
+        let there = sets::intersection(sets::row_of(moves, t), inside);
+        let next = sets::difference(there, found);
         found = sets::union(found, next);
         waiting = sets::union(sets::without_lowest(waiting), next);
     }
@@ -36,7 +37,7 @@ fn ahead(moves: &[u64; sets::ROW_WORDS], s: usize) -> Set
 
 // What is found, with the states of `left` that have a move to something found. A state that is found is seen by those after it.
 fn sweep(moves: &[u64; sets::ROW_WORDS], left: Set, found: Set) -> Set
-    requires { ⌜ Narrow (setsIn (now moves)) × ((t : ℕ) → has (bitsOf left) t ≡ true → t < capacity) ⌝ }
+    requires { ⌜ Narrow (setsIn (now moves)) × Small (bitsOf left) ⌝ }
     ensures { λ r. ⌜ Swept (setsIn (now (moves .entry))) (bitsOf left) (bitsOf found) (bitsOf r) ⌝ }
 {
     let mut more = found;
@@ -51,8 +52,8 @@ fn sweep(moves: &[u64; sets::ROW_WORDS], left: Set, found: Set) -> Set
 
 // The states of a set that reach s by way of its states, with s.
 fn behind(moves: &[u64; sets::ROW_WORDS], inside: Set, s: usize) -> Set
-    requires { ⌜ Narrow (setsIn (now moves)) × ((t : ℕ) → has (bitsOf inside) t ≡ true → t < capacity) × (s < capacity) ⌝ }
-    ensures { λ r. ⌜ Behind (setsIn (now (moves .entry))) (bitsOf inside) s (bitsOf r) ⌝ }
+    requires { ⌜ Narrow (setsIn (now moves)) × Small (bitsOf inside) × (s < capacity) ⌝ }
+    ensures { λ r. ⌜ Behind (setsIn (now (moves .entry))) (bitsOf inside) s (bitsOf r) × Small (bitsOf r) ⌝ }
 {
     let mut found = sets::insert(sets::empty(), s);
     let mut more = sweep(moves, inside, found);
@@ -63,23 +64,57 @@ fn behind(moves: &[u64; sets::ROW_WORDS], inside: Set, s: usize) -> Set
     found
 }
 
-// The component of s.
-fn around(moves: &[u64; sets::ROW_WORDS], s: usize) -> Set
-    requires { ⌜ Narrow (setsIn (now moves)) × (s < capacity) ⌝ }
-    ensures { λ r. ⌜ Component (setsIn (now (moves .entry))) s (bitsOf r) ⌝ }
+// The component of s among the states of a set: of those that reach s the ones that s reaches. Where s moves to no other of them it is alone, and nothing
+// need be searched.
+fn among(moves: &[u64; sets::ROW_WORDS], inside: Set, s: usize) -> Set
+    requires { ⌜ Narrow (setsIn (now moves)) × Small (bitsOf inside) × (has (bitsOf inside) s ≡ true) ⌝ }
+    ensures { λ r. ⌜ Component (setsIn (now (moves .entry))) (bitsOf inside) s (bitsOf r) ⌝ }
 {
-    behind(moves, ahead(moves, s), s)
+    let alone = sets::insert(sets::empty(), s);
+    if !sets::meets(sets::row_of(moves, s), sets::difference(inside, alone)) {
+        return alone;
+    }
+    ahead(moves, behind(moves, inside, s), s)
 }
 
-// What is done, with the component of s where s is not done.
-fn extended(moves: &[u64; sets::ROW_WORDS], done: Set, s: usize) -> Set
-    requires { ⌜ Narrow (setsIn (now moves)) × (s < capacity) ⌝ }
-    ensures { λ r. ⌜ Extended (setsIn (now (moves .entry))) (bitsOf done) s (bitsOf r) ⌝ }
+// The states that a higher one of the n states moves to. A walk by smallest states leaves none but higher ones, so that one which is not entered by
+// them is known to be alone before anything is searched.
+fn entered(moves: &[u64; sets::ROW_WORDS], n: usize) -> Set
+    requires { ⌜ n ≤ capacity ⌝ }
+    ensures { λ r. ⌜ Entered (setsIn (now (moves .entry))) n (bitsOf r) ⌝ }
 {
-    if sets::member(done, s) {
-        return done;
+    let mut found = sets::empty();
+    let mut t: usize = 0;
+    while t < n {
+        let lower = sets::intersection(sets::row_of(moves, t), sets::below(t));
+        found = sets::union(lower, found);
+        t += 1;
     }
-    sets::union(done, around(moves, s))
+    found
+}
+
+// The component of s among the states of a set; s is one of the states marked where another of them moves to it.
+fn around(moves: &[u64; sets::ROW_WORDS], marked: Set, inside: Set, s: usize) -> Set
+    requires { ⌜ Narrow (setsIn (now moves)) × Small (bitsOf inside) × (has (bitsOf inside) s ≡ true)
+        × Marks (setsIn (now moves)) (bitsOf marked) (bitsOf inside) s ⌝ }
+    ensures { λ r. ⌜ Component (setsIn (now (moves .entry))) (bitsOf inside) s (bitsOf r) ⌝ }
+{
+    if !sets::member(marked, s) {
+        return sets::insert(sets::empty(), s);
+    }
+    among(moves, inside, s)
+}
+
+// What is left, without the component of s where s is left.
+fn reduced(moves: &[u64; sets::ROW_WORDS], marked: Set, left: Set, s: usize) -> Set
+    requires { ⌜ Narrow (setsIn (now moves)) × Small (bitsOf left) × (s < capacity)
+        × Marks (setsIn (now moves)) (bitsOf marked) (bitsOf left) s ⌝ }
+    ensures { λ r. ⌜ Reduced (setsIn (now (moves .entry))) (bitsOf left) s (bitsOf r) ⌝ }
+{
+    if !sets::member(left, s) {
+        return left;
+    }
+    sets::difference(left, around(moves, marked, left, s))
 }
 
 // The component of input j.
@@ -87,8 +122,7 @@ pub fn component(g: Game, j: InState) -> InSet
     requires { ⌜ (acceptance g ≡ Accepted) × (j .0 < g .input .states) ⌝ }
     ensures { λ r. ⌜ bitsOf (r .0) ≡ pack (g .input .states) (joined (graphOf (g .input)) (j .0)) ⌝ }
 {
-    let h = g.input;
-    InSet(around(&h.moves, j.0))
+    InSet(among(&g.input.moves, sets::below(g.input.states), j.0))
 }
 
 // The inputs that are the smallest of their components.
@@ -96,13 +130,13 @@ pub fn leading(g: Game) -> InSet
     requires { ⌜ acceptance g ≡ Accepted ⌝ }
     ensures { λ r. ⌜ bitsOf (r .0) ≡ pack (g .input .states) (leads (separatedOf g)) ⌝ }
 {
-    let h = g.input;
+    let marked = entered(&g.input.moves, g.input.states);
     let mut leaders = sets::empty();
-    let mut done = sets::empty();
+    let mut left = sets::below(g.input.states);
     let mut j: usize = 0;
     while j < g.input.states {
-        leaders = sets::insert_if(leaders, j, !sets::member(done, j));
-        done = extended(&h.moves, done, j);
+        leaders = sets::insert_if(leaders, j, sets::member(left, j));
+        left = reduced(&g.input.moves, marked, left, j);
         j += 1;
     }
     InSet(leaders)
@@ -150,15 +184,15 @@ pub fn write_ranks(g: Game, room: &mut [u16])
     requires { ⌜ (acceptance g ≡ Accepted) × (g .input .states + g .input .states ≤ length (now room)) ⌝ }
     ensures { λ r. ⌜ RanksWritten g (now (room .entry)) (now (room .exit)) ⌝ }
 {
-    let h = g.input;
-    let mut done = sets::empty();
+    let marked = entered(&g.input.moves, g.input.states);
+    let mut left = sets::below(g.input.states);
     let mut rank: u16 = 0;
     let mut j: usize = 0;
     while j < g.input.states {
-        if !sets::member(done, j) {
-            let c = around(&h.moves, j);
+        if sets::member(left, j) {
+            let c = around(&g.input.moves, marked, left, j);
             put_rank(room, g.input.states, c, rank);
-            done = sets::union(done, c);
+            left = sets::difference(left, c);
             rank += 1;
         }
         j += 1;
@@ -170,17 +204,17 @@ pub fn ranks_fit(g: Game, table: &[u16]) -> bool
     requires { ⌜ (acceptance g ≡ Accepted) × (g .input .states + g .input .states ≤ length (now table)) ⌝ }
     ensures { λ r. ⌜ r ≡ ranksFit (separatedOf g) (now (table .entry)) ⌝ }
 {
-    let h = g.input;
-    let mut done = sets::empty();
+    let marked = entered(&g.input.moves, g.input.states);
+    let mut left = sets::below(g.input.states);
     let mut rank: u16 = 0;
     let mut j: usize = 0;
     while j < g.input.states {
-        if !sets::member(done, j) {
-            let c = around(&h.moves, j);
+        if sets::member(left, j) {
+            let c = around(&g.input.moves, marked, left, j);
             if !ranked(table, g.input.states, c, rank) {
                 return false;
             }
-            done = sets::union(done, c);
+            left = sets::difference(left, c);
             rank += 1;
         }
         j += 1;

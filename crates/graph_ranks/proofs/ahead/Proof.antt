@@ -10,10 +10,10 @@ use Rattle.graph_ranks.proofs.ahead.Statement.{statement}
 use Rattle.graph_ranks.proofs.ahead.Tie as tie
 
 abbrev Inv-loop : tie.InvT-loop
-Inv-loop moves s found₀ waiting₀ found waiting = Going (setsIn moves) s (bitsOf found) (bitsOf waiting)
+Inv-loop moves inside s found₀ waiting₀ found waiting = Going (setsIn moves) (bitsOf inside) s (bitsOf found) (bitsOf waiting)
 
 abbrev μ-loop : tie.MeasureT-loop
-μ-loop moves s found₀ waiting₀ found waiting = count capacity (pending (bitsOf found) (bitsOf waiting))
+μ-loop moves inside s found₀ waiting₀ found waiting = count capacity (pending (bitsOf found) (bitsOf waiting))
 
 some-waits : (c : tie.Then1 Inv-loop μ-loop) → bitsOf (c .before .before .loop .waiting) ≢ 0
 some-waits c = is-some _ (c .before .is-empty .ensures) (c .if1 .taken)
@@ -27,7 +27,7 @@ insert-requires c κs = c .before .pre .1
 loop-holds : tie.Need-loop-holds Inv-loop μ-loop
 loop-holds c =
     let b = c .before .before in
-    going-start _ _ (b .pre .1) _ (λ t. rw (sym (c .before .empty .ensures .1)) (c .insert .ensures t))
+    going-start _ _ _ (b .pre .1) _ (λ t. rw (sym (c .before .empty .ensures .1)) (c .insert .ensures t))
 
 is-empty-requires : tie.Need-is-empty-requires Inv-loop μ-loop
 is-empty-requires c κs = search needs
@@ -38,7 +38,10 @@ lowest-requires c κs = search needs
 row-of-requires : tie.Need-row-of-requires Inv-loop μ-loop
 row-of-requires c κs =
     let l = c .before .before .before in
-    going-below _ _ _ _ (l .loop .inv) (some-waits (c .before)) _ (c .lowest .ensures)
+    going-below _ _ _ _ _ (l .loop .inv) (some-waits (c .before)) _ (c .lowest .ensures)
+
+intersection-requires : tie.Need-intersection-requires Inv-loop μ-loop
+intersection-requires c κs = search needs
 
 difference-requires : tie.Need-difference-requires Inv-loop μ-loop
 difference-requires c κs = search needs
@@ -48,7 +51,7 @@ union-requires c κs = search needs
 
 without-lowest-requires : tie.Need-without-lowest-requires Inv-loop μ-loop
 without-lowest-requires c κs =
-    let r = c .before .before in
+    let r = c .before .before .before in
     some-waits (r .before .before)
 
 union-requires-2 : tie.Need-union-requires-2 Inv-loop μ-loop
@@ -57,23 +60,25 @@ union-requires-2 c κs = search needs
 loop-less : tie.Need-loop-less Inv-loop μ-loop
 loop-less c =
     let u = c .before .before in
-    let r = u .before .before in
+    let d = u .before in
+    let r = d .before .before in
     let t = r .before .before in
     let l = t .before .before in
-    going-falls _ _ (l .before .before .before .pre .0) _ _ _ _ _ _ _ _ (l .loop .inv) (some-waits t) (r .before .lowest .ensures) (r .row-of .ensures .1)
-    (u .before .difference .ensures) (u .union .ensures) (c .before .without-lowest .ensures) (c .union2 .ensures)
+    going-falls _ _ _ (l .before .before .before .pre .0) _ _ _ _ _ _ _ _ _ (l .loop .inv) (some-waits t) (r .before .lowest .ensures) (r .row-of .ensures .1)
+    (d .before .intersection .ensures) (d .difference .ensures) (u .union .ensures) (c .before .without-lowest .ensures) (c .union2 .ensures)
 
 loop-again : tie.Need-loop-again Inv-loop μ-loop
 loop-again c =
     let u = c .before .before in
-    let r = u .before .before in
+    let d = u .before in
+    let r = d .before .before in
     let t = r .before .before in
     let l = t .before .before in
-    going-next _ _ (l .before .before .before .pre .0) _ _ _ _ _ _ _ _ (l .loop .inv) (some-waits t) (r .before .lowest .ensures) (r .row-of .ensures .1)
-    (u .before .difference .ensures) (u .union .ensures) (c .before .without-lowest .ensures) (c .union2 .ensures)
+    going-next _ _ _ (l .before .before .before .pre .0) _ _ _ _ _ _ _ _ _ (l .loop .inv) (some-waits t) (r .before .lowest .ensures) (r .row-of .ensures .1)
+    (d .before .intersection .ensures) (d .difference .ensures) (u .union .ensures) (c .before .without-lowest .ensures) (c .union2 .ensures)
 
 returns : tie.Need-returns Inv-loop μ-loop
-returns c = going-end _ _ _ _ (c .before .before .loop .inv) (is-none _ (c .before .is-empty .ensures) (c .if1 .left))
+returns c = going-end _ _ _ _ _ (c .before .before .loop .inv) (is-none _ (c .before .is-empty .ensures) (c .if1 .left))
 
 pub ahead-spec : {M : Type 1} → statement M
 ahead-spec =
@@ -87,6 +92,7 @@ ahead-spec =
     is-empty-requires
     lowest-requires
     row-of-requires
+    intersection-requires
     difference-requires
     union-requires
     without-lowest-requires

@@ -54,7 +54,10 @@ loop-again c =
     backing-next _ _ _ _ _ _ _ (l .loop .inv) (c .before .difference .ensures) (c .sweep2 .ensures)
 
 returns : tie.Need-returns Inv-loop μ-loop
-returns c = backing-end _ _ _ _ _ (c .before .before .loop .inv) (alike _ _ (c .before .same .ensures) (c .if1 .left))
+returns c =
+    let l = c .before .before in
+    let b = l .before .before .before .before in
+    backing-end _ _ _ (b .pre .1) (b .pre .2) _ _ (l .loop .inv) (alike _ _ (c .before .same .ensures) (c .if1 .left))
 
 pub behind-spec : {M : Type 1} → statement M
 behind-spec =

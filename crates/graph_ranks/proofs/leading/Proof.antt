@@ -1,91 +1,101 @@
--- `leading` walks the inputs; one that is in no component passed is the smallest of its own.
+-- `leading` walks the inputs; one that is still left is the smallest of its component.
 use Prim.Native.Nat.{_-_, _≤_}
-use mathlib.Core.Path.{_≡_, _∙_, ap}
-use mathlib.Core.Bool.{not}
+use mathlib.Core.Path.{_≡_, _∙_}
 use native.Mathlib.Omega.{arith}
 use borrow.Author.Needs.{needs}
 use Rattle.bits.specs.Member.{pack}
 use Rattle.bits.proofs.Collect.{collect-none, collect-next, collect-end}
 use Rattle.sets.specs.Words.{bitsOf}
+use Rattle.game.proofs.Laws.{accepted-fits}
 use Rattle.play.specs.Play.{separatedOf}
 use Rattle.compact.specs.Rank.{leads}
-use Rattle.graph_ranks.proofs.Ranks.{Done, done-start}
-use Rattle.graph_ranks.proofs.Walk.{moves-narrow, input-small, leads-now, done-extended}
+use Rattle.graph_ranks.proofs.Ranks.{Left}
+use Rattle.graph_ranks.proofs.Walk.{moves-narrow, input-small, left-all, left-small, left-marks, leads-now, left-reduced}
 use Rattle.graph_ranks.proofs.leading.Statement.{statement}
 use Rattle.graph_ranks.proofs.leading.Tie as tie
 
 abbrev Inv-loop : tie.InvT-loop
-Inv-loop g h leaders₀ done₀ j₀ leaders done j =
-    (j ≤ g .input .states) × (bitsOf leaders ≡ pack j (leads (separatedOf g))) × Done (separatedOf g) j (bitsOf done)
+Inv-loop g marked leaders₀ left₀ j₀ leaders left j =
+    (j ≤ g .input .states) × (bitsOf leaders ≡ pack j (leads (separatedOf g))) × Left (separatedOf g) j (bitsOf left)
 
 abbrev μ-loop : tie.MeasureT-loop
-μ-loop g h leaders₀ done₀ j₀ leaders done j = g .input .states - j
+μ-loop g marked leaders₀ left₀ j₀ leaders left j = g .input .states - j
+
+entered-requires : tie.Need-entered-requires Inv-loop μ-loop
+entered-requires c κs = accepted-fits _ (c .before .before .pre) .input .most
 
 empty-requires : tie.Need-empty-requires Inv-loop μ-loop
 empty-requires c κs = search needs
 
-empty-requires-2 : tie.Need-empty-requires-2 Inv-loop μ-loop
-empty-requires-2 c κs = search needs
+-- the beginning of the call, from where all is ready for the loop
+abbrev start-of : (c : tie.After-below Inv-loop μ-loop) → tie.Start Inv-loop μ-loop
+start-of c = let e = c .before .before in e .before .before .before
+
+below-requires : tie.Need-below-requires Inv-loop μ-loop
+below-requires c κs =
+    let e = c .before in
+    accepted-fits _ (e .before .before .before .pre) .input .most
 
 loop-holds : tie.Need-loop-holds Inv-loop μ-loop
-loop-holds c = (
-  omega arith,
-  c .before .empty .ensures .1
-      ∙ collect-none _,
-  done-start (separatedOf (c .before .before .before .args .g)) _ (c .empty2 .ensures .1),
-)
+loop-holds c =
+    let e = c .before in
+    (omega arith, e .empty .ensures .1 ∙ collect-none _, left-all _ (start-of c .pre) _ (c .below .ensures))
 
 member-requires : tie.Need-member-requires Inv-loop μ-loop
 member-requires c κs =
-    let l = c .before .before in
-    let b = l .before .before .before .before in
-    input-small _ (b .pre) _ (c .if1 .taken)
+    let b = start-of (c .before .before) in
+    input-small _ (b .pre) _ (c .loop-test .taken)
 
 insert-if-requires : tie.Need-insert-if-requires Inv-loop μ-loop
 insert-if-requires c κs =
-    let t = c .before in
-    let l = t .before .before in
-    let b = l .before .before .before .before in
-    input-small _ (b .pre) _ (t .if1 .taken)
+    let i = c .before in
+    let b = start-of (i .before .before) in
+    input-small _ (b .pre) _ (i .loop-test .taken)
 
-extended-requires : tie.Need-extended-requires Inv-loop μ-loop
-extended-requires c κs =
-    let t = c .before .before .before .before in
-    let l = t .before .before in
-    let b = l .before .before .before .before in
-    (moves-narrow _ (b .pre), input-small _ (b .pre) _ (t .if1 .taken))
+reduced-requires : tie.Need-reduced-requires Inv-loop μ-loop
+reduced-requires c κs =
+    let i = c .before .before .before .before in
+    let l = i .before in
+    let b = start-of (l .before) in
+    let j = l .loop .j in
+    let d = l .loop .inv .2 in (
+      moves-narrow _ (b .pre),
+      left-small _ (b .pre) j _ d,
+      input-small _ (b .pre) _ (i .loop-test .taken),
+      left-marks _ (b .pre) j _ _ d (l .before .before .before .entered .ensures),
+    )
 
 add-j : tie.Need-add-j Inv-loop μ-loop
 add-j c =
-    let i = c .before .before .before in
-    let t = i .before .before in
-    let l = t .before .before in
-    let b = l .before .before .before .before in
-    omega (arith, input-small _ (b .pre) _ (t .if1 .taken))
+    let m = c .before .before .before .before in
+    let i = m .before in
+    let b = start-of (i .before .before) in
+    omega (arith, input-small _ (b .pre) _ (i .loop-test .taken))
 
 loop-less : tie.Need-loop-less Inv-loop μ-loop
 loop-less c =
-    let i = c .before .before .before in
-    let t = i .before .before in
-    omega (arith, t .if1 .taken)
+    let m = c .before .before .before .before in
+    omega (arith, m .before .loop-test .taken)
 
 loop-again : tie.Need-loop-again Inv-loop μ-loop
 loop-again c =
-    let i = c .before .before .before in
-    let t = i .before .before in
-    let l = t .before .before in
-    let b = l .before .before .before .before in
+    let n = c .before .before .before in
+    let m = n .before in
+    let i = m .before in
+    let l = i .before in
+    let b = start-of (l .before) in
     let d = l .loop .inv .2 in
-    let j = l .loop .j in (
-      omega (arith, t .if1 .taken),
-      collect-next _ j _ _ _ (l .loop .inv .1) (ap not (i .before .member .ensures) ∙ leads-now _ (b .pre) j _ d (t .if1 .taken)) (i .insert-if .ensures),
-      done-extended _ (b .pre) j _ _ d (t .if1 .taken) (c .extended .ensures),
+    let j = l .loop .j in
+    let k = i .loop-test .taken in (
+      omega (arith, k),
+      collect-next _ j _ _ _ (l .loop .inv .1) (m .member .ensures ∙ leads-now _ (b .pre) j _ d k) (n .insert-if .ensures),
+      left-reduced _ (b .pre) j _ _ d k (c .reduced .ensures),
     )
 
 returns : tie.Need-returns Inv-loop μ-loop
 returns c =
-    let l = c .before .before in
-    collect-end _ (l .loop .j) _ _ (l .loop .inv .0) (omega (arith, c .if1 .left)) (l .loop .inv .1)
+    let l = c .before in
+    collect-end _ (l .loop .j) _ _ (l .loop .inv .0) (omega (arith, c .loop-test .left)) (l .loop .inv .1)
 
 pub leading-spec : {M : Type 1} → statement M
 leading-spec =
@@ -93,12 +103,13 @@ leading-spec =
     (tie.spec
     Inv-loop
     μ-loop
+    entered-requires
     empty-requires
-    empty-requires-2
+    below-requires
     loop-holds
     member-requires
     insert-if-requires
-    extended-requires
+    reduced-requires
     add-j
     loop-less
     loop-again
