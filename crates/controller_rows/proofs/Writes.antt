@@ -1,15 +1,14 @@
 -- Laws of what the loops write.
 --
 --   stays-state, stays-none          : the two kinds of entries for every counter
---   base-small, cell-below           : the place of a row is small, and lies in the buffer
---   column-fits                      : so what is written fits
+--   rows-fit, row-asks               : the rows lie in the buffer; what writing one asks
 --   row-of                           : what was written
 --   long-..                          : lengths are kept
 --   plain-led, plain-other           : the rows of one output, input by input
 --   table-long                       : the table fits any buffer of the length
 --   lowest-both, settles-in, settles-out, start-in, start-out : the tests by cases
 use Prim.Native.Nat.{ℕ, _+_, _*_, _≤_, _<_}
-use native.Mathlib.Nat.{mul-le-mul, mul-le-mul-left, mul-le-mul-right, mul-suc, suc-mul, mul-comm, add-mul, zero-mul}
+use native.Mathlib.Nat.{zero-mul}
 use mathlib.Core.Path.{_≡_, refl, sym, _∙_, ap}
 use mathlib.Core.Bool.{Bool, true, false, not, _&&_}
 use mathlib.Core.List.{List}
@@ -29,7 +28,8 @@ use Rattle.scratch.specs.Stored.{rowAt, outReachAt, wonAt}
 use Rattle.table_counters.specs.Counters.{mostCounters}
 use Rattle.table_entries.specs.Step.{entryStep}
 use Rattle.table_entries.proofs.Packed.{none-entry, entry-small, entry-steps}
-use Rattle.table_columns.specs.Column.{Fits, Column}
+use Rattle.table_layout.specs.declared.Layout.{Layout}
+use Rattle.table_layout.specs.Rows.{Fits, Entries, WroteColumn}
 use Rattle.controller_rows.specs.declared.Size.{Size}
 use Rattle.controller_rows.specs.Writes.{
   first,
@@ -37,7 +37,7 @@ use Rattle.controller_rows.specs.Writes.{
   Stays,
   leading,
   columnOf,
-  base,
+  layoutOf,
   Table,
   Row,
   settlesAt,
@@ -77,51 +77,37 @@ stays-small p f m h e b = go (decLt p capacity)
 
 -- ---- places
 
-pub counters-small : (M o : ℕ) → M ≤ mostCounters → o < capacity → o * M ≤ capacity * mostCounters
-counters-small M o b d =
-    let a : o ≤ capacity = omega arith in
-    mul-le-mul a b
-
-pub base-small : (w M o : ℕ) → w ≤ capacity → M ≤ mostCounters → o < capacity → o * M * w ≤ capacity * mostCounters * capacity
-base-small w M o a b d = mul-le-mul (counters-small M o b d) a
-
-pub base-at : (z : Size) (o : ℕ) → z .base + o * z .counters * z .width ≡ base z o
-unfolding base
-base-at z o = refl
-
 module _ (z : Size) (long : ℕ) (t : Table z long) where
-  pub counter-below : (h : ℕ) → has (z .all .0) h ≡ true → h < z .counters
+  counter-below : (h : ℕ) → has (z .all .0) h ≡ true → h < z .counters
   counter-below h e = ltb-true h (z .counters) (sym (t .all h) ∙ e)
 
   pub width-few : z .width ≤ capacity
   width-few = omega (arith, t .inputs, t .columns, count-le (z .inputs) (leading z))
 
-  rows-below : (o : ℕ) → o < z .outputs → base z o + z .width * z .counters ≤ long
-  unfolding base
-  rows-below o b =
-      omega (
-        arith,
-        t .room,
-        mul-le-mul-right (z .width) (mul-le-mul-right (z .counters) b),
-        ap (λ (k : ℕ). k * z .width) (suc-mul o (z .counters)),
-        add-mul (o * z .counters) (z .counters) (z .width),
-        mul-comm (z .width) (z .counters),
-      )
+  pub rows-fit : {y : Layout} → y ≡ layoutOf z → Fits y long
+  unfolding layoutOf
+  rows-fit e = rw e
+      (record {
+        front = t .front;
+        states = t .outputs;
+        some = t .some;
+        counters = t .counters;
+        width = width-few;
+        room = t .room;
+      })
 
-  pub cell-below : (o b h : ℕ) → o < z .outputs → b < z .width → h < z .counters → base z o + b + z .width * h < long
-  cell-below o b h a d c = omega (arith, rows-below o a, mul-le-mul-left (z .width) c, mul-suc (z .width) h)
-
-  module _ (o which f m : ℕ) (b : o < z .outputs) (in-range : (h : ℕ) → has which h ≡ true → h < z .counters)
-      (small : (h : ℕ) → h < z .counters → f + m * h < 65536) where
-    pub column-fits : {at : ℕ} (j : ℕ) → at ≡ base z o → j < z .width → Fits long (at + j) (z .width) which f m
-    column-fits j e l = rw e
-        (record {
-          below = λ h i. cell-below o j h b l (in-range h i);
-          small = λ h i. small h (in-range h i);
-        })
-
-  pub all-small : (p f m : ℕ) → Stays p f m → (h : ℕ) → h < z .counters → f + m * h < 65536
-  all-small p f m e h b = stays-small p f m h e (omega (arith, t .counters))
+  pub row-asks : {y : Layout} {o b p f m : ℕ} → y ≡ layoutOf z → o < z .outputs → b < z .width → Stays p f m
+      → Fits y long × (o < y .states) × (b < y .width) × Entries y (z .all .0) f m
+  unfolding layoutOf
+  row-asks {o = o} {b = b} {p = p} {f = f} {m = m} e u v s = rw e (
+    rows-fit refl,
+    u,
+    v,
+    record {
+      counters = counter-below;
+      small = λ h i. stays-small p f m h s (omega (arith, counter-below h i, t .counters));
+    },
+  )
 
 pub table-long : {z : Size} {a b : ℕ} → Table z a → b ≡ a → Table z b
 table-long t e = record {
@@ -139,7 +125,7 @@ table-long t e = record {
 -- ---- what was written
 
 module _ (z : Size) (o : ℕ) where
-  pub row-of : (b p : ℕ) {at f m : ℕ} {l r : List ℕ} → at ≡ base z o → Stays p f m → Column l r (at + b) (z .width) (z .all .0) f m → Row z o b p l r
+  pub row-of : (b p : ℕ) {y : Layout} {f m : ℕ} {l r : List ℕ} → y ≡ layoutOf z → Stays p f m → WroteColumn y o b (z .all .0) f m l r → Row z o b p l r
   row-of b p e s c = record { column = rw (← e, ← s .first, ← s .more) c }
 
 module _ {z : Size} {o : ℕ} {l m : List ℕ} where

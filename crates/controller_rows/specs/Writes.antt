@@ -3,7 +3,6 @@
 --   first p, more p                == first p + more p × c is the entry for state p and counter c, and none where p is no state
 --   leading z j                    == input j leads: it has a column of its own
 --   columnOf z j, inputOf z b      == the column of the leader j, and the leader of column b
---   base z o                       == where the rows of output o begin
 --   layoutOf z                     == the layout of its rows
 --   lengthOf z                     == how many entries the table has
 --   Table z long                   == a buffer of that length has the table
@@ -31,9 +30,8 @@ use Rattle.theory.specs.Entries.{entry}
 use Rattle.scratch.specs.Stored.{rowAt, outReachAt, wonAt}
 use Rattle.table_counters.specs.Counters.{mostCounters}
 use Rattle.table_entries.specs.Step.{entryStep}
-use Rattle.table_columns.specs.Column.{Column}
 use Rattle.table_layout.specs.declared.Layout.{Layout}
-use Rattle.table_layout.specs.Rows.{mostStarts}
+use Rattle.table_layout.specs.Rows.{mostStarts, WroteColumn}
 use Rattle.controller_rows.specs.declared.Size.{Size}
 use Rattle.controller_rows.specs.Each.{Each}
 
@@ -59,9 +57,6 @@ unfoldable pub inputOf : Size → ℕ → ℕ
 inputOf z b = least (z .inputs) (λ j. leading z j && eqb (columnOf z j) b)
 
 -- "one start entry an input, then rows by output, counter, input, the last running fastest"
-unfoldable pub base : Size → ℕ → ℕ
-base z o = z .base + o * z .counters * z .width
-
 unfoldable pub layoutOf : Size → Layout
 layoutOf z = record { base = z .base; states = z .outputs; counters = z .counters; width = z .width }
 
@@ -80,7 +75,7 @@ pub record Table (z : Size) (long : ℕ) : Type 0 where
   pub room : lengthOf z ≤ long
 
 pub record Row (z : Size) (o b p : ℕ) (l m : List ℕ) : Type 0 where
-  pub column : Column l m (base z o + b) (z .width) (z .all .0) (first p) (more p)
+  pub column : WroteColumn (layoutOf z) o b (z .all .0) (first p) (more p) l m
 
 unfoldable pub settlesAt : ℕ → ℕ → ℕ → ℕ → Bool
 settlesAt c j row reach = has c j && meets capacity row reach

@@ -3,12 +3,9 @@ use crate::Size;
 use game::OutState;
 use table_layout::Layout;
 ghost use mathlib.Core.Path.{_≡_};
-ghost use Prim.Native.Nat.{_≤_, _<_};
+ghost use Prim.Native.Nat.{_<_};
 ghost use lib.ListN.{length};
-ghost use Rattle.sets.specs.Words.{capacity};
-ghost use Rattle.table_counters.specs.Counters.{mostCounters};
-ghost use Rattle.table_layout.specs.Rows.{mostStarts};
-ghost use Rattle.controller_rows.specs.Writes.{Stays, base as baseOf, layoutOf, Table, Row};
+ghost use Rattle.controller_rows.specs.Writes.{Stays, layoutOf, Table, Row};
 
 // A pattern of entries: first + more × counter for each counter.
 pub struct Pattern {
@@ -44,19 +41,11 @@ pub fn layout_of(z: Size) -> Layout
     }
 }
 
-// Where the rows of output o begin.
-fn base(z: Size, o: OutState) -> usize
-    requires { ⌜ (z .base ≤ mostStarts) × (z .width ≤ capacity) × (z .counters ≤ mostCounters) × (o .0 < capacity) ⌝ }
-    ensures { λ r. ⌜ r ≡ baseOf z (o .0) ⌝ }
-{
-    z.base + o.0 * z.counters * z.width
-}
-
 // The rows of output o and column b: state p, the counter stays.
 pub fn write_row(room: &mut [u16], z: Size, o: OutState, b: usize, p: usize)
     requires { ⌜ Table z (length (now room)) × (o .0 < z .outputs) × (b < z .width) ⌝ }
     ensures { λ r. ⌜ Row z (o .0) b p (now (room .entry)) (now (room .exit)) ⌝ }
 {
     let e = staying(p);
-    table_columns::column(room, base(z, o) + b, z.width, z.all, e.first, e.more);
+    table_layout::write_column(room, layout_of(z), o.0, b, z.all, e.first, e.more);
 }

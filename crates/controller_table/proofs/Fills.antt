@@ -6,14 +6,13 @@
 --   fills-each              : a loop of such steps
 --   fills-row               : a step
 use Prim.Native.Nat.{ℕ, suc, _+_, _*_, _≤_, _<_}
-use native.Mathlib.Nat.{mul-comm, add-mul}
 use mathlib.Core.Path.{_≡_, refl, sym, _∙_, ap, subst}
 use mathlib.Core.Bool.{Bool, true}
 use mathlib.Core.List.{List}
 use mathlib.Core.Logic.{_⊎_, inl, inr}
 use native.Mathlib.Omega.{arith}
 use lib.Dec.{ltb}
-use lib.ListN.{length, getD}
+use lib.ListN.{length}
 use borrow.Author.Tests.{lt-ltb, ltb-true}
 use Rattle.finite.specs.Bounded.{count}
 use Rattle.finite.proofs.Truth.{clash}
@@ -22,15 +21,12 @@ use Rattle.bits.specs.Member.{has}
 use Rattle.arena.specs.Arena.{Separated}
 use Rattle.theory.specs.Choice.{controllerRow}
 use Rattle.theory.specs.Entries.{entry, controllerCounters}
-use Rattle.table_columns.specs.Column.{Agrees, Columned}
-use Rattle.table_layout.specs.Rows.{place, Filled as FilledIn}
 use Rattle.table_layout.proofs.Places.{filled-none as none-in, filled-join as join-in, filled-part as part-in}
 use Rattle.controller_rows.specs.declared.Size.{Size}
 use Rattle.controller_rows.specs.Each.{Each, none, hit, miss}
-use Rattle.controller_rows.specs.Writes.{first, more, leading, columnOf, inputOf, base, layoutOf, lengthOf, Row}
-use Rattle.controller_rows.proofs.Columns.{column-below, input-leads, input-column, column-input}
-use Rattle.controller_table.specs.Filled.{Sheet, Filled}
-use Rattle.controller_table.proofs.Cells.{place-room}
+use Rattle.controller_rows.specs.Writes.{first, more, leading, columnOf, inputOf, layoutOf, lengthOf, Row}
+use Rattle.controller_rows.proofs.Columns.{input-leads, input-column, column-input}
+use Rattle.controller_table.specs.Filled.{Filled}
 
 pub record Sizes (S : Separated) (z : Size) : Type 0 where
   pub inputs : z .inputs ≡ S .input .states
@@ -106,10 +102,6 @@ module _ (S : Separated) (z : Size) (Z : Sizes S z) where
         (λ o c b lo lc lb h. f o c (inputOf z b) (omega (arith, T .outputs)) (T .inputs b lb) (input-leads z (Z .columns) b lb) h);
   }
 
-  place-base : (o c b : ℕ) → base z o + b + z .width * c ≡ place (layoutOf z) o c b
-  unfolding place base layoutOf
-  place-base o c b = omega (arith, add-mul (o * z .counters) c (z .width), mul-comm (z .width) c)
-
   all-below : (c : ℕ) → has (z .all .0) c ≡ true → c < z .counters
   all-below c h = ltb-true c (z .counters) (sym (Z .all c) ∙ h)
 
@@ -118,39 +110,18 @@ module _ (S : Separated) (z : Size) (Z : Sizes S z) where
 
   module _ (o j p : ℕ) (lo : o < S .output .states) (lj : j < S .input .states) (t : leading z j ≡ true)
       (e : (c : ℕ) → c < controllerCounters S → first p + more p * c ≡ entry (controllerRow S o c j)) where
-    b-below : columnOf z j < z .width
-    b-below = column-below z (Z .columns) j (rw (Z .inputs) lj) t
-
     leader : inputOf z (columnOf z j) ≡ j
     leader = column-input z (Z .columns) j (rw (Z .inputs) lj) t
-
-    module _ (E : List ℕ) (T : Sheet S (layoutOf z) (inputOf z) E) where
-      agrees : Agrees E (base z o + columnOf z j) (z .width) (z .all .0) (first p) (more p)
-      unfolding layoutOf
-      agrees = record {
-        below = λ c h. rw (place-base o c (columnOf z j), T .rows .long)
-            (place-room (layoutOf z) o c (columnOf z j) (rw (Z .outputs) lo) (all-below c h) b-below);
-        entry = λ c h.
-            e c (rw (Z .counters) at (all-below c h)) ∙ ap (λ (i : ℕ). entry (controllerRow S o c i)) (sym leader)
-            ∙ sym (T .rows .row o c (columnOf z j) (rw (Z .outputs) lo) (all-below c h) b-below)
-            ∙ ap (λ (k : ℕ). getD E k 0) (sym (place-base o c (columnOf z j)));
-      }
-
-      columned : {l m : List ℕ} → Columned E l m (base z o + columnOf z j) (z .width) (z .all .0)
-          → FilledIn (layoutOf z) E (λ o′ c b′. (o′ ≡ o) × (inputOf z b′ ≡ j)) l m
-      unfolding layoutOf
-      columned s = record {
-        grows = s .grows;
-        rows = λ o′ c b′ x y u h.
-            let q : b′ ≡ columnOf z j = sym (input-column z (Z .columns) b′ u) ∙ ap (columnOf z) (h .1) in
-            rw (h .0, q, ← place-base o c (columnOf z j)) (s .right c (below-all c y));
-      }
 
     pub fills-row : Fills S z (Row z o (columnOf z j) p) (λ o′ c j′. (o′ ≡ o) × (j′ ≡ j))
     unfolding layoutOf
     fills-row = record {
       fills = λ l k s long. record {
         long = s .column .long;
-        fills = λ E T. columned E T (s .column .fills E (agrees E T) (omega (arith, T .rows .long)));
+        fills = λ E T.
+            part-in (layoutOf z) (λ o c b. controllerRow S o c (inputOf z b)) E (T .rows)
+            (s .column .fills (λ o c b. controllerRow S o c (inputOf z b)) E (T .rows) (λ c h.
+            e c (rw (Z .counters) at (all-below c h)) ∙ ap (λ (i : ℕ). entry (controllerRow S o c i)) (sym leader)))
+            (λ o′ c b lo′ lc lb h. (h .0, below-all c lc, sym (input-column z (Z .columns) b lb) ∙ ap (columnOf z) (h .1)));
       };
     }

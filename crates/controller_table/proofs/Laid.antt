@@ -16,7 +16,7 @@ use Rattle.table_layout.specs.declared.Layout.{Layout}
 use Rattle.table_layout.specs.Rows.{Fits, Rows, Filled as FilledIn}
 use Rattle.controller_rows.specs.declared.Size.{Size}
 use Rattle.controller_rows.specs.Writes.{inputOf, layoutOf, lengthOf}
-use Rattle.controller_rows.proofs.Writes.{width-few}
+use Rattle.controller_rows.proofs.Writes.{rows-fit}
 use Rattle.controller_table.specs.Filled.{Sheet, Sized}
 use Rattle.controller_table.proofs.Setting.{sizes-of, table-of}
 
@@ -34,18 +34,7 @@ module _ (g : Game) (z : Size) (y : Layout) (Z : Sized g z) (D : y ≡ layoutOf 
   width-is = ap (λ (x : Layout). x .width) D
 
   pub laid-fits : (n : ℕ) → lengthOf z ≤ n → Fits y n
-  unfolding layoutOf
-  laid-fits n long =
-      let t = table-of g z Z n long in
-      subst (λ (x : Layout). Fits x n) (sym D)
-      (record {
-        front = t .front;
-        states = t .outputs;
-        some = t .some;
-        counters = t .counters;
-        width = width-few z n t;
-        room = long;
-      })
+  laid-fits n long = rows-fit z n (table-of g z Z n long) D
 
   module _ (E : List ℕ) where
     pub laid-rows : Sheet (separatedOf g) (layoutOf z) (inputOf z) E → Rows y (λ o c b. controllerRow (separatedOf g) o c (inputOf z b)) E

@@ -4,6 +4,7 @@
 --   filled-none, filled-join, filled-part       : nothing written; one writing after another; fewer rows
 --   own-small, row-small, write-fits            : what a write asks
 --   write-done                                  : what it gives
+--   column-fits, column-done                    : the same of one column
 use Prim.Native.Nat.{ℕ, _+_, _*_, _≤_, _<_}
 use native.Mathlib.Nat.{mul-comm, add-mul, mul-le-mul}
 use mathlib.Core.Path.{_≡_, sym, _∙_, ap}
@@ -20,9 +21,9 @@ use Rattle.theory.proofs.Entries.{place-below}
 use Rattle.table_counters.specs.Counters.{mostCounters}
 use Rattle.table_filling.specs.Grows.{Right}
 use Rattle.table_filling.proofs.Grows.{grows-none, grows-more}
-use Rattle.table_columns.specs.Column.{BlockFits, BlockAgrees, Blocked, Block}
+use Rattle.table_columns.specs.Column.{Fits as ColumnFits, Agrees, Columned, Column, BlockFits, BlockAgrees, Blocked, Block}
 use Rattle.table_layout.specs.declared.Layout.{Layout}
-use Rattle.table_layout.specs.Rows.{place, Fits, Rows, Filled, Entries, Wrote}
+use Rattle.table_layout.specs.Rows.{place, Fits, Rows, Filled, Entries, Wrote, WroteColumn}
 
 -- a row's place
 module _ (z : Layout) (a h b : ℕ) (la : a < z .states) (lh : h < z .counters) (lb : b < z .width) where
@@ -115,3 +116,23 @@ module _ (z : Layout) (n a : ℕ) (F : Fits z n) (la : a < z .states) where
         go : (f : ℕ → ℕ → ℕ → Answer) (E : List ℕ) → Rows z f E → Blocked E l m (z .base + a * z .counters * z .width) (z .width) over which (z .width)
             → Filled z E (λ k h b. (k ≡ a) × (has which h ≡ true) × (has over b ≡ true)) l m
         go f E R D = record { grows = D .grows; rows = λ k h b x y u p. rw (p .0, ← place-base z a h b) (D .right b h u (p .2) (p .1)) }
+
+  -- one column
+  module _ (b which first more : ℕ) (lb : b < z .width) (W : Entries z which first more) where
+    pub column-fits : ColumnFits n (z .base + a * z .counters * z .width + b) (z .width) which first more
+    column-fits = record { below = λ h e. at-below h b (W .counters h e) lb; small = W .small }
+
+    pub column-done : {l m : List ℕ} → length l ≡ n → Column l m (z .base + a * z .counters * z .width + b) (z .width) which first more
+        → WroteColumn z a b which first more l m
+    column-done {l} {m} long C = record { long = C .long; fills = λ f E R g. go f E R (C .fills E (agrees f E R g) (omega (arith, rows-room z f E n R F))) }
+      where
+        agrees : (f : ℕ → ℕ → ℕ → Answer) (E : List ℕ) → Rows z f E → ((h : ℕ) → has which h ≡ true → first + more * h ≡ entry (f a h b))
+            → Agrees E (z .base + a * z .counters * z .width + b) (z .width) which first more
+        agrees f E R g = record {
+          below = λ h e. rw (place-base z a h b) (place-in z a h b la (W .counters h e) lb f E R);
+          entry = λ h e. g h e ∙ sym (R .row a h b la (W .counters h e) lb) ∙ ap (λ (k : ℕ). getD E k 0) (sym (place-base z a h b));
+        }
+
+        go : (f : ℕ → ℕ → ℕ → Answer) (E : List ℕ) → Rows z f E → Columned E l m (z .base + a * z .counters * z .width + b) (z .width) which
+            → Filled z E (λ k h c. (k ≡ a) × (has which h ≡ true) × (c ≡ b)) l m
+        go f E R D = record { grows = D .grows; rows = λ k h c x y u p. rw (p .0, p .2, ← place-base z a h b) (D .right h (p .1)) }

@@ -7,6 +7,7 @@
 --   Filled z E P l m                 == from l to m entries of E were written, those of the rows with P among them
 --   Entries z which first more       == the members of `which` are counters, and first + more × h fits 16 bits for each
 --   Wrote z a over which first more l m == from l to m first + more × h was written for the counters h of `which` and the columns of `over`, in any such list
+--   WroteColumn z a b which first more l m == the same for the column b
 use Prim.Native.Nat.{ℕ, _+_, _*_, _<_, _≤_}
 use mathlib.Core.Path.{_≡_}
 use mathlib.Core.Bool.{true}
@@ -53,3 +54,8 @@ pub record Wrote (z : Layout) (a over which first more : ℕ) (l m : List ℕ) :
   pub fills : (f : ℕ → ℕ → ℕ → Answer) (E : List ℕ) → Rows z f E
       → ((h b : ℕ) → has which h ≡ true → b < z .width → has over b ≡ true → first + more * h ≡ entry (f a h b))
       → Filled z E (λ k h b. (k ≡ a) × (has which h ≡ true) × (has over b ≡ true)) l m
+
+pub record WroteColumn (z : Layout) (a b which first more : ℕ) (l m : List ℕ) : Type 0 where
+  pub long : length m ≡ length l
+  pub fills : (f : ℕ → ℕ → ℕ → Answer) (E : List ℕ) → Rows z f E → ((h : ℕ) → has which h ≡ true → first + more * h ≡ entry (f a h b))
+      → Filled z E (λ k h c. (k ≡ a) × (has which h ≡ true) × (c ≡ b)) l m

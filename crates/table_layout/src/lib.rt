@@ -5,7 +5,7 @@ use table_counters::CounterSet;
 ghost use Prim.Native.Nat.{_<_};
 ghost use lib.ListN.{length};
 ghost use Rattle.sets.specs.Words.{bitsOf};
-ghost use Rattle.table_layout.specs.Rows.{Fits, Entries, Wrote};
+ghost use Rattle.table_layout.specs.Rows.{Fits, Entries, Wrote, WroteColumn};
 
 // Where rows lie: they begin at `base`, one for each of `states` own states, `counters` counters and `width` columns.
 pub struct Layout {
@@ -33,6 +33,29 @@ pub fn write(
         z.base + a * z.counters * z.width,
         z.width,
         over,
+        which,
+        first,
+        more,
+    );
+}
+
+// The same for one column b.
+pub fn write_column(
+    room: &mut [u16],
+    z: Layout,
+    a: usize,
+    b: usize,
+    which: CounterSet,
+    first: u16,
+    more: u16,
+)
+    requires { ⌜ Fits z (length (now room)) × (a < z .states) × (b < z .width) × Entries z (which .0) first more ⌝ }
+    ensures { λ r. ⌜ WroteColumn z a b (which .0) first more (now (room .entry)) (now (room .exit)) ⌝ }
+{
+    table_columns::column(
+        room,
+        z.base + a * z.counters * z.width + b,
+        z.width,
         which,
         first,
         more,
