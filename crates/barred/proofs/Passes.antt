@@ -65,7 +65,8 @@ module _ (S : Separated) where
       (sub-intro S
       (λ i o a b h.
       and-intro (sub-elim S z i o a b (stay-in S goal wait Z Y i o h))
-      (replies-mono S (target goal wait Z Y (stay S goal wait Z Y)) (target goal′ wait′ Z′ Y′ (stay S goal wait Z Y)) (sub-intro S (λ j p c d k. into j p c d k)) i o
+      (replies-mono S (target goal wait Z Y (stay S goal wait Z Y)) (target goal′ wait′ Z′ Y′ (stay S goal wait Z Y))
+      (sub-intro S (λ j p c d k. into j p c d k)) i o
       (stay-replies S goal wait Z Y i o a b h))))
     where
       into : (j p : ℕ) → j < S .input .states → p < S .output .states → target goal wait Z Y (stay S goal wait Z Y) j p ≡ true

@@ -34,7 +34,8 @@ use Rattle.barred_rows.specs.Areas.{keptPairs, reachedPairs, stayingPairs, reac
 use Rattle.barred_rows.proofs.Rows.{apart-self, apart-then, apart-wider}
 use Rattle.barred_stay.specs.Stay.{Within, Stayed}
 use Rattle.barred_region.specs.Region.{only, Among, Waits, WidenedBy, Widened, Reached}
-use Rattle.barred_region.proofs.Among.{among-sub, sub-among, among-self, among-then, rows-among, part-stay, part-reach, counted, counted-most, counted-less}
+use Rattle.barred_region.proofs.Among.{among-sub, sub-among, among-self, among-then, rows-among, part-stay, part-reach}
+use Rattle.barred_region.proofs.Among.{counted, counted-most, counted-less}
 
 -- ---- the sets that are waited for
 

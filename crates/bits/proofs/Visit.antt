@@ -33,7 +33,8 @@ module _ (w x h : ℕ) (small : x < 2 ^ w) (ne : x ≢ 0) (e : h ≡ least w (ha
   pub lowest-in : has x h ≡ true
   lowest-in = let b = lowest-below in rw e (least-member w (has x) (rw e at b))
 
-pub lowest-less : (w x h r : ℕ) → h ≡ least w (has x) → ((s : ℕ) → has r s ≡ (has x s && not (eqb s (least w (has x))))) → (s : ℕ) → has r s ≡ (has x s && not (eqb s h))
+pub lowest-less : (w x h r : ℕ) → h ≡ least w (has x) → ((s : ℕ) → has r s ≡ (has x s && not (eqb s (least w (has x)))))
+    → (s : ℕ) → has r s ≡ (has x s && not (eqb s h))
 lowest-less w x h r e d s = rw e (d s)
 
 module _ (x b y n : ℕ) (f : (s : ℕ) → has b s ≡ ltb s n) (i : (s : ℕ) → has y s ≡ (has x s && has b s)) where

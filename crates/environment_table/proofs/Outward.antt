@@ -37,7 +37,8 @@ use Rattle.theory.specs.Region.{region}
 use Rattle.theory.specs.Tour.{inside}
 use Rattle.theory.specs.Choice.{lost, wayOut, gate, outward, escapes, environmentRow}
 use Rattle.theory.proofs.Delay.{region-same}
-use Rattle.theory.proofs.EnvironmentRow.{lost-edge, lost-apart, lost-region, gate-joined, gate-out, gate-intro, escapes-same, row-lost, pushing-nontrivial, pressing-escapes, outward-here, outward-on, gate-leads}
+use Rattle.theory.proofs.EnvironmentRow.{lost-edge, lost-apart, lost-region, gate-joined, gate-out, gate-intro, escapes-same}
+use Rattle.theory.proofs.EnvironmentRow.{row-lost, pushing-nontrivial, pressing-escapes, outward-here, outward-on, gate-leads}
 use Rattle.table_goals.proofs.Tours.{inside-kept, comp-has}
 use Rattle.graph_components.specs.Component.{enters}
 use Rattle.scratch.specs.Stored.{wonAt}

@@ -150,15 +150,18 @@ module _ (q : Requirement) where
   unfolding inSetFits
   in-places a e j l = all-elim 4 (inSetFits q a) e j l
 
-  out-places : (b : ℕ) → all 4 (outSetFits q b) ≡ true → (j : ℕ) → j < 4 → within (bitsOf (getD (q .guarantees) j noOutput .0)) (limit (q .guaranteed) j b) ≡ true
+  out-places : (b : ℕ) → all 4 (outSetFits q b) ≡ true → (j : ℕ) → j < 4
+      → within (bitsOf (getD (q .guarantees) j noOutput .0)) (limit (q .guaranteed) j b) ≡ true
   unfolding outSetFits
   out-places b e j l = all-elim 4 (outSetFits q b) e j l
 
-  places-in : (a : ℕ) → ((j : ℕ) → j < 4 → within (bitsOf (getD (q .assumptions) j noInput .0)) (limit (q .assumed) j a) ≡ true) → all 4 (inSetFits q a) ≡ true
+  places-in : (a : ℕ) → ((j : ℕ) → j < 4 → within (bitsOf (getD (q .assumptions) j noInput .0)) (limit (q .assumed) j a) ≡ true)
+      → all 4 (inSetFits q a) ≡ true
   unfolding inSetFits
   places-in a h = all-intro 4 (inSetFits q a) h
 
-  places-out : (b : ℕ) → ((j : ℕ) → j < 4 → within (bitsOf (getD (q .guarantees) j noOutput .0)) (limit (q .guaranteed) j b) ≡ true) → all 4 (outSetFits q b) ≡ true
+  places-out : (b : ℕ) → ((j : ℕ) → j < 4 → within (bitsOf (getD (q .guarantees) j noOutput .0)) (limit (q .guaranteed) j b) ≡ true)
+      → all 4 (outSetFits q b) ≡ true
   unfolding outSetFits
   places-out b h = all-intro 4 (outSetFits q b) h
 
@@ -166,9 +169,11 @@ module _ (q : Requirement) where
   requirement-fits a b f i o = record {
     few-assumed = few-bounds f .0;
     few-guaranteed = few-bounds f .1;
-    assumption-below = λ j s l m. used-below (bitsOf (getD (q .assumptions) j noInput .0)) (q .assumed) j a (in-places a i j (omega (arith, few-bounds f .0))) l s m;
+    assumption-below = λ j s l m.
+        used-below (bitsOf (getD (q .assumptions) j noInput .0)) (q .assumed) j a (in-places a i j (omega (arith, few-bounds f .0))) l s m;
     assumption-past = λ j l h. unused-empty (bitsOf (getD (q .assumptions) j noInput .0)) (q .assumed) j a (in-places a i j h) l;
-    guarantee-below = λ j s l m. used-below (bitsOf (getD (q .guarantees) j noOutput .0)) (q .guaranteed) j b (out-places b o j (omega (arith, few-bounds f .1))) l s m;
+    guarantee-below = λ j s l m.
+        used-below (bitsOf (getD (q .guarantees) j noOutput .0)) (q .guaranteed) j b (out-places b o j (omega (arith, few-bounds f .1))) l s m;
     guarantee-past = λ j l h. unused-empty (bitsOf (getD (q .guarantees) j noOutput .0)) (q .guaranteed) j b (out-places b o j h) l;
   }
 

@@ -73,7 +73,8 @@ pub states-row : (g : Graph) (s : ℕ) → within (bitsOf (g .initial)) (g .stat
 unfolding statesFit
 states-row g s i l e = and-next i (all-stop capacity s (rowFits g) l e)
 
-pub states-end : (g : Graph) (s : ℕ) → within (bitsOf (g .initial)) (g .states) ≡ true → s ≤ capacity → capacity ≤ s → all s (rowFits g) ≡ true → true ≡ statesFit g
+pub states-end : (g : Graph) (s : ℕ) → within (bitsOf (g .initial)) (g .states) ≡ true → s ≤ capacity → capacity ≤ s → all s (rowFits g) ≡ true
+    → true ≡ statesFit g
 unfolding statesFit
 states-end g s i l m e = and-next i (all-end capacity s (rowFits g) l m e)
 

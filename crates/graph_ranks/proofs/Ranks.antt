@@ -18,7 +18,8 @@ use lib.ListN.{length, getD, set, length-set}
 use lib.Seq.{getD-set-same, getD-set-other}
 use borrow.Author.Tests.{eqb-true, eq-eqb, ne-eqb, ltb-true, ltb-false, lt-ltb, le-ltb}
 use Rattle.finite.specs.Bounded.{least, count}
-use Rattle.finite.proofs.Truth.{decide, clash, false-of, same-test, and-intro, and-left, and-right, or-left, or-right, or-cases, or-false, or-false-left, or-false-right, not-true, not-false}
+use Rattle.finite.proofs.Truth.{decide, clash, false-of, same-test, and-intro, and-left, and-right}
+use Rattle.finite.proofs.Truth.{or-left, or-right, or-cases, or-false, or-false-left, or-false-right, not-true, not-false}
 use Rattle.finite.proofs.Bounded.{all-intro, all-elim, all-fails, all-false}
 use Rattle.bits.specs.Member.{has, pack}
 use Rattle.bits.proofs.Membership.{has-zero, has-pack, has-pack-below}

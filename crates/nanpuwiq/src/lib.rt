@@ -8,7 +8,8 @@ ghost use Rattle.panel_player.specs.Panel.{panelFirst, panelBegin, panelNext, p
 ghost use Rattle.nanpuwiq_results.specs.Results.{compareResult, panelMoved, nowhere};
 ghost use Rattle.kit_drives.specs.Acceptance.{kitTests};
 ghost use Rattle.compact_view.specs.Rows.{Looked};
-ghost use Rattle.nanpuwiq.specs.Calls.{MapCalled, JoinedCalled, SolveCalled, CompactCalled, KitCalled, ReadCalled, WriteCalled, ExplainCalled, CheckCalled, BarredCalled, JudgeCalled};
+ghost use Rattle.nanpuwiq.specs.Calls.{MapCalled, JoinedCalled, SolveCalled, CompactCalled, KitCalled, ReadCalled, WriteCalled};
+ghost use Rattle.nanpuwiq.specs.Calls.{ExplainCalled, CheckCalled, BarredCalled, JudgeCalled};
 ghost use Rattle.nanpuwiq.specs.Calls.{OverCalled, BackCalled, CountCalled};
 use game::Game;
 use game::InState;

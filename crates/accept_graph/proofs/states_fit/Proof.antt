@@ -50,8 +50,9 @@ loop-less c = omega arith
 
 loop-again : tie.Need-loop-again Inv-loop μ-loop
 loop-again c =
-    let at-loop = c .before .before .before .before .before .before in
-    (omega arith, all-turn _ _ (at-loop .loop .inv .1) (passed (row-fits _ _ _ _ (c .before .before .row-of .ensures .1) (c .before .row-fits .ensures)) (c .if2 .left)))
+    let r = c .before .before in
+    let l = r .before .before .before .before in
+    (omega arith, all-turn _ _ (l .loop .inv .1) (passed (row-fits _ _ _ _ (r .row-of .ensures .1) (c .before .row-fits .ensures)) (c .if2 .left)))
 
 returns-3 : tie.Need-returns-3 Inv-loop μ-loop
 returns-3 c =

@@ -45,11 +45,11 @@ read-requires c κs = search needs
 out-moves-requires : tie.Need-out-moves-requires
 out-moves-requires c κs =
     let b = c .before .before .before .before in
+    let s = b .before .before .before in
     omega (
       arith,
       position-in _ _ _ (passed (b .before .has-position .ensures) (b .if2 .left)) .1,
-      outputs-most _
-          (b .before .before .before .before .before .before .pre),
+      outputs-most _ (s .before .before .before .pre),
     )
 
 arrive-requires : tie.Need-arrive-requires
@@ -58,10 +58,10 @@ arrive-requires c κs = search needs
 returns-4 : tie.Need-returns-4
 returns-4 c =
     let at-moves-to = c .before .before .before .before .before in
-    let at-step = at-moves-to .before in
-    let b = at-step in
-    stepped-at _ _ _ _ _ (b .before .before .controller-counters .ensures) (b .before .before .before .before .before .before .pre)
-    (fits _ _ _ (b .before .before .before .before .controller-length .ensures) (b .before .before .before .if1 .left))
+    let b = at-moves-to .before in
+    let s = b .before .before .before in
+    stepped-at _ _ _ _ _ (b .before .before .controller-counters .ensures) (s .before .before .before .pre)
+    (fits _ _ _ (s .before .controller-length .ensures) (s .if1 .left))
     (passed (b .before .has-position .ensures) (b .if2 .left)) (passed (at-moves-to .moves-to .ensures) (c .before .before .before .before .if3 .left))
     _ _ _ _ (c .before .before .before .row-of .ensures) (c .before .before .read .ensures) (c .before .out-moves .ensures) (c .arrive .ensures)
 

@@ -82,19 +82,23 @@ below c =
     lowest-below counterCapacity (l .loop .left .0) _ (l .loop .inv .small) (some-left (c .before)) (c .lowest .ensures)
 
 member : (c : tie.After-lowest Inv-loop μ-loop)
-    → let i = c .before .before .before .before .before .before in has (i .before .before .before .args .which .0) (c .lowest .result) ≡ true
+    → let l = c .before .before .before in
+    let i = l .before .before .before in
+    has (i .before .before .before .args .which .0) (c .lowest .result) ≡ true
 member c =
     let l = c .before .before .before in
     l .loop .inv .inside _ (lowest-in counterCapacity (l .loop .left .0) _ (l .loop .inv .small) (some-left (c .before)) (c .lowest .ensures))
 
 entry : (c : tie.After-lowest Inv-loop μ-loop)
-    → let i = c .before .before .before .before .before .before in
+    → let l = c .before .before .before in
+    let i = l .before .before .before in
     let a = i .before .before .before .args in
     a .first + a .more * c .lowest .result < 65536
 entry c = let e = c .before .before .before .before in row-entry _ _ _ _ _ _ _ (fits e) (narrowed e) _ (member c)
 
 place : (c : tie.After-lowest Inv-loop μ-loop)
-    → let i = c .before .before .before .before .before .before in
+    → let l = c .before .before .before in
+    let i = l .before .before .before in
     let a = i .before .before .before .args in
     a .base + a .width * c .lowest .result < length (a .room .now)
 place c = let e = c .before .before .before .before in row-place _ _ _ _ _ _ _ (fits e) (narrowed e) _ (member c)

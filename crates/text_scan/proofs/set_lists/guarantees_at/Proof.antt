@@ -2,7 +2,8 @@
 use mathlib.Core.Path.{sym, _∙_}
 use native.Mathlib.Omega.{arith}
 use borrow.Author.Needs.{needs}
-use Rattle.text_scan.proofs.SetListSteps.{requirement-got, requirement-fault, got-list, fault-list, list-four, if-no-blank, if-no-list, if-no-end, if-got}
+use Rattle.text_scan.proofs.SetListSteps.{requirement-got, requirement-fault, got-list, fault-list, list-four}
+use Rattle.text_scan.proofs.SetListSteps.{if-no-blank, if-no-list, if-no-end, if-got}
 use Rattle.text_grammar.proofs.Place.{byte-within}
 use Rattle.text_pieces.proofs.Outcomes.{at-step, fault-step}
 use Rattle.text_scan.proofs.set_lists.guarantees_at.Statement.{statement}

@@ -4,7 +4,8 @@ use Prim.Native.Nat.{_≤_, _-_}
 use borrow.Author.Needs.{needs}
 use mathlib.Core.Path.{_≡_, refl, sym, _∙_}
 use native.Mathlib.Omega.{arith}
-use Rattle.text_scan.proofs.SetListSteps.{list-got, list-fault, sets-closed, sets-wrong, sets-full, sets-bad, sets-turn, sets-first, set-whole, first-whole}
+use Rattle.text_scan.proofs.SetListSteps.{list-got, list-fault, sets-closed, sets-wrong, sets-full}
+use Rattle.text_scan.proofs.SetListSteps.{sets-bad, sets-turn, sets-first, set-whole, first-whole}
 use Rattle.sets.specs.Words.{bitsOf, noStates}
 use Rattle.sets.proofs.Rows.{set-is}
 use Rattle.text_scan.specs.Scan.{numbersOf, setsWith}

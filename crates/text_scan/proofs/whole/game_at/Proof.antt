@@ -3,7 +3,8 @@ use mathlib.Core.Path.{sym, _∙_, ap}
 use native.Mathlib.Omega.{arith}
 use borrow.Author.Needs.{needs}
 use Rattle.text_scan.specs.Scan.{gameOf}
-use Rattle.text_scan.proofs.WholeSteps.{got-graph, fault-graph, counts-header, fault-header, header-range, game-fault, game-no-header, game-no-input, game-on}
+use Rattle.text_scan.proofs.WholeSteps.{got-graph, fault-graph, counts-header, fault-header, header-range}
+use Rattle.text_scan.proofs.WholeSteps.{game-fault, game-no-header, game-no-input, game-on}
 use Rattle.text_scan.proofs.whole.game_at.Statement.{statement}
 use Rattle.text_scan.proofs.whole.game_at.Tie as tie
 
