@@ -14,7 +14,7 @@ use Rattle.arena.specs.Arena.{Separated}
 use Rattle.theory.specs.Choice.{controllerRow, controllerStart}
 use Rattle.theory.specs.Entries.{entry, controllerCounters, rowOf, controllerEntries}
 use Rattle.theory.proofs.Agree.{rows-agree}
-use Rattle.compact.specs.Rank.{componentCount, rankOf, firstOf}
+use Rattle.compact.specs.Rank.{componentCount, rankOf, leaderOf}
 use Rattle.compact.specs.Compact.{
   fullLength,
   compactLength,
@@ -45,14 +45,14 @@ module _ (S : Separated) where
   rowEntry o g j = entry (controllerRow S o g j)
 
   firstEntry : ℕ → ℕ → ℕ → ℕ
-  firstEntry o g c = entry (controllerRow S o g (firstOf S c))
+  firstEntry o g c = entry (controllerRow S o g (leaderOf S c))
 
   entries-listed : controllerEntries S ≡ fullList S startEntry rowEntry
   unfolding controllerEntries fullList rowOf cellOf startEntry rowEntry
   entries-listed = refl
 
   pub row-of-first : (o g j : ℕ) → o < S .output .states → j < S .input .states
-      → controllerRow S o g (firstOf S (rankOf S j)) ≡ controllerRow S o g j
+      → controllerRow S o g (leaderOf S (rankOf S j)) ≡ controllerRow S o g j
   row-of-first o g j lo lj =
       ap (controllerRow S o g) (rank-first S j lj)
       ∙ rows-agree S (number (S .input) j) j (joined-sym (S .input) j (number (S .input) j) (number-joined (S .input) j lj)) o g lo
@@ -86,7 +86,7 @@ module _ (S : Separated) where
   compact-rank j b = compact-rank-of S startEntry firstEntry j b
 
   pub compact-cell : (o g c : ℕ) → o < S .output .states → g < controllerCounters S → c < componentCount S
-      → compactCell S (compactEntries S) o g c ≡ entry (controllerRow S o g (firstOf S c))
+      → compactCell S (compactEntries S) o g c ≡ entry (controllerRow S o g (leaderOf S c))
   unfolding compactEntries startEntry firstEntry
   compact-cell o g c lo lg lc = compact-cell-of S startEntry firstEntry o g c lo lg lc
 

@@ -22,7 +22,7 @@ use Rattle.theory.specs.Region.{due, served, accepting, safe, homeFor, settles,
 use Rattle.theory.specs.Tour.{goalAt, around, inside, ahead, goal, hasGoal, target, arrive, tour}
 use Rattle.theory.specs.Choice.{setsOf, guarantees, home, homeward, settled, controllerRow, controllerStart}
 use Rattle.theory.specs.Entries.{entry, controllerCounters, rowOf, controllerEntries}
-use Rattle.compact.specs.Rank.{leads, componentCount, rankOf, firstOf}
+use Rattle.compact.specs.Rank.{leads, componentCount, rankOf, leaderOf}
 use Rattle.compact.specs.Compact.{
   fullLength,
   compactLength,
@@ -45,7 +45,7 @@ use Rattle.compact.specs.Moving.{
   overNumber,
   backNumber,
 }
-use Rattle.compact.specs.Example.{example, oldEntries, newEntries, differing, misranked}
+use Rattle.compact.specs.Example.{example, fullExample, compactExample, differing, misranked}
 
 -- the number of each input's component
 numbers : List ℕ
@@ -58,8 +58,8 @@ unfolding numbers leads componentCount rankOf
 ranks = componentCount example ∷ tabulate 3 (rankOf example)
 
 firsts : List ℕ
-unfolding ranks firstOf
-firsts = tabulate (componentCount example) (firstOf example)
+unfolding ranks leaderOf
+firsts = tabulate (componentCount example) (leaderOf example)
 
 named : Bool
 unfolding numbers nontrivial leaves meetsAt due served accepting safe homeFor settles answers replies rule regionRows region opens verdict
@@ -79,19 +79,19 @@ unfolding written firsts cellOf compactList compactEntries
 direct = compactEntries example
 
 moved : List ℕ
-unfolding firsts setsOf guarantees controllerCounters cellOf fullList compactList fullRow compactCell compactRow toCompact fromCompact oldEntries
-moved = fromCompact example (toCompact example oldEntries)
+unfolding firsts setsOf guarantees controllerCounters cellOf fullList compactList fullRow compactCell compactRow toCompact fromCompact fullExample
+moved = fromCompact example (toCompact example fullExample)
 
 numbersOf : ℕ → List ℕ
-unfolding moved fullLength compactLength fullFits compactFits ranksFit pairFits rowsFit overNumber backNumber newEntries differing misranked
-numbersOf n = overNumber example oldEntries n ∷ backNumber example newEntries n ∷ []
+unfolding moved fullLength compactLength fullFits compactFits ranksFit pairFits rowsFit overNumber backNumber compactExample differing misranked
+numbersOf n = overNumber example fullExample n ∷ backNumber example compactExample n ∷ []
 
 -- "Components rank from 0 by smallest state.": {0, 2} has rank 0, {1} has rank 1
 pub ranked : (componentCount example ∷ tabulate 3 (rankOf example)) ≡ 2 ∷ 0 ∷ 1 ∷ 0 ∷ []
 unfolding ranks
 ranked = refl
 
-pub smallest : tabulate 2 (firstOf example) ≡ 0 ∷ 1 ∷ []
+pub smallest : tabulate 2 (leaderOf example) ≡ 0 ∷ 1 ∷ []
 unfolding firsts
 smallest = refl
 
@@ -99,32 +99,32 @@ pub wins : verdict example ≡ true
 unfolding named
 wins = refl
 
-pub entries : controllerEntries example ≡ oldEntries
-unfolding written oldEntries
+pub entries : controllerEntries example ≡ fullExample
+unfolding written fullExample
 entries = refl
 
 -- "The solver can write this layout directly"
-pub compact-entries : compactEntries example ≡ newEntries
-unfolding direct newEntries
+pub compact-entries : compactEntries example ≡ compactExample
+unfolding direct compactExample
 compact-entries = refl
 
 -- "Stored tables are moved both ways"
-pub over : toCompact example oldEntries ≡ newEntries
-unfolding moved newEntries
+pub over : toCompact example fullExample ≡ compactExample
+unfolding moved compactExample
 over = refl
 
-pub back : fromCompact example newEntries ≡ oldEntries
-unfolding moved newEntries
+pub back : fromCompact example compactExample ≡ fullExample
+unfolding moved compactExample
 back = refl
 
 -- a list too short; two inputs of one component that differ; a room too short by one; a room that fits
-pub refusals-over : (overNumber example (0 ∷ []) 0 ∷ overNumber example differing 0 ∷ overNumber example oldEntries 23 ∷ overNumber example oldEntries 24 ∷ [])
+pub refusals-over : (overNumber example (0 ∷ []) 0 ∷ overNumber example differing 0 ∷ overNumber example fullExample 23 ∷ overNumber example fullExample 24 ∷ [])
     ≡ 23 ∷ 21 ∷ 9 ∷ 0 ∷ []
 unfolding numbersOf
 refusals-over = refl
 
 -- a list too short; a rank that is not the game's; a room too short by one; a room that fits
-pub refusals-back : (backNumber example (0 ∷ []) 0 ∷ backNumber example misranked 0 ∷ backNumber example newEntries 29 ∷ backNumber example newEntries 30 ∷ [])
+pub refusals-back : (backNumber example (0 ∷ []) 0 ∷ backNumber example misranked 0 ∷ backNumber example compactExample 29 ∷ backNumber example compactExample 30 ∷ [])
     ≡ 23 ∷ 22 ∷ 9 ∷ 0 ∷ []
 unfolding numbersOf
 refusals-back = refl

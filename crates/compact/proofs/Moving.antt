@@ -17,7 +17,7 @@ use Rattle.graphs.proofs.Component.{joined-from, joined-to}
 use Rattle.arena.specs.Arena.{Separated}
 use Rattle.theory.specs.Entries.{controllerCounters, controllerEntries, entry}
 use Rattle.theory.proofs.Agree.{rows-agree}
-use Rattle.compact.specs.Rank.{componentCount, rankOf, firstOf}
+use Rattle.compact.specs.Rank.{componentCount, rankOf, leaderOf}
 use Rattle.compact.specs.Compact.{fullLength, compactLength, compactEntries, fullRow, compactCell, compactRow}
 use Rattle.compact.specs.Moving.{toCompact, fromCompact, fullFits, compactFits, ranksFit, rowsFit}
 use Rattle.compact.proofs.Rank.{rank-same, first-below, first-rank}
@@ -67,7 +67,7 @@ module _ (S : Separated) (l : List ℕ) where
   -- moved over
 
   firstRow : ℕ → ℕ → ℕ → ℕ
-  firstRow o g c = fullRow S l o g (firstOf S c)
+  firstRow o g c = fullRow S l o g (leaderOf S c)
 
   pub to-length : length (toCompact S l) ≡ compactLength S
   unfolding toCompact startOf firstRow
@@ -137,17 +137,17 @@ module _ (S : Separated) (l : List ℕ) where
 
   -- the row of a component, moved back
   cell-back : ranksFit S l ≡ true → (o g c : ℕ) → o < S .output .states → g < controllerCounters S → c < componentCount S
-      → fullRow S (fromCompact S l) o g (firstOf S c) ≡ compactCell S l o g c
+      → fullRow S (fromCompact S l) o g (leaderOf S c) ≡ compactCell S l o g c
   cell-back h o g c lo lg lc =
-      row-back S l o g (firstOf S c) lo lg (first-below S c lc)
-      ∙ row-ranked S l h o g (firstOf S c) (first-below S c lc)
+      row-back S l o g (leaderOf S c) lo lg (first-below S c lc)
+      ∙ row-ranked S l h o g (leaderOf S c) (first-below S c lc)
       ∙ ap (compactCell S l o g) (first-rank S c lc)
 
   -- Back and over: for every list of the compact layout that is not refused.
   pub back-and-over : compactFits S l ≡ true → ranksFit S l ≡ true → toCompact S (fromCompact S l) ≡ l
   unfolding toCompact
   back-and-over e h =
-      compact-list-is S (λ i. getD (fromCompact S l) i 65535) (λ o g c. fullRow S (fromCompact S l) o g (firstOf S c)) l
+      compact-list-is S (λ i. getD (fromCompact S l) i 65535) (λ o g c. fullRow S (fromCompact S l) o g (leaderOf S c)) l
       (compact-fits-elim S l e) (start-back S l) (λ j b. sym (ranks-fit-elim S l h j b)) (cell-back h)
 
 -- what the solver writes
@@ -172,14 +172,14 @@ module _ (S : Separated) where
   compact-entries-ranks = ranks-fit-intro S (compactEntries S) (compact-rank S)
 
   cell-over : (o g c : ℕ) → o < S .output .states → g < controllerCounters S → c < componentCount S
-      → fullRow S (controllerEntries S) o g (firstOf S c) ≡ compactCell S (compactEntries S) o g c
-  cell-over o g c lo lg lc = full-entries S o g (firstOf S c) lo lg (first-below S c lc) ∙ sym (compact-cell S o g c lo lg lc)
+      → fullRow S (controllerEntries S) o g (leaderOf S c) ≡ compactCell S (compactEntries S) o g c
+  cell-over o g c lo lg lc = full-entries S o g (leaderOf S c) lo lg (first-below S c lc) ∙ sym (compact-cell S o g c lo lg lc)
 
   -- "The solver can write this layout directly": it is the full layout's table, moved.
   pub over-entries : toCompact S (controllerEntries S) ≡ compactEntries S
   unfolding toCompact
   over-entries =
-      compact-list-is S (λ i. getD (controllerEntries S) i 65535) (λ o g c. fullRow S (controllerEntries S) o g (firstOf S c)) (compactEntries S)
+      compact-list-is S (λ i. getD (controllerEntries S) i 65535) (λ o g c. fullRow S (controllerEntries S) o g (leaderOf S c)) (compactEntries S)
       (compact-entries-length S) (λ i b. sym (starts-equal S i b)) (λ j b. sym (compact-rank S j b)) cell-over
 
   pub back-entries : fromCompact S (compactEntries S) ≡ controllerEntries S

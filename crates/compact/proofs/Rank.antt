@@ -20,7 +20,7 @@ use Rattle.finite.proofs.Bounded.{least-below, least-member, count-le, count-up
 use Rattle.graphs.specs.Component.{joined, number}
 use Rattle.graphs.proofs.Component.{joined-sym, joined-trans, number-same, number-joined, number-below}
 use Rattle.arena.specs.Arena.{Separated}
-use Rattle.compact.specs.Rank.{leads, componentCount, rankOf, firstOf}
+use Rattle.compact.specs.Rank.{leads, componentCount, rankOf, leaderOf}
 
 -- counting up to a bound that rises
 
@@ -77,46 +77,46 @@ module _ (S : Separated) where
   ranked : ℕ → ℕ → Bool
   ranked c s = leads S s && eqb (count s (leads S)) c
 
-  first-found : (c : ℕ) → c < componentCount S → firstOf S c < S .input .states
-  unfolding firstOf componentCount ranked
+  first-found : (c : ℕ) → c < componentCount S → leaderOf S c < S .input .states
+  unfolding leaderOf componentCount ranked
   first-found c h =
       let w = count-reached (leads S) (S .input .states) c h in
       least-below (S .input .states) (ranked c) (w .0) (w .1) (and-intro (w .2) (eq-eqb (count (w .0) (leads S)) c (w .3)))
 
-  first-ranked : (c : ℕ) → c < componentCount S → ranked c (firstOf S c) ≡ true
-  unfolding firstOf ranked
+  first-ranked : (c : ℕ) → c < componentCount S → ranked c (leaderOf S c) ≡ true
+  unfolding leaderOf ranked
   first-ranked c h = least-member (S .input .states) (ranked c) (first-found c h)
 
-  pub first-below : (c : ℕ) → c < componentCount S → firstOf S c < S .input .states
+  pub first-below : (c : ℕ) → c < componentCount S → leaderOf S c < S .input .states
   first-below c h = first-found c h
 
   -- it is the smallest of its component
-  pub first-number : (c : ℕ) → c < componentCount S → number (S .input) (firstOf S c) ≡ firstOf S c
+  pub first-number : (c : ℕ) → c < componentCount S → number (S .input) (leaderOf S c) ≡ leaderOf S c
   unfolding ranked
   first-number c h =
-      number-leads (firstOf S c) (and-left (leads S (firstOf S c)) (eqb (count (firstOf S c) (leads S)) c) (first-ranked c h))
+      number-leads (leaderOf S c) (and-left (leads S (leaderOf S c)) (eqb (count (leaderOf S c) (leads S)) c) (first-ranked c h))
 
-  first-count : (c : ℕ) → c < componentCount S → count (firstOf S c) (leads S) ≡ c
+  first-count : (c : ℕ) → c < componentCount S → count (leaderOf S c) (leads S) ≡ c
   unfolding ranked
   first-count c h =
-      eqb-true (count (firstOf S c) (leads S)) c
-      (and-right (leads S (firstOf S c)) (eqb (count (firstOf S c) (leads S)) c) (first-ranked c h))
+      eqb-true (count (leaderOf S c) (leads S)) c
+      (and-right (leads S (leaderOf S c)) (eqb (count (leaderOf S c) (leads S)) c) (first-ranked c h))
 
-  pub first-rank : (c : ℕ) → c < componentCount S → rankOf S (firstOf S c) ≡ c
+  pub first-rank : (c : ℕ) → c < componentCount S → rankOf S (leaderOf S c) ≡ c
   unfolding rankOf
   first-rank c h = ap (λ (s : ℕ). count s (leads S)) (first-number c h) ∙ first-count c h
 
-  pub rank-first : (j : ℕ) → j < S .input .states → firstOf S (rankOf S j) ≡ number (S .input) j
+  pub rank-first : (j : ℕ) → j < S .input .states → leaderOf S (rankOf S j) ≡ number (S .input) j
   rank-first j b =
       let r = rank-below j b in
       sym (first-number (rankOf S j) r)
-      ∙ number-ranked (firstOf S (rankOf S j)) j (first-below (rankOf S j) r) b (first-rank (rankOf S j) r)
+      ∙ number-ranked (leaderOf S (rankOf S j)) j (first-below (rankOf S j) r) b (first-rank (rankOf S j) r)
 
   -- "Components rank from 0 by smallest state."
-  pub first-rises : (c d : ℕ) → c < d → d < componentCount S → firstOf S c < firstOf S d
-  first-rises c d l h = go (decLt (firstOf S c) (firstOf S d))
+  pub first-rises : (c d : ℕ) → c < d → d < componentCount S → leaderOf S c < leaderOf S d
+  first-rises c d l h = go (decLt (leaderOf S c) (leaderOf S d))
     where
-      go : Dec (firstOf S c < firstOf S d) → firstOf S c < firstOf S d
+      go : Dec (leaderOf S c < leaderOf S d) → leaderOf S c < leaderOf S d
       go (yes b) = b
       go (no b) =
-          absurd (omega (arith, count-up (leads S) (firstOf S d) (firstOf S c) (omega arith), first-count c (omega arith), first-count d h))
+          absurd (omega (arith, count-up (leads S) (leaderOf S d) (leaderOf S c) (omega arith), first-count c (omega arith), first-count d h))

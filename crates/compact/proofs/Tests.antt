@@ -19,7 +19,7 @@ use Rattle.graphs.specs.Component.{joined, number}
 use Rattle.graphs.proofs.Component.{joined-from, joined-to, number-joined, number-below}
 use Rattle.arena.specs.Arena.{Separated}
 use Rattle.theory.specs.Entries.{controllerCounters}
-use Rattle.compact.specs.Rank.{rankOf, firstOf}
+use Rattle.compact.specs.Rank.{rankOf, leaderOf}
 use Rattle.compact.specs.Compact.{fullLength, compactLength, fullRow}
 use Rattle.compact.specs.Moving.{fullFits, compactFits, ranksFit, pairFits, rowsFit}
 use Rattle.compact.proofs.Rank.{rank-same, rank-first}
@@ -105,15 +105,15 @@ module _ (S : Separated) (l : List ℕ) where
       (all-elim I (pairFits S l o g j) (all-elim I (pairsOf o g) (all-elim M (rowsOf o) (all-elim O (λ o. all M (rowsOf o)) h o lo) g lg) j lj) k lk) e
 
   -- a row is the row of its component's smallest state
-  pub row-first : rowsFit S l ≡ true → (o g j : ℕ) → o < O → g < M → j < I → fullRow S l o g (firstOf S (rankOf S j)) ≡ fullRow S l o g j
+  pub row-first : rowsFit S l ≡ true → (o g j : ℕ) → o < O → g < M → j < I → fullRow S l o g (leaderOf S (rankOf S j)) ≡ fullRow S l o g j
   row-first h o g j lo lg lj =
       ap (fullRow S l o g) (rank-first S j lj)
       ∙ sym (rows-fit-elim h o g j (number (S .input) j) lo lg lj (number-below (S .input) j lj) (number-joined (S .input) j lj))
 
   -- and where each row is, test 21 passes
-  pub rows-fit-first : ((o g j : ℕ) → o < O → g < M → j < I → fullRow S l o g (firstOf S (rankOf S j)) ≡ fullRow S l o g j) → rowsFit S l ≡ true
+  pub rows-fit-first : ((o g j : ℕ) → o < O → g < M → j < I → fullRow S l o g (leaderOf S (rankOf S j)) ≡ fullRow S l o g j) → rowsFit S l ≡ true
   rows-fit-first h =
       rows-fit-intro
       (λ o g j k lo lg e.
-      sym (h o g j lo lg (joined-from (S .input) j k e)) ∙ ap (λ (c : ℕ). fullRow S l o g (firstOf S c)) (rank-same S j k e)
+      sym (h o g j lo lg (joined-from (S .input) j k e)) ∙ ap (λ (c : ℕ). fullRow S l o g (leaderOf S c)) (rank-same S j k e)
       ∙ h o g k lo lg (joined-to (S .input) j k e))

@@ -18,7 +18,7 @@ use Rattle.play.specs.Play.{separatedOf}
 use Rattle.theory.specs.Choice.{controllerRow}
 use Rattle.theory.specs.Entries.{controllerCounters, controllerEntries, controllerTable}
 use Rattle.demands.specs.Demands.{playOf}
-use Rattle.compact.specs.Rank.{componentCount, rankOf, firstOf}
+use Rattle.compact.specs.Rank.{componentCount, rankOf, leaderOf}
 use Rattle.compact.specs.Compact.{compactLength, compactEntries, fullRow, compactRow, compactTable, compactOutcome}
 use Rattle.compact.specs.Moving.{toCompact, fromCompact, fullFits, compactFits, ranksFit, rowsFit}
 
@@ -50,9 +50,9 @@ pub record RowsByComponent (G : Game) : Type 0 where
   pub together : (j k : ℕ) → Input (separatedOf G) j → Input (separatedOf G) k
       → (rankOf (separatedOf G) j ≡ rankOf (separatedOf G) k) ↔ (joined (separatedOf G .input) j k ≡ true)
   pub taken : (c : ℕ) → c < componentCount (separatedOf G)
-      → Input (separatedOf G) (firstOf (separatedOf G) c) × (rankOf (separatedOf G) (firstOf (separatedOf G) c) ≡ c)
-  pub smallest : (j : ℕ) → Input (separatedOf G) j → firstOf (separatedOf G) (rankOf (separatedOf G) j) ≡ number (separatedOf G .input) j
-  pub rises : (c d : ℕ) → c < d → d < componentCount (separatedOf G) → firstOf (separatedOf G) c < firstOf (separatedOf G) d
+      → Input (separatedOf G) (leaderOf (separatedOf G) c) × (rankOf (separatedOf G) (leaderOf (separatedOf G) c) ≡ c)
+  pub smallest : (j : ℕ) → Input (separatedOf G) j → leaderOf (separatedOf G) (rankOf (separatedOf G) j) ≡ number (separatedOf G .input) j
+  pub rises : (c d : ℕ) → c < d → d < componentCount (separatedOf G) → leaderOf (separatedOf G) c < leaderOf (separatedOf G) d
   -- "The solver can write this layout directly, and every row read from it equals the row of the old one."
   pub entries : length (compactEntries (separatedOf G)) ≡ compactLength (separatedOf G)
   pub starts : (i : ℕ) → Input (separatedOf G) i

@@ -22,7 +22,7 @@ use Rattle.arena.specs.Win.{Outcome, system, environment}
 use Rattle.theory.specs.Region.{verdict}
 use Rattle.theory.specs.Choice.{controllerRow, controllerStart}
 use Rattle.theory.specs.Entries.{entry, answer, controllerCounters, environmentCounters, environmentEntries, environmentTable}
-use Rattle.compact.specs.Rank.{componentCount, rankOf, firstOf}
+use Rattle.compact.specs.Rank.{componentCount, rankOf, leaderOf}
 
 -- "inputs + outputs × max(1, G) × inputs entries"
 unfoldable pub fullLength : Separated → ℕ
@@ -51,7 +51,7 @@ compactList S start row =
 
 -- "The solver can write this layout directly": the row of a component is that of its smallest state.
 unfoldable pub compactEntries : Separated → List ℕ
-compactEntries S = compactList S (λ i. entry (controllerStart S i)) (λ o g c. entry (controllerRow S o g (firstOf S c)))
+compactEntries S = compactList S (λ i. entry (controllerStart S i)) (λ o g c. entry (controllerRow S o g (leaderOf S c)))
 
 unfoldable pub fullRow : Separated → List ℕ → ℕ → ℕ → ℕ → ℕ
 fullRow S l o g j = getD l (S .input .states + ((o * controllerCounters S + g) * S .input .states + j)) 65535

@@ -2,10 +2,10 @@
 --
 --   example        == inputs 0 to 2; 1 to 1; 2 to 0 and 1: the components {0, 2} and {1}. Outputs 0 to 0 and 1; 1 to 0 and 2; 2 to 2.
 --                     If {1} then {2}; if {0} then {0} and {1}: three counters
---   oldEntries     == its table, rows by input
---   newEntries     == its table, rows by component
---   differing      == oldEntries, the first row of the inputs 0 and 2 not the same
---   misranked      == newEntries, the input 2 with the rank of the other component
+--   fullExample    == its table, rows by input
+--   compactExample == its table, rows by component
+--   differing      == fullExample, the first row of the inputs 0 and 2 not the same
+--   misranked      == compactExample, the input 2 with the rank of the other component
 use Prim.Native.Nat.{ℕ}
 use mathlib.Core.List.{List, [], _∷_}
 use lib.Dec.{eqb}
@@ -23,16 +23,16 @@ example = record {
 }
 
 -- three starts; a line for each output, by counter and input
-unfoldable pub oldEntries : List ℕ
-oldEntries =
+unfoldable pub fullExample : List ℕ
+fullExample =
     0 ∷ 65535 ∷ 65535 ∷
     256 ∷ 1 ∷ 256 ∷ 256 ∷ 129 ∷ 256 ∷ 1 ∷ 257 ∷ 1 ∷
     256 ∷ 2 ∷ 256 ∷ 256 ∷ 130 ∷ 256 ∷ 256 ∷ 258 ∷ 256 ∷
     65535 ∷ 130 ∷ 65535 ∷ 65535 ∷ 130 ∷ 65535 ∷ 65535 ∷ 130 ∷ 65535 ∷ []
 
 -- three starts; the ranks; a line for each output, by counter and component
-unfoldable pub newEntries : List ℕ
-newEntries =
+unfoldable pub compactExample : List ℕ
+compactExample =
     0 ∷ 65535 ∷ 65535 ∷
     0 ∷ 1 ∷ 0 ∷
     256 ∷ 1 ∷ 256 ∷ 129 ∷ 1 ∷ 257 ∷
@@ -40,7 +40,7 @@ newEntries =
     65535 ∷ 130 ∷ 65535 ∷ 130 ∷ 65535 ∷ 130 ∷ []
 
 unfoldable pub differing : List ℕ
-differing = set oldEntries 5 1
+differing = set fullExample 5 1
 
 unfoldable pub misranked : List ℕ
-misranked = set newEntries 5 1
+misranked = set compactExample 5 1

@@ -15,12 +15,12 @@ use Rattle.finite.specs.Bounded.{all}
 use Rattle.graphs.specs.Component.{joined}
 use Rattle.arena.specs.Arena.{Separated}
 use Rattle.theory.specs.Entries.{controllerCounters}
-use Rattle.compact.specs.Rank.{rankOf, firstOf}
+use Rattle.compact.specs.Rank.{rankOf, leaderOf}
 use Rattle.compact.specs.Compact.{fullLength, compactLength, fullList, compactList, fullRow, compactRow}
 
 -- the row of a component is that of its smallest state
 unfoldable pub toCompact : Separated → List ℕ → List ℕ
-toCompact S l = compactList S (λ i. getD l i 65535) (λ o g c. fullRow S l o g (firstOf S c))
+toCompact S l = compactList S (λ i. getD l i 65535) (λ o g c. fullRow S l o g (leaderOf S c))
 
 unfoldable pub fromCompact : Separated → List ℕ → List ℕ
 fromCompact S l = fullList S (λ i. getD l i 65535) (compactRow S l)

@@ -22,7 +22,7 @@ use Rattle.graphs.specs.Component.{joined, number}
 use Rattle.graphs.proofs.Component.{joined-sym, number-same, number-joined, number-below}
 use Rattle.arena.specs.Arena.{Separated}
 use Rattle.theory.specs.Entries.{controllerCounters}
-use Rattle.compact.specs.Rank.{leads, rankOf, firstOf}
+use Rattle.compact.specs.Rank.{leads, rankOf, leaderOf}
 use Rattle.compact.specs.Compact.{fullLength, fullRow}
 use Rattle.compact.specs.Moving.{rowsFit}
 use Rattle.compact.proofs.Rank.{rank-first}
@@ -30,7 +30,7 @@ use Rattle.compact.proofs.Tests.{row-first, rows-fit-first}
 use Rattle.finite.proofs.Lists.{any-default}
 use Rattle.compact_rows.proofs.Copying.{row-last, row-below, last-below}
 use Rattle.compact_checks.specs.Parts.{entryFits, rowFits, rowAt, partFits, Marked}
-use Rattle.compact_checks.specs.Firsts.{Named, Same}
+use Rattle.compact_checks.specs.Firsts.{Named, AsFirst}
 
 module _ (S : Separated) where
   abbrev I : ℕ
@@ -132,7 +132,7 @@ module _ (S : Separated) (T : List ℕ) where
         (all-elim n (entryFits T F (inputs + x * inputs) part) (all-elim rows (rowAt T F inputs part n) h x b) k l)
         ∙ q .1
 
-    pub same-next : (n ≡ 64) ⊎ (part + n ≡ inputs) → partFits T F inputs rows part n ≡ true → Same S T rows part → Same S T rows (part + 64)
+    pub same-next : (n ≡ 64) ⊎ (part + n ≡ inputs) → partFits T F inputs rows part n ≡ true → AsFirst S T rows part → AsFirst S T rows (part + 64)
     same-next e h D = record { entry = λ x j b l c. here x j b l c (decLt j part) }
       where
         below : (j : ℕ) → part ≤ j → j < inputs → j < part + 64 → (n ≡ 64) ⊎ (part + n ≡ inputs) → j - part < n
@@ -169,7 +169,7 @@ module _ (S : Separated) (T : List ℕ) where
             ∙ row-is x s e (w .1) (number-below (S .input) j lj)
             ∙ sym (z .1)))
 
-  pub same-end : (part : ℕ) → length T ≡ fullLength S → inputs ≤ part → Same S T rows part → rowsFit S T ≡ true
+  pub same-end : (part : ℕ) → length T ≡ fullLength S → inputs ≤ part → AsFirst S T rows part → rowsFit S T ≡ true
   same-end part e b D = rows-fit-first S T row
     where
       here : (o g j : ℕ) → o < S .output .states → g < counters → j < inputs → fullRow S T o g j ≡ getD T (place (o * counters + g) j) 0
@@ -177,7 +177,7 @@ module _ (S : Separated) (T : List ℕ) where
           ap₂ (λ (a b : ℕ). fullRow S T a b j) (sym (digits-div o lg)) (sym (digits-mod o lg))
           ∙ row-is (o * counters + g) j e (digits-lt lo lg) lj
 
-      row : (o g j : ℕ) → o < S .output .states → g < counters → j < inputs → fullRow S T o g (firstOf S (rankOf S j)) ≡ fullRow S T o g j
+      row : (o g j : ℕ) → o < S .output .states → g < counters → j < inputs → fullRow S T o g (leaderOf S (rankOf S j)) ≡ fullRow S T o g j
       row o g j lo lg lj =
           ap (fullRow S T o g) (rank-first S j lj)
           ∙ here o g (number (S .input) j) lo lg (number-below (S .input) j lj)

@@ -22,7 +22,7 @@ use Rattle.compact.specs.Rank.{leads}
 use Rattle.compact.specs.Compact.{fullLength}
 use Rattle.compact.specs.Moving.{rowsFit}
 use Rattle.compact_checks.specs.Parts.{partFits, Marked}
-use Rattle.compact_checks.specs.Firsts.{Named, Firsts, Same}
+use Rattle.compact_checks.specs.Firsts.{Named, Firsts, AsFirst}
 use Rattle.compact_checks.proofs.Firsts.{named-none, named-leader, named-other, named-end, same-next, same-stop, same-end}
 
 module _ (g : Game) where
@@ -64,21 +64,21 @@ module _ (g : Game) where
     unfolding separatedOf graphOf fullLength
     rows-long e = ap (λ (r : ℕ). I + r * I) q ∙ sym e
 
-    pub parts-none : Same S T R 0
+    pub parts-none : AsFirst S T R 0
     parts-none = record { entry = λ x j b l h. absurd (omega arith) }
 
     module _ (part n : ℕ) {F : List ℕ} {N : ℕ} (z : N ≡ I) (in-graph : part + n ≤ I) (D : Firsts g part n F) where
-      pub parts-next : (n ≡ 64) ⊎ (part + n ≡ I) → partFits T F N R part n ≡ true → Same S T R part → Same S T R (part + 64)
+      pub parts-next : (n ≡ 64) ⊎ (part + n ≡ I) → partFits T F N R part n ≡ true → AsFirst S T R part → AsFirst S T R (part + 64)
       unfolding separatedOf graphOf
       parts-next e h P =
-          subst⁻¹ (λ (r : ℕ). Same S T r (part + 64)) q
+          subst⁻¹ (λ (r : ℕ). AsFirst S T r (part + 64)) q
           (same-next S T F part n in-graph (D .name) e (subst₂ (λ (i r : ℕ). partFits T F i r part n ≡ true) z q h)
-          (subst (λ (r : ℕ). Same S T r part) q P))
+          (subst (λ (r : ℕ). AsFirst S T r part) q P))
 
       pub parts-stop : length T ≡ fullLength S → partFits T F N R part n ≡ false → false ≡ rowsFit S T
       unfolding separatedOf graphOf
       parts-stop e h = sym (same-stop S T F part n in-graph (D .name) e (subst₂ (λ (i r : ℕ). partFits T F i r part n ≡ false) z q h))
 
-    pub parts-end : (part : ℕ) → length T ≡ fullLength S → I ≤ part → Same S T R part → true ≡ rowsFit S T
+    pub parts-end : (part : ℕ) → length T ≡ fullLength S → I ≤ part → AsFirst S T R part → true ≡ rowsFit S T
     unfolding separatedOf graphOf
-    parts-end part e b P = sym (same-end S T part e b (subst (λ (r : ℕ). Same S T r part) q P))
+    parts-end part e b P = sym (same-end S T part e b (subst (λ (r : ℕ). AsFirst S T r part) q P))

@@ -15,7 +15,7 @@ use Rattle.arena.specs.Arena.{Separated}
 use Rattle.game.specs.declared.Game.{Game}
 use Rattle.play.specs.Play.{graphOf, separatedOf}
 use Rattle.theory.specs.Entries.{controllerCounters, controllerEntries}
-use Rattle.compact.specs.Rank.{componentCount, rankOf, firstOf}
+use Rattle.compact.specs.Rank.{componentCount, rankOf, leaderOf}
 use Rattle.compact.specs.Compact.{fullLength, compactLength, compactCell, compactRow}
 use Rattle.compact.specs.Moving.{toCompact, fromCompact, ranksFit, rowsFit}
 use Rattle.compact.proofs.Rank.{rank-below, first-below, first-rank}
@@ -98,7 +98,7 @@ module _ (S : Separated) where
         ranks = λ j b. record { is = sym (rank-agrees j b) ∙ any-default (toCompact S T) (I + j) 65535 0 (omega (arith, E-long)) };
         below = below;
         rows = row-agrees;
-        reached = λ c h. (firstOf S c, first-below S c h, rank (firstOf S c) (first-below S c h) ∙ first-rank S c h);
+        reached = λ c h. (leaderOf S c, first-below S c h, rank (leaderOf S c) (first-below S c h) ∙ first-rank S c h);
       }
 
     -- back

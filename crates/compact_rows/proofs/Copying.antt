@@ -10,15 +10,15 @@ use lib.ListN.{length, getD, drop, set, length-set}
 use lib.Seq.{getD-set-other}
 use Rattle.table_filling.specs.Grows.{Right, Grows}
 use Rattle.table_filling.proofs.Grows.{grows-none, grows-more, grows-set, right-set, grows-done}
-use Rattle.compact_rows.specs.Copying.{Puts, Started, GatherFits, Gathered, FullFits, FullAgrees, GatheredRows, FullFilled}
+use Rattle.compact_rows.specs.Copying.{PutAt, Started, GatherFits, Gathered, FullFits, FullAgrees, GatheredRows, FullFilled}
 use Rattle.compact_rows.specs.Copying.{ScatterFits, Scattered, CompactFits, CompactAgrees, ScatteredRows, CompactFilled}
 
 module _ (E : List ℕ) (place : ℕ → ℕ) where
-  puts-none : (l : List ℕ) → Puts E l l place 0
+  puts-none : (l : List ℕ) → PutAt E l l place 0
   puts-none l = record { grows = grows-none E l; below = λ j b. absurd (omega arith); right = λ j b. absurd (omega arith) }
 
-  puts-next : {l m : List ℕ} (j k v : ℕ) → place j ≡ k → k < length E → k < length m → v ≡ getD E k 0 → Puts E l m place j
-      → Puts E l (set m k v) place (j + 1)
+  puts-next : {l m : List ℕ} (j k v : ℕ) → place j ≡ k → k < length E → k < length m → v ≡ getD E k 0 → PutAt E l m place j
+      → PutAt E l (set m k v) place (j + 1)
   puts-next {l} {m} j k v p a b e P = record {
     grows = grows-more E (P .grows) one;
     below = λ i c. below i c (ℕ-discrete i j);
@@ -134,7 +134,7 @@ module _ (T : List ℕ) (I C R : ℕ) where
       fits : (E : List ℕ) → FullAgrees E T I C R → (y : ℕ) → y < R → I + y * I + I ≤ length E
       fits E A y h = row-last I y I R (length E) h (omega (arith, A .long))
 
-      put : (E : List ℕ) → FullAgrees E T I C R → Puts E m k (λ j. I + x * I + j) I
+      put : (E : List ℕ) → FullAgrees E T I C R → PutAt E m k (λ j. I + x * I + j) I
       put E A = S .fills E (fits E A x b) (λ j h. A .rows x j b h)
 
       right : (E : List ℕ) → FullAgrees E T I C R → (y j : ℕ) → y < x + 1 → j < I → Dec (y ≡ x) → Right E k (I + y * I + j)
@@ -158,7 +158,7 @@ module _ (E T : List ℕ) (I C R : ℕ) {l m n : List ℕ} (S : Started T I I l 
   full-all : FullAgrees E T I C R → GatheredRows T I C R R m n → (k : ℕ) → k < length E → Right E n k
   full-all A D k h = go (decLt k I)
     where
-      begun : Puts E l m (λ i. i) I
+      begun : PutAt E l m (λ i. i) I
       begun = S .fills E (omega (arith, A .long)) (A .starts)
 
       go : Dec (k < I) → Right E n k
@@ -211,7 +211,7 @@ module _ (T : List ℕ) (I C R : ℕ) where
       fits : (E : List ℕ) → CompactAgrees E T I C R l → (y j : ℕ) → y < R → j < I → I + I + y * C + getD l (I + j) 0 < length E
       fits E A y j h b = omega (arith, A .below j b, row-last (I + I) y C R (length E) h (omega (arith, A .long)))
 
-      put : (E : List ℕ) → CompactAgrees E T I C R l → Puts E m k (λ j. I + I + x * C + getD m (I + j) 0) I
+      put : (E : List ℕ) → CompactAgrees E T I C R l → PutAt E m k (λ j. I + I + x * C + getD m (I + j) 0) I
       put E A =
           S .fills E
           (λ j h. subst (λ (c : ℕ). I + I + x * C + c < length E) (sym (D .ranks j h)) (fits E A x j b h))
@@ -235,7 +235,7 @@ module _ (T : List ℕ) (I C R : ℕ) where
   }
 
 module _ (E T : List ℕ) (I C R : ℕ) {l m n : List ℕ} (S : Started T I I l m) (A : CompactAgrees E T I C R l) (D : ScatteredRows T I C R R m n) where
-  begun : Puts E l m (λ i. i) I
+  begun : PutAt E l m (λ i. i) I
   begun = S .fills E (omega (arith, A .long)) (A .starts)
 
   still-agrees : CompactAgrees E T I C R m

@@ -1,7 +1,7 @@
 -- What the functions that copy a table read and write. T is the table that is read, I the count of inputs, C that of components, R that of row numbers
 -- (pairs of an output and a counter); l is the room before, m the room afterwards, E the list that is to stand in its front.
 --
---   Puts E l m place n           == from l to m entries of E were written, those at place 0 .. place (n - 1) among them
+--   PutAt E l m place n          == from l to m entries of E were written, those at place 0 .. place (n - 1) among them
 --   Started T I n l m            == the first n starts were written
 -- one row number, in the full layout, from the table of the compact one, whose entries begin at `from`:
 --   GatherFits T I from at r     == what is read is in T, what is written in r entries
@@ -25,7 +25,7 @@ use mathlib.Core.List.{List, _++_}
 use lib.ListN.{length, getD, drop}
 use Rattle.table_filling.specs.Grows.{Right, Grows}
 
-pub record Puts (E l m : List ℕ) (place : ℕ → ℕ) (n : ℕ) : Type 0 where
+pub record PutAt (E l m : List ℕ) (place : ℕ → ℕ) (n : ℕ) : Type 0 where
   pub grows : Grows E l m
   pub below : (j : ℕ) → j < n → place j < length E
   pub right : (j : ℕ) → j < n → Right E m (place j)
@@ -33,7 +33,7 @@ pub record Puts (E l m : List ℕ) (place : ℕ → ℕ) (n : ℕ) : Type 0 wher
 pub record Started (T : List ℕ) (I n : ℕ) (l m : List ℕ) : Type 0 where
   pub long : length m ≡ length l
   pub behind : (k : ℕ) → I ≤ k → getD m k 0 ≡ getD l k 0
-  pub fills : (E : List ℕ) → I ≤ length E → ((i : ℕ) → i < I → getD T i 0 ≡ getD E i 0) → Puts E l m (λ i. i) n
+  pub fills : (E : List ℕ) → I ≤ length E → ((i : ℕ) → i < I → getD T i 0 ≡ getD E i 0) → PutAt E l m (λ i. i) n
 
 -- ---- full
 
@@ -45,7 +45,7 @@ pub record GatherFits (T : List ℕ) (I from at r : ℕ) : Type 0 where
 pub record Gathered (T : List ℕ) (I from at n : ℕ) (l m : List ℕ) : Type 0 where
   pub long : length m ≡ length l
   pub fills : (E : List ℕ) → at + I ≤ length E → ((j : ℕ) → j < I → getD T (from + getD T (I + j) 0) 0 ≡ getD E (at + j) 0)
-      → Puts E l m (λ j. at + j) n
+      → PutAt E l m (λ j. at + j) n
 
 pub record FullFits (T : List ℕ) (I C R r : ℕ) : Type 0 where
   pub table : I + I + R * C ≤ length T
@@ -77,7 +77,7 @@ pub record Scattered (T : List ℕ) (from I cells n : ℕ) (l m : List ℕ) : Ty
   pub long : length m ≡ length l
   pub ranks : (j : ℕ) → j < I → getD m (I + j) 0 ≡ getD l (I + j) 0
   pub fills : (E : List ℕ) → ((j : ℕ) → j < I → cells + getD l (I + j) 0 < length E)
-      → ((j : ℕ) → j < I → getD T (from + j) 0 ≡ getD E (cells + getD l (I + j) 0) 0) → Puts E l m (λ j. cells + getD l (I + j) 0) n
+      → ((j : ℕ) → j < I → getD T (from + j) 0 ≡ getD E (cells + getD l (I + j) 0) 0) → PutAt E l m (λ j. cells + getD l (I + j) 0) n
 
 pub record CompactFits (T : List ℕ) (I C R : ℕ) (l : List ℕ) : Type 0 where
   pub table : I + R * I ≤ length T

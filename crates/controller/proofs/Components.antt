@@ -22,7 +22,7 @@ use Rattle.game.specs.declared.Game.{Game}
 use Rattle.play.specs.Play.{graphOf, separatedOf}
 use Rattle.theory.specs.Choice.{controllerStart}
 use Rattle.theory.specs.Entries.{entry}
-use Rattle.compact.specs.Rank.{leads, componentCount, firstOf}
+use Rattle.compact.specs.Rank.{leads, componentCount, leaderOf}
 use Rattle.compact.specs.Compact.{compactLength, compactEntries, compactCell}
 use Rattle.compact.proofs.Rank.{first-below}
 use Rattle.compact.proofs.Entries.{compact-entries-length, compact-start, compact-rank, compact-cell}
@@ -65,8 +65,8 @@ module _ (g : Game) (z : Size) (Z : Sized g z) (C : ByComponent g z) where
   column-at j b = count-same j (leading z) (leads (separatedOf g)) (λ k l. leads-at k (omega arith))
 
   -- the leader of a column is the smallest input of its component
-  input-at : (b : ℕ) → inputOf z b ≡ firstOf (separatedOf g) b
-  unfolding inputOf firstOf
+  input-at : (b : ℕ) → inputOf z b ≡ leaderOf (separatedOf g) b
+  unfolding inputOf leaderOf
   input-at b =
       least-same (z .inputs) (λ j. leading z j && eqb (columnOf z j) b)
       (λ j. leads (separatedOf g) j && eqb (count j (leads (separatedOf g))) b)

@@ -57,7 +57,7 @@ use Rattle.table_layout.specs.declared.Layout.{Layout}
 use Rattle.table_layout.specs.Rows.{Fits, Filled, Wrote}
 use Rattle.table_layout.proofs.Places.{filled-none, filled-join, filled-part}
 use Rattle.table_walks.specs.declared.Stamp.{Stamp}
-use Rattle.table_walks.specs.Walk.{firstOf, Stamps, Ground, Leading, Walks}
+use Rattle.table_walks.specs.Walk.{firstEntry, Stamps, Ground, Leading, Walks}
 use Rattle.table_walks.proofs.Stamping.{first-hit, first-miss, choice-small}
 use Rattle.graph_ways.proofs.Kept.{pack-holds, pack-below}
 use Rattle.table_tours.specs.Course.{Course, Moving, Stayed, Aimed}
@@ -139,7 +139,7 @@ staying-stamps z over w S = record {
   more = omega (arith, S .more);
 }
 
-staying-first : (z : Layout) (over : ℕ) (w : Stamp) (m : ℕ) → Staying z over w → firstOf w m ≡ entry (gives 0 m)
+staying-first : (z : Layout) (over : ℕ) (w : Stamp) (m : ℕ) → Staying z over w → firstEntry w m ≡ entry (gives 0 m)
 staying-first z over w m S =
     elim (decide (has (bitsOf (w .goal)) m)) [
       | inl e ↦ sym (first-hit w m e) ∙ ap (λ (k : ℕ). entry (gives k m)) (S .hit)
@@ -184,7 +184,7 @@ module _ (moves : List ℕ) (z : Layout) (c over : ℕ) (w : Stamp) where
       left-falls = less-falls left s v less capacity left-small (lowest-in capacity left s small ne e)
 
       pub left-next : (row r : ℕ) {k : ℕ} {m′ m″ : List ℕ} → s < z .states → row ≡ getD moves s 0 → ((t : ℕ) → has r t ≡ (has row t && has c t))
-          → k ≡ prefer capacity s (has r) → Wrote z s (bitsOf (w .over)) (w .which .0) (firstOf w k) (w .more) m m′ → m″ ≡ m′ → Left moves z c over w v l m″
+          → k ≡ prefer capacity s (has r) → Wrote z s (bitsOf (w .over)) (w .which .0) (firstEntry w k) (w .more) m m′ → m″ ≡ m′ → Left moves z c over w v l m″
       left-next row r {k} {m′} {m″} ls is in′ choice W q = rw q (record {
         staying = L .staying;
         bound = L .bound;
@@ -229,7 +229,7 @@ unfolding passed
 passed-not m a = refl
 
 towards-first : (z : Layout) (over q x a : ℕ) (w : Stamp) (t : ℕ) → Towards z over q x a w
-    → firstOf w t ≡ entry (gives (passed (z .counters) (has x t) a) t)
+    → firstEntry w t ≡ entry (gives (passed (z .counters) (has x t) a) t)
 towards-first z over q x a w t T =
     elim (decide (has x t)) [
       | inl e ↦ rw e (sym (first-hit w t (ap (λ (k : ℕ). has k t) (T .goal) ∙ e)) ∙ ap (λ (k : ℕ). entry (gives k t)) (T .hit))

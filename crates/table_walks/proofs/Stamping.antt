@@ -30,27 +30,27 @@ use Rattle.table_layout.specs.declared.Layout.{Layout}
 use Rattle.table_layout.specs.Rows.{Fits, Rows, Filled, Entries}
 use Rattle.table_layout.proofs.Places.{filled-none, filled-join, filled-part}
 use Rattle.table_walks.specs.declared.Stamp.{Stamp}
-use Rattle.table_walks.specs.Walk.{firstOf, Stamps, Fair, Settled, Leading, Walks}
+use Rattle.table_walks.specs.Walk.{firstEntry, Stamps, Fair, Settled, Leading, Walks}
 use Rattle.graph_ways.proofs.Levels.{Levels, levels-chosen, levels-leads, levels-still, levels-turn, gone, settled-settles}
 
 -- the entry of a move
 
-pub first-hit : (w : Stamp) (p : ℕ) → has (bitsOf (w .goal)) p ≡ true → entry (gives (w .hit) p) ≡ firstOf w p
-unfolding firstOf
-first-hit w p e = rw (e, firstOf)
+pub first-hit : (w : Stamp) (p : ℕ) → has (bitsOf (w .goal)) p ≡ true → entry (gives (w .hit) p) ≡ firstEntry w p
+unfolding firstEntry
+first-hit w p e = rw (e, firstEntry)
 
-pub first-miss : (w : Stamp) (p : ℕ) → has (bitsOf (w .goal)) p ≡ false → entry (gives (w .miss) p) ≡ firstOf w p
-unfolding firstOf
-first-miss w p e = rw (e, firstOf)
+pub first-miss : (w : Stamp) (p : ℕ) → has (bitsOf (w .goal)) p ≡ false → entry (gives (w .miss) p) ≡ firstEntry w p
+unfolding firstEntry
+first-miss w p e = rw (e, firstEntry)
 
-first-small : (z : Layout) (w : Stamp) (p : ℕ) → Stamps z w → p < capacity → firstOf w p < entryStep * mostCounters
+first-small : (z : Layout) (w : Stamp) (p : ℕ) → Stamps z w → p < capacity → firstEntry w p < entryStep * mostCounters
 first-small z w p S b =
     elim (decide (has (bitsOf (w .goal)) p)) [
       | inl e ↦ omega (arith, first-hit w p e, entry-small (w .hit) p b (S .hit))
       | inr e ↦ omega (arith, first-miss w p e, entry-small (w .miss) p b (S .miss))
     ]
 
-pub stamp-entries : (z : Layout) (n : ℕ) (w : Stamp) (p first : ℕ) → Fits z n → Stamps z w → p < capacity → first ≡ firstOf w p
+pub stamp-entries : (z : Layout) (n : ℕ) (w : Stamp) (p first : ℕ) → Fits z n → Stamps z w → p < capacity → first ≡ firstEntry w p
     → Entries z (w .which .0) first (w .more)
 stamp-entries z n w p first F S b e = record {
   counters = S .counters;
@@ -95,7 +95,7 @@ module _ (rows : List ℕ) (z : Layout) (c target own : ℕ) (w : Stamp) where
     fair : (f : ℕ → ℕ → ℕ → Answer) → Leading rows z c target own w f → Fair rows z c left l w f
     fair f F = record {
       entry = λ s h b ls e i lb o.
-          ap (λ (j : ℕ). firstOf w j + w .more * h) (levels-chosen rows (z .states) c target l left r few (W .levels) (D .states) s ls e)
+          ap (λ (j : ℕ). firstEntry w j + w .more * h) (levels-chosen rows (z .states) c target l left r few (W .levels) (D .states) s ls e)
           ∙ F .entry s h b ls (W .part s (settles-left rows c left l s e))
           (levels-leads rows (z .states) c target l left r few (W .levels) (D .states) s e) i lb o;
     }

@@ -31,7 +31,7 @@ use Rattle.table_layout.specs.declared.Layout.{Layout}
 use Rattle.table_layout.specs.Rows.{Rows, Filled, Wrote}
 use Rattle.table_layout.proofs.Places.{filled-none, filled-join, filled-part}
 use Rattle.table_walks.specs.declared.Stamp.{Stamp}
-use Rattle.table_walks.specs.Walk.{firstOf, Stamps, Ground, Walks}
+use Rattle.table_walks.specs.Walk.{firstEntry, Stamps, Ground, Walks}
 use Rattle.table_walks.specs.Staying.{Staying, Entering, Stepping, Enters, Approaches}
 use Rattle.table_walks.proofs.Stamping.{first-hit, first-miss}
 
@@ -48,14 +48,14 @@ module _ (z : Layout) (over : ℕ) (w : Stamp) (S : Staying z over w) where
   pub staying-self : Staying z (bitsOf (w .over)) w
   staying-self = record { columns = refl; which = S .which; hit = S .hit; miss = S .miss; more = S .more }
 
-  staying-first : (p : ℕ) → firstOf w p ≡ entry (gives 0 p)
+  staying-first : (p : ℕ) → firstEntry w p ≡ entry (gives 0 p)
   staying-first p =
       elim (decide (has (bitsOf (w .goal)) p)) [
         | inl e ↦ sym (first-hit w p e) ∙ ap (λ (k : ℕ). entry (gives k p)) (S .hit)
         | inr e ↦ sym (first-miss w p e) ∙ ap (λ (k : ℕ). entry (gives k p)) (S .miss)
       ]
 
-  staying-entry : (p h : ℕ) → firstOf w p + w .more * h ≡ entry (gives h p)
+  staying-entry : (p h : ℕ) → firstEntry w p + w .more * h ≡ entry (gives h p)
   staying-entry p h =
       ap₂ (λ (i j : ℕ). i + j * h) (staying-first p) (S .more) ∙ entry-steps h p
 
@@ -115,7 +115,7 @@ module _ (rows : List ℕ) (z : Layout) (own target over : ℕ) where
 
       pub entered-next : (w : Stamp) (row r p : ℕ) {y′ y″ : List ℕ} → Staying z over w → Entering rows (z .states) own target → row ≡ getD rows s 0
           → ((t : ℕ) → has r t ≡ (has row t && has target t)) → p ≡ least capacity (has r)
-          → Wrote z s (bitsOf (w .over)) (w .which .0) (firstOf w p) (w .more) y y′ → y″ ≡ y′ → Entered rows z own target over v x y″
+          → Wrote z s (bitsOf (w .over)) (w .which .0) (firstEntry w p) (w .more) y y′ → y″ ≡ y′ → Entered rows z own target over v x y″
       entered-next w row r p {y′} {y″} S N q i m W f = rw f (record {
         small = small-word capacity v (λ t a. has-lt capacity rest t (I .small) (less-in rest s v less t a));
         inside = λ t a. I .inside t (less-in rest s v less t a);

@@ -27,7 +27,7 @@ use Rattle.table_layout.specs.declared.Layout.{Layout}
 use Rattle.table_layout.specs.Rows.{Rows, Filled, Wrote}
 use Rattle.table_layout.proofs.Places.{filled-none, filled-join, filled-part}
 use Rattle.table_walks.specs.declared.Stamp.{Stamp}
-use Rattle.table_walks.specs.Walk.{firstOf, Fair, Settled}
+use Rattle.table_walks.specs.Walk.{firstEntry, Fair, Settled}
 use Rattle.table_walks.specs.Trying.{Trying}
 
 module _ (rows : List ℕ) (z : Layout) (c left l : ℕ) (w : Stamp) where
@@ -93,7 +93,7 @@ module _ (rows : List ℕ) (z : Layout) (c left l : ℕ) (w : Stamp) where
               ]
 
       pub trying-hit : {m p r′ r″ : ℕ} {y′ y″ : List ℕ} → m ≡ choices rows c left l s → (m ≡ 0 → ⊥) → p ≡ prefer capacity s (has m)
-          → ((t : ℕ) → has r′ t ≡ (has r t || eqb t s)) → Wrote z s (bitsOf (w .over)) (w .which .0) (firstOf w p) (w .more) y y′ → y″ ≡ y′ → r″ ≡ r′
+          → ((t : ℕ) → has r′ t ≡ (has r t || eqb t s)) → Wrote z s (bitsOf (w .over)) (w .which .0) (firstEntry w p) (w .more) y y′ → y″ ≡ y′ → r″ ≡ r′
           → Trying rows z c left l w x y″ r″ v
       trying-hit {m} {p} {r′} {r″} {y′} {y″} q some choice more W f g = rw (f, g) (record {
         bound = T .bound;
@@ -130,7 +130,7 @@ module _ (rows : List ℕ) (z : Layout) (c left l : ℕ) (w : Stamp) where
               filled-join z k E R (T .fills k E R F)
               (W .fills k E R
               (λ h b i lb o.
-              ap (λ (j : ℕ). firstOf w j + w .more * h) (choice ∙ ap (λ (j : ℕ). prefer capacity s (has j)) q) ∙ F .entry s h b try-below hit i lb o))
+              ap (λ (j : ℕ). firstEntry w j + w .more * h) (choice ∙ ap (λ (j : ℕ). prefer capacity s (has j)) q) ∙ F .entry s h b try-below hit i lb o))
               (λ a h b la lh lb d.
               elim (tried a (d .0)) [
                 | inl j ↦ inr (j, d .2, d .3)

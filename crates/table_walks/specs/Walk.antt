@@ -1,7 +1,7 @@
 -- A walk by the shortest way that writes rows as it finds the moves. l is the set of the states reached before a round, left the set of the states that
 -- have no move yet.
 --
---   firstOf w p                  == what a move to p writes, without its share of the counter
+--   firstEntry w p               == what a move to p writes, without its share of the counter
 --   Stamps z w                   == the counters are those of the layout, and few, so that all entries fit 16 bits
 --   Fair rows z c left l w f     == rows f hold what a round writes
 --   Settled rows z c left l w x y r == a round that takes the buffer x to y and settles the states r
@@ -27,8 +27,8 @@ use Rattle.table_layout.specs.declared.Layout.{Layout}
 use Rattle.table_layout.specs.Rows.{Rows, Filled}
 use Rattle.table_walks.specs.declared.Stamp.{Stamp}
 
-unfoldable pub firstOf : Stamp → ℕ → ℕ
-firstOf w p = elim (has (bitsOf (w .goal)) p) [ true ↦ entry (gives (w .hit) p) | false ↦ entry (gives (w .miss) p) ]
+unfoldable pub firstEntry : Stamp → ℕ → ℕ
+firstEntry w p = elim (has (bitsOf (w .goal)) p) [ true ↦ entry (gives (w .hit) p) | false ↦ entry (gives (w .miss) p) ]
 
 pub record Stamps (z : Layout) (w : Stamp) : Type 0 where
   pub counters : (h : ℕ) → has (w .which .0) h ≡ true → h < z .counters
@@ -38,7 +38,7 @@ pub record Stamps (z : Layout) (w : Stamp) : Type 0 where
 
 pub record Fair (rows : List ℕ) (z : Layout) (c left l : ℕ) (w : Stamp) (f : ℕ → ℕ → ℕ → Answer) : Type 0 where
   pub entry : (s h b : ℕ) → s < z .states → settles rows c left l s ≡ true → has (w .which .0) h ≡ true → b < z .width → has (bitsOf (w .over)) b ≡ true
-      → firstOf w (prefer capacity s (has (choices rows c left l s))) + w .more * h ≡ entry (f s h b)
+      → firstEntry w (prefer capacity s (has (choices rows c left l s))) + w .more * h ≡ entry (f s h b)
 
 pub record Settled (rows : List ℕ) (z : Layout) (c left l : ℕ) (w : Stamp) (x y : List ℕ) (r : ℕ) : Type 0 where
   pub states : r ≡ pack (z .states) (settles rows c left l)
@@ -55,7 +55,7 @@ pub record Ground (n c target own : ℕ) : Type 0 where
 pub record Leading (rows : List ℕ) (z : Layout) (c target own : ℕ) (w : Stamp) (f : ℕ → ℕ → ℕ → Answer) : Type 0 where
   pub entry : (s h b : ℕ) → s < z .states → has own s ≡ true → Leads (z .states) (kept rows c) (has target) s
       → has (w .which .0) h ≡ true → b < z .width → has (bitsOf (w .over)) b ≡ true
-      → firstOf w (toward (z .states) (kept rows c) (has target) s) + w .more * h ≡ entry (f s h b)
+      → firstEntry w (toward (z .states) (kept rows c) (has target) s) + w .more * h ≡ entry (f s h b)
 
 pub record Walks (rows : List ℕ) (z : Layout) (c target own : ℕ) (w : Stamp) (x y : List ℕ) : Type 0 where
   pub long : length y ≡ length x

@@ -11,7 +11,7 @@ ghost use Rattle.bits.specs.Member.{within};
 ghost use Rattle.sets.specs.Words.{capacity, bitsOf, setsIn};
 ghost use Rattle.table_counters.specs.Counters.{mostCounters};
 ghost use Rattle.table_layout.specs.Rows.{Fits, Wrote};
-ghost use Rattle.table_walks.specs.Walk.{firstOf, Stamps, Settled, Ground, Walks};
+ghost use Rattle.table_walks.specs.Walk.{firstEntry, Stamps, Settled, Ground, Walks};
 ghost use Rattle.table_walks.specs.Trying.{Trying};
 ghost use Rattle.table_walks.specs.Staying.{Staying, Entering, Enters, Approaches};
 
@@ -27,9 +27,9 @@ pub struct Stamp {
 }
 
 // The entry of a move to p, without its share of the counter.
-fn first_of(w: Stamp, p: usize) -> u16
+fn first_entry(w: Stamp, p: usize) -> u16
     requires { ⌜ (p < capacity) × (w .hit < mostCounters) × (w .miss < mostCounters) ⌝ }
-    ensures { λ r. ⌜ r ≡ firstOf w p ⌝ }
+    ensures { λ r. ⌜ r ≡ firstEntry w p ⌝ }
 {
     let goal = w.goal;
     if sets::member(goal, p) {
@@ -41,9 +41,9 @@ fn first_of(w: Stamp, p: usize) -> u16
 // The rows of state s, whose move is p.
 pub fn write_move(room: &mut [u16], z: Layout, s: usize, p: usize, w: Stamp)
     requires { ⌜ Fits z (length (now room)) × (s < z .states) × (p < capacity) × Stamps z w ⌝ }
-    ensures { λ r. ⌜ Wrote z s (bitsOf (w .over)) (w .which .0) (firstOf w p) (w .more) (now (room .entry)) (now (room .exit)) ⌝ }
+    ensures { λ r. ⌜ Wrote z s (bitsOf (w .over)) (w .which .0) (firstEntry w p) (w .more) (now (room .entry)) (now (room .exit)) ⌝ }
 {
-    let first = first_of(w, p);
+    let first = first_entry(w, p);
     let over = w.over;
     let which = w.which;
     table_layout::write(room, z, s, over, which, first, w.more);

@@ -9,7 +9,7 @@ use Rattle.game.proofs.Laws.{accepted-fits}
 use Rattle.play.specs.Play.{separatedOf}
 use Rattle.theory.specs.Entries.{controllerCounters}
 use Rattle.table_sizes.proofs.Lengths.{controller-rows}
-use Rattle.compact_checks.specs.Firsts.{Same}
+use Rattle.compact_checks.specs.Firsts.{AsFirst}
 use Rattle.compact_checks.proofs.Game.{firsts-below, rows-long, parts-none, parts-next, parts-stop, parts-end}
 use borrow.Author.Needs.{needs}
 use Rattle.compact_checks.proofs.rows_fit.Statement.{statement}
@@ -17,7 +17,7 @@ use Rattle.compact_checks.proofs.rows_fit.Tie as tie
 
 abbrev Inv-loop : tie.InvT-loop
 Inv-loop g table n rows leaders firsts₀ part₀ firsts part =
-    (n ≡ g .input .states) × (rows ≡ g .output .states * controllerCounters (separatedOf g)) × (length firsts ≡ 64) × Same (separatedOf g) table rows part
+    (n ≡ g .input .states) × (rows ≡ g .output .states * controllerCounters (separatedOf g)) × (length firsts ≡ 64) × AsFirst (separatedOf g) table rows part
 
 abbrev μ-loop : tie.MeasureT-loop
 μ-loop g table n rows leaders firsts₀ part₀ firsts part = n - part

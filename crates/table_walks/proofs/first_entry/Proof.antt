@@ -1,9 +1,9 @@
--- `first_of` by its test.
+-- `first_entry` by its test.
 use mathlib.Core.Path.{sym, _∙_}
 use borrow.Author.Needs.{needs}
 use Rattle.table_walks.proofs.Stamping.{first-hit, first-miss}
-use Rattle.table_walks.proofs.first_of.Statement.{statement}
-use Rattle.table_walks.proofs.first_of.Tie as tie
+use Rattle.table_walks.proofs.first_entry.Statement.{statement}
+use Rattle.table_walks.proofs.first_entry.Tie as tie
 
 member-requires : tie.Need-member-requires
 member-requires c κs = search needs
@@ -20,6 +20,6 @@ pack-requires-2 c κs = search needs
 returns-2 : tie.Need-returns-2
 returns-2 c = c .pack2 .ensures ∙ first-miss _ _ (sym (c .before .before .member .ensures) ∙ c .before .if1 .left)
 
-pub first-of-spec : {M : Type 1} → statement M
-first-of-spec =
+pub first-entry-spec : {M : Type 1} → statement M
+first-entry-spec =
     tie.close (tie.spec member-requires pack-requires returns pack-requires-2 returns-2)
