@@ -4,7 +4,7 @@
 --   Keeping g b l m              == of what is kept nothing that is won and not barred has been taken out
 --   keeping-start, keeping-next, keeping-falls, keeping-end
 use Prim.Native.Nat.{ℕ, _+_, _≤_, _<_}
-use mathlib.Core.Path.{_≡_, refl, sym, _∙_, ap, subst}
+use mathlib.Core.Path.{_≡_, refl, sym, _∙_, ap}
 use mathlib.Core.Bool.{Bool, true, false, _&&_, not}
 use mathlib.Core.List.{List, List·Memᴰ}
 use native.Mathlib.Decide.{ℕ-discrete}
@@ -14,22 +14,23 @@ use lib.ListN.{length, getD, set}
 use lib.Seq.{getD-set-same, getD-set-other}
 use borrow.Author.Tests.{ltb-true, lt-ltb}
 use Rattle.finite.proofs.Tabulate.{length-tabulate, getD-tabulate}
-use Rattle.finite.proofs.Truth.{clash, and-intro, and-left, and-right, not-true, same-test}
+use Rattle.finite.proofs.Truth.{and-intro, and-left, and-right, not-true, same-test}
+use Rattle.finite.specs.But.{ButFor}
+use Rattle.finite.proofs.But.{but-self, but-then, but-wider}
 use Rattle.bits.specs.Member.{has, pack}
 use Rattle.bits.proofs.Membership.{ext, has-pack}
 use Rattle.sets.specs.Words.{bitsOf}
-use Rattle.barred.specs.Arena.{Pairs, free}
 use Rattle.barred.specs.Region.{reach, barredRegion}
-use Rattle.barred.proofs.Arena.{free-intro, free-output, free-unbarred}
+use Rattle.barred.proofs.Arena.{free-intro, free-unbarred}
 use Rattle.barred.proofs.Rounds.{Sub, sub-intro, region-free}
 use Rattle.barred.proofs.Passes.{region-found, region-trimmed}
 use Rattle.barred.proofs.Sets.{place}
 use Rattle.game.specs.declared.Game.{Game}
-use Rattle.game.specs.Access.{noOutput, requirementAt, guaranteeAt}
+use Rattle.game.specs.Access.{noOutput, requirementAt}
 use Rattle.game.specs.Fits.{Fits}
 use Rattle.play.specs.Play.{graphOf, separatedOf, requirementOf}
-use Rattle.barred_rows.specs.Areas.{keptPairs, keptAt, stayingAt, Apart}
-use Rattle.barred_rows.proofs.Rows.{apart-self, apart-then, apart-wider, apart-set}
+use Rattle.barred_rows.specs.Areas.{keptPairs, keptAt, stayingAt}
+use Rattle.barred_rows.proofs.Rows.{apart-set}
 use Rattle.barred_stay.specs.Stay.{Within}
 use Rattle.barred_region.specs.Region.{only, barOf, Among, Trimmed, Endless, Passed, Freed, Kept}
 use Rattle.barred_region.proofs.Among.{among-sub, sub-among, part-reach, counted, counted-less}
@@ -39,13 +40,13 @@ use Rattle.barred_region.proofs.Trimming.{trimmed-endless}
 
 module _ (g : Game) (b l : List ℕ) where
   pub freed-none : Freed g 0 b l l
-  freed-none = record { apart = apart-self keptAt 0 l; row = λ i o h. absurd (omega arith) }
+  freed-none = record { apart = but-self keptAt 0 l; row = λ i o h. absurd (omega arith) }
 
   pub freed-next : (k : ℕ) (m : List ℕ) (x y v : ℕ) → Freed g k b l m → k < length m → ((o : ℕ) → has x o ≡ ltb o (g .output .states)) → y ≡ getD b k 0
       → ((o : ℕ) → has v o ≡ (has x o && not (has y o))) → Freed g (k + 1) b l (set m k v)
   freed-next k m x y v T long e f d = record {
-    apart = apart-then (apart-wider keptAt (k + 1) (omega arith) (omega arith) (T .apart))
-        (apart-wider keptAt (k + 1) (omega arith) (omega arith) (apart-set m k v));
+    apart = but-then (but-wider keptAt (k + 1) (omega arith) (omega arith) (T .apart))
+        (but-wider keptAt (k + 1) (omega arith) (omega arith) (apart-set m k v));
     row = λ i o h. row i o h (ℕ-discrete i k);
   }
     where
@@ -56,7 +57,7 @@ module _ (g : Game) (b l : List ℕ) where
 -- ---- pass after pass
 
 pub record Keeping (g : Game) (b l m : List ℕ) : Type 0 where
-  pub apart : Apart keptAt (stayingAt + g .input .states) l m
+  pub apart : ButFor keptAt (stayingAt + g .input .states) l m
   pub unbarred : (i o : ℕ) → i < g .input .states → keptPairs m i o ≡ true → (o < g .output .states) × (barOf b i o ≡ false)
   pub sound : Among g (barredRegion (separatedOf g) (barOf b) (only g)) (keptPairs m)
   pub endless : Endless g m
@@ -73,7 +74,7 @@ module _ (g : Game) (F : Fits g) (b l : List ℕ) where
   pub keeping-start : (m n : List ℕ) → Freed g (g .input .states) b l m → Trimmed g m n → Keeping g b n n
   unfolding separatedOf graphOf
   keeping-start m n E T = record {
-    apart = apart-self keptAt (stayingAt + g .input .states) n;
+    apart = but-self keptAt (stayingAt + g .input .states) n;
     unbarred = λ i o h t. let u = sym (E .row i o h) ∙ T .inside i o h t in (
       ltb-true o (g .output .states) (and-left (ltb o (g .output .states)) (not (barOf b i o)) u),
       not-true (barOf b i o) (and-right (ltb o (g .output .states)) (not (barOf b i o)) u),
@@ -94,7 +95,7 @@ module _ (g : Game) (F : Fits g) (b l : List ℕ) where
   module _ (m : List ℕ) (T : Keeping g b l m) (n : List ℕ) (r : Bool) (P : Passed g (requirementAt g 0 .guaranteed) m n r) where
     pub keeping-next : Keeping g b l n
     keeping-next = record {
-      apart = apart-then (T .apart) (P .apart);
+      apart = but-then (T .apart) (P .apart);
       unbarred = λ i o h t. T .unbarred i o h (P .inside i o h t);
       sound = P .sound (barOf b) (T .sound);
       endless = P .endless (T .endless);
@@ -147,6 +148,6 @@ module _ (g : Game) (F : Fits g) (b l : List ℕ) where
   -- from before what is not barred was kept
   pub kept-from : (m n k : List ℕ) → Freed g (g .input .states) b l m → Trimmed g m n → Kept g b n k → Kept g b l k
   kept-from m n k E T K = record {
-    apart = apart-then (apart-then (apart-wider keptAt (stayingAt + g .input .states) (omega arith) (omega arith) (E .apart)) (T .apart)) (K .apart);
+    apart = but-then (but-then (but-wider keptAt (stayingAt + g .input .states) (omega arith) (omega arith) (E .apart)) (T .apart)) (K .apart);
     row = K .row;
   }

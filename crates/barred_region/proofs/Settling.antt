@@ -6,30 +6,29 @@ use Prim.Native.Nat.{ℕ, suc, _+_, _≤_, _<_}
 use mathlib.Core.Path.{_≡_, refl, sym, _∙_, ap}
 use mathlib.Core.Bool.{Bool, true, false, _&&_}
 use mathlib.Core.List.{List}
-use mathlib.Core.Logic.{inl, inr}
 use native.Mathlib.Nat.{zero-add}
 use native.Mathlib.Decide.{ℕ-discrete}
 use native.Mathlib.Omega.{arith}
 use lib.ListN.{length, getD}
 use Rattle.finite.proofs.Tabulate.{length-tabulate, getD-tabulate}
 use Rattle.finite.proofs.Truth.{clash, false-of, and-intro, and-left, and-false-right, same-test}
+use Rattle.finite.specs.But.{ButFor}
+use Rattle.finite.proofs.But.{but-self, but-then, but-wider}
 use Rattle.bits.specs.Member.{has}
 use Rattle.sets.specs.Words.{bitsOf}
-use Rattle.theory.specs.Region.{replies}
 use Rattle.theory.specs.Tour.{goalAt}
 use Rattle.barred.specs.Arena.{Pairs}
-use Rattle.barred.specs.Region.{guaranteed, nothing, stay, reach, barredRegion}
+use Rattle.barred.specs.Region.{guaranteed, reach, barredRegion}
 use Rattle.barred.proofs.Rounds.{sub-intro, replies-mono, reach-in}
 use Rattle.barred.proofs.Passes.{region-trimmed, region-passes}
 use Rattle.game.specs.declared.Game.{Game}
 use Rattle.game.specs.Access.{noOutput, requirementAt, guaranteeAt}
 use Rattle.game.specs.Fits.{Fits}
 use Rattle.play.specs.Play.{graphOf, separatedOf, requirementOf}
-use Rattle.barred_rows.specs.Areas.{keptPairs, reachedPairs, keptAt, reachedAt, stayingAt, Apart, Met}
-use Rattle.barred_rows.proofs.Rows.{apart-self, apart-then, apart-wider}
+use Rattle.barred_rows.specs.Areas.{keptPairs, reachedPairs, keptAt, reachedAt, stayingAt, Met}
 use Rattle.barred_stay.specs.Stay.{Within}
-use Rattle.barred_region.specs.Region.{only, Among, never, Reached, Trimmed, Endless, Settled, Passed}
-use Rattle.barred_region.proofs.Among.{among-sub, sub-among, among-then, rows-among, part-reach}
+use Rattle.barred_region.specs.Region.{only, Among, Reached, Trimmed, Settled, Passed}
+use Rattle.barred_region.proofs.Among.{among-sub, sub-among, part-reach}
 use Rattle.barred_region.proofs.Trimming.{trimmed-endless}
 
 module _ (g : Game) (F : Fits g) (v : ℕ) (l a b : List ℕ) (r : Bool) (R : Reached g v l a) (M : Met (g .input .states) reachedAt keptAt a b r) where
@@ -45,10 +44,10 @@ module _ (g : Game) (F : Fits g) (v : ℕ) (l a b : List ℕ) (r : Bool) (R : Re
   inside-b : (i o : ℕ) → i < g .input .states → keptPairs b i o ≡ true → keptPairs l i o ≡ true
   inside-b i o h t = and-left (keptPairs l i o) (reachedPairs a i o) (sym (row i o h) ∙ t)
 
-  apart-b : Apart keptAt (stayingAt + g .input .states) l b
+  apart-b : ButFor keptAt (stayingAt + g .input .states) l b
   apart-b =
-      apart-then (apart-wider keptAt (stayingAt + g .input .states) (omega arith) (omega arith) (R .apart))
-      (apart-wider keptAt (stayingAt + g .input .states) (omega arith) (omega arith) (M .apart))
+      but-then (but-wider keptAt (stayingAt + g .input .states) (omega arith) (omega arith) (R .apart))
+      (but-wider keptAt (stayingAt + g .input .states) (omega arith) (omega arith) (M .apart))
 
   kept-reached : (p : Pairs) → Among g p (reach (separatedOf g) (only g) (has v) (keptPairs l)) → Among g p (keptPairs b)
   kept-reached p A = record {
@@ -83,7 +82,7 @@ module _ (g : Game) (F : Fits g) (v : ℕ) (l a b : List ℕ) (r : Bool) (R : Re
 
   pub settled-less : (m : List ℕ) → Trimmed g b m → Within g l → r ≡ true → Settled g v l m true
   settled-less m T W e = record {
-    apart = apart-then apart-b (T .apart);
+    apart = but-then apart-b (T .apart);
     inside = λ i o h t. inside-b i o h (T .inside i o h t);
     sound = λ p A c. record { all = λ i o x y h. T .found i o x y ∙ c (keptPairs b) (kept-reached p A) .all i o x y h };
     endless = λ E. trimmed-endless g b m T;
@@ -104,7 +103,7 @@ module _ (g : Game) (F : Fits g) (v : ℕ) (l a b : List ℕ) (r : Bool) (R : Re
 module _ (g : Game) (l : List ℕ) where
   pub passed-none : Passed g 0 l l false
   passed-none = record {
-    apart = apart-self keptAt (stayingAt + g .input .states) l;
+    apart = but-self keptAt (stayingAt + g .input .states) l;
     inside = λ i o h t. t;
     sound = λ bar h. h;
     endless = λ E. E;
@@ -130,8 +129,8 @@ module _ (g : Game) (l : List ℕ) where
     unfolding guaranteed only requirementOf
     within-list = omega (arith, length-tabulate (λ j. has (bitsOf (getD (requirementAt g 0 .guarantees) j noOutput .0))) (requirementAt g 0 .guaranteed), b)
 
-    apart : Apart keptAt (stayingAt + g .input .states) l m′
-    apart = apart-then (T .apart) (S .apart)
+    apart : ButFor keptAt (stayingAt + g .input .states) l m′
+    apart = but-then (T .apart) (S .apart)
 
     inside : (i o : ℕ) → i < g .input .states → keptPairs m′ i o ≡ true → keptPairs l i o ≡ true
     inside i o h t = T .inside i o h (S .inside i o h t)

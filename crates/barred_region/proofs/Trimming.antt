@@ -4,26 +4,24 @@
 --   trimmed-endless : what is left goes on for ever
 use Prim.Native.Nat.{ℕ, _+_, _≤_, _<_}
 use mathlib.Core.Path.{_≡_, sym, _∙_, ap}
-use mathlib.Core.Bool.{true}
 use mathlib.Core.List.{List}
 use native.Mathlib.Nat.{zero-add}
 use native.Mathlib.Omega.{arith}
 use lib.ListN.{getD}
 use Rattle.finite.proofs.Truth.{clash, same-test}
+use Rattle.finite.proofs.But.{but-then, but-wider}
 use Rattle.bits.specs.Member.{has}
 use Rattle.bits.proofs.Membership.{has-zero}
-use Rattle.theory.specs.Region.{replies}
 use Rattle.barred.specs.Region.{nothing, stay}
 use Rattle.barred.proofs.Rounds.{sub-intro, replies-mono, nothing-in}
 use Rattle.barred.proofs.Passes.{trimmed-replies}
 use Rattle.game.specs.declared.Game.{Game}
 use Rattle.game.specs.Fits.{Fits}
 use Rattle.play.specs.Play.{graphOf, separatedOf}
-use Rattle.barred_rows.specs.Areas.{keptPairs, reachedPairs, stayingPairs, keptAt, reachedAt, stayingAt, Apart, Copied, Emptied}
-use Rattle.barred_rows.proofs.Rows.{apart-then, apart-wider}
+use Rattle.barred_rows.specs.Areas.{keptPairs, reachedPairs, stayingPairs, keptAt, reachedAt, stayingAt, Copied, Emptied}
 use Rattle.barred_stay.specs.Stay.{Within, Stayed}
 use Rattle.barred_region.specs.Region.{only, Among, never, Trimmed, Endless}
-use Rattle.barred_region.proofs.Among.{among-sub, sub-among, rows-among, part-stay}
+use Rattle.barred_region.proofs.Among.{sub-among, rows-among, part-stay}
 
 module _ (g : Game) (F : Fits g) where
   pub emptied-within : (l a : List ℕ) → Emptied (g .input .states) reachedAt l a → Within g l → Within g a
@@ -61,10 +59,10 @@ module _ (g : Game) (F : Fits g) where
 
     pub trimmed : Trimmed g l m
     trimmed = record {
-      apart = apart-then
-          (apart-then (apart-wider keptAt (stayingAt + g .input .states) (omega arith) (omega (arith, F .input .most)) (E .apart))
-          (apart-wider keptAt (stayingAt + g .input .states) (omega arith) (omega arith) (T .apart)))
-          (apart-wider keptAt (stayingAt + g .input .states) (omega arith) (omega arith) (C .apart));
+      apart = but-then
+          (but-then (but-wider keptAt (stayingAt + g .input .states) (omega arith) (omega (arith, F .input .most)) (E .apart))
+          (but-wider keptAt (stayingAt + g .input .states) (omega arith) (omega arith) (T .apart)))
+          (but-wider keptAt (stayingAt + g .input .states) (omega arith) (omega arith) (C .apart));
       inside = λ i o h t. ap (λ (x : ℕ). has x o) (sym (kept-a i h)) ∙ T .inside i o h (sym (moved i o h) ∙ t);
       found = λ i o h k. moved i o h ∙ T .found i o h k
           ∙ same-test (stay (separatedOf g) (has v) (has w) (keptPairs a) (reachedPairs a) i o) (stay (separatedOf g) never never (keptPairs l) nothing i o)

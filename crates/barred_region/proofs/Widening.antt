@@ -5,7 +5,7 @@
 --   widened-none, widened-next, widened-grew    : set after set
 --   Reaching g v l m           == what is reached so far, from nothing
 --   reaching-start, reaching-next, reaching-falls, reaching-end
-use Prim.Native.Nat.{ℕ, zero, suc, _+_, _*_, _-_, _≤_, _<_}
+use Prim.Native.Nat.{ℕ, suc, _+_, _*_, _-_, _≤_, _<_}
 use mathlib.Core.Path.{_≡_, refl, sym, _∙_, ap}
 use mathlib.Core.Bool.{Bool, true, false, _||_}
 use mathlib.Core.List.{List}
@@ -16,22 +16,22 @@ use native.Mathlib.Omega.{arith}
 use lib.Dec.{ltb}
 use lib.ListN.{length, getD}
 use borrow.Author.Tests.{lt-ltb}
-use Rattle.finite.specs.Tabulate.{tabulate}
 use Rattle.finite.proofs.Tabulate.{length-tabulate, getD-tabulate}
 use Rattle.finite.proofs.Truth.{clash, false-of, or-left, or-right, or-cases, same-test}
+use Rattle.finite.specs.But.{ButFor}
+use Rattle.finite.proofs.But.{but-self, but-then, but-wider}
 use Rattle.bits.specs.Member.{has}
 use Rattle.bits.proofs.Membership.{has-zero}
 use Rattle.sets.specs.Words.{bitsOf}
 use Rattle.theory.specs.Tour.{goalAt}
 use Rattle.barred.specs.Region.{assumed, stay, reach}
-use Rattle.barred.proofs.Rounds.{sub-intro, reach-widens}
+use Rattle.barred.proofs.Rounds.{reach-widens}
 use Rattle.barred.proofs.Passes.{reach-found}
 use Rattle.game.specs.declared.Game.{Game}
 use Rattle.game.specs.Access.{noInput, requirementAt, assumptionAt}
 use Rattle.game.specs.Fits.{Fits}
 use Rattle.play.specs.Play.{graphOf, separatedOf, requirementOf}
-use Rattle.barred_rows.specs.Areas.{keptPairs, reachedPairs, stayingPairs, reachedAt, stayingAt, Apart, Emptied, United}
-use Rattle.barred_rows.proofs.Rows.{apart-self, apart-then, apart-wider}
+use Rattle.barred_rows.specs.Areas.{keptPairs, reachedPairs, stayingPairs, reachedAt, stayingAt, Emptied, United}
 use Rattle.barred_stay.specs.Stay.{Within, Stayed}
 use Rattle.barred_region.specs.Region.{only, Among, Waits, WidenedBy, Widened, Reached}
 use Rattle.barred_region.proofs.Among.{among-sub, sub-among, among-self, among-then, rows-among, part-stay, part-reach}
@@ -57,14 +57,14 @@ module _ (g : Game) where
   }
 
 pub record Reaching (g : Game) (v : ℕ) (l m : List ℕ) : Type 0 where
-  pub apart : Apart reachedAt (stayingAt + g .input .states) l m
+  pub apart : ButFor reachedAt (stayingAt + g .input .states) l m
   pub sound : Among g (reachedPairs m) (reach (separatedOf g) (only g) (has v) (keptPairs l))
 
 -- ---- one set
 
 module _ (g : Game) (F : Fits g) where
   -- the rows of what is kept stand before what changes
-  kept-row : {b : ℕ} {l m : List ℕ} → Apart reachedAt b l m → (i : ℕ) → i < g .input .states → getD m i 0 ≡ getD l i 0
+  kept-row : {b : ℕ} {l m : List ℕ} → ButFor reachedAt b l m → (i : ℕ) → i < g .input .states → getD m i 0 ≡ getD l i 0
   kept-row A i h = A .low i (omega (arith, F .input .most))
 
   module _ (v w : ℕ) (l k m : List ℕ) (r : Bool) (T : Stayed g v w l k) (U : United (g .input .states) stayingAt reachedAt k m r) (W : Within g l) where
@@ -80,8 +80,8 @@ module _ (g : Game) (F : Fits g) where
 
     pub widened-by : WidenedBy g v w l m r
     widened-by = record {
-      apart = apart-then (apart-wider reachedAt (stayingAt + g .input .states) (omega arith) (omega arith) (T .apart))
-          (apart-wider reachedAt (stayingAt + g .input .states) (omega arith) (omega (arith, F .input .most)) (U .apart));
+      apart = but-then (but-wider reachedAt (stayingAt + g .input .states) (omega arith) (omega arith) (T .apart))
+          (but-wider reachedAt (stayingAt + g .input .states) (omega arith) (omega (arith, F .input .most)) (U .apart));
       row = row;
       some = λ e. some (U .some e);
       none = λ e. record { all = λ i o a b h. sym (reached-row i o a) ∙ U .none e i o a (T .found i o a b ∙ h) };
@@ -98,7 +98,7 @@ module _ (g : Game) (F : Fits g) where
   module _ (v : ℕ) (l : List ℕ) where
     pub widened-none : (k : ℕ) → k ≡ length (assumed (only g)) → Widened g v k l l false
     widened-none k b = record {
-      apart = apart-self reachedAt (stayingAt + g .input .states) l;
+      apart = but-self reachedAt (stayingAt + g .input .states) l;
       more = among-self g (reachedPairs l);
       sound = λ h. h;
       some = λ e. clash e refl;
@@ -118,8 +118,8 @@ module _ (g : Game) (F : Fits g) where
       grows : Among g (reachedPairs m) (reachedPairs m′)
       grows = record { all = λ i o a c h. R .row i o a c ∙ or-left (stay (separatedOf g) (has v) (has w) (keptPairs m) (reachedPairs m) i o) h }
 
-      apart : Apart reachedAt (stayingAt + g .input .states) l m′
-      apart = apart-then (T .apart) (R .apart)
+      apart : ButFor reachedAt (stayingAt + g .input .states) l m′
+      apart = but-then (T .apart) (R .apart)
 
       sound : Among g (reachedPairs l) (reach (separatedOf g) (only g) (has v) (keptPairs l))
           → Among g (reachedPairs m′) (reach (separatedOf g) (only g) (has v) (keptPairs l))
@@ -181,7 +181,7 @@ module _ (g : Game) (F : Fits g) where
   module _ (v : ℕ) (l : List ℕ) where
     pub reaching-start : (k : List ℕ) → Emptied (g .input .states) reachedAt k l → Reaching g v l l
     reaching-start k E = record {
-      apart = apart-self reachedAt (stayingAt + g .input .states) l;
+      apart = but-self reachedAt (stayingAt + g .input .states) l;
       sound = record { all = λ i o a b h. clash h (ap (λ (x : ℕ). has x o) (E .row i a) ∙ has-zero o) };
     }
 
@@ -197,7 +197,7 @@ module _ (g : Game) (F : Fits g) where
 
       pub reaching-next : Reaching g v l m′
       reaching-next = record {
-        apart = apart-then (T .apart) (R .apart);
+        apart = but-then (T .apart) (R .apart);
         sound = among-then g (R .sound (among-then g (T .sound) (part-reach g (has v) (keptPairs l) (keptPairs m) from-l)))
             (part-reach g (has v) (keptPairs m) (keptPairs l) into-l);
       }
@@ -211,7 +211,7 @@ module _ (g : Game) (F : Fits g) where
       pub reaching-end : r ≡ false → Reached g v l m′
       unfolding separatedOf graphOf
       reaching-end e = record {
-        apart = apart-then (T .apart) (R .apart);
+        apart = but-then (T .apart) (R .apart);
         found = reach-found (separatedOf g) (only g) (has v) (keptPairs l) (reachedPairs m′) (among-sub g (reaching-next .sound))
             (λ j b. among-sub g (among-then g
             (part-stay g (has v) (has v) (goalAt (assumed (only g)) j) (goalAt (assumed (only g)) j) (keptPairs l) (keptPairs m) (reachedPairs m′)
@@ -223,12 +223,12 @@ module _ (g : Game) (F : Fits g) where
   -- what is kept is as it was before what was reached had been emptied
   pub reached-from : (v : ℕ) (k l m : List ℕ) → Emptied (g .input .states) reachedAt k l → Reached g v l m → Reached g v k m
   reached-from v k l m E R = record {
-    apart = apart-then wide (R .apart);
+    apart = but-then wide (R .apart);
     found = λ i o a b. R .found i o a b
         ∙ same-test (reach (separatedOf g) (only g) (has v) (keptPairs l) i o) (reach (separatedOf g) (only g) (has v) (keptPairs k) i o)
         (part-reach g (has v) (keptPairs l) (keptPairs k) (rows-among g (λ i. getD l i 0) (λ i. getD k i 0) (kept-row wide)) .all i o a b)
         (part-reach g (has v) (keptPairs k) (keptPairs l) (rows-among g (λ i. getD k i 0) (λ i. getD l i 0) (λ i h. sym (kept-row wide i h))) .all i o a b);
   }
     where
-      wide : Apart reachedAt (stayingAt + g .input .states) k l
-      wide = apart-wider reachedAt (stayingAt + g .input .states) (omega arith) (omega (arith, F .input .most)) (E .apart)
+      wide : ButFor reachedAt (stayingAt + g .input .states) k l
+      wide = but-wider reachedAt (stayingAt + g .input .states) (omega arith) (omega (arith, F .input .most)) (E .apart)

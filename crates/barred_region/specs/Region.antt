@@ -18,6 +18,7 @@ use mathlib.Core.Bool.{Bool, true, false, _&&_, _||_, not}
 use mathlib.Core.List.{List}
 use lib.Dec.{ltb}
 use lib.ListN.{getD, length}
+use Rattle.finite.specs.But.{ButFor}
 use Rattle.bits.specs.Member.{has, pack}
 use Rattle.sets.specs.Words.{bitsOf}
 use Rattle.arena.specs.Arena.{Requirement}
@@ -28,7 +29,7 @@ use Rattle.barred.specs.Region.{assumed, nothing, stay, reach, barredRegion}
 use Rattle.game.specs.declared.Game.{Game}
 use Rattle.game.specs.Access.{requirementAt, guaranteeAt}
 use Rattle.play.specs.Play.{separatedOf, requirementOf}
-use Rattle.barred_rows.specs.Areas.{keptPairs, reachedPairs, keptAt, reachedAt, stayingAt, Apart}
+use Rattle.barred_rows.specs.Areas.{keptPairs, reachedPairs, keptAt, reachedAt, stayingAt}
 
 unfoldable pub only : Game → Requirement
 only g = requirementOf (requirementAt g 0)
@@ -45,14 +46,14 @@ pub record Waits (g : Game) (w j : ℕ) : Type 0 where
   pub same : (i : ℕ) → i < g .input .states → has w i ≡ goalAt (assumed (only g)) j i
 
 pub record WidenedBy (g : Game) (v w : ℕ) (l m : List ℕ) (r : Bool) : Type 0 where
-  pub apart : Apart reachedAt (stayingAt + g .input .states) l m
+  pub apart : ButFor reachedAt (stayingAt + g .input .states) l m
   pub row : (i o : ℕ) → i < g .input .states → o < g .output .states
       → reachedPairs m i o ≡ (reachedPairs l i o || stay (separatedOf g) (has v) (has w) (keptPairs l) (reachedPairs l) i o)
   pub some : r ≡ true → (i : ℕ) × (o : ℕ) × (i < g .input .states) × (o < g .output .states) × (reachedPairs l i o ≡ false) × (reachedPairs m i o ≡ true)
   pub none : r ≡ false → Among g (stay (separatedOf g) (has v) (has w) (keptPairs l) (reachedPairs l)) (reachedPairs l)
 
 pub record Widened (g : Game) (v k : ℕ) (l m : List ℕ) (r : Bool) : Type 0 where
-  pub apart : Apart reachedAt (stayingAt + g .input .states) l m
+  pub apart : ButFor reachedAt (stayingAt + g .input .states) l m
   pub more : Among g (reachedPairs l) (reachedPairs m)
   pub sound : Among g (reachedPairs l) (reach (separatedOf g) (only g) (has v) (keptPairs l))
       → Among g (reachedPairs m) (reach (separatedOf g) (only g) (has v) (keptPairs l))
@@ -62,7 +63,7 @@ pub record Widened (g : Game) (v k : ℕ) (l m : List ℕ) (r : Bool) : Type 0 w
       → Among g (stay (separatedOf g) (has v) (goalAt (assumed (only g)) j) (keptPairs l) (reachedPairs l)) (reachedPairs l)
 
 pub record Reached (g : Game) (v : ℕ) (l m : List ℕ) : Type 0 where
-  pub apart : Apart reachedAt (stayingAt + g .input .states) l m
+  pub apart : ButFor reachedAt (stayingAt + g .input .states) l m
   pub found : (i o : ℕ) → i < g .input .states → o < g .output .states
       → reachedPairs m i o ≡ reach (separatedOf g) (only g) (has v) (keptPairs l) i o
 
@@ -70,7 +71,7 @@ abbrev pub never : ℕ → Bool
 never s = false
 
 pub record Trimmed (g : Game) (l m : List ℕ) : Type 0 where
-  pub apart : Apart keptAt (stayingAt + g .input .states) l m
+  pub apart : ButFor keptAt (stayingAt + g .input .states) l m
   pub inside : (i o : ℕ) → i < g .input .states → keptPairs m i o ≡ true → keptPairs l i o ≡ true
   pub found : (i o : ℕ) → i < g .input .states → o < g .output .states
       → keptPairs m i o ≡ stay (separatedOf g) never never (keptPairs l) nothing i o
@@ -80,7 +81,7 @@ pub record Endless (g : Game) (l : List ℕ) : Type 0 where
   pub replied : (i o : ℕ) → i < g .input .states → o < g .output .states → keptPairs l i o ≡ true → replies (separatedOf g) (keptPairs l) i o ≡ true
 
 pub record Settled (g : Game) (v : ℕ) (l m : List ℕ) (r : Bool) : Type 0 where
-  pub apart : Apart keptAt (stayingAt + g .input .states) l m
+  pub apart : ButFor keptAt (stayingAt + g .input .states) l m
   pub inside : (i o : ℕ) → i < g .input .states → keptPairs m i o ≡ true → keptPairs l i o ≡ true
   -- no part of the winning region is taken out
   pub sound : (p : Pairs) → Among g p (reach (separatedOf g) (only g) (has v) (keptPairs l))
@@ -91,7 +92,7 @@ pub record Settled (g : Game) (v : ℕ) (l m : List ℕ) (r : Bool) : Type 0 whe
   pub none : r ≡ false → Among g (keptPairs l) (reach (separatedOf g) (only g) (has v) (keptPairs l))
 
 pub record Passed (g : Game) (k : ℕ) (l m : List ℕ) (r : Bool) : Type 0 where
-  pub apart : Apart keptAt (stayingAt + g .input .states) l m
+  pub apart : ButFor keptAt (stayingAt + g .input .states) l m
   pub inside : (i o : ℕ) → i < g .input .states → keptPairs m i o ≡ true → keptPairs l i o ≡ true
   pub sound : (bar : Pairs) → Among g (barredRegion (separatedOf g) bar (only g)) (keptPairs l)
       → Among g (barredRegion (separatedOf g) bar (only g)) (keptPairs m)
@@ -101,9 +102,9 @@ pub record Passed (g : Game) (k : ℕ) (l m : List ℕ) (r : Bool) : Type 0 wher
   pub none : r ≡ false → (j : ℕ) → j < k → Among g (keptPairs l) (reach (separatedOf g) (only g) (has (bitsOf (guaranteeAt g 0 j .0))) (keptPairs l))
 
 pub record Freed (g : Game) (k : ℕ) (b l m : List ℕ) : Type 0 where
-  pub apart : Apart keptAt k l m
+  pub apart : ButFor keptAt k l m
   pub row : (i o : ℕ) → i < k → keptPairs m i o ≡ (ltb o (g .output .states) && not (barOf b i o))
 
 pub record Kept (g : Game) (b l m : List ℕ) : Type 0 where
-  pub apart : Apart keptAt (stayingAt + g .input .states) l m
+  pub apart : ButFor keptAt (stayingAt + g .input .states) l m
   pub row : (i : ℕ) → i < g .input .states → getD m i 0 ≡ pack (g .output .states) (barredRegion (separatedOf g) (barOf b) (only g) i)

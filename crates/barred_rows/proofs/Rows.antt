@@ -1,6 +1,6 @@
 -- Whole sets of positions, row by row.
 --
---   apart-self, apart-set, apart-then, apart-wider    : what changes some sets alone
+--   apart-set                  : what changes one set alone
 --   beside-kept                : a row beside those that change
 --   copied-none, copied-next   : rows are copied
 --   emptied-none, emptied-next : rows are emptied
@@ -13,43 +13,28 @@ use mathlib.Core.List.{List}
 use mathlib.Core.Logic.{_⊎_, inl, inr, _≢_}
 use native.Mathlib.Omega.{arith}
 use native.Mathlib.Decide.{ℕ-discrete}
-use lib.ListN.{length, getD, set, length-set}
+use lib.ListN.{length, getD, set}
 use lib.Seq.{getD-set-other, getD-set-same}
-use Rattle.finite.proofs.Truth.{decide, clash, and-intro, and-left, and-right, not-true, same-test, or-left, or-right, or-cases}
+use Rattle.finite.proofs.Truth.{decide, clash, and-intro, and-left, and-right, not-true, same-test, or-left, or-cases}
+use Rattle.finite.specs.But.{ButFor}
+use Rattle.finite.proofs.But.{but-self, but-set, but-then, but-wider}
 use Rattle.bits.specs.Member.{has}
 use Rattle.bits.proofs.Membership.{has-zero}
 use Rattle.bits.proofs.Compare.{nonzero-member}
-use Rattle.barred_rows.specs.Areas.{Apart, Beside, Copied, Emptied, United, Met}
+use Rattle.barred_rows.specs.Areas.{Beside, Copied, Emptied, United, Met}
 
-pub apart-self : (a b : ℕ) (l : List ℕ) → Apart a b l l
-apart-self a b l = record { long = refl; low = λ k h. refl; high = λ k h. refl }
-
-pub apart-set : (l : List ℕ) (k v : ℕ) → Apart k (k + 1) l (set l k v)
-apart-set l k v = record {
-  long = length-set l k v;
-  low = λ q e. getD-set-other l k q v 0 (omega arith);
-  high = λ q e. getD-set-other l k q v 0 (omega arith);
-}
-
-pub apart-then : {a b : ℕ} {l m n : List ℕ} → Apart a b l m → Apart a b m n → Apart a b l n
-apart-then K L = record {
-  long = L .long ∙ K .long;
-  low = λ k h. L .low k h ∙ K .low k h;
-  high = λ k h. L .high k h ∙ K .high k h;
-}
-
-pub apart-wider : {a b : ℕ} (c d : ℕ) {l m : List ℕ} → c ≤ a → b ≤ d → Apart a b l m → Apart c d l m
-apart-wider c d h j K = record { long = K .long; low = λ k e. K .low k (omega arith); high = λ k e. K .high k (omega arith) }
+pub apart-set : (l : List ℕ) (k v : ℕ) → ButFor k (k + 1) l (set l k v)
+apart-set l k v = but-set k (k + 1) l k v (omega arith) (omega arith)
 
 -- one row more
-apart-more : (b i : ℕ) (l m : List ℕ) (v : ℕ) → Apart b (b + i) l m → Apart b (b + (i + 1)) l (set m (b + i) v)
+apart-more : (b i : ℕ) (l m : List ℕ) (v : ℕ) → ButFor b (b + i) l m → ButFor b (b + (i + 1)) l (set m (b + i) v)
 apart-more b i l m v K =
-    apart-then (apart-wider b (b + (i + 1)) (omega arith) (omega arith) K) (apart-wider b (b + (i + 1)) (omega arith) (omega arith) (apart-set m (b + i) v))
+    but-then (but-wider b (b + (i + 1)) (omega arith) (omega arith) K) (but-wider b (b + (i + 1)) (omega arith) (omega arith) (apart-set m (b + i) v))
 
-apart-last : (b i : ℕ) (l m : List ℕ) → Apart b (b + i) l m → Apart b (b + (i + 1)) l m
-apart-last b i l m K = apart-wider b (b + (i + 1)) (omega arith) (omega arith) K
+apart-last : (b i : ℕ) (l m : List ℕ) → ButFor b (b + i) l m → ButFor b (b + (i + 1)) l m
+apart-last b i l m K = but-wider b (b + (i + 1)) (omega arith) (omega arith) K
 
-pub beside-kept : (a b n i k : ℕ) (l m : List ℕ) → Beside a b n → i ≤ n → Apart b (b + i) l m → k < n → getD m (a + k) 0 ≡ getD l (a + k) 0
+pub beside-kept : (a b n i k : ℕ) (l m : List ℕ) → Beside a b n → i ≤ n → ButFor b (b + i) l m → k < n → getD m (a + k) 0 ≡ getD l (a + k) 0
 beside-kept a b n i k l m (inl h) e K q = K .low (a + k) (omega arith)
 beside-kept a b n i k l m (inr h) e K q = K .high (a + k) (omega arith)
 
@@ -65,7 +50,7 @@ module _ (b i : ℕ) (m : List ℕ) (v : ℕ) where
 
 module _ (n a b : ℕ) (l : List ℕ) where
   pub copied-none : Copied 0 a b l l
-  copied-none = record { apart = apart-self b (b + 0) l; row = λ i h. absurd (omega arith) }
+  copied-none = record { apart = but-self b (b + 0) l; row = λ i h. absurd (omega arith) }
 
   pub copied-next : (i : ℕ) (m : List ℕ) (v : ℕ) → Beside a b n → i < n → Copied i a b l m → b + i < length m → v ≡ getD m (a + i) 0
       → Copied (i + 1) a b l (set m (b + i) v)
@@ -79,7 +64,7 @@ module _ (n a b : ℕ) (l : List ℕ) where
 
 module _ (b : ℕ) (l : List ℕ) where
   pub emptied-none : Emptied 0 b l l
-  emptied-none = record { apart = apart-self b (b + 0) l; row = λ i h. absurd (omega arith) }
+  emptied-none = record { apart = but-self b (b + 0) l; row = λ i h. absurd (omega arith) }
 
   pub emptied-next : (i : ℕ) (m : List ℕ) (v : ℕ) → Emptied i b l m → b + i < length m → v ≡ 0 → Emptied (i + 1) b l (set m (b + i) v)
   emptied-next i m v C long e = record { apart = apart-more b i l m v (C .apart); row = λ k q. row k q (ℕ-discrete k i) }
@@ -93,7 +78,7 @@ module _ (b : ℕ) (l : List ℕ) where
 module _ (n a b : ℕ) (B : Beside a b n) (l : List ℕ) where
   pub united-none : United 0 a b l l false
   united-none = record {
-    apart = apart-self b (b + 0) l;
+    apart = but-self b (b + 0) l;
     row = λ i o h. absurd (omega arith);
     some = λ e. clash e refl;
     none = λ e i o h. absurd (omega arith);
@@ -173,7 +158,7 @@ module _ (n a b : ℕ) (B : Beside a b n) (l : List ℕ) where
 module _ (n a b : ℕ) (B : Beside a b n) (l : List ℕ) where
   pub met-none : Met 0 a b l l false
   met-none = record {
-    apart = apart-self b (b + 0) l;
+    apart = but-self b (b + 0) l;
     row = λ i o h. absurd (omega arith);
     some = λ e. clash e refl;
     none = λ e i o h. absurd (omega arith);

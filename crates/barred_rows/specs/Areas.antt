@@ -3,7 +3,6 @@
 --
 --   keptAt, reachedAt, stayingAt             == where they begin
 --   keptPairs l, reachedPairs l, stayingPairs l  == their positions: Z, Y and X of the winning region's definition
---   Apart a b l m                            == m is as long as l, and has its sets but for those from a to b
 --   Beside a b n                             == the n sets from a on are others than the n sets from b on
 --   Copied n a b l m                         == the n sets from a on have been copied to those from b on
 --   Emptied n b l m                          == the n sets from b on are empty
@@ -14,7 +13,8 @@ use mathlib.Core.Path.{_≡_}
 use mathlib.Core.Bool.{Bool, true, false, _&&_, _||_}
 use mathlib.Core.List.{List}
 use mathlib.Core.Logic.{_⊎_}
-use lib.ListN.{length, getD}
+use lib.ListN.{getD}
+use Rattle.finite.specs.But.{ButFor}
 use Rattle.bits.specs.Member.{has}
 use Rattle.barred.specs.Arena.{Pairs}
 
@@ -36,30 +36,25 @@ reachedPairs l i o = has (getD l (reachedAt + i) 0) o
 abbrev pub stayingPairs : List ℕ → Pairs
 stayingPairs l i o = has (getD l (stayingAt + i) 0) o
 
-pub record Apart (a b : ℕ) (l m : List ℕ) : Type 0 where
-  pub long : length m ≡ length l
-  pub low : (k : ℕ) → k < a → getD m k 0 ≡ getD l k 0
-  pub high : (k : ℕ) → b ≤ k → getD m k 0 ≡ getD l k 0
-
 abbrev pub Beside : ℕ → ℕ → ℕ → Type 0
 Beside a b n = (a + n ≤ b) ⊎ (b + n ≤ a)
 
 pub record Copied (n a b : ℕ) (l m : List ℕ) : Type 0 where
-  pub apart : Apart b (b + n) l m
+  pub apart : ButFor b (b + n) l m
   pub row : (i : ℕ) → i < n → getD m (b + i) 0 ≡ getD l (a + i) 0
 
 pub record Emptied (n b : ℕ) (l m : List ℕ) : Type 0 where
-  pub apart : Apart b (b + n) l m
+  pub apart : ButFor b (b + n) l m
   pub row : (i : ℕ) → i < n → getD m (b + i) 0 ≡ 0
 
 pub record United (n a b : ℕ) (l m : List ℕ) (r : Bool) : Type 0 where
-  pub apart : Apart b (b + n) l m
+  pub apart : ButFor b (b + n) l m
   pub row : (i o : ℕ) → i < n → has (getD m (b + i) 0) o ≡ (has (getD l (b + i) 0) o || has (getD l (a + i) 0) o)
   pub some : r ≡ true → (i : ℕ) × (o : ℕ) × (i < n) × (has (getD l (a + i) 0) o ≡ true) × (has (getD l (b + i) 0) o ≡ false)
   pub none : r ≡ false → (i o : ℕ) → i < n → has (getD l (a + i) 0) o ≡ true → has (getD l (b + i) 0) o ≡ true
 
 pub record Met (n a b : ℕ) (l m : List ℕ) (r : Bool) : Type 0 where
-  pub apart : Apart b (b + n) l m
+  pub apart : ButFor b (b + n) l m
   pub row : (i o : ℕ) → i < n → has (getD m (b + i) 0) o ≡ (has (getD l (b + i) 0) o && has (getD l (a + i) 0) o)
   pub some : r ≡ true → (i : ℕ) × (o : ℕ) × (i < n) × (has (getD l (b + i) 0) o ≡ true) × (has (getD l (a + i) 0) o ≡ false)
   pub none : r ≡ false → (i o : ℕ) → i < n → has (getD l (b + i) 0) o ≡ true → has (getD l (a + i) 0) o ≡ true

@@ -15,12 +15,13 @@ use lib.ListN.{length, getD, set}
 use lib.Seq.{getD-set-same}
 use borrow.Author.Tests.{eqb-true, eq-eqb, ltb-true, ltb-false}
 use Rattle.finite.proofs.Truth.{decide, clash, and-intro, and-left, and-right, and-false-right, or-right, or-cases, or-false-left, not-true, same-test}
+use Rattle.finite.proofs.But.{but-self, but-then, but-wider}
 use Rattle.bits.specs.Member.{has}
 use Rattle.bits.proofs.Membership.{has-zero}
 use Rattle.bits.proofs.Compare.{nonzero-member}
 use Rattle.barred.specs.Region.{target}
 use Rattle.barred_rows.specs.Areas.{keptPairs, reachedPairs, stayingPairs, stayingAt}
-use Rattle.barred_rows.proofs.Rows.{apart-self, apart-set, apart-then, apart-wider}
+use Rattle.barred_rows.proofs.Rows.{apart-set}
 use Rattle.barred_stay.specs.Stay.{RowShrunk, Shrunk}
 
 -- ---- the target
@@ -40,7 +41,7 @@ module _ (l : List ℕ) (i r w x old lost : ℕ) (read : old ≡ getD l (staying
 
   pub row-same : lost ≡ 0 → RowShrunk i r w x x l l
   row-same z = record {
-    apart = apart-self (stayingAt + i) (stayingAt + i + 1) l;
+    apart = but-self (stayingAt + i) (stayingAt + i + 1) l;
     row = λ o. same-test (stayingPairs l i o) (stayingPairs l i o && has r o) (λ t. and-intro t (allowed o t)) (λ t. and-left (stayingPairs l i o) (has r o) t);
     more = λ k h. inl h;
     done = λ k h. (h, λ q u o s. allowed o s);
@@ -97,7 +98,7 @@ module _ (l : List ℕ) (i r w x old lost : ℕ) (read : old ≡ getD l (staying
 module _ (rows : List ℕ) (j r w x : ℕ) (l : List ℕ) where
   pub shrunk-none : Shrunk rows 0 j r w x x l l
   shrunk-none = record {
-    apart = apart-self stayingAt (stayingAt + 0) l;
+    apart = but-self stayingAt (stayingAt + 0) l;
     row = λ i o b. absurd (omega arith);
     more = λ k h. inl h;
     done = λ k h. (h, λ u o s. s);
@@ -110,7 +111,7 @@ module _ (rows : List ℕ) (j r w x : ℕ) (l : List ℕ) where
 
     pub shrunk-skip : has (getD rows i 0) j ≡ false → Shrunk rows (i + 1) j r w x y l m
     shrunk-skip f = record {
-      apart = apart-wider stayingAt (stayingAt + (i + 1)) (omega arith) (omega arith) (T .apart);
+      apart = but-wider stayingAt (stayingAt + (i + 1)) (omega arith) (omega arith) (T .apart);
       row = λ k o b. row k o b (ℕ-discrete k i);
       more = λ k h. elim (T .more k h) [ inl a ↦ inl a | inr v ↦ inr (omega (arith, v .0), v .1) ];
       done = T .done;
@@ -137,8 +138,8 @@ module _ (rows : List ℕ) (j r w x : ℕ) (l : List ℕ) where
 
       pub shrunk-next : Shrunk rows (i + 1) j r w x y′ l m′
       shrunk-next = record {
-        apart = apart-then (apart-wider stayingAt (stayingAt + (i + 1)) (omega arith) (omega arith) (T .apart))
-            (apart-wider stayingAt (stayingAt + (i + 1)) (omega arith) (omega arith) (R .apart));
+        apart = but-then (but-wider stayingAt (stayingAt + (i + 1)) (omega arith) (omega arith) (T .apart))
+            (but-wider stayingAt (stayingAt + (i + 1)) (omega arith) (omega arith) (R .apart));
         row = λ k o b. row k o b (ℕ-discrete k i);
         more = λ k h. more k (R .more k h);
         done = λ k h. done k (R .done k h);

@@ -4,8 +4,8 @@
 --   rowsAllowed               == the outputs that have a move into a set
 --   Staying g v w l x m       == from the sets l, the sets m are reached, and the inputs x are left to be followed; v is the goal, w is waited for
 --   staying-start, staying-next, staying-falls, staying-end
-use Prim.Native.Nat.{ℕ, suc, _+_, _*_, _/_, _%_, _^_, _≤_, _<_}
-use mathlib.Core.Path.{_≡_, refl, sym, _∙_, ap, subst}
+use Prim.Native.Nat.{ℕ, _+_, _*_, _/_, _%_, _^_, _≤_, _<_}
+use mathlib.Core.Path.{_≡_, refl, sym, _∙_, ap}
 use mathlib.Core.Bool.{Bool, true, false, _&&_, _||_, not}
 use mathlib.Core.List.{List}
 use mathlib.Core.Logic.{_⊎_, inl, inr, _≢_}
@@ -14,17 +14,19 @@ use native.Mathlib.Omega.{arith}
 use native.Mathlib.Decide.{ℕ-discrete}
 use lib.Arith.{digits-lt, digits-div, digits-mod}
 use lib.Dec.{eqb, ltb}
-use lib.ListN.{length, getD}
+use lib.ListN.{getD}
 use borrow.Author.Tests.{eq-eqb, ne-eqb, ltb-true, lt-ltb}
 use Rattle.finite.specs.Bounded.{least, count, any}
-use Rattle.finite.proofs.Truth.{decide, clash, false-of, and-intro, and-left, and-right, and-false-right, or-cases, not-true, same-test}
+use Rattle.finite.proofs.Truth.{decide, clash, false-of, and-intro, and-left, and-right, not-true, same-test}
 use Rattle.finite.proofs.Bounded.{any-elim, any-false, count-le, count-mono, count-less, least-below, least-member}
+use Rattle.finite.specs.But.{ButFor}
+use Rattle.finite.proofs.But.{but-self, but-then}
 use Rattle.bits.specs.Member.{has, meets, pack}
 use Rattle.bits.proofs.Membership.{has-zero, has-pack-below}
 use Rattle.bits.proofs.Compare.{nonzero-member, meets-intro, meets-elim}
 use Rattle.sets.specs.Words.{capacity, setsIn}
 use Rattle.graphs.specs.Graph.{edge}
-use Rattle.graphs.proofs.Graph.{edge-from, edge-to, edge-intro, edge-moves}
+use Rattle.graphs.proofs.Graph.{edge-to, edge-intro, edge-moves}
 use Rattle.theory.specs.Region.{answers}
 use Rattle.theory.proofs.Region.{answers-intro, answers-elim}
 use Rattle.barred.specs.Arena.{Pairs}
@@ -35,9 +37,8 @@ use Rattle.game.specs.declared.Game.{Game}
 use Rattle.game.specs.declared.Graph.{Graph as Record}
 use Rattle.game.specs.Fits.{Fits, GraphFits}
 use Rattle.play.specs.Play.{graphOf, separatedOf}
-use Rattle.barred_rows.specs.Areas.{keptPairs, reachedPairs, stayingPairs, stayingAt, Apart, Copied}
-use Rattle.barred_rows.proofs.Rows.{apart-self, apart-then}
-use Rattle.barred_stay.specs.Stay.{Within, Shrunk, Followed, Stayed}
+use Rattle.barred_rows.specs.Areas.{keptPairs, reachedPairs, stayingPairs, stayingAt, Copied}
+use Rattle.barred_stay.specs.Stay.{Within, Followed, Stayed}
 
 pub left-lowest : (n x h : ℕ) → n ≤ capacity → ((j : ℕ) → has x j ≡ true → j < n) → x ≢ 0 → h ≡ least capacity (has x) → (h < n) × (has x h ≡ true)
 left-lowest n x h b f ne e =
@@ -85,7 +86,7 @@ module _ (g : Game) (v w : ℕ) (l : List ℕ) where
   entering m = target goal wait Z Y (stayingPairs m)
 
   pub record Staying (x : ℕ) (m : List ℕ) : Type 0 where
-    pub apart : Apart stayingAt (stayingAt + g .input .states) l m
+    pub apart : ButFor stayingAt (stayingAt + g .input .states) l m
     pub inside : (i o : ℕ) → i < g .input .states → stayingPairs m i o ≡ true → keptPairs l i o ≡ true
     pub kept : Sub (separatedOf g) (stay (separatedOf g) goal wait Z Y) (stayingPairs m)
     -- where j is not left, what is staying with an input that moves to j has a reply to j
@@ -98,7 +99,7 @@ module _ (g : Game) (F : Fits g) (v w : ℕ) (l : List ℕ) where
       → ((s : ℕ) → has x s ≡ ltb s (g .input .states)) → Staying g v w l x l
   unfolding separatedOf graphOf
   staying-start x B e = record {
-    apart = apart-self stayingAt (stayingAt + g .input .states) l;
+    apart = but-self stayingAt (stayingAt + g .input .states) l;
     inside = λ i o b h. ap (λ (k : ℕ). has k o) (sym (B i b)) ∙ h;
     kept = sub-intro (separatedOf g)
         (λ i o a b h. ap (λ (k : ℕ). has k o) (B i a) ∙ stay-in (separatedOf g) (has v) (has w) (keptPairs l) (reachedPairs l) i o h);
@@ -165,7 +166,7 @@ module _ (g : Game) (F : Fits g) (v w : ℕ) (l : List ℕ) where
     pub staying-next : Staying g v w l x′ m′
     unfolding separatedOf graphOf
     staying-next = record {
-      apart = apart-then (T .apart) (R .shrunk .apart);
+      apart = but-then (T .apart) (R .shrunk .apart);
       inside = λ i o b h. T .inside i o b (falls i o b h);
       kept = sub-intro (separatedOf g) (λ i o a b h. kept i o a b h);
       clean = clean;
@@ -291,7 +292,7 @@ module _ (g : Game) (F : Fits g) (l k : List ℕ) (B : Copied (g .input .states)
   pub copied-stayed : (v w : ℕ) (m : List ℕ) → Stayed g v w k m → Stayed g v w l m
   unfolding separatedOf graphOf
   copied-stayed v w m T = record {
-    apart = apart-then (B .apart) (T .apart);
+    apart = but-then (B .apart) (T .apart);
     inside = λ i o b h. ap (λ (x : ℕ). has x o) (sym (kept-row i b)) ∙ T .inside i o b h;
     found = λ i o a b. T .found i o a b
         ∙ same-sets (separatedOf g)

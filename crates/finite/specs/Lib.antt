@@ -2,4 +2,5 @@
 pub mod Bounded
 pub mod Lists
 pub mod Tabulate
+pub mod But
 pub mod Rounds

@@ -16,6 +16,7 @@ use lib.Seq.{drop-drop, ext-getD, getD-drop}
 use borrow.Author.Tests.{leb-true, le-leb, lt-leb}
 use Rattle.finite.proofs.Truth.{clash, and-intro}
 use Rattle.finite.proofs.Front.{front-rest}
+use Rattle.finite.specs.But.{ButFor}
 use Rattle.sets.specs.Words.{setsIn, setCount, wordsFor}
 use Rattle.sets.proofs.Rows.{rest-words, words-held}
 use Rattle.theory.specs.Region.{verdict}
@@ -43,7 +44,6 @@ use Rattle.map.specs.Map.{
   mapScratch as plainScratch,
   MapMade,
 }
-use Rattle.barred_rows.specs.Areas.{Apart}
 use Rattle.interlock.specs.declared.Judged.{Judged}
 use Rattle.interlock.specs.declared.Judged.the-variants.{System, Environment, Refused as NotJudged}
 use Rattle.interlock.specs.Bars.{bars, barsInside, oneRequirement, systemWins, BarredFilled}
@@ -69,7 +69,7 @@ use Rattle.interlock.proofs.Bars.{marks-won, filled-unbarred, wins-none
 -- ---- scratch
 
 -- what is past the sets that the region uses is as it was
-pub kept-rest : (s t u : List ℕ) (b : ℕ) → b ≤ 384 → Apart 0 b (setsIn s) (setsIn t) → length t ≡ length s → ((i : ℕ) → getD s i 0 < 2 ^ 64)
+pub kept-rest : (s t u : List ℕ) (b : ℕ) → b ≤ 384 → ButFor 0 b (setsIn s) (setsIn t) → length t ≡ length s → ((i : ℕ) → getD s i 0 < 2 ^ 64)
     → ((i : ℕ) → getD t i 0 < 2 ^ 64) → u ≡ cleared 4096 t → u ≡ cleared 4096 s
 kept-rest s t u b h A e x y q = q ∙ cleared-same 4096 s t rest
   where

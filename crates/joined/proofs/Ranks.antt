@@ -16,6 +16,8 @@ use lib.Arith.{digits-lt, digits-div, digits-mod}
 use lib.ListN.{length, getD, drop, length-drop}
 use lib.Seq.{ext-getD, getD-drop}
 use Rattle.finite.proofs.Truth.{clash, false-of}
+use Rattle.finite.specs.But.{ButFor}
+use Rattle.finite.proofs.But.{but-self, but-then}
 use Rattle.bits.specs.Member.{has, pack}
 use Rattle.bits.proofs.Membership.{ext, has-zero, has-pack-below, has-pack-past}
 use Rattle.theory.specs.Region.{region}
@@ -25,9 +27,9 @@ use Rattle.game.specs.declared.Game.{Game}
 use Rattle.play.specs.Play.{graphOf, separatedOf}
 use Rattle.scratch_clearing.specs.Clearing.{cleared}
 use Rattle.map_marks.specs.Marks.{mapRow}
-use Rattle.joined_reach.specs.Words.{belongs, Small, Kept}
+use Rattle.joined_reach.specs.Words.{belongs, Small}
 use Rattle.joined_reach.specs.Reach.{Counted}
-use Rattle.joined_reach.proofs.Words.{belongs-has, belongs-below, belongs-in, kept-self, kept-then, kept-cleared, cleared-zero}
+use Rattle.joined_reach.proofs.Words.{belongs-has, belongs-below, belongs-in, kept-cleared, cleared-zero}
 use Rattle.joined_component.specs.Component.{won, known}
 use Rattle.joined.specs.Order.{Backward, Advanced, Passed, Solved}
 
@@ -35,7 +37,7 @@ use Rattle.joined.specs.Order.{Backward, Advanced, Passed, Solved}
 
 module _ (g : Game) (n : ℕ) (l : List ℕ) where
   pub passed-start : Backward g n l → Passed g n 0 l l
-  passed-start B = record { kept = kept-self 0 2048 l; backward = B; done = λ c h. absurd (omega arith) }
+  passed-start B = record { kept = but-self 0 2048 l; backward = B; done = λ c h. absurd (omega arith) }
 
   module _ (c : ℕ) (m : List ℕ) (P : Passed g n c l m) (b : c < g .input .states * g .output .states) where
     -- where n positions are ahead, told of scratch
@@ -44,7 +46,7 @@ module _ (g : Game) (n : ℕ) (l : List ℕ) where
 
     pub passed-more : (m′ : List ℕ) → Advanced g n (c / g .output .states) (c % g .output .states) m m′ → Passed g n (c + 1) l m′
     passed-more m′ A = record {
-      kept = kept-then (P .kept) (A .kept);
+      kept = but-then (P .kept) (A .kept);
       backward = A .backward;
       done = λ k h e. done k h e (ℕ-discrete k c);
     }
@@ -67,7 +69,7 @@ module _ (g : Game) (n : ℕ) (l : List ℕ) where
 
 module _ (g : Game) (S : Small g) (l : List ℕ) where
   module _ (l₁ m : List ℕ) (long : 4096 ≤ length l) (C : Counted g l l₁) (e : m ≡ cleared 160 l₁) where
-    clear-kept : Kept 0 160 l₁ m
+    clear-kept : ButFor 0 160 l₁ m
     clear-kept = kept-cleared 160 l₁ m (omega (arith, C .kept .long)) e
 
     none : (a i o : ℕ) → a + 32 ≤ 160 → belongs (g .input .states) a m i o ≡ false
@@ -78,8 +80,8 @@ module _ (g : Game) (S : Small g) (l : List ℕ) where
         (cleared-zero 160 l₁ m e (a + i) (omega (arith, belongs-below (g .input .states) a m i o t, S .inputs)))
         ∙ has-zero o))
 
-    pub begun-kept : Kept 0 2048 l m
-    begun-kept = kept-then (C .kept) (record {
+    pub begun-kept : ButFor 0 2048 l m
+    begun-kept = but-then (C .kept) (record {
       long = clear-kept .long;
       low = λ k h. absurd (omega arith);
       high = λ k h. clear-kept .high k (omega arith);
@@ -120,7 +122,7 @@ module _ (g : Game) (S : Small g) (l : List ℕ) where
           false-of (has (getD l (64 + i) 0) o) (λ t. absurd (b (B .within i o (belongs-has (g .input .states) 64 l i o a ∙ t))))
           ∙ sym (has-pack-past (g .output .states) (region (separatedOf g) i) o (omega arith))
 
-pub kept-drop : (n : ℕ) {a b : ℕ} {l m : List ℕ} → b ≤ n → Kept a b l m → drop n m ≡ drop n l
+pub kept-drop : (n : ℕ) {a b : ℕ} {l m : List ℕ} → b ≤ n → ButFor a b l m → drop n m ≡ drop n l
 kept-drop n {l = l} {m = m} h K =
     ext-getD 0 (drop n m) (drop n l) (length-drop n m ∙ ap (λ (x : ℕ). x - n) (K .long) ∙ sym (length-drop n l))
     (λ k b. getD-drop n m k 0 ∙ K .high (n + k) (omega arith) ∙ sym (getD-drop n l k 0))

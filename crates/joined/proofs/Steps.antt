@@ -13,6 +13,7 @@ use lib.Dec.{eqb}
 use lib.ListN.{getD}
 use borrow.Author.Tests.{eq-eqb}
 use Rattle.finite.proofs.Truth.{and-intro, and-left, or-left, or-right}
+use Rattle.finite.proofs.But.{but-self, but-then, but-wider}
 use Rattle.joint.specs.Joint.{rankAt}
 use Rattle.joint.specs.Solver.{Component, Ahead}
 use Rattle.joint.proofs.Reached.{reached-start}
@@ -22,7 +23,7 @@ use Rattle.game.specs.declared.Game.{Game}
 use Rattle.play.specs.Play.{graphOf, separatedOf}
 use Rattle.joined_reach.specs.Words.{belongs, Small, Ranked}
 use Rattle.joined_reach.specs.Reach.{Reached}
-use Rattle.joined_reach.proofs.Words.{belongs-has, belongs-below, belongs-same, found-has, kept-self, kept-then, kept-wider}
+use Rattle.joined_reach.proofs.Words.{belongs-has, belongs-below, belongs-same, found-has}
 use Rattle.joined_component.specs.Component.{won, known, component, rankedIn, Drawn, Joined}
 use Rattle.joined_settle.specs.Settle.{Unsettled, Settled}
 use Rattle.joined.specs.Order.{Backward, Advanced}
@@ -106,9 +107,9 @@ module _ (g : Game) (S : Small g) (n i o : ℕ) (l : List ℕ) (B : Backward g n
     pub advanced : Advanced g n i o l l₄
     unfolding separatedOf graphOf
     advanced = record {
-      kept = kept-then (kept-wider 0 2048 (omega arith) (omega arith) (R .kept))
-          (kept-then (kept-wider 0 2048 (omega arith) (omega arith) (D .kept))
-          (kept-then (kept-wider 0 2048 (omega arith) (omega arith) (T .swept .kept)) (kept-wider 0 2048 (omega arith) (omega arith) (J .kept))));
+      kept = but-then (but-wider 0 2048 (omega arith) (omega arith) (R .kept))
+          (but-then (but-wider 0 2048 (omega arith) (omega arith) (D .kept))
+          (but-then (but-wider 0 2048 (omega arith) (omega arith) (T .swept .kept)) (but-wider 0 2048 (omega arith) (omega arith) (J .kept))));
       backward = record {
         settled = settled-add (separatedOf g) n (known g l) (won g l) (B .settled) (component g l₂) (known g l₄) (won g l₄) drawn
             (λ j p c d. both j p c)
@@ -125,4 +126,4 @@ module _ (g : Game) (S : Small g) (n i o : ℕ) (l : List ℕ) (B : Backward g n
     }
 
 pub advanced-not : (g : Game) (n i o : ℕ) (l : List ℕ) → Backward g n l → known g l i o ≡ true → Advanced g n i o l l
-advanced-not g n i o l B h = record { kept = kept-self 0 2048 l; backward = B; more = λ j p k. k; here = h }
+advanced-not g n i o l B h = record { kept = but-self 0 2048 l; backward = B; more = λ j p k. k; here = h }

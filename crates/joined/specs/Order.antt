@@ -9,12 +9,13 @@ use mathlib.Core.Path.{_≡_}
 use mathlib.Core.Bool.{true}
 use mathlib.Core.List.{List}
 use lib.ListN.{getD}
+use Rattle.finite.specs.But.{ButFor}
 use Rattle.joint.specs.Joint.{rankAt}
 use Rattle.joint.specs.Solver.{Settled}
 use Rattle.game.specs.declared.Game.{Game}
 use Rattle.play.specs.Play.{separatedOf}
 use Rattle.map_marks.specs.Marks.{mapRow}
-use Rattle.joined_reach.specs.Words.{wonAt, Kept, Ranked}
+use Rattle.joined_reach.specs.Words.{wonAt, Ranked}
 use Rattle.joined_component.specs.Component.{won, known}
 
 pub record Backward (g : Game) (n : ℕ) (l : List ℕ) : Type 0 where
@@ -23,13 +24,13 @@ pub record Backward (g : Game) (n : ℕ) (l : List ℕ) : Type 0 where
   pub within : (i o : ℕ) → won g l i o ≡ true → o < g .output .states
 
 pub record Advanced (g : Game) (n i o : ℕ) (l m : List ℕ) : Type 0 where
-  pub kept : Kept 0 2048 l m
+  pub kept : ButFor 0 2048 l m
   pub backward : Backward g n m
   pub more : (j p : ℕ) → known g l j p ≡ true → known g m j p ≡ true
   pub here : known g m i o ≡ true
 
 pub record Passed (g : Game) (n k : ℕ) (l m : List ℕ) : Type 0 where
-  pub kept : Kept 0 2048 l m
+  pub kept : ButFor 0 2048 l m
   pub backward : Backward g n m
   pub done : (c : ℕ) → c < k → rankAt (separatedOf g) (c / g .output .states) (c % g .output .states) ≡ n
       → known g m (c / g .output .states) (c % g .output .states) ≡ true

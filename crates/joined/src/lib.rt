@@ -3,6 +3,7 @@ ghost use mathlib.Core.Path.{_≡_};
 ghost use mathlib.Core.Bool.{false};
 ghost use Prim.Native.Nat.{_*_, _+_, _≤_, _<_};
 ghost use lib.ListN.{length};
+ghost use Rattle.finite.specs.But.{ButFor};
 ghost use Rattle.sets.specs.Words.{setCount};
 ghost use Rattle.joint.specs.Joint.{rankAt};
 ghost use Rattle.game.specs.declared.Acceptance.the-variants.{Accepted};
@@ -10,7 +11,7 @@ ghost use Rattle.game.specs.Acceptance.{acceptance};
 ghost use Rattle.play.specs.Play.{separatedOf};
 ghost use Rattle.scratch_clearing.specs.Clearing.{cleared};
 ghost use Rattle.map_marks.specs.Marks.{MapFilled};
-ghost use Rattle.joined_reach.specs.Words.{Small, Kept};
+ghost use Rattle.joined_reach.specs.Words.{Small};
 ghost use Rattle.joined_component.specs.Component.{known};
 ghost use Rattle.joined.specs.Order.{Backward, Advanced, Passed, Solved};
 ghost use Rattle.joined.specs.Joined.{JoinedMade};
@@ -85,7 +86,7 @@ fn settle_rank(g: Game, ins: &[u64; ROW_WORDS], outs: &[u64; ROW_WORDS], s: &mut
 // Marks the won positions. The last components have the fewest positions ahead, so they are settled first.
 fn solve<'a>(g: Game, ins: &'a [u64; ROW_WORDS], outs: &'a [u64; ROW_WORDS], s: &mut [u64])
     requires { ⌜ Small g × (4096 ≤ length (now s)) × (now ins ≡ g .input .moves) × (now outs ≡ g .output .moves) ⌝ }
-    ensures { λ _. ⌜ Kept 0 2048 (now (s .entry)) (now (s .exit)) × Solved g (now (s .exit)) ⌝ }
+    ensures { λ _. ⌜ ButFor 0 2048 (now (s .entry)) (now (s .exit)) × Solved g (now (s .exit)) ⌝ }
 {
     joined_reach::count_ahead(g, ins, outs, s);
     scratch_clearing::clear(s, 160);

@@ -13,10 +13,10 @@ use native.Mathlib.Decide.{ℕ-discrete}
 use lib.Dec.{eqb}
 use lib.ListN.{length, getD, set}
 use lib.Seq.{getD-set-same, getD-set-other}
+use Rattle.finite.specs.But.{ButFor}
+use Rattle.finite.proofs.But.{but-self, but-set, but-then}
 use Rattle.bits.specs.Member.{has}
 use Rattle.game.specs.declared.Game.{Game}
-use Rattle.joined_reach.specs.Words.{Kept}
-use Rattle.joined_reach.proofs.Words.{kept-self, kept-set, kept-then}
 use Rattle.joined_component.specs.Component.{rankedIn, Drawn, Joined}
 
 -- with at most 32 states a graph there are at most 1,024 positions
@@ -28,11 +28,11 @@ few-ahead m i o a b c =
 -- ---- the component
 
 pub record Drawing (g : Game) (n i : ℕ) (l m : List ℕ) : Type 0 where
-  pub kept : Kept 128 160 l m
+  pub kept : ButFor 128 160 l m
   pub rows : (k o : ℕ) → k < i → has (getD m (128 + k) 0) o ≡ (has (getD l k 0) o && rankedIn l (g .output .states) k n o)
 
 pub drawing-start : (g : Game) (n : ℕ) (l : List ℕ) → Drawing g n 0 l l
-drawing-start g n l = record { kept = kept-self 128 160 l; rows = λ k o b. absurd (omega arith) }
+drawing-start g n l = record { kept = but-self 128 160 l; rows = λ k o b. absurd (omega arith) }
 
 module _ (g : Game) (n i : ℕ) (l m : List ℕ) (D : Drawing g n i l m) where
   -- what is read is not written
@@ -46,7 +46,7 @@ module _ (g : Game) (n i : ℕ) (l m : List ℕ) (D : Drawing g n i l m) where
   pub drawing-more : (v : ℕ) → i < 32 → 4096 ≤ length l
       → ((o : ℕ) → has v o ≡ (has (getD m i 0) o && rankedIn m (g .output .states) i n o)) → Drawing g n (i + 1) l (set m (128 + i) v)
   drawing-more v b long e = record {
-    kept = kept-then (D .kept) (kept-set 128 160 m (128 + i) v (omega arith) (omega arith));
+    kept = but-then (D .kept) (but-set 128 160 m (128 + i) v (omega arith) (omega arith));
     rows = λ k o h. rows k o h (ℕ-discrete k i);
   }
     where
@@ -64,18 +64,18 @@ module _ (g : Game) (n i : ℕ) (l m : List ℕ) (D : Drawing g n i l m) where
 -- ---- a set that the component joins
 
 pub record Joining (a i : ℕ) (l m : List ℕ) : Type 0 where
-  pub kept : Kept a (a + 32) l m
+  pub kept : ButFor a (a + 32) l m
   pub rows : (k o : ℕ) → k < i → has (getD m (a + k) 0) o ≡ (has (getD l (a + k) 0) o || has (getD l (128 + k) 0) o)
   pub rest : (k : ℕ) → i ≤ k → getD m (a + k) 0 ≡ getD l (a + k) 0
 
 pub joining-start : (a : ℕ) (l : List ℕ) → Joining a 0 l l
-joining-start a l = record { kept = kept-self a (a + 32) l; rows = λ k o b. absurd (omega arith); rest = λ k b. refl }
+joining-start a l = record { kept = but-self a (a + 32) l; rows = λ k o b. absurd (omega arith); rest = λ k b. refl }
 
 module _ (a i : ℕ) (l m : List ℕ) (J : Joining a i l m) (fits : a + 32 ≤ 128) where
   pub joining-more : (v : ℕ) → i < 32 → 4096 ≤ length l → ((o : ℕ) → has v o ≡ (has (getD m (a + i) 0) o || has (getD m (128 + i) 0) o))
       → Joining a (i + 1) l (set m (a + i) v)
   joining-more v b long e = record {
-    kept = kept-then (J .kept) (kept-set a (a + 32) m (a + i) v (omega arith) (omega arith));
+    kept = but-then (J .kept) (but-set a (a + 32) m (a + i) v (omega arith) (omega arith));
     rows = λ k o h. rows k o h (ℕ-discrete k i);
     rest = λ k h. getD-set-other m (a + i) (a + k) v 0 (λ q. omega arith) ∙ J .rest k (omega arith);
   }

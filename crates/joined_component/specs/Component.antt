@@ -15,12 +15,13 @@ use mathlib.Core.List.{List}
 use lib.Dec.{eqb}
 use lib.ListN.{getD}
 use Rattle.finite.specs.Bounded.{all}
+use Rattle.finite.specs.But.{ButFor}
 use Rattle.bits.specs.Member.{has, meets}
 use Rattle.sets.specs.Words.{capacity, bitsOf}
 use Rattle.game.specs.declared.Game.{Game}
 use Rattle.game.specs.declared.Requirement.{Requirement}
 use Rattle.game.specs.Access.{noInput, noOutput, requirementAt}
-use Rattle.joined_reach.specs.Words.{wonAt, knownAt, componentAt, aheadAt, belongs, Kept}
+use Rattle.joined_reach.specs.Words.{wonAt, knownAt, componentAt, aheadAt, belongs}
 
 abbrev pub won : Game → List ℕ → ℕ → ℕ → Bool
 won g l = belongs (g .input .states) wonAt l
@@ -35,7 +36,7 @@ unfoldable pub rankedIn : List ℕ → ℕ → ℕ → ℕ → ℕ → Bool
 rankedIn l m i n o = eqb (getD l (aheadAt + (i * m + o)) 0) n
 
 pub record Drawn (g : Game) (n : ℕ) (l m : List ℕ) : Type 0 where
-  pub kept : Kept 128 160 l m
+  pub kept : ButFor 128 160 l m
   pub rows : (i o : ℕ) → i < g .input .states
       → has (getD m (componentAt + i) 0) o ≡ (has (getD l i 0) o && rankedIn l (g .output .states) i n o)
 
@@ -62,5 +63,5 @@ pub record Rows (g : Game) (l : List ℕ) : Type 0 where
   pub outputs : (i o : ℕ) → component g l i o ≡ true → o < g .output .states
 
 pub record Joined (g : Game) (a : ℕ) (l m : List ℕ) : Type 0 where
-  pub kept : Kept a (a + 32) l m
+  pub kept : ButFor a (a + 32) l m
   pub rows : (i o : ℕ) → i < g .input .states → has (getD m (a + i) 0) o ≡ (has (getD l (a + i) 0) o || has (getD l (componentAt + i) 0) o)

@@ -2,7 +2,7 @@
 --
 --   counted-start, counted-more, counted-end    : counting row by row
 --   Ranking, ranking-start, -more, -end         : the numbers of positions ahead, written one after the other
-use Prim.Native.Nat.{ℕ, _+_, _*_, _/_, _%_, _-_, _≤_, _<_}
+use Prim.Native.Nat.{ℕ, _+_, _*_, _/_, _%_, _≤_, _<_}
 use native.Mathlib.Nat.{le-trans, mul-le-mul-left, suc-mul, zero-mul, div-lt-iff-lt-mul, mod-lt}
 use native.Mathlib.Numerals.{add-one}
 use mathlib.Core.Path.{_≡_, refl, sym, _∙_, ap, ap₂}
@@ -15,14 +15,16 @@ use lib.Seq.{getD-set-same, getD-set-other}
 use Rattle.finite.specs.Bounded.{count, one}
 use Rattle.finite.proofs.Truth.{false-of}
 use Rattle.finite.proofs.Bounded.{count-same, count-wide}
+use Rattle.finite.specs.But.{ButFor}
+use Rattle.finite.proofs.But.{but-self, but-set, but-then, but-wider}
 use Rattle.bits.specs.Member.{has}
 use Rattle.joint.specs.Joint.{rankAt}
 use Rattle.joint.proofs.Reached.{count-add, rankAt-count, factor}
 use Rattle.game.specs.declared.Game.{Game}
 use Rattle.play.specs.Play.{graphOf, separatedOf}
-use Rattle.joined_reach.specs.Words.{belongs, Small, Kept, Ranked}
+use Rattle.joined_reach.specs.Words.{belongs, Small, Ranked}
 use Rattle.joined_reach.specs.Reach.{Within, Reached, foundBelow, Counted}
-use Rattle.joined_reach.proofs.Words.{found-has, kept-self, kept-set, kept-then, kept-wider}
+use Rattle.joined_reach.proofs.Words.{found-has}
 
 module _ (g : Game) (S : Small g) (l : List ℕ) (W : Within g l) where
   pub counted-start : 0 ≡ foundBelow g l (0 * g .output .states)
@@ -55,11 +57,11 @@ module _ (g : Game) (S : Small g) (l : List ℕ) (W : Within g l) where
 -- ---- all positions
 
 pub record Ranking (g : Game) (c : ℕ) (l m : List ℕ) : Type 0 where
-  pub kept : Kept 0 2048 l m
+  pub kept : ButFor 0 2048 l m
   pub ranked : Ranked g c m
 
 pub ranking-start : (g : Game) (l : List ℕ) → Ranking g 0 l l
-ranking-start g l = record { kept = kept-self 0 2048 l; ranked = record { ahead = λ c b. absurd (omega arith) } }
+ranking-start g l = record { kept = but-self 0 2048 l; ranked = record { ahead = λ c b. absurd (omega arith) } }
 
 -- the two parts of a position's number
 pub parts : (g : Game) (c : ℕ) → c < g .input .states * g .output .states
@@ -78,8 +80,8 @@ module _ (g : Game) (S : Small g) (l m : List ℕ) (c : ℕ) (R : Ranking g c l 
       → n ≡ foundBelow g m′ (g .input .states * g .output .states) → Ranking g (c + 1) l (set m′ (1024 + c) n)
   unfolding separatedOf graphOf foundBelow
   ranking-more m′ C n e = record {
-    kept = kept-then (kept-then (R .kept) (kept-wider 0 2048 (omega arith) (omega arith) (C .kept)))
-        (kept-set 0 2048 m′ (1024 + c) n (omega arith) (omega (arith, few-positions g S)));
+    kept = but-then (but-then (R .kept) (but-wider 0 2048 (omega arith) (omega arith) (C .kept)))
+        (but-set 0 2048 m′ (1024 + c) n (omega arith) (omega (arith, few-positions g S)));
     ranked = record { ahead = λ k h. ahead k h (ℕ-discrete k c) };
   }
     where

@@ -33,6 +33,8 @@ use Rattle.finite.proofs.Truth.{
   not-false,
 }
 use Rattle.finite.proofs.Bounded.{all-elim, all-false, count-le}
+use Rattle.finite.specs.But.{ButFor}
+use Rattle.finite.proofs.But.{but-self, but-set, but-then, but-wider}
 use Rattle.bits.specs.Member.{has, implies, subset}
 use Rattle.bits.proofs.Membership.{has-zero, has-lt}
 use Rattle.bits.proofs.Visit.{small-word, lowest-below, lowest-in, lowest-less}
@@ -44,20 +46,9 @@ use Rattle.joint.proofs.Close.{closing-start, closing-taken, closing-grows, clo
 use Rattle.game.specs.declared.Game.{Game}
 use Rattle.play.specs.Play.{graphOf, separatedOf}
 use Rattle.scratch_clearing.specs.Clearing.{cleared}
-use Rattle.joined_reach.specs.Words.{belongs, Small, Kept}
+use Rattle.joined_reach.specs.Words.{belongs, Small}
 use Rattle.joined_reach.specs.Reach.{Next, Grown, Entered, Waiting, Followed, Reached}
-use Rattle.joined_reach.proofs.Words.{
-  belongs-has,
-  belongs-below,
-  belongs-in,
-  found-has,
-  kept-self,
-  kept-set,
-  kept-then,
-  kept-wider,
-  kept-cleared,
-  cleared-zero,
-}
+use Rattle.joined_reach.proofs.Words.{belongs-has, belongs-below, belongs-in, found-has, kept-cleared, cleared-zero}
 
 -- ---- the outputs that members of a set move to
 
@@ -159,7 +150,7 @@ module _ (j y w : ℕ) (l : List ℕ) where
 pub record Entering (x y w rest w′ : ℕ) (l m : List ℕ) : Type 0 where
   pub small : rest < 2 ^ 64
   pub inside : (k : ℕ) → has rest k ≡ true → has x k ≡ true
-  pub kept : Kept 0 32 l m
+  pub kept : ButFor 0 32 l m
   pub untouched : (k : ℕ) → has rest k ≡ true → getD m k 0 ≡ getD l k 0
   pub found : (k q : ℕ) → has rest k ≡ false → has (getD m k 0) q ≡ (has (getD l k 0) q || (has x k && has y q))
   pub waits : (k : ℕ) → has w′ k ≡ true → (has w k ≡ true) ⊎ ((q : ℕ) × (has (getD m k 0) q ≡ true) × (has (getD l k 0) q ≡ false))
@@ -171,7 +162,7 @@ module _ (x y w : ℕ) (l : List ℕ) where
   entering-start b = record {
     small = b;
     inside = λ k h. h;
-    kept = kept-self 0 32 l;
+    kept = but-self 0 32 l;
     untouched = λ k h. refl;
     found = λ k q h. rw h (sym (or-none (has (getD l k 0) q) refl));
     waits = λ k h. inl h;
@@ -198,7 +189,7 @@ module _ (x y w : ℕ) (l : List ℕ) where
         entering-more a b v′ m′ G = record {
           small = b;
           inside = λ k h. E .inside k (less-in rest j t without k h);
-          kept = kept-then (E .kept) grew;
+          kept = but-then (E .kept) grew;
           untouched = λ k h. G .others k (apart k h) ∙ E .untouched k (less-in rest j t without k h);
           found = λ k q h. found k q h (ℕ-discrete k j);
           waits = λ k h. waits k (G .waits k h);
@@ -206,7 +197,7 @@ module _ (x y w : ℕ) (l : List ℕ) where
           inputs = λ k h. inputs k (G .waits k h);
         }
           where
-            grew : Kept 0 32 m m′
+            grew : ButFor 0 32 m m′
             grew = record {
               long = G .long;
               low = λ k h. absurd (omega arith);
@@ -348,8 +339,8 @@ module _ (g : Game) (S : Small g) (w : ℕ) (l : List ℕ) (W : Waiting g w l) (
 
       pub followed : Followed g w w′ l m
       followed = record {
-        kept = kept-then (kept-set 0 64 l (32 + r) (getD l r 0) (omega arith) (omega (arith, follow-below, S .inputs)))
-            (kept-wider 0 64 (omega arith) (omega arith) (E .kept));
+        kept = but-then (but-set 0 64 l (32 + r) (getD l r 0) (omega arith) (omega (arith, follow-below, S .inputs)))
+            (but-wider 0 64 (omega arith) (omega arith) (E .kept));
         next = y;
         taken = rw e at taken;
         inputs = λ k h. elim (E .inputs k h) [ inl a ↦ inl (without-r k a .1) | inr a ↦ inr a ];
@@ -358,7 +349,7 @@ module _ (g : Game) (S : Small g) (w : ℕ) (l : List ℕ) (W : Waiting g w l) (
 -- ---- what is found while rows wait
 
 pub record Closed (g : Game) (i o : ℕ) (l : List ℕ) (w : ℕ) (m : List ℕ) : Type 0 where
-  pub kept : Kept 0 64 l m
+  pub kept : ButFor 0 64 l m
   pub inputs : (j : ℕ) → has w j ≡ true → j < g .input .states
   pub closing : Closing (separatedOf g) i o (has w) (belongs (g .input .states) 32 m) (belongs (g .input .states) 0 m)
 
@@ -372,16 +363,16 @@ unfolding followedCount
 followed-most g m =
     count-le (g .input .states * g .output .states) (λ c. belongs (g .input .states) 32 m (c / g .output .states) (c % g .output .states))
 
-pub begun-kept : (g : Game) (i v : ℕ) (l m : List ℕ) → i < g .input .states → Small g → 4096 ≤ length l → m ≡ cleared 64 l → Kept 0 64 l (set m i v)
+pub begun-kept : (g : Game) (i v : ℕ) (l m : List ℕ) → i < g .input .states → Small g → 4096 ≤ length l → m ≡ cleared 64 l → ButFor 0 64 l (set m i v)
 begun-kept g i v l m a S long e =
-    kept-then (kept-cleared 64 l m (omega arith) e) (kept-set 0 64 m i v (omega arith) (omega (arith, S .inputs)))
+    but-then (kept-cleared 64 l m (omega arith) e) (but-set 0 64 m i v (omega arith) (omega (arith, S .inputs)))
 
 module _ (g : Game) (i o : ℕ) (l : List ℕ) where
   pub closed-start : i < g .input .states → o < g .output .states → Small g → 4096 ≤ length l → (w v : ℕ) (m : List ℕ) → m ≡ cleared 64 l
       → ((q : ℕ) → has v q ≡ (has 0 q || eqb q o)) → ((k : ℕ) → has w k ≡ (has 0 k || eqb k i)) → Closed g i o (set m i v) w (set m i v)
   unfolding separatedOf graphOf
   closed-start a b S long w v m e f h = record {
-    kept = kept-self 0 64 (set m i v);
+    kept = but-self 0 64 (set m i v);
     inputs = λ j c. rw (waits j c) a;
     closing = closing-start (separatedOf g) i o a b (has w) (belongs (g .input .states) 32 (set m i v)) (belongs (g .input .states) 0
         (set m i v)) root only none (λ j c d z. rest j d z)
@@ -433,7 +424,7 @@ module _ (g : Game) (i o : ℕ) (l : List ℕ) where
     module _ (w′ : ℕ) (m′ : List ℕ) (F : Followed g w w′ m m′) where
       pub closed-more : Closed g i o l w′ m′
       closed-more = record {
-        kept = kept-then (C .kept) (F .kept);
+        kept = but-then (C .kept) (F .kept);
         inputs = λ j h. elim (F .inputs j h) [ inl a ↦ C .inputs j a | inr a ↦ a ];
         closing = closing-taken (separatedOf g) i o (has w) (belongs (g .input .states) 32 m) (belongs (g .input .states) 0 m) (C .closing)
             (least 64 (has w)) (has (F .next)) (has w′) (belongs (g .input .states) 32 m′) (belongs (g .input .states) 0 m′) (F .taken);
@@ -446,10 +437,10 @@ module _ (g : Game) (i o : ℕ) (l : List ℕ) where
           (least 64 (has w)) (has (F .next)) (has w′) (belongs (g .input .states) 32 m′) (belongs (g .input .states) 0 m′) (F .taken)
           (lowest-in 64 w (least 64 (has w)) (small-word 64 w (λ j h. omega (arith, C .inputs j h, S .inputs))) ne refl)
 
-    pub closed-end : {d : List ℕ} → Kept 0 64 d l → w ≡ 0 → Reached g i o d m
+    pub closed-end : {d : List ℕ} → ButFor 0 64 d l → w ≡ 0 → Reached g i o d m
     unfolding separatedOf graphOf
     closed-end K z = record {
-      kept = kept-then K (C .kept);
+      kept = but-then K (C .kept);
       within = closed-waiting .within;
       found = λ j p a b. sym (found-has (g .input .states) m j p a)
           ∙ closing-end (separatedOf g) i o (has w) (belongs (g .input .states) 32 m) (belongs (g .input .states) 0 m) (C .closing)

@@ -6,8 +6,8 @@
 --   move-below                                : what an input moves to is an input
 --   belongs-has, belongs-below, belongs-in    : what belongs to a set
 --   found-has                                 : what belongs to the set of found positions, whose rows stand first
---   kept-self, kept-set, kept-cleared         : what changes some words alone
---   kept-then, kept-wider                     : one change after the other; a wider span
+--   kept-cleared             : what changes the front words alone
+--   but-then, but-wider                     : one change after the other; a wider span
 --   cleared-zero                              : words that are cleared
 use Prim.Native.Nat.{ℕ, _+_, _-_, _^_, _≤_, _<_}
 use mathlib.Core.Path.{_≡_, refl, sym, _∙_, ap}
@@ -18,11 +18,13 @@ use native.Mathlib.Nat.{zero-add}
 use native.Mathlib.Omega.{arith}
 use native.Mathlib.Decide.{decLt}
 use lib.Dec.{ltb}
-use lib.ListN.{length, getD, set, drop, length-set}
-use lib.Seq.{getD-set-other, getD-drop}
+use lib.ListN.{length, getD, set, drop}
+use lib.Seq.{getD-drop}
 use borrow.Author.Tests.{lt-ltb, ltb-true}
 use Rattle.finite.proofs.Truth.{decide, same-test, and-left, and-right, and-intro}
 use Rattle.finite.proofs.Front.{front-length, front-rest, front-at}
+use Rattle.finite.specs.But.{ButFor}
+use Rattle.finite.proofs.But.{but-self, but-set, but-then, but-wider}
 use Rattle.bits.specs.Member.{has}
 use Rattle.bits.proofs.Membership.{has-zero, has-past, ext}
 use Rattle.sets.specs.declared.Set.{Set}
@@ -38,7 +40,7 @@ use Rattle.game.specs.declared.OutState.{OutState}
 use Rattle.game.specs.Fits.{GraphFits}
 use Rattle.play.specs.Play.{graphOf}
 use Rattle.scratch_clearing.specs.Clearing.{cleared}
-use Rattle.joined_reach.specs.Words.{belongs, Small, Kept}
+use Rattle.joined_reach.specs.Words.{belongs, Small}
 
 -- ---- words
 
@@ -126,31 +128,11 @@ found-has n l i o b = belongs-has n 0 l i o b ∙ ap (λ (k : ℕ). has (getD l 
 
 -- ---- words that stay
 
-pub kept-self : (a b : ℕ) (l : List ℕ) → Kept a b l l
-kept-self a b l = record { long = refl; low = λ k h. refl; high = λ k h. refl }
-
-pub kept-set : (a b : ℕ) (l : List ℕ) (k v : ℕ) → a ≤ k → k < b → Kept a b l (set l k v)
-kept-set a b l k v h j = record {
-  long = length-set l k v;
-  low = λ q e. getD-set-other l k q v 0 (omega arith);
-  high = λ q e. getD-set-other l k q v 0 (omega arith);
-}
-
 pub cleared-zero : (n : ℕ) (l m : List ℕ) → m ≡ cleared n l → (k : ℕ) → k < n → getD m k 0 ≡ 0
 unfolding cleared
 cleared-zero n l m e k b = ap (λ (x : List ℕ). getD x k 0) e ∙ front-at (λ k. 0) l n k 0 b
 
-pub kept-then : {a b : ℕ} {l m n : List ℕ} → Kept a b l m → Kept a b m n → Kept a b l n
-kept-then {l = l} K L = record {
-  long = L .long ∙ K .long;
-  low = λ k h. L .low k h ∙ K .low k h;
-  high = λ k h. L .high k h ∙ K .high k h;
-}
-
-pub kept-wider : {a b : ℕ} (c d : ℕ) {l m : List ℕ} → c ≤ a → b ≤ d → Kept a b l m → Kept c d l m
-kept-wider c d h j K = record { long = K .long; low = λ k e. K .low k (omega arith); high = λ k e. K .high k (omega arith) }
-
-pub kept-cleared : (n : ℕ) (l m : List ℕ) → n ≤ length l → m ≡ cleared n l → Kept 0 n l m
+pub kept-cleared : (n : ℕ) (l m : List ℕ) → n ≤ length l → m ≡ cleared n l → ButFor 0 n l m
 unfolding cleared
 kept-cleared n l m b e = record {
   long = ap length e ∙ front-length (λ k. 0) l n b;

@@ -16,13 +16,14 @@ use mathlib.Core.Logic.{_⊎_, _≢_}
 use mathlib.Core.List.{List}
 use lib.ListN.{length, getD}
 use Rattle.finite.specs.Bounded.{least, count}
+use Rattle.finite.specs.But.{ButFor}
 use Rattle.bits.specs.Member.{has}
 use Rattle.graphs.specs.Graph.{edge}
 use Rattle.joint.specs.Joint.{reachesAt}
 use Rattle.joint.specs.Close.{Taken}
 use Rattle.game.specs.declared.Game.{Game}
 use Rattle.play.specs.Play.{graphOf, separatedOf}
-use Rattle.joined_reach.specs.Words.{foundAt, followedAt, belongs, Kept, Ranked}
+use Rattle.joined_reach.specs.Words.{foundAt, followedAt, belongs, Ranked}
 
 pub record Next (g : Game) (x r : ℕ) : Type 0 where
   pub new : (q : ℕ) → has r q ≡ true → (p : ℕ) × (has x p ≡ true) × (edge (graphOf (g .output)) p q ≡ true)
@@ -37,7 +38,7 @@ pub record Grown (j y w w′ : ℕ) (l m : List ℕ) : Type 0 where
   pub still : (k : ℕ) → has w′ k ≡ false → (has w k ≡ false) × (k ≡ j → (q : ℕ) → has y q ≡ true → has (getD l j 0) q ≡ true)
 
 pub record Entered (g : Game) (r y w w′ : ℕ) (l m : List ℕ) : Type 0 where
-  pub kept : Kept 0 32 l m
+  pub kept : ButFor 0 32 l m
   pub found : (k q : ℕ) → k < g .input .states → has (getD m k 0) q ≡ (has (getD l k 0) q || (edge (graphOf (g .input)) r k && has y q))
   pub waits : (k : ℕ) → has w′ k ≡ true → (has w k ≡ true) ⊎ ((q : ℕ) × (has (getD m k 0) q ≡ true) × (has (getD l k 0) q ≡ false))
   pub still : (k : ℕ) → has w′ k ≡ false → (has w k ≡ false) × ((q : ℕ) → has (getD m k 0) q ≡ true → has (getD l k 0) q ≡ true)
@@ -51,14 +52,14 @@ pub record Waiting (g : Game) (w : ℕ) (l : List ℕ) : Type 0 where
   pub within : Within g l
 
 pub record Followed (g : Game) (w w′ : ℕ) (l m : List ℕ) : Type 0 where
-  pub kept : Kept 0 64 l m
+  pub kept : ButFor 0 64 l m
   pub next : ℕ
   pub taken : Taken (separatedOf g) (least 64 (has w)) (has next) (has w) (belongs (g .input .states) followedAt l) (belongs (g .input .states) foundAt l)
       (has w′) (belongs (g .input .states) followedAt m) (belongs (g .input .states) foundAt m)
   pub inputs : (k : ℕ) → has w′ k ≡ true → (has w k ≡ true) ⊎ (k < g .input .states)
 
 pub record Reached (g : Game) (i o : ℕ) (l m : List ℕ) : Type 0 where
-  pub kept : Kept 0 64 l m
+  pub kept : ButFor 0 64 l m
   pub within : Within g m
   pub found : (j p : ℕ) → j < g .input .states → p < g .output .states → has (getD m j 0) p ≡ reachesAt (separatedOf g) i o j p
 
@@ -66,5 +67,5 @@ unfoldable pub foundBelow : Game → List ℕ → ℕ → ℕ
 foundBelow g l k = count k (λ c. belongs (g .input .states) foundAt l (c / g .output .states) (c % g .output .states))
 
 pub record Counted (g : Game) (l m : List ℕ) : Type 0 where
-  pub kept : Kept 0 2048 l m
+  pub kept : ButFor 0 2048 l m
   pub ranked : Ranked g (g .input .states * g .output .states) m

@@ -4,14 +4,13 @@
 --   foundAt, followedAt, wonAt, knownAt, componentAt, aheadAt    == where they begin
 --   belongs n a l i o      == (i, o) belongs to the set of n inputs that begins at word a of l
 --   Small g                == g is accepted, and has at most 32 states a graph
---   Kept a b l m           == m is as long as l, and has its words but for those from a to b
 --   Ranked g k l           == l tells of the first k positions how many each reaches
 use Prim.Native.Nat.{ℕ, _+_, _/_, _%_, _≤_, _<_}
 use mathlib.Core.Path.{_≡_}
 use mathlib.Core.Bool.{Bool, _&&_}
 use mathlib.Core.List.{List}
 use lib.Dec.{ltb}
-use lib.ListN.{length, getD}
+use lib.ListN.{getD}
 use Rattle.bits.specs.Member.{has}
 use Rattle.joint.specs.Joint.{rankAt}
 use Rattle.game.specs.declared.Game.{Game}
@@ -44,11 +43,6 @@ pub record Small (g : Game) : Type 0 where
   pub fits : Fits g
   pub inputs : g .input .states ≤ 32
   pub outputs : g .output .states ≤ 32
-
-pub record Kept (a b : ℕ) (l m : List ℕ) : Type 0 where
-  pub long : length m ≡ length l
-  pub low : (k : ℕ) → k < a → getD m k 0 ≡ getD l k 0
-  pub high : (k : ℕ) → b ≤ k → getD m k 0 ≡ getD l k 0
 
 pub record Ranked (g : Game) (k : ℕ) (l : List ℕ) : Type 0 where
   pub ahead : (c : ℕ) → c < k → getD l (aheadAt + c) 0 ≡ rankAt (separatedOf g) (c / g .output .states) (c % g .output .states)

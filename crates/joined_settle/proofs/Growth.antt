@@ -13,6 +13,8 @@ use lib.Arith.{digits-lt, digits-div, digits-mod}
 use lib.ListN.{length, getD, set}
 use Rattle.finite.proofs.Truth.{clash, false-of, and-intro, and-left, and-right, and-false-right, or-left, or-right, or-cases, not-true, same-test}
 use Rattle.finite.proofs.Bounded.{count-less}
+use Rattle.finite.specs.But.{ButFor}
+use Rattle.finite.proofs.But.{but-self, but-then}
 use Rattle.bits.specs.Member.{has}
 use Rattle.bits.proofs.Membership.{has-zero}
 use Rattle.bits.proofs.Compare.{nonzero-member}
@@ -22,14 +24,14 @@ use Rattle.joint.proofs.Forced.{forces-won}
 use Rattle.joint.proofs.Settled.{ahead-kept, below-put}
 use Rattle.game.specs.declared.Game.{Game}
 use Rattle.play.specs.Play.{graphOf, separatedOf}
-use Rattle.joined_reach.specs.Words.{Small, Kept}
-use Rattle.joined_reach.proofs.Words.{belongs-has, belongs-below, kept-self, kept-then}
+use Rattle.joined_reach.specs.Words.{Small}
+use Rattle.joined_reach.proofs.Words.{belongs-has, belongs-below}
 use Rattle.joined_component.specs.Component.{won, component}
 use Rattle.joined_settle.specs.Settle.{Growing, missing, Grew}
 use Rattle.joined_settle.proofs.Replies.{component-same, set-kept, set-here, set-there}
 
 pub record GrowingTo (g : Game) (i : ℕ) (l m : List ℕ) (b : Bool) : Type 0 where
-  pub kept : Kept 64 96 l m
+  pub kept : ButFor 64 96 l m
   pub outside : (j p : ℕ) → component g l j p ≡ false → won g m j p ≡ won g l j p
   pub more : (j p : ℕ) → won g l j p ≡ true → won g m j p ≡ true
   pub growing : Growing g m
@@ -40,7 +42,7 @@ pub record GrowingTo (g : Game) (i : ℕ) (l m : List ℕ) (b : Bool) : Type 0 w
 module _ (g : Game) (S : Small g) (l : List ℕ) where
   pub growing-start : Growing g l → GrowingTo g 0 l l false
   growing-start G = record {
-    kept = kept-self 64 96 l;
+    kept = but-self 64 96 l;
     outside = λ j p h. refl;
     more = λ j p h. h;
     growing = G;
@@ -99,7 +101,7 @@ module _ (g : Game) (S : Small g) (l : List ℕ) where
       pub growing-more : new ≢ 0 → GrowingTo g (i + 1) l (set m (64 + i) v) true
       unfolding separatedOf graphOf
       growing-more ne = record {
-        kept = kept-then (T .kept) here;
+        kept = but-then (T .kept) here;
         outside = λ j p h. stays j p (at j p ∙ h) ∙ T .outside j p h;
         more = λ j p h. grows j p (T .more j p h);
         growing = record {
@@ -133,7 +135,7 @@ module _ (g : Game) (S : Small g) (l : List ℕ) where
           B : Below (separatedOf g) (component g m) (won g m)
           B = T .growing .below
 
-          here : Kept 64 96 m (set m (64 + i) v)
+          here : ButFor 64 96 m (set m (64 + i) v)
           here = set-kept g S m long i v lt
 
           still : component g (set m (64 + i) v) ≡ component g m

@@ -13,6 +13,8 @@ use lib.Arith.{digits-lt, digits-div, digits-mod}
 use lib.ListN.{length, getD, set}
 use Rattle.finite.proofs.Truth.{decide, clash, true-of, false-of, and-intro, and-left, and-right, and-false-right, not-true, same-test}
 use Rattle.finite.proofs.Bounded.{count-less}
+use Rattle.finite.specs.But.{ButFor}
+use Rattle.finite.proofs.But.{but-self, but-then}
 use Rattle.bits.specs.Member.{has}
 use Rattle.bits.proofs.Membership.{has-zero}
 use Rattle.bits.proofs.Compare.{nonzero-member}
@@ -22,14 +24,14 @@ use Rattle.joint.proofs.Safe.{lost-out}
 use Rattle.joint.proofs.Settled.{ahead-kept, above-taken}
 use Rattle.game.specs.declared.Game.{Game}
 use Rattle.play.specs.Play.{graphOf, separatedOf}
-use Rattle.joined_reach.specs.Words.{Small, Kept}
-use Rattle.joined_reach.proofs.Words.{belongs-has, belongs-below, kept-self, kept-then}
+use Rattle.joined_reach.specs.Words.{Small}
+use Rattle.joined_reach.proofs.Words.{belongs-has, belongs-below}
 use Rattle.joined_component.specs.Component.{won, component}
 use Rattle.joined_settle.specs.Settle.{Shrinking, marked, Shrank}
 use Rattle.joined_settle.proofs.Replies.{component-same, set-kept, set-here, set-there}
 
 pub record ShrinkingTo (g : Game) (i : ℕ) (l m : List ℕ) (b : Bool) : Type 0 where
-  pub kept : Kept 64 96 l m
+  pub kept : ButFor 64 96 l m
   pub outside : (j p : ℕ) → component g l j p ≡ false → won g m j p ≡ won g l j p
   pub less : (j p : ℕ) → won g m j p ≡ true → won g l j p ≡ true
   pub shrinking : Shrinking g m
@@ -40,7 +42,7 @@ pub record ShrinkingTo (g : Game) (i : ℕ) (l m : List ℕ) (b : Bool) : Type 0
 module _ (g : Game) (S : Small g) (l : List ℕ) where
   pub shrinking-start : Shrinking g l → ShrinkingTo g 0 l l false
   shrinking-start G = record {
-    kept = kept-self 64 96 l;
+    kept = but-self 64 96 l;
     outside = λ j p h. refl;
     less = λ j p h. h;
     shrinking = G;
@@ -103,7 +105,7 @@ module _ (g : Game) (S : Small g) (l : List ℕ) where
       pub shrinking-more : lost ≢ 0 → ShrinkingTo g (i + 1) l (set m (64 + i) v) true
       unfolding separatedOf graphOf
       shrinking-more ne = record {
-        kept = kept-then (T .kept) here;
+        kept = but-then (T .kept) here;
         outside = λ j p h. stays j p (at j p ∙ h) ∙ T .outside j p h;
         less = λ j p h. T .less j p (falls j p h);
         shrinking = record {
@@ -137,7 +139,7 @@ module _ (g : Game) (S : Small g) (l : List ℕ) where
           B : Above (separatedOf g) (component g m) (won g m)
           B = T .shrinking .above
 
-          here : Kept 64 96 m (set m (64 + i) v)
+          here : ButFor 64 96 m (set m (64 + i) v)
           here = set-kept g S m long i v lt
 
           still : component g (set m (64 + i) v) ≡ component g m

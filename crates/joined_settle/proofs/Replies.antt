@@ -14,6 +14,8 @@ use lib.Dec.{ltb}
 use lib.ListN.{length, getD, set}
 use lib.Seq.{getD-set-same, getD-set-other}
 use Rattle.finite.proofs.Truth.{clash, false-of}
+use Rattle.finite.specs.But.{ButFor}
+use Rattle.finite.proofs.But.{but-set}
 use Rattle.bits.specs.Member.{has}
 use Rattle.bits.proofs.Passing.{Passing, passing-end}
 use Rattle.graphs.specs.Graph.{edge}
@@ -23,8 +25,8 @@ use Rattle.theory.proofs.Region.{replies-intro, replies-elim}
 use Rattle.joint.specs.Solver.{Component}
 use Rattle.game.specs.declared.Game.{Game}
 use Rattle.play.specs.Play.{graphOf, separatedOf}
-use Rattle.joined_reach.specs.Words.{belongs, Small, Kept}
-use Rattle.joined_reach.proofs.Words.{belongs-has, belongs-same, kept-set}
+use Rattle.joined_reach.specs.Words.{belongs, Small}
+use Rattle.joined_reach.proofs.Words.{belongs-has, belongs-same}
 use Rattle.joined_component.specs.Component.{won, component}
 use Rattle.joined_component.proofs.Tests.{enters, moved}
 
@@ -45,7 +47,7 @@ module _ (g : Game) (S : Small g) (a : ℕ) (l : List ℕ) (i o x y : ℕ) (e : 
       sym (false-of (replies (separatedOf g) (belongs (g .input .states) a l) i o)
       (λ r. clash (moved g S a l i o x y e f j m ∙ replies-elim (separatedOf g) (belongs (g .input .states) a l) i o j r m) k))
 
-pub component-same : (g : Game) → Small g → {l m : List ℕ} → Kept 64 96 l m → component g m ≡ component g l
+pub component-same : (g : Game) → Small g → {l m : List ℕ} → ButFor 64 96 l m → component g m ≡ component g l
 component-same g S {l} {m} K =
     fun-ext (λ i. fun-ext (λ o. belongs-same (g .input .states) 128 l m (λ k b. K .high (128 + k) (omega arith)) i o))
 
@@ -57,8 +59,8 @@ row-within g m C i b o h = C .outputs i o (belongs-has (g .input .states) 128 m 
 
 -- row i of the marks becomes v
 module _ (g : Game) (S : Small g) (m : List ℕ) (long : 4096 ≤ length m) (i v : ℕ) (b : i < g .input .states) where
-  pub set-kept : Kept 64 96 m (set m (64 + i) v)
-  set-kept = kept-set 64 96 m (64 + i) v (omega arith) (omega (arith, S .inputs))
+  pub set-kept : ButFor 64 96 m (set m (64 + i) v)
+  set-kept = but-set 64 96 m (64 + i) v (omega arith) (omega (arith, S .inputs))
 
   pub set-here : (o : ℕ) → won g (set m (64 + i) v) i o ≡ has v o
   set-here o =

@@ -11,22 +11,24 @@ use mathlib.Core.Bool.{Bool, true, false, _||_}
 use mathlib.Core.List.{List}
 use mathlib.Core.Logic.{_⊎_, inl, inr}
 use Rattle.finite.proofs.Truth.{clash, or-left, or-right, or-cases, or-none, same-test}
+use Rattle.finite.specs.But.{ButFor}
+use Rattle.finite.proofs.But.{but-self, but-then}
 use Rattle.joint.specs.Solver.{recurring, Component, Ahead, Below, Above, Forced, Safe}
 use Rattle.joint.proofs.Settled.{settled-forced, settled-safe, ahead-kept}
 use Rattle.game.specs.declared.Game.{Game}
 use Rattle.play.specs.Play.{graphOf, separatedOf}
-use Rattle.joined_reach.specs.Words.{Small, Kept}
-use Rattle.joined_reach.proofs.Words.{belongs-has, belongs-below, kept-self, kept-then}
+use Rattle.joined_reach.specs.Words.{Small}
+use Rattle.joined_reach.proofs.Words.{belongs-has, belongs-below}
 use Rattle.joined_component.specs.Component.{won, component, Rows, Joined}
 use Rattle.joined_settle.specs.Settle.{Growing, Shrinking, Swept, Unsettled, Settled}
 use Rattle.joined_settle.proofs.Replies.{component-same}
 
 pub swept-self : (g : Game) (l : List ℕ) → Swept g l l
-swept-self g l = record { kept = kept-self 64 96 l; outside = λ i o h. refl }
+swept-self g l = record { kept = but-self 64 96 l; outside = λ i o h. refl }
 
 pub swept-then : (g : Game) → Small g → {l m n : List ℕ} → Swept g l m → Swept g m n → Swept g l n
 swept-then g S A B = record {
-  kept = kept-then (A .kept) (B .kept);
+  kept = but-then (A .kept) (B .kept);
   outside = λ i o h. B .outside i o (ap (λ (D : ℕ → ℕ → Bool). D i o) (component-same g S (A .kept)) ∙ h) ∙ A .outside i o h;
 }
 
@@ -48,7 +50,7 @@ module _ (g : Game) (S : Small g) (i o : ℕ) (l : List ℕ) (U : Unsettled g i 
   }
 
   module _ (m : List ℕ) (J : Joined g 64 l m) where
-    join-kept : Kept 64 96 l m
+    join-kept : ButFor 64 96 l m
     join-kept = J .kept
 
     same : component g m ≡ component g l

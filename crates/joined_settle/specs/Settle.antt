@@ -14,11 +14,11 @@ use mathlib.Core.Path.{_≡_}
 use mathlib.Core.Bool.{Bool, true, false, not, _&&_}
 use mathlib.Core.List.{List}
 use Rattle.finite.specs.Bounded.{count}
+use Rattle.finite.specs.But.{ButFor}
 use Rattle.theory.specs.Region.{region}
 use Rattle.joint.specs.Solver.{Component, Ahead, Below, Above, Forced, Safe}
 use Rattle.game.specs.declared.Game.{Game}
 use Rattle.play.specs.Play.{separatedOf}
-use Rattle.joined_reach.specs.Words.{Kept}
 use Rattle.joined_component.specs.Component.{won, component}
 
 pub record Growing (g : Game) (l : List ℕ) : Type 0 where
@@ -45,7 +45,7 @@ marked g l =
 
 -- what a sweep leaves: only the marks of the component change
 pub record Swept (g : Game) (l m : List ℕ) : Type 0 where
-  pub kept : Kept 64 96 l m
+  pub kept : ButFor 64 96 l m
   pub outside : (i o : ℕ) → component g l i o ≡ false → won g m i o ≡ won g l i o
 
 pub record Grew (g : Game) (l m : List ℕ) (b : Bool) : Type 0 where

@@ -2,8 +2,8 @@
 use Prim.Native.Nat.{_+_, _≤_, _-_}
 use mathlib.Core.Path.{_∙_}
 use native.Mathlib.Omega.{arith}
-use Rattle.joined_reach.specs.Words.{Kept}
-use Rattle.joined_reach.proofs.Words.{kept-self, kept-then}
+use Rattle.finite.specs.But.{ButFor}
+use Rattle.finite.proofs.But.{but-self, but-then}
 use Rattle.joined_reach.proofs.Counting.{few-positions}
 use Rattle.joined.specs.Order.{Backward}
 use Rattle.joined.proofs.Ranks.{begun-kept, backward-start, backward-next, solved}
@@ -11,7 +11,7 @@ use Rattle.joined.proofs.solve.Statement.{statement}
 use Rattle.joined.proofs.solve.Tie as tie
 
 abbrev Inv-loop : tie.InvT-loop
-Inv-loop g ins outs s₀ positions n₀ s n = (1 ≤ n) × (n ≤ positions + 1) × (positions ≤ 1024) × Kept 0 2048 s₀ s × Backward g n s
+Inv-loop g ins outs s₀ positions n₀ s n = (1 ≤ n) × (n ≤ positions + 1) × (positions ≤ 1024) × ButFor 0 2048 s₀ s × Backward g n s
 
 abbrev μ-loop : tie.MeasureT-loop
 μ-loop g ins outs s₀ positions n₀ s n = positions + 1 - n
@@ -27,7 +27,7 @@ clear-requires c κs =
 begun : (c : tie.After-clear Inv-loop μ-loop)
     → let a = c .before .before .before .before in
     let b = a .before .before .before in
-    Kept 0 2048 (b .args .s .now) (c .clear .last .0)
+    ButFor 0 2048 (b .args .s .now) (c .clear .last .0)
 begun c =
     let a = c .before .before .before .before in
     let b = a .before .before .before in
@@ -47,7 +47,7 @@ loop-holds c =
       omega arith,
       omega arith,
       few-positions _ (b .pre .0),
-      kept-self _ _ _,
+      but-self _ _ _,
       backward-start _ (b .pre .0) _ _ _ (b .pre .1) (a .count-ahead .ensures) (d .clear .ensures),
     )
 
@@ -75,7 +75,7 @@ loop-again c =
       omega arith,
       omega (arith, e .before .before .loop-test .taken),
       l .loop .inv .2,
-      kept-then (l .loop .inv .3) (e .settle-rank .ensures .kept),
+      but-then (l .loop .inv .3) (e .settle-rank .ensures .kept),
       backward-next _ (b .pre .0) _ _ _ (e .settle-rank .ensures),
     )
 
@@ -88,7 +88,7 @@ returns c =
     let d = l .before .before .before .before in
     let b-past = d .before .before .before .before .before in
     let b = b-past .before .before in
-    (kept-then (begun d) (l .loop .inv .3), solved _ (b .pre .0) _ (l .loop .n) (c .loop-test .left) (l .loop .inv .4))
+    (but-then (begun d) (l .loop .inv .3), solved _ (b .pre .0) _ (l .loop .n) (c .loop-test .left) (l .loop .inv .4))
 
 pub solve-spec : {M : Type 1} → statement M
 solve-spec =

@@ -2,9 +2,9 @@
 use Prim.Native.Nat.{_+_, _*_, _-_}
 use mathlib.Core.Path.{_∙_}
 use lib.ListN.{set}
-use Rattle.joined_reach.specs.Words.{Kept}
 use native.Mathlib.Nat.{zero-add}
 use native.Mathlib.Omega.{arith}
+use Rattle.finite.specs.But.{ButFor}
 use Rattle.joined_reach.proofs.Rows.{
   Closed,
   begun-kept,
@@ -58,7 +58,7 @@ loop-holds c =
 kept : (c : tie.After-insert Inv-loop μ-loop)
     → let d = c .before .before .before in
     let b = d .before .before .before in
-    Kept 0 64 (b .args .s .now) (set (d .clear .last .0) (0 + b .args .i .0) (c .insert .result))
+    ButFor 0 64 (b .args .s .now) (set (d .clear .last .0) (0 + b .args .i .0) (c .insert .result))
 kept c =
     let d = c .before .before .before in
     let b = d .before .before .before in
