@@ -8,23 +8,23 @@ ghost use Rattle.game.specs.Acceptance.{acceptance};
 ghost use Rattle.game.specs.Fits.{Fits};
 ghost use Rattle.scratch_clearing.specs.Clearing.{cleared};
 ghost use Rattle.scratch.specs.Scratch.{scratchLength};
-ghost use Rattle.scratch.specs.Stored.{Ready};
+ghost use Rattle.scratch.specs.Stored.{WonKept, Ready};
 ghost use Rattle.map_marks.specs.Marks.{mapRow, MapFilled};
 ghost use Rattle.map.specs.Map.{MapMade};
 use game::Acceptance;
 use game::Game;
 use game::InSet;
 use game::InState;
-use game::OutSet;
+use scratch::WonRow;
 
-// The outputs that are won with input i; c are the inputs in nontrivial components.
-fn map_row(g: Game, s: &[u64], c: InSet, i: InState) -> OutSet
-    requires { ⌜ Ready g (now s) (bitsOf (c .0)) × (i .0 < g .input .states) ⌝ }
-    ensures { λ r. ⌜ bitsOf (r .0) ≡ mapRow g (i .0) ⌝ }
+// The outputs that are won with input i; c are the inputs in nontrivial components, k is what is kept of the inputs before.
+fn map_row(g: Game, s: &[u64], c: InSet, i: InState, k: WonRow) -> WonRow
+    requires { ⌜ Ready g (now s) (bitsOf (c .0)) × (i .0 < g .input .states) × WonKept (setsIn (now s)) (g .input .states) (g .output .states) k ⌝ }
+    ensures { λ r. ⌜ WonKept (setsIn (now (s .entry))) (g .input .states) (g .output .states) r × (bitsOf (r .row .0) ≡ mapRow g (i .0)) ⌝ }
 {
     let n = g.input.states;
     let m = g.output.states;
-    scratch::won_outputs(s, n, m, c, i)
+    scratch::won_next(s, n, m, c, i, k)
 }
 
 // Writes the map.
@@ -32,9 +32,11 @@ fn fill_map(g: Game, s: &[u64], c: InSet, map: &mut [u64])
     requires { ⌜ Ready g (now s) (bitsOf (c .0)) × (g .input .states ≤ setCount (now map)) ⌝ }
     ensures { λ _. ⌜ MapFilled g (now (map .entry)) (now (map .exit)) ⌝ }
 {
+    let mut k = scratch::won_first();
     let mut i: usize = 0;
     while i < g.input.states {
-        let won = map_row(g, s, c, InState(i));
+        k = map_row(g, s, c, InState(i), k);
+        let won = k.row;
         sets::put(map, i, won.0);
         i += 1;
     }

@@ -5,15 +5,16 @@ ghost use lib.ListN.{length};
 ghost use Rattle.sets.specs.Words.{bitsOf};
 ghost use Rattle.game.specs.Fits.{Fits};
 ghost use Rattle.scratch.specs.Scratch.{scratchLength};
-ghost use Rattle.scratch.specs.Stored.{Ready};
+ghost use Rattle.scratch.specs.Stored.{NontrivialOf, Laid, Ready};
 ghost use Rattle.region_dues.specs.Dues.{serverList, Serving};
-ghost use Rattle.region_ranks.specs.Fill.{Filling, PastKept};
+ghost use Rattle.region_ranks.specs.Fill.{PastKept};
 ghost use Rattle.region.specs.Fill.{Prepared};
 use game::Game;
+use game::InSet;
 use region_dues::Servers;
 use scratch::Nontrivial;
 
-// Writes all rows, those of the inputs that reach fewer states first.
+// Writes all rows, one component after the other.
 fn fill<'a>(
     g: Game,
     ins: &'a [u64; sets::ROW_WORDS],
@@ -22,13 +23,12 @@ fn fill<'a>(
     s: &mut [u64],
     x: Nontrivial,
 )
-    requires { ⌜ Filling g x (now s) 1 0 × Serving g (serverList t) × (now ins ≡ g .input .moves) × (now outs ≡ g .output .moves) ⌝ }
+    requires { ⌜ Fits g × Laid g (now s) × NontrivialOf g x × Serving g (serverList t) × (now ins ≡ g .input .moves) × (now outs ≡ g .output .moves) ⌝ }
     ensures { λ _. ⌜ Ready g (now (s .exit)) (bitsOf (x .inputs .0)) × PastKept g (now (s .entry)) (now (s .exit)) ⌝ }
 {
-    let mut k: usize = 1;
-    while k <= g.input.states {
-        region_ranks::fill_rank(g, ins, outs, t, s, x, k);
-        k += 1;
+    let mut left = InSet(sets::below(g.input.states));
+    while !sets::is_empty(left.0) {
+        left = region_ranks::fill_component(g, ins, outs, t, s, x, left);
     }
 }
 

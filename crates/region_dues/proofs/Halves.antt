@@ -11,7 +11,7 @@ use mathlib.Core.Bool.{Bool, true, false, not, _&&_, _||_}
 use mathlib.Core.List.{List}
 use native.Mathlib.Omega.{arith}
 use native.Mathlib.Decide.{ℕ-discrete, decLt}
-use lib.Dec.{eqb, ltb}
+use lib.Dec.{ltb}
 use lib.ListN.{length, getD, set, replicate, length-set, getD-replicate}
 use lib.Seq.{getD-set-same, getD-set-other, ext-getD}
 use borrow.Author.Tests.{lt-ltb, le-ltb}
@@ -102,13 +102,13 @@ read-at : (u : Servers) (r : ℕ) (x : OutSet) → r < 8 → x ≡ serverOf u r 
 unfolding serversAt
 read-at u r x b e = ap (λ (y : OutSet). bitsOf (y .0)) (e ∙ sym (servers-at u r b))
 
-pub marked-put : (g : Game) (c d : ℕ) (t u w : Servers) (r : ℕ) (x v : OutSet) (ok : Bool) → r < 8 → Marked g c d r (serverList t) (serverList u)
-    → x ≡ serverOf u r → ok ≡ servedIn g c r → ((s : ℕ) → has (bitsOf (v .0)) s ≡ (has (bitsOf (x .0)) s || (ok && eqb s d)))
-    → serverList w ≡ set (serverList u) r v → Marked g c d (r + 1) (serverList t) (serverList w)
-marked-put g c d t u w r x v ok b M e o h p =
-    subst (Marked g c d (r + 1) (serverList t)) (sym p)
-    (marked-next g c d (serverList t) r (serverList u) v ok (omega (arith, servers-long t)) M o
-    (λ s. h s ∙ ap (λ (n : ℕ). has n s || (ok && eqb s d)) (read-at u r x b e)))
+pub marked-put : (g : Game) (c : ℕ) (t u w : Servers) (r : ℕ) (x v : OutSet) (ok : Bool) → r < 8 → Marked g c r (serverList t) (serverList u)
+    → x ≡ serverOf u r → ok ≡ servedIn g c r → ((s : ℕ) → has (bitsOf (v .0)) s ≡ (has (bitsOf (x .0)) s || (ok && has c s)))
+    → serverList w ≡ set (serverList u) r v → Marked g c (r + 1) (serverList t) (serverList w)
+marked-put g c t u w r x v ok b M e o h p =
+    subst (Marked g c (r + 1) (serverList t)) (sym p)
+    (marked-next g c (serverList t) r (serverList u) v ok (omega (arith, servers-long t)) M o
+    (λ s. h s ∙ ap (λ (n : ℕ). has n s || (ok && has c s)) (read-at u r x b e)))
 
 pub accepted-by : (g : Game) (a x : ℕ) (t : Servers) (r y z : ℕ) (v : OutSet) → r < 8 → v ≡ serverOf t r
     → ((d : ℕ) → has y d ≡ (has x d && all r (admits g a (serverList t) d)))

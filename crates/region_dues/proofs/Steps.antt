@@ -1,7 +1,6 @@
 -- What the functions' needs cite.
 --
---   marked-*     : one output put into the sets of the requirements that its component serves
---   serves-*     : all outputs
+--   marked-*     : one component put into the sets of the requirements that it serves
 --   kept-*       : the outputs that one requirement admits
 --   accepted-*   : those that all requirements admit
 use Prim.Native.Nat.{ℕ, _+_, _≤_, _<_}
@@ -13,21 +12,18 @@ use mathlib.Core.Path.{_≡_, refl, _∙_, ap, subst}
 use mathlib.Core.Bool.{Bool, true, false, not, _&&_, _||_}
 use mathlib.Core.List.{List}
 use mathlib.Core.Logic.{_≢_}
-use lib.Dec.{eqb}
-use lib.ListN.{length, set, replicate, length-set, getD-replicate}
+use lib.ListN.{length, set, length-set}
 use lib.Seq.{getD-set-same, getD-set-other}
 use Rattle.finite.specs.Bounded.{all}
-use Rattle.bits.specs.Member.{has, pack}
-use Rattle.bits.proofs.Collect.{collect-none, collect-next}
+use Rattle.bits.specs.Member.{has}
 use Rattle.sets.specs.Words.{bitsOf}
-use Rattle.graph_components.specs.Component.{together}
 use Rattle.game.specs.declared.Requirement.{Requirement}
 use Rattle.game.specs.declared.Game.{Game}
 use Rattle.game.specs.declared.OutSet.{OutSet}
 use Rattle.game.specs.Access.{noOutput}
-use Rattle.region_dues.specs.Dues.{inMeets, dueIn, servedIn, servedAt, serversAt, Marked, Serves, admits}
+use Rattle.region_dues.specs.Dues.{inMeets, dueIn, servedIn, serversAt, Marked, admits}
 
--- ---- one output
+-- ---- one component
 
 set-same : (l : List OutSet) (r : ℕ) (v : OutSet) → r < length l → serversAt (set l r v) r ≡ bitsOf (v .0)
 unfolding serversAt
@@ -37,50 +33,30 @@ set-other : (l : List OutSet) (r q : ℕ) (v : OutSet) → q ≢ r → serversAt
 unfolding serversAt
 set-other l r q v ne = ap (λ (x : OutSet). bitsOf (x .0)) (getD-set-other l r q v noOutput ne)
 
-module _ (g : Game) (c d : ℕ) (x : List OutSet) where
-  pub marked-start : Marked g c d 0 x x
+module _ (g : Game) (c : ℕ) (x : List OutSet) where
+  pub marked-start : Marked g c 0 x x
   marked-start = record { long = refl; done = λ r b. absurd (omega arith); rest = λ r b. refl }
 
-  pub marked-next : (r : ℕ) (y : List OutSet) (v : OutSet) (ok : Bool) → r < length x → Marked g c d r x y → ok ≡ servedIn g c r
-      → ((t : ℕ) → has (bitsOf (v .0)) t ≡ (has (serversAt y r) t || (ok && eqb t d))) → Marked g c d (r + 1) x (set y r v)
+  pub marked-next : (r : ℕ) (y : List OutSet) (v : OutSet) (ok : Bool) → r < length x → Marked g c r x y → ok ≡ servedIn g c r
+      → ((t : ℕ) → has (bitsOf (v .0)) t ≡ (has (serversAt y r) t || (ok && has c t))) → Marked g c (r + 1) x (set y r v)
   marked-next r y v ok b M e h = record {
     long = length-set y r v ∙ M .long;
     done = λ q l t. done q l t (ℕ-discrete q r);
     rest = λ q l. set-other y r q v (omega arith) ∙ M .rest q (omega arith);
   }
     where
-      new : (t : ℕ) → has (serversAt (set y r v) r) t ≡ (has (serversAt x r) t || (servedIn g c r && eqb t d))
+      new : (t : ℕ) → has (serversAt (set y r v) r) t ≡ (has (serversAt x r) t || (servedIn g c r && has c t))
       new t =
           ap (λ (z : ℕ). has z t) (set-same y r v (omega (arith, M .long)))
-          ∙ h t ∙ ap (λ (z : ℕ). has z t || (ok && eqb t d)) (M .rest r (omega arith))
-          ∙ ap (λ (z : Bool). has (serversAt x r) t || (z && eqb t d)) e
+          ∙ h t ∙ ap (λ (z : ℕ). has z t || (ok && has c t)) (M .rest r (omega arith))
+          ∙ ap (λ (z : Bool). has (serversAt x r) t || (z && has c t)) e
 
-      done : (q : ℕ) → q < r + 1 → (t : ℕ) → Dec (q ≡ r) → has (serversAt (set y r v) q) t ≡ (has (serversAt x q) t || (servedIn g c q && eqb t d))
+      done : (q : ℕ) → q < r + 1 → (t : ℕ) → Dec (q ≡ r) → has (serversAt (set y r v) q) t ≡ (has (serversAt x q) t || (servedIn g c q && has c t))
       done q l t (yes z) = rw z (new t)
       done q l t (no z) = ap (λ (u : ℕ). has u t) (set-other y r q v z) ∙ M .done q (omega arith) t
 
-  pub marked-end : (r k : ℕ) (y : List OutSet) → r ≤ k → k ≤ r → Marked g c d r x y → Marked g c d k x y
-  marked-end r k y a b M = subst (λ (z : ℕ). Marked g c d z x y) (le-antisymm a b) M
-
--- ---- all outputs
-
-module _ (g : Game) (rows : List ℕ) where
-  pub serves-start : (n : ℕ) (v : OutSet) → bitsOf (v .0) ≡ 0 → g .k ≤ n → Serves g rows 0 (replicate n v)
-  unfolding serversAt
-  serves-start n v e b = record {
-    at = λ r l. ap (λ (x : OutSet). bitsOf (x .0)) (getD-replicate n r v noOutput (omega arith)) ∙ e ∙ collect-none (servedAt g rows (g .output .states) r);
-  }
-
-  pub serves-next : (d c : ℕ) (x y : List OutSet) → Serves g rows d x → c ≡ pack (g .output .states) (together rows d) → Marked g c d (g .k) x y
-      → Serves g rows (d + 1) y
-  unfolding servedAt
-  serves-next d c x y S e M = record {
-    at = λ r l. collect-next (servedAt g rows (g .output .states) r) d (serversAt x r) (serversAt y r) (servedIn g c r) (S .at r l)
-        (ap (λ (z : ℕ). servedIn g z r) e) (M .done r l);
-  }
-
-  pub serves-end : (d m : ℕ) (x : List OutSet) → d ≤ m → m ≤ d → Serves g rows d x → Serves g rows m x
-  serves-end d m x a b S = subst (λ (z : ℕ). Serves g rows z x) (le-antisymm a b) S
+  pub marked-end : (r k : ℕ) (y : List OutSet) → r ≤ k → k ≤ r → Marked g c r x y → Marked g c k x y
+  marked-end r k y a b M = subst (λ (z : ℕ). Marked g c z x y) (le-antisymm a b) M
 
 -- ---- what is admitted
 

@@ -4,14 +4,12 @@
 --   outMeets q c k         == the first k output sets of q meet the set c
 --   dueIn g a r            == all input sets of requirement r meet a
 --   servedIn g b r         == all output sets of requirement r meet b
---   servedAt g rows m r d  == requirement r is served in the component of d, told by rows of m states
 --   Few g                  == few enough requirements and sets for their places
 --   serverOf t r           == the set of t for requirement r
 --   serverList t           == the sets of t, for the requirements in order
 --   Whole t                == the lists of t have the lengths of the arrays in the record
 --   serversAt l r          == the set of l for requirement r
---   Marked g c d k x y     == y is x where the first k sets have d too, if c serves their requirements
---   Serves g rows m l      == l has for each requirement the states below m whose components serve it
+--   Marked g c k x y       == y is x where the first k sets have c too, if c serves their requirements
 --   serves g r d           == requirement r is served in the component of d
 --   Serving g l            == l has for each requirement the outputs whose components serve it
 --   admits g a l d r       == requirement r is not due in a, or d is in its set of l
@@ -19,13 +17,12 @@ use Prim.Native.Nat.{ℕ, _-_, _≤_, _<_}
 use mathlib.Core.Path.{_≡_}
 use mathlib.Core.Bool.{Bool, true, false, not, _&&_, _||_}
 use mathlib.Core.List.{List}
-use lib.Dec.{eqb, ltb}
+use lib.Dec.{ltb}
 use lib.ListN.{length, getD}
 use Rattle.finite.specs.Bounded.{all}
 use Rattle.finite.specs.Tabulate.{tabulate}
 use Rattle.bits.specs.Member.{has, pack, meets}
 use Rattle.sets.specs.Words.{capacity, bitsOf}
-use Rattle.graph_components.specs.Component.{together}
 use Rattle.game.specs.declared.Requirement.{Requirement}
 use Rattle.game.specs.declared.Game.{Game}
 use Rattle.game.specs.declared.OutSet.{OutSet}
@@ -52,9 +49,6 @@ dueIn g a r = inMeets (requirementAt g r) a (requirementAt g r .assumed)
 unfoldable pub servedIn : Game → ℕ → ℕ → Bool
 servedIn g b r = outMeets (requirementAt g r) b (requirementAt g r .guaranteed)
 
-unfoldable pub servedAt : Game → List ℕ → ℕ → ℕ → ℕ → Bool
-servedAt g rows m r d = servedIn g (pack m (together rows d)) r
-
 pub record Few (g : Game) : Type 0 where
   pub requirements : g .k ≤ 8
   pub assumed : (r : ℕ) → r < 8 → requirementAt g r .assumed ≤ 4
@@ -73,13 +67,10 @@ pub record Whole (t : Servers) : Type 0 where
 unfoldable pub serversAt : List OutSet → ℕ → ℕ
 serversAt l r = bitsOf (getD l r noOutput .0)
 
-pub record Marked (g : Game) (c d k : ℕ) (x y : List OutSet) : Type 0 where
+pub record Marked (g : Game) (c k : ℕ) (x y : List OutSet) : Type 0 where
   pub long : length y ≡ length x
-  pub done : (r : ℕ) → r < k → (t : ℕ) → has (serversAt y r) t ≡ (has (serversAt x r) t || (servedIn g c r && eqb t d))
+  pub done : (r : ℕ) → r < k → (t : ℕ) → has (serversAt y r) t ≡ (has (serversAt x r) t || (servedIn g c r && has c t))
   pub rest : (r : ℕ) → k ≤ r → serversAt y r ≡ serversAt x r
-
-pub record Serves (g : Game) (rows : List ℕ) (m : ℕ) (l : List OutSet) : Type 0 where
-  pub at : (r : ℕ) → r < g .k → serversAt l r ≡ pack m (servedAt g rows (g .output .states) r)
 
 unfoldable pub serves : Game → ℕ → ℕ → Bool
 serves g r d = served (separatedOf g) d (requirementOf (requirementAt g r))

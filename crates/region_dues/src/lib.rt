@@ -5,10 +5,10 @@ ghost use Prim.Native.Nat.{ℕ, _≤_, _<_};
 ghost use lib.ListN.{set};
 ghost use Rattle.finite.specs.Bounded.{all};
 ghost use Rattle.bits.specs.Member.{has};
-ghost use Rattle.sets.specs.Words.{capacity, bitsOf, setsIn, setCount};
-ghost use Rattle.scratch.specs.Scratch.{scratchSets};
-ghost use Rattle.scratch.specs.Stored.{outArea};
-ghost use Rattle.region_dues.specs.Dues.{inMeets, outMeets, Few, serverOf, serverList, Whole, Marked, Serves, admits};
+ghost use Rattle.sets.specs.Words.{bitsOf};
+ghost use Rattle.game.specs.Fits.{Fits};
+ghost use Rattle.scratch.specs.Stored.{Laid};
+ghost use Rattle.region_dues.specs.Dues.{inMeets, outMeets, Few, serverOf, serverList, Whole, Marked, Serving, admits};
 use game::Game;
 use game::InSet;
 use game::OutSet;
@@ -83,10 +83,10 @@ fn all_guaranteed(q: Requirement, c: OutSet) -> bool
     true
 }
 
-// Puts output d into the set of each requirement that its component c serves.
-fn mark(g: Game, c: OutSet, d: OutState, t: Servers) -> Servers
-    requires { ⌜ Few g × (d .0 < capacity) × Whole t ⌝ }
-    ensures { λ r. ⌜ Whole r × Marked g (bitsOf (c .0)) (d .0) (g .k) (serverList t) (serverList r) ⌝ }
+// Puts the outputs of a component c into the set of each requirement that it serves.
+fn mark(g: Game, c: OutSet, t: Servers) -> Servers
+    requires { ⌜ Few g × Whole t ⌝ }
+    ensures { λ r. ⌜ Whole r × Marked g (bitsOf (c .0)) (g .k) (serverList t) (serverList r) ⌝ }
 {
     let n = g.k;
     let mut u = t;
@@ -94,18 +94,17 @@ fn mark(g: Game, c: OutSet, d: OutState, t: Servers) -> Servers
     while r < n {
         let q = g.requirements[r];
         let x = server(u, r);
-        let y = sets::insert_if(x.0, d.0, all_guaranteed(q, c));
+        let y = sets::union_if(x.0, c.0, all_guaranteed(q, c));
         u = with_server(u, r, OutSet(y));
         r += 1;
     }
     u
 }
 
-// The outputs whose components serve each requirement, from scratch that holds the outputs' closure. Each component is worked out once.
+// The outputs whose components serve each requirement, from scratch that holds the outputs' closure. Each component is worked out once, for its first output.
 pub fn served(g: Game, s: &[u64]) -> Servers
-    requires { ⌜ Few g × (g .input .states ≤ capacity) × (g .output .states ≤ capacity)
-        × (scratchSets (g .input .states) (g .output .states) ≤ setCount (now s)) ⌝ }
-    ensures { λ r. ⌜ Serves g (outArea (setsIn (now (s .entry))) (g .input .states)) (g .output .states) (serverList r) ⌝ }
+    requires { ⌜ Fits g × Laid g (now s) ⌝ }
+    ensures { λ r. ⌜ Serving g (serverList r) ⌝ }
 {
     let n = g.input.states;
     let m = g.output.states;
@@ -114,11 +113,12 @@ pub fn served(g: Game, s: &[u64]) -> Servers
         first: [none; 4],
         second: [none; 4],
     };
-    let mut d: usize = 0;
-    while d < m {
+    let mut rest = sets::below(m);
+    while !sets::is_empty(rest) {
+        let d = sets::lowest(rest);
         let c = scratch::out_component(s, n, m, OutState(d));
-        t = mark(g, c, OutState(d), t);
-        d += 1;
+        t = mark(g, c, t);
+        rest = sets::difference(rest, c.0);
     }
     t
 }

@@ -1,3 +1,2 @@
 -- Laws of homes.
-pub mod Exits
 pub mod Meaning

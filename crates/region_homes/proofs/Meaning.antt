@@ -5,12 +5,14 @@ use mathlib.Core.Bool.{Bool, true, false, _&&_, _||_, not}
 use mathlib.Core.List.{List}
 use mathlib.Core.Logic.{_⊎_, inl, inr}
 use Rattle.finite.specs.Bounded.{all}
-use Rattle.finite.proofs.Truth.{decide, same-test}
+use Rattle.finite.proofs.Truth.{decide, clash, false-of, same-test}
 use Rattle.finite.proofs.Bounded.{all-intro, all-elim, all-same}
 use Rattle.bits.specs.Member.{has, pack}
 use Rattle.bits.proofs.Membership.{has-pack-below, pack-ext}
-use Rattle.graphs.specs.Component.{joined, nontrivial, leaves, rank}
-use Rattle.graphs.proofs.Component.{joined-self, rank-leaves}
+use Rattle.graphs.specs.Closure.{reaches}
+use Rattle.graphs.specs.Component.{joined, nontrivial, leaves}
+use Rattle.graphs.proofs.Closure.{reaches-edge, reaches-trans}
+use Rattle.graphs.proofs.Component.{joined-intro, joined-there, joined-self, leaves-elim, leaves-apart}
 use Rattle.game.specs.declared.Graph.{Graph as Record}
 use Rattle.game.specs.declared.Game.{Game}
 use Rattle.game.specs.declared.OutSet.{OutSet}
@@ -37,14 +39,25 @@ and-assoc false b c = refl
 module _ (g : Game) (F : Fits g) where
   -- what is read from scratch s
   module _ (s : List ℕ) (L : Laid g s) (c i : ℕ) (b : i < g .input .states) (inner : c ≡ pack (g .input .states) (nontrivial (graphOf (g .input))))
-      (below : (j : ℕ) → j < g .input .states → rank (graphOf (g .input)) j < rank (graphOf (g .input)) i
+      (below : (j : ℕ) → reaches (graphOf (g .input)) i j ≡ true → reaches (graphOf (g .input)) j i ≡ false
       → rowAt (setsIn s) (g .input .states) j ≡ storedRow (separatedOf g) j) where
     abbrev l : List ℕ
     l = setsIn s
 
-    won-means : (j o : ℕ) → j < g .input .states → o < g .output .states → rank (graphOf (g .input)) j < rank (graphOf (g .input)) i
+    -- a move out of a component never leads back
+    won-means : (j o : ℕ) → j < g .input .states → o < g .output .states → leaves (graphOf (g .input)) i j ≡ true
         → wonAt l (g .input .states) c j o ≡ region (separatedOf g) j o
-    won-means j o lj lo r = won-region g l c j o (F .output .most) lj lo inner (below j lj r) (L .outputs o lo)
+    won-means j o lj lo h = won-region g l c j o (F .output .most) lj lo inner (below j there back) (L .outputs o lo)
+      where
+        there : reaches (graphOf (g .input)) i j ≡ true
+        there =
+            let v = leaves-elim (graphOf (g .input)) i j h in
+            reaches-trans (graphOf (g .input)) i (v .0) j (joined-there (graphOf (g .input)) i (v .0) (v .1)) (reaches-edge (graphOf (g .input)) (v .0) j (v .2))
+
+        back : reaches (graphOf (g .input)) j i ≡ false
+        back =
+            false-of (reaches (graphOf (g .input)) j i)
+            (λ k. clash (joined-intro (graphOf (g .input)) i j there k) (leaves-apart (graphOf (g .input)) i j h))
 
     -- every exit is won with d, and then with all of d's component
     exits-won : (j d : ℕ) → d < g .output .states
@@ -71,7 +84,7 @@ module _ (g : Game) (F : Fits g) where
         one : (j : ℕ) → j < g .input .states → (leaves (graphOf (g .input)) i j ≡ true) ⊎ (leaves (graphOf (g .input)) i j ≡ false)
             → (not (has x j) || wonAt l (g .input .states) c j d) ≡
             (not (leaves (graphOf (g .input)) i j) || all (g .output .states) (λ u. not (joined (graphOf (g .output)) d u) || region (separatedOf g) j u))
-        one j lj (inl h) = rw (e j, h) (won-means j d lj ld (rank-leaves (graphOf (g .input)) i j h) ∙ sym (exits-won j d ld))
+        one j lj (inl h) = rw (e j, h) (won-means j d lj ld h ∙ sym (exits-won j d ld))
         one j lj (inr h) = rw (e j, h) refl
 
     -- the sets that the row is worked out from: among has the outputs in nontrivial components that accept, x the exits of i's component

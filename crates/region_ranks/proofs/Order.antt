@@ -1,28 +1,27 @@
--- The region's rows, one input at a time.
+-- The region's rows, one component at a time.
 --
 --   row-homes, row-replies   : the row that is worked out
---   row-taken                : the row that is taken from the first input of the component
-use Prim.Native.Nat.{ℕ, _+_, _^_, _≤_, _<_}
-use native.Mathlib.Nat.{lt-of-lt-of-le, le-refl}
-use native.Mathlib.Decide.{ℕ-discrete, decLt}
-use mathlib.Core.Path.{_≡_, refl, sym, _∙_, ap, subst, subst⁻¹}
+--   stored-same              : the rows of one component are the same
+--   filling-*                : how the filling goes on by a component, and ends
+--   kept-*                   : what lies past the sets that are kept
+use Prim.Native.Nat.{ℕ, _<_}
+use mathlib.Core.Path.{_≡_, refl, sym, _∙_, ap}
 use mathlib.Core.Bool.{Bool, true, false, _&&_, not}
 use mathlib.Core.List.{List}
-use mathlib.Core.Logic.{_⊎_, inl, inr, _≢_}
+use mathlib.Core.Logic.{_⊎_, inl, inr}
 use native.Mathlib.Omega.{arith}
-use lib.Pow.{pow-mono}
-use Rattle.finite.specs.Bounded.{all, least, count}
-use Rattle.finite.proofs.Truth.{decide, same-test, and-left}
-use Rattle.finite.proofs.Bounded.{least-member, count-same}
+use Rattle.finite.specs.Bounded.{all, count}
+use Rattle.finite.proofs.Truth.{decide, clash, false-of, same-test, and-intro, and-left, and-false-left, and-false-right}
+use Rattle.finite.proofs.Bounded.{count-less}
 use Rattle.bits.specs.Member.{has, pack}
-use Rattle.bits.proofs.Membership.{has-pack-below, has-lt, pack-lt, pack-ext}
-use Rattle.bits.proofs.Compare.{count-word}
-use Rattle.sets.specs.Words.{capacity, bitsOf, setsIn, setCount}
+use Rattle.bits.proofs.Membership.{has-zero, has-pack-below, has-lt, pack-lt, pack-ext}
+use Rattle.sets.specs.Words.{capacity, bitsOf, setsIn}
 use Rattle.sets.proofs.Rows.{count-same as count-same-words}
 use Rattle.graphs.specs.Closure.{reaches}
-use Rattle.graphs.specs.Component.{joined, nontrivial, leaves, rank}
+use Rattle.graphs.specs.Component.{joined, nontrivial, leaves}
+use Rattle.graphs.proofs.Closure.{reaches-to, reaches-trans}
 use Rattle.graphs.proofs.Graph.{edge-to}
-use Rattle.graphs.proofs.Component.{leaves-elim, joined-self, joined-sym, rank-le, rank-same, nontrivial-same}
+use Rattle.graphs.proofs.Component.{leaves-elim, joined-intro, joined-there, joined-self, joined-sym, nontrivial-same}
 use Rattle.arena.specs.Arena.{Separated}
 use Rattle.game.specs.declared.Game.{Game}
 use Rattle.game.specs.declared.OutSet.{OutSet}
@@ -34,7 +33,7 @@ use Rattle.theory.specs.Region.{homeFor, region}
 use Rattle.theory.proofs.Region.{homeFor-same}
 use Rattle.theory.proofs.Delay.{region-same}
 use Rattle.scratch.specs.declared.Nontrivial.{Nontrivial}
-use Rattle.scratch.specs.Stored.{inReachAt, rowAt, storedRow, RowPut, Laid, Ready}
+use Rattle.scratch.specs.Stored.{storedRow, Ready}
 use Rattle.scratch.proofs.Read.{stored-nontrivial, stored-trivial}
 use Rattle.scratch.proofs.Areas.{in-closes}
 use Rattle.region_dues.specs.Dues.{Serving, admits}
@@ -42,7 +41,7 @@ use Rattle.region_homes.specs.Homes.{homeAt}
 use Rattle.region_homes.proofs.Meaning.{home-row-means}
 use Rattle.region_replies.specs.Replies.{replyAt}
 use Rattle.region_replies.proofs.Meaning.{reply-row-means}
-use Rattle.region_ranks.specs.Fill.{RowReady, EarlierReady, reach, NextAt, Filling, PastKept}
+use Rattle.region_ranks.specs.Fill.{RowReady, Bottom, RowsPut, Filling, PastKept}
 
 module _ {g : Game} {s : List ℕ} {x : Nontrivial} {i : ℕ} (R : RowReady g s x i) where
   abbrev c : ℕ
@@ -90,7 +89,7 @@ module _ {g : Game} {s : List ℕ} {x : Nontrivial} {i : ℕ} (R : RowReady g s 
   row-component a e = e ∙ component-closed (g .input) (setsIn s) (in-closes (R .laid)) i (R .here)
 
 -- the rows of one component are the same
-stored-same : (S : Separated) (i f : ℕ) → joined (S .input) i f ≡ true → storedRow S f ≡ storedRow S i
+pub stored-same : (S : Separated) (i f : ℕ) → joined (S .input) i f ≡ true → storedRow S f ≡ storedRow S i
 stored-same S i f j = go (decide (nontrivial (S .input) i))
   where
     back : joined (S .input) f i ≡ true
@@ -107,97 +106,96 @@ stored-same S i f j = go (decide (nontrivial (S .input) i))
         ∙ pack-ext (S .output .states) (region S f) (region S i) (λ o b. region-same S f i o o back (joined-self (S .output) o b))
         ∙ sym (stored-trivial S i t)
 
-pub row-taken : {g : Game} {s : List ℕ} {x : Nontrivial} {i : ℕ} → RowReady g s x i → EarlierReady g s i → (a f : ℕ)
-    → a ≡ pack (g .input .states) (together (setsIn s) i) → f ≡ least capacity (has a) → f < i → (f < g .input .states) ×
-    (rowAt (setsIn s) (g .input .states) f ≡ storedRow (separatedOf g) i)
-unfolding separatedOf graphOf
-row-taken {g} {s} {x} {i} R E a f e q b =
-    (omega (arith, R .here), E .same f b (sym (rank-same (graphOf (g .input)) i f together-f)) ∙ stored-same (separatedOf g) i f together-f)
-  where
-    small : least capacity (has a) < capacity
-    small = omega (arith, R .here, R .fits .input .most)
-
-    member : has a f ≡ true
-    member = subst (λ (k : ℕ). has a k ≡ true) (sym q) (least-member capacity (has a) small)
-
-    together-f : joined (graphOf (g .input)) i f ≡ true
-    together-f =
-        sym (has-pack-below (g .input .states) (joined (graphOf (g .input)) i) f (omega (arith, R .here)))
-        ∙ ap (λ (y : ℕ). has y f) (sym (row-component R a e)) ∙ member
-
 -- ---- the order of filling
 
-rank-counted : (g : Game) (s : List ℕ) → Fits g → Laid g s → (i : ℕ) → i < g .input .states → reach (setsIn s) i ≡ rank (graphOf (g .input)) i
-unfolding reach rank graphOf
-rank-counted g s F L i b =
-    ap (λ (x : ℕ). count capacity (has x)) (L .inputs i b)
-    ∙ sym (count-word capacity (pack (g .input .states) (reaches (graphOf (g .input)) i)) wide)
-    ∙ count-word (g .input .states) (pack (g .input .states) (reaches (graphOf (g .input)) i)) (pack-lt (g .input .states) (reaches (graphOf (g .input)) i))
-    ∙ count-same (g .input .states) (has (pack (g .input .states) (reaches (graphOf (g .input)) i))) (reaches (graphOf (g .input)) i)
-    (λ t c. has-pack-below (g .input .states) (reaches (graphOf (g .input)) i) t c)
-  where
-    wide : pack (g .input .states) (reaches (graphOf (g .input)) i) < 2 ^ capacity
-    wide = lt-of-lt-of-le (pack-lt (g .input .states) (reaches (graphOf (g .input)) i)) (pow-mono (F .input .most))
+module _ {g : Game} {x : Nontrivial} {s : List ℕ} {left : ℕ} (P : Filling g x s left) {i : ℕ} (B : Bottom g left i) where
+  pub bottom-below : i < g .input .states
+  bottom-below = P .inside .below i (B .here)
 
-pub filling-long : {g : Game} {x : Nontrivial} {s : List ℕ} {k i : ℕ} → Filling g x s k i → g .input .states ≤ setCount s
-filling-long P = omega (arith, P .laid .long)
+  -- what the row is worked out from stands
+  pub filling-ready : RowReady g s x i
+  unfolding graphOf
+  filling-ready = record {
+    fits = P .fits;
+    laid = P .laid;
+    nontrivial = P .nontrivial;
+    here = bottom-below;
+    below = λ j there back. P .stands j (reaches-to (graphOf (g .input)) i j there) (false-of (has left j) (λ h. clash (B .alone j h there) back));
+  }
 
--- the inputs between two that reach k states need nothing
-pub filling-skips : {g : Game} {x : Nontrivial} {s : List ℕ} {k i r : ℕ} → Filling g x s k i → NextAt (setsIn s) (g .input .states) k i r
-    → Filling g x s k r
-filling-skips {g} {x} {s} {k} {i} {r} P N = record {
-  fits = P .fits;
-  laid = P .laid;
-  nontrivial = P .nontrivial;
-  below = P .below;
-  same = λ j a h q. elim (decLt j i) [
-    | yes d ↦ P .same j a d q
-    | no d ↦ absurd (N .passed j (omega arith) h (rank-counted g s (P .fits) (P .laid) j a ∙ q))
-  ];
-}
+  -- a is the component of i
+  module _ (a : ℕ) (e : a ≡ pack (g .input .states) (together (setsIn s) i)) where
+    whole : a ≡ pack (g .input .states) (joined (graphOf (g .input)) i)
+    whole = row-component filling-ready a e
 
-pub filling-at : {g : Game} {x : Nontrivial} {s : List ℕ} {i : ℕ} (k j : ℕ) → j ≡ k → Filling g x s k i → Filling g x s j i
-filling-at {g} {x} {s} {i} k j e P = subst⁻¹ (λ (z : ℕ). Filling g x s z i) e P
+    pub component-below : (j : ℕ) → has a j ≡ true → j < g .input .states
+    component-below j h =
+        has-lt (g .input .states) (pack (g .input .states) (joined (graphOf (g .input)) i)) j (pack-lt (g .input .states) (joined (graphOf (g .input)) i))
+        (ap (λ (v : ℕ). has v j) (sym whole) ∙ h)
 
-pub filling-of : {g : Game} {x : Nontrivial} {s : List ℕ} {i : ℕ} (k j : ℕ) → j ≡ k → Filling g x s j i → Filling g x s k i
-filling-of {g} {x} {s} {i} k j e P = subst (λ (z : ℕ). Filling g x s z i) e P
+    joined-in : (j : ℕ) → has a j ≡ true → joined (graphOf (g .input)) i j ≡ true
+    joined-in j h =
+        sym (has-pack-below (g .input .states) (joined (graphOf (g .input)) i) j (component-below j h)) ∙ ap (λ (v : ℕ). has v j) (sym whole) ∙ h
 
--- the row of an input can be worked out where the rows before it stand
-pub filling-ready : {g : Game} {x : Nontrivial} {s : List ℕ} {i : ℕ} → Filling g x s (reach (setsIn s) i) i → i < g .input .states
-    → RowReady g s x i × EarlierReady g s i
-filling-ready {g} {x} {s} {i} P b =
-    let r = rank-counted g s (P .fits) (P .laid) i b in (
-      record { fits = P .fits; laid = P .laid; nontrivial = P .nontrivial; here = b; below = λ j a h. P .below j a (omega (arith, r)) },
-      record { same = λ j a h. P .same j (omega arith) a (h ∙ sym r) },
-    )
+    in-joined : (j : ℕ) → j < g .input .states → joined (graphOf (g .input)) i j ≡ true → has a j ≡ true
+    in-joined j b h = ap (λ (v : ℕ). has v j) whole ∙ has-pack-below (g .input .states) (joined (graphOf (g .input)) i) j b ∙ h
 
-module _ {g : Game} {x : Nontrivial} {s : List ℕ} {k i : ℕ} (P : Filling g x s k i) (b : i < g .input .states) where
-  module _ (v : ℕ) (t : List ℕ) (W : RowPut (g .input .states) i v s t) where
-    -- the row is written
-    pub filling-writes : v ≡ storedRow (separatedOf g) i → Filling g x t k (i + 1)
-    filling-writes e = record {
-      fits = P .fits;
-      laid = record {
-        long = omega (arith, P .laid .long, count-same-words t s (W .long));
-        inputs = λ j a. W .inputs j a ∙ P .laid .inputs j a;
-        outputs = λ o a. W .outputs o ∙ P .laid .outputs o a;
-      };
-      nontrivial = P .nontrivial;
-      below = λ j a r. row j (P .below j a r);
-      same = λ j a h r. elim (ℕ-discrete j i) [
-        | yes d ↦ rw d (W .here ∙ e)
-        | no d ↦ row j (P .same j a (omega arith) r)
-      ];
-    }
-      where
-        row : (j : ℕ) → rowAt (setsIn s) (g .input .states) j ≡ storedRow (separatedOf g) j → rowAt (setsIn t) (g .input .states) j ≡ storedRow (separatedOf g) j
-        row j r = elim (ℕ-discrete j i) [
-          | yes d ↦ rw d (W .here ∙ e)
-          | no d ↦ W .others j d ∙ r
-        ]
+    itself : has a i ≡ true
+    unfolding graphOf
+    itself = in-joined i bottom-below (joined-self (graphOf (g .input)) i bottom-below)
 
-    pub kept-writes : PastKept g s t
-    kept-writes = record { long = W .long; rest = W .rest (g .output .states) }
+    module _ (rest : ℕ) (f : (j : ℕ) → has rest j ≡ (has left j && not (has a j))) where
+      within : (j : ℕ) → has rest j ≡ true → has left j ≡ true
+      within j h = and-left (has left j) (not (has a j)) (sym (f j) ∙ h)
+
+      gone : (j : ℕ) → has a j ≡ true → has rest j ≡ false
+      gone j h = f j ∙ and-false-right (has left j) (ap not h)
+
+      -- an input outside rest is of the component, or was outside before
+      outside : (j : ℕ) → has rest j ≡ false → (has a j ≡ true) ⊎ ((has a j ≡ false) × (has left j ≡ false))
+      outside j h = at (decide (has a j))
+        where
+          at : (has a j ≡ true) ⊎ (has a j ≡ false) → (has a j ≡ true) ⊎ ((has a j ≡ false) × (has left j ≡ false))
+          at (inl k) = inl k
+          at (inr k) = inr (k, false-of (has left j) (λ q. clash (f j ∙ and-intro q (ap not k)) h))
+
+      pub filling-falls : count capacity (has rest) < count capacity (has left)
+      filling-falls =
+          count-less capacity (has rest) (has left) (λ j b h. within j h) i (omega (arith, bottom-below, P .fits .input .most)) (gone i itself) (B .here)
+
+      -- the rows are written
+      module _ (y : ℕ) (t : List ℕ) (W : RowsPut (g .input .states) a y s t) where
+        pub filling-next : y ≡ storedRow (separatedOf g) i → Filling g x t rest
+        unfolding graphOf separatedOf
+        filling-next q = record {
+          fits = P .fits;
+          laid = record {
+            long = omega (arith, P .laid .long, count-same-words t s (W .long));
+            inputs = λ j b. W .inputs j b ∙ P .laid .inputs j b;
+            outputs = λ o b. W .outputs o ∙ P .laid .outputs o b;
+          };
+          nontrivial = P .nontrivial;
+          inside = record { below = λ j h. P .inside .below j (within j h) };
+          stands = λ j b h. elim (outside j h) [
+            | inl k ↦ W .here j k ∙ q ∙ sym (same j k)
+            | inr k ↦ W .others j (k .0) ∙ P .stands j b (k .1)
+          ];
+          closed = λ j u h r. elim (outside j h) [
+            | inl k ↦ reached u (reaches-trans (graphOf (g .input)) i j u (joined-there (graphOf (g .input)) i j (joined-in j k)) r) (decide (has left u))
+            | inr k ↦ f u ∙ and-false-left (not (has a u)) (P .closed j u (k .1) r)
+          ];
+        }
+          where
+            same : (j : ℕ) → has a j ≡ true → storedRow (separatedOf g) j ≡ storedRow (separatedOf g) i
+            same j k = stored-same (separatedOf g) i j (joined-in j k)
+
+            reached : (u : ℕ) → reaches (graphOf (g .input)) i u ≡ true → (has left u ≡ true) ⊎ (has left u ≡ false) → has rest u ≡ false
+            reached u r (inl k) =
+                gone u (in-joined u (reaches-to (graphOf (g .input)) i u r) (joined-intro (graphOf (g .input)) i u r (B .alone u k r)))
+            reached u r (inr k) = f u ∙ and-false-left (not (has a u)) k
+
+        pub kept-writes : PastKept g s t
+        kept-writes = record { long = W .long; rest = W .rest (g .output .states) }
 
 pub kept-none : (g : Game) (s : List ℕ) → PastKept g s s
 kept-none g s = record { long = refl; rest = refl }
@@ -205,60 +203,11 @@ kept-none g s = record { long = refl; rest = refl }
 pub kept-more : {g : Game} {s t u : List ℕ} → PastKept g s t → PastKept g t u → PastKept g s u
 kept-more p q = record { long = q .long ∙ p .long; rest = q .rest ∙ p .rest }
 
--- all inputs that reach k states are done
-pub filling-next : {g : Game} {x : Nontrivial} {s : List ℕ} {k i : ℕ} → Filling g x s k i → g .input .states ≤ i
-    → Filling g x s (k + 1) 0
-filling-next {g} {x} {s} {k} {i} P b = record {
-  fits = P .fits;
-  laid = P .laid;
-  nontrivial = P .nontrivial;
-  below = λ j a r. elim (ℕ-discrete (rank (graphOf (g .input)) j) k) [
-    | yes q ↦ P .same j a (omega arith) q
-    | no q ↦ P .below j a (omega arith)
-  ];
-  same = λ j a h r. absurd (omega arith);
-}
-
 -- all inputs are done
-pub filling-done : {g : Game} {x : Nontrivial} {s : List ℕ} {k : ℕ} → Filling g x s k 0 → g .input .states < k → Ready g s (bitsOf (x .inputs .0))
-unfolding graphOf
-filling-done {g} P b = record {
+pub filling-done : {g : Game} {x : Nontrivial} {s : List ℕ} {left : ℕ} → Filling g x s left → left ≡ 0 → Ready g s (bitsOf (x .inputs .0))
+filling-done {g} P z = record {
   fits = P .fits;
   laid = P .laid;
-  rows = λ j a. P .below j a (omega (arith, rank-le (graphOf (g .input)) j));
+  rows = λ j a. P .stands j a (ap (λ (v : ℕ). has v j) z ∙ has-zero j);
   inner = P .nontrivial .inputs;
 }
-
--- ---- the next input to be filled
-
-module _ (l : List ℕ) (n k i : ℕ) where
-  pub record Seeking (j : ℕ) : Type 0 where
-    pub from : i ≤ j
-    pub within : j ≤ n
-    pub passed : (e : ℕ) → i ≤ e → e < j → reach l e ≢ k
-
-  pub seeking-start : i ≤ n → Seeking i
-  seeking-start b = record { from = le-refl i; within = b; passed = λ e a h. absurd (omega arith) }
-
-  pub seeking-next : (j c : ℕ) → j < n → Seeking j → c ≡ count capacity (has (inReachAt l j)) → c ≢ k → Seeking (j + 1)
-  unfolding reach
-  seeking-next j c b S e q = record {
-    from = omega (arith, S .from);
-    within = omega arith;
-    passed = λ f a h. elim (ℕ-discrete f j) [
-      | yes d ↦ λ z. q (e ∙ ap (reach l) (sym d) ∙ z)
-      | no d ↦ S .passed f a (omega arith)
-    ];
-  }
-
-  pub seeking-hit : (j c : ℕ) → j < n → Seeking j → c ≡ count capacity (has (inReachAt l j)) → c ≡ k → NextAt l n k i j
-  unfolding reach
-  seeking-hit j c b S e q = record { from = S .from; within = S .within; hit = λ h. sym e ∙ q; passed = S .passed }
-
-  pub seeking-end : (j : ℕ) → n ≤ j → Seeking j → NextAt l n k i n
-  seeking-end j b S = record {
-    from = omega (arith, S .from, S .within);
-    within = le-refl n;
-    hit = λ h. absurd (omega arith);
-    passed = λ e a h. S .passed e a (omega arith);
-  }

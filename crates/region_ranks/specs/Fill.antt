@@ -1,53 +1,64 @@
--- The order in which the region's rows are filled: by how many states an input reaches, then by number.
+-- The order in which the region's rows are filled: a component after those that it reaches.
 --
 --   RowReady g s x i         == scratch s holds what the row of input i is worked out from, x being the states in nontrivial components
---   EarlierReady g s i       == and the rows of the inputs before i that reach as many states
---   reach l i                == how many states input i reaches, told from the sets l of scratch
---   NextAt l n k i r         == r is the first of n inputs from i on that reaches k states; n where none does
---   Filling g x s k i        == the rows of the inputs that reach fewer than k states stand in s, and of those before i that reach k
+--   Inside g left            == the members of left are inputs of g
+--   Descending g left d      == d has come down to an input of left, and looked at all below it but the rest of d
+--   Bottom g left i          == i is an input of left that reaches none of these but those of its own component
+--   RowsPut n a y s t        == scratch t is s with the region's row y for the inputs of a, of n inputs
+--   Filling g x s left       == the rows of the inputs outside left stand in s, and those inputs reach none of left
 --   PastKept g s t           == scratch t is as long as s, and the sets past those that are kept are the same
-use Prim.Native.Nat.{ℕ, _≤_, _<_}
+use Prim.Native.Nat.{ℕ, _<_}
 use mathlib.Core.Path.{_≡_}
-use mathlib.Core.Logic.{_≢_}
+use mathlib.Core.Bool.{true, false}
 use mathlib.Core.List.{List}
 use lib.ListN.{length, drop}
-use Rattle.finite.specs.Bounded.{count}
 use Rattle.bits.specs.Member.{has}
-use Rattle.sets.specs.Words.{capacity, setsIn}
-use Rattle.graphs.specs.Component.{rank}
+use Rattle.sets.specs.Words.{bitsOf, setsIn}
+use Rattle.graphs.specs.Closure.{reaches}
 use Rattle.game.specs.declared.Game.{Game}
 use Rattle.game.specs.Fits.{Fits}
 use Rattle.play.specs.Play.{graphOf, separatedOf}
 use Rattle.scratch.specs.declared.Nontrivial.{Nontrivial}
 use Rattle.scratch.specs.Scratch.{scratchSets}
-use Rattle.scratch.specs.Stored.{inReachAt, rowAt, storedRow, NontrivialOf, Laid}
+use Rattle.scratch.specs.Stored.{inReachAt, rowAt, outReachAt, storedRow, NontrivialOf, Laid}
+use Rattle.region_ranks.specs.declared.Descent.{Descent}
 
 pub record RowReady (g : Game) (s : List ℕ) (x : Nontrivial) (i : ℕ) : Type 0 where
   pub fits : Fits g
   pub laid : Laid g s
   pub nontrivial : NontrivialOf g x
   pub here : i < g .input .states
-  pub below : (j : ℕ) → j < g .input .states → rank (graphOf (g .input)) j < rank (graphOf (g .input)) i
+  pub below : (j : ℕ) → reaches (graphOf (g .input)) i j ≡ true → reaches (graphOf (g .input)) j i ≡ false
       → rowAt (setsIn s) (g .input .states) j ≡ storedRow (separatedOf g) j
 
-pub record EarlierReady (g : Game) (s : List ℕ) (i : ℕ) : Type 0 where
-  pub same : (j : ℕ) → j < i → rank (graphOf (g .input)) j ≡ rank (graphOf (g .input)) i → rowAt (setsIn s) (g .input .states) j ≡ storedRow (separatedOf g) j
+pub record Inside (g : Game) (left : ℕ) : Type 0 where
+  pub below : (j : ℕ) → has left j ≡ true → j < g .input .states
 
-unfoldable pub reach : List ℕ → ℕ → ℕ
-reach l i = count capacity (has (inReachAt l i))
+pub record Descending (g : Game) (left : ℕ) (d : Descent) : Type 0 where
+  pub here : has left (d .at .0) ≡ true
+  pub inside : (t : ℕ) → has (bitsOf (d .rest .0)) t ≡ true → (has left t ≡ true) × (reaches (graphOf (g .input)) (d .at .0) t ≡ true)
+  pub passed : (t : ℕ) → has left t ≡ true → reaches (graphOf (g .input)) (d .at .0) t ≡ true → has (bitsOf (d .rest .0)) t ≡ false
+      → reaches (graphOf (g .input)) t (d .at .0) ≡ true
 
-pub record NextAt (l : List ℕ) (n k i r : ℕ) : Type 0 where
-  pub from : i ≤ r
-  pub within : r ≤ n
-  pub hit : r < n → reach l r ≡ k
-  pub passed : (j : ℕ) → i ≤ j → j < r → reach l j ≢ k
+pub record Bottom (g : Game) (left i : ℕ) : Type 0 where
+  pub here : has left i ≡ true
+  pub alone : (t : ℕ) → has left t ≡ true → reaches (graphOf (g .input)) i t ≡ true → reaches (graphOf (g .input)) t i ≡ true
 
-pub record Filling (g : Game) (x : Nontrivial) (s : List ℕ) (k i : ℕ) : Type 0 where
+pub record RowsPut (n a y : ℕ) (s t : List ℕ) : Type 0 where
+  pub long : length t ≡ length s
+  pub inputs : (i : ℕ) → i < n → inReachAt (setsIn t) i ≡ inReachAt (setsIn s) i
+  pub here : (j : ℕ) → has a j ≡ true → rowAt (setsIn t) n j ≡ y
+  pub others : (j : ℕ) → has a j ≡ false → rowAt (setsIn t) n j ≡ rowAt (setsIn s) n j
+  pub outputs : (o : ℕ) → outReachAt (setsIn t) n o ≡ outReachAt (setsIn s) n o
+  pub rest : (m : ℕ) → drop (scratchSets n m) (setsIn t) ≡ drop (scratchSets n m) (setsIn s)
+
+pub record Filling (g : Game) (x : Nontrivial) (s : List ℕ) (left : ℕ) : Type 0 where
   pub fits : Fits g
   pub laid : Laid g s
   pub nontrivial : NontrivialOf g x
-  pub below : (j : ℕ) → j < g .input .states → rank (graphOf (g .input)) j < k → rowAt (setsIn s) (g .input .states) j ≡ storedRow (separatedOf g) j
-  pub same : (j : ℕ) → j < g .input .states → j < i → rank (graphOf (g .input)) j ≡ k → rowAt (setsIn s) (g .input .states) j ≡ storedRow (separatedOf g) j
+  pub inside : Inside g left
+  pub stands : (j : ℕ) → j < g .input .states → has left j ≡ false → rowAt (setsIn s) (g .input .states) j ≡ storedRow (separatedOf g) j
+  pub closed : (j t : ℕ) → has left j ≡ false → reaches (graphOf (g .input)) j t ≡ true → has left t ≡ false
 
 pub record PastKept (g : Game) (s t : List ℕ) : Type 0 where
   pub long : length t ≡ length s

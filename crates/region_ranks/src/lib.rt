@@ -1,13 +1,16 @@
-// The region's rows, one input after the other: those of the inputs that reach k states.
+// The region's rows, one component after the other, each after those that it reaches.
 ghost use mathlib.Core.Path.{_≡_};
-ghost use Prim.Native.Nat.{_+_, _≤_, _<_};
-ghost use Rattle.bits.specs.Member.{pack};
-ghost use Rattle.sets.specs.Words.{bitsOf, setsIn, setCount};
+ghost use mathlib.Core.Bool.{true};
+ghost use mathlib.Core.Logic.{_≢_};
+ghost use Prim.Native.Nat.{ℕ, _+_, _≤_, _<_};
+ghost use Rattle.finite.specs.Bounded.{count as members};
+ghost use Rattle.bits.specs.Member.{has, pack};
+ghost use Rattle.sets.specs.Words.{capacity, bitsOf, setCount};
 ghost use Rattle.graphs.specs.Component.{joined};
 ghost use Rattle.play.specs.Play.{graphOf, separatedOf};
-ghost use Rattle.scratch.specs.Stored.{storedRow};
+ghost use Rattle.scratch.specs.Stored.{storedRow, Laid};
 ghost use Rattle.region_dues.specs.Dues.{serverList, Serving};
-ghost use Rattle.region_ranks.specs.Fill.{RowReady, EarlierReady, reach, NextAt, Filling, PastKept};
+ghost use Rattle.region_ranks.specs.Fill.{RowReady, Inside, Descending, Bottom, RowsPut, Filling, PastKept};
 use game::Game;
 use game::InSet;
 use game::InState;
@@ -15,7 +18,7 @@ use game::OutSet;
 use region_dues::Servers;
 use scratch::Nontrivial;
 
-// The region's row of input i, a being its component, where the rows of the inputs that reach fewer states stand. Here and below the rows of the graphs,
+// The region's row of input i, a being its component, where the rows of the inputs that it reaches past its component stand. Here and below the rows of the graphs,
 // `ins` and `outs`, are read where they stand: a game goes by value, and to read a row of it would copy all of them for each input.
 fn stored_row(
     g: Game,
@@ -42,80 +45,88 @@ fn stored_row(
     region_replies::reply_row(g, ins, outs, s, c, i)
 }
 
-// The same, taken from the first input of the component where that has been worked out.
-fn row_for(
-    g: Game,
-    ins: &[u64; sets::ROW_WORDS],
-    outs: &[u64; sets::ROW_WORDS],
-    t: Servers,
-    s: &[u64],
-    x: Nontrivial,
-    i: InState,
-) -> OutSet
-    requires { ⌜ RowReady g (now s) x (i .0) × EarlierReady g (now s) (i .0) × Serving g (serverList t) × (now ins ≡ g .input .moves)
-        × (now outs ≡ g .output .moves) ⌝ }
-    ensures { λ r. ⌜ bitsOf (r .0) ≡ storedRow (separatedOf g) (i .0) ⌝ }
+// The way down from an input: where it has come, and the inputs that are left to look at.
+struct Descent {
+    at: InState,
+    rest: InSet,
+}
+
+// Looks at one input more, and goes to it where it does not lead back.
+fn descend(g: Game, s: &[u64], left: InSet, d: Descent) -> Descent
+    requires { ⌜ (g .input .states ≤ capacity) × Laid g (now s) × Inside g (bitsOf (left .0)) × Descending g (bitsOf (left .0)) d × (bitsOf (d .rest .0) ≢ 0) ⌝ }
+    ensures { λ r. ⌜ Descending g (bitsOf (left .0)) r
+        × (members capacity (has (bitsOf (r .rest .0))) < members capacity (has (bitsOf (d .rest .0)))) ⌝ }
 {
-    let n = g.input.states;
-    let a = scratch::in_component(s, n, i);
-    let f = sets::lowest(a.0);
-    if f < i.0 {
-        return scratch::region_row(s, n, InState(f));
+    let at = d.at;
+    let rest = d.rest;
+    let t = sets::lowest(rest.0);
+    let row = scratch::in_reach(s, InState(t));
+    let less = sets::without_lowest(rest.0);
+    if sets::member(row.0, at.0) {
+        return Descent {
+            at,
+            rest: InSet(less),
+        };
     }
-    stored_row(g, ins, outs, t, s, x, a, i)
+    Descent {
+        at: InState(t),
+        rest: InSet(sets::intersection(less, row.0)),
+    }
 }
 
-// Writes the row of input i, where the rows of the inputs that come before it stand.
-fn place(
-    g: Game,
-    ins: &[u64; sets::ROW_WORDS],
-    outs: &[u64; sets::ROW_WORDS],
-    t: Servers,
-    s: &mut [u64],
-    x: Nontrivial,
-    i: InState,
-)
-    requires { ⌜ Filling g x (now s) (reach (setsIn (now s)) (i .0)) (i .0) × Serving g (serverList t) × (i .0 < g .input .states)
-        × (now ins ≡ g .input .moves) × (now outs ≡ g .output .moves) ⌝ }
-    ensures { λ _. ⌜ Filling g x (now (s .exit)) (reach (setsIn (now (s .entry))) (i .0)) (i .0 + 1) × PastKept g (now (s .entry)) (now (s .exit)) ⌝ }
+// An input of `left` that reaches none of these but those of its own component.
+fn bottom(g: Game, s: &[u64], left: InSet) -> InState
+    requires { ⌜ (g .input .states ≤ capacity) × Laid g (now s) × Inside g (bitsOf (left .0)) × (bitsOf (left .0) ≢ 0) ⌝ }
+    ensures { λ r. ⌜ Bottom g (bitsOf (left .0)) (r .0) ⌝ }
 {
-    let n = g.input.states;
-    let r = row_for(g, ins, outs, t, s, x, i);
-    scratch::put_region_row(s, n, i, r);
-}
-
-// The first of n inputs, from input i on, that reaches k states; n where none does. It needs no game, so that passing over an input costs little.
-fn next_at(s: &[u64], n: usize, k: usize, i: usize) -> usize
-    requires { ⌜ (i ≤ n) × (n ≤ setCount (now s)) ⌝ }
-    ensures { λ r. ⌜ NextAt (setsIn (now (s .entry))) n k i r ⌝ }
-{
-    let mut j = i;
-    while j < n {
-        if scratch::reach_count(s, InState(j)) == k {
-            return j;
+    let first = sets::lowest(left.0);
+    let row = scratch::in_reach(s, InState(first));
+    let mut d = Descent {
+        at: InState(first),
+        rest: InSet(sets::intersection(left.0, row.0)),
+    };
+    loop {
+        let rest = d.rest;
+        if sets::is_empty(rest.0) {
+            break;
         }
-        j += 1;
+        d = descend(g, s, left, d);
     }
-    n
+    d.at
 }
 
-// Writes the rows of the inputs that reach k states.
-pub fn fill_rank(
+// Writes the row r for the inputs of a.
+fn put_rows(s: &mut [u64], n: usize, a: InSet, r: OutSet)
+    requires { ⌜ (n ≤ capacity) × ((j : ℕ) → has (bitsOf (a .0)) j ≡ true → j < n) × (n + n ≤ setCount (now s)) ⌝ }
+    ensures { λ _. ⌜ RowsPut n (bitsOf (a .0)) (bitsOf (r .0)) (now (s .entry)) (now (s .exit)) ⌝ }
+{
+    let mut rest = a.0;
+    while !sets::is_empty(rest) {
+        let i = sets::lowest(rest);
+        scratch::put_region_row(s, n, InState(i), r);
+        rest = sets::without_lowest(rest);
+    }
+}
+
+// Writes the rows of one component of the inputs that are left, where the rows of the others stand. The answer is those that are left then.
+pub fn fill_component(
     g: Game,
     ins: &[u64; sets::ROW_WORDS],
     outs: &[u64; sets::ROW_WORDS],
     t: Servers,
     s: &mut [u64],
     x: Nontrivial,
-    k: usize,
-)
-    requires { ⌜ Filling g x (now s) k 0 × Serving g (serverList t) × (now ins ≡ g .input .moves) × (now outs ≡ g .output .moves) ⌝ }
-    ensures { λ _. ⌜ Filling g x (now (s .exit)) (k + 1) 0 × PastKept g (now (s .entry)) (now (s .exit)) ⌝ }
+    left: InSet,
+) -> InSet
+    requires { ⌜ Filling g x (now s) (bitsOf (left .0)) × Serving g (serverList t) × (bitsOf (left .0) ≢ 0) × (now ins ≡ g .input .moves)
+        × (now outs ≡ g .output .moves) ⌝ }
+    ensures { λ r. ⌜ Filling g x (now (s .exit)) (bitsOf (r .0)) × PastKept g (now (s .entry)) (now (s .exit))
+        × (members capacity (has (bitsOf (r .0))) < members capacity (has (bitsOf (left .0)))) ⌝ }
 {
     let n = g.input.states;
-    let mut i = next_at(s, n, k, 0);
-    while i < n {
-        place(g, ins, outs, t, s, x, InState(i));
-        i = next_at(s, n, k, i + 1);
-    }
+    let i = bottom(g, s, left);
+    let a = scratch::in_component(s, n, i);
+    let r = stored_row(g, ins, outs, t, s, x, a, i);
+    put_rows(s, n, a, r);
+    InSet(sets::difference(left.0, a.0))
 }

@@ -1,3 +1,3 @@
 -- Laws of replies to next inputs.
-pub mod Tries
+pub mod Answers
 pub mod Meaning

@@ -6,13 +6,15 @@ use mathlib.Core.List.{List}
 use mathlib.Core.Logic.{_⊎_, inl, inr}
 use lib.ListN.{getD}
 use Rattle.finite.specs.Bounded.{any}
-use Rattle.finite.proofs.Truth.{decide}
+use Rattle.finite.proofs.Truth.{decide, clash, false-of}
 use Rattle.finite.proofs.Bounded.{all-same, any-intro, any-same}
 use Rattle.bits.specs.Member.{has, pack}
 use Rattle.bits.proofs.Membership.{pack-ext}
 use Rattle.graphs.specs.Graph.{edge}
-use Rattle.graphs.specs.Component.{nontrivial, rank}
-use Rattle.graphs.proofs.Component.{rank-trivial}
+use Rattle.graphs.specs.Closure.{reaches}
+use Rattle.graphs.specs.Component.{nontrivial}
+use Rattle.graphs.proofs.Closure.{reaches-edge}
+use Rattle.graphs.proofs.Component.{nontrivial-intro}
 use Rattle.game.specs.declared.Game.{Game}
 use Rattle.game.proofs.Laws.{Fits}
 use Rattle.play.specs.Play.{graphOf, separatedOf}
@@ -27,14 +29,18 @@ use Rattle.region_replies.specs.Replies.{excused, replied, repliesAt, re
 module _ (g : Game) (F : Fits g) where
   -- what is read from scratch s
   module _ (s : List ℕ) (L : Laid g s) (c i : ℕ) (b : i < g .input .states) (inner : c ≡ pack (g .input .states) (nontrivial (graphOf (g .input))))
-      (below : (j : ℕ) → j < g .input .states → rank (graphOf (g .input)) j < rank (graphOf (g .input)) i
+      (below : (j : ℕ) → reaches (graphOf (g .input)) i j ≡ true → reaches (graphOf (g .input)) j i ≡ false
       → rowAt (setsIn s) (g .input .states) j ≡ storedRow (separatedOf g) j) where
     abbrev l : List ℕ
     l = setsIn s
 
-    won-means : (j o : ℕ) → j < g .input .states → o < g .output .states → rank (graphOf (g .input)) j < rank (graphOf (g .input)) i
+    -- a move out of a trivial component never leads back
+    won-means : (j o : ℕ) → j < g .input .states → o < g .output .states → nontrivial (graphOf (g .input)) i ≡ false → edge (graphOf (g .input)) i j ≡ true
         → wonAt l (g .input .states) c j o ≡ region (separatedOf g) j o
-    won-means j o lj lo r = won-region g l c j o (F .output .most) lj lo inner (below j lj r) (L .outputs o lo)
+    won-means j o lj lo t e = won-region g l c j o (F .output .most) lj lo inner (below j (reaches-edge (graphOf (g .input)) i j e) back) (L .outputs o lo)
+      where
+        back : reaches (graphOf (g .input)) j i ≡ false
+        back = false-of (reaches (graphOf (g .input)) j i) (λ k. clash (nontrivial-intro (graphOf (g .input)) i j e k) t)
 
     -- a next input that is a move has a reply exactly where an output move is won
     one-answered : (a : Bool) (p q : ℕ → Bool) (k : ℕ) → 0 < k → any k (λ j. not a || (p j && q j)) ≡ (not a || any k (λ j. p j && q j))
@@ -63,7 +69,7 @@ module _ (g : Game) (F : Fits g) where
             rw (moved j, h)
             (any-same (g .output .states) (λ p. has (getD (setsIn (g .output .moves)) o 0) p && wonAt l (g .input .states) c j p)
             (λ p. edge (graphOf (g .output)) o p && region (separatedOf g) j p)
-            (λ p lp. ap₂ _&&_ (moved-edge (g .output) (F .output) o p lo) (won-means j p lj lp (rank-trivial (graphOf (g .input)) i j t h))))
+            (λ p lp. ap₂ _&&_ (moved-edge (g .output) (F .output) o p lo) (won-means j p lj lp t h)))
         one j lj (inr h) = rw (moved j, h) refl
 
     pub reply-row-means : nontrivial (graphOf (g .input)) i ≡ false → pack (g .output .states) (replyAt g l c i) ≡ storedRow (separatedOf g) i

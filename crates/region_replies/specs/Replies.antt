@@ -1,20 +1,20 @@
--- Replies to next inputs, told from the sets l of scratch, c being the inputs in nontrivial components, and the output moves of a position, tried one after the other.
+-- Replies to next inputs, told from the sets l of scratch, c being the inputs in nontrivial components.
 --
 --   repliesAt l n c next moves m k  == each input below k that belongs to next has a reply in moves
 --   replyAt g l c i o               == output o has a reply to every next input of i
---   Trying l n m moves t            == t has seen some of the output moves, and has the others left
-use Prim.Native.Nat.{ℕ, _<_}
+--   answersAt rows x y o            == output o is in x and has a move into y
+--   Held rows y x                   == every output of x has a move into y, if that has a state
+use Prim.Native.Nat.{ℕ}
 use mathlib.Core.Path.{_≡_}
 use mathlib.Core.Bool.{Bool, true, not, _&&_, _||_}
 use mathlib.Core.List.{List}
-use mathlib.Core.Logic.{_⊎_}
+use mathlib.Core.Logic.{_≢_}
 use lib.ListN.{getD}
 use Rattle.finite.specs.Bounded.{all, any}
-use Rattle.bits.specs.Member.{has}
+use Rattle.bits.specs.Member.{has, meets}
 use Rattle.game.specs.declared.Game.{Game}
-use Rattle.sets.specs.Words.{bitsOf, setsIn}
-use Rattle.scratch.specs.Stored.{wonAt, Reached}
-use Rattle.region_replies.specs.declared.Tried.{Tried}
+use Rattle.sets.specs.Words.{capacity, setsIn}
+use Rattle.scratch.specs.Stored.{wonAt}
 
 -- next input j needs no reply, or the output move p is one: next are the moves of the input, moves those of the output
 unfoldable pub excused : List ℕ → ℕ → ℕ → ℕ → ℕ → ℕ → ℕ → Bool
@@ -34,8 +34,9 @@ replyWith l n c next rows m o = repliesAt l n c next (getD rows o 0) m n
 unfoldable pub replyAt : Game → List ℕ → ℕ → ℕ → ℕ → Bool
 replyAt g l c i = replyWith l (g .input .states) c (getD (setsIn (g .input .moves)) i 0) (setsIn (g .output .moves)) (g .output .states)
 
-pub record Trying (l : List ℕ) (n m moves : ℕ) (t : Tried) : Type 0 where
-  pub left : (p : ℕ) → has (bitsOf (t .left .0)) p ≡ true → (p < m) × (has moves p ≡ true)
-  pub seen : (p : ℕ) → has (bitsOf (t .seen .0)) p ≡ true → has moves p ≡ true
-  pub either : (p : ℕ) → p < m → has moves p ≡ true → (has (bitsOf (t .left .0)) p ≡ true) ⊎ (has (bitsOf (t .seen .0)) p ≡ true)
-  pub reach : Reached l n m (bitsOf (t .seen .0)) (bitsOf (t .reach .0))
+-- output o, of the rows of moves, is in x and has a move into y
+unfoldable pub answersAt : List ℕ → ℕ → ℕ → ℕ → Bool
+answersAt rows x y o = has x o && meets capacity (getD rows o 0) y
+
+pub record Held (rows : List ℕ) (y x : ℕ) : Type 0 where
+  pub answers : y ≢ 0 → (o : ℕ) → has x o ≡ true → meets capacity (getD rows o 0) y ≡ true

@@ -2,3 +2,4 @@
 pub mod Areas
 pub mod Read
 pub mod Cleared
+pub mod Narrow

@@ -1,6 +1,8 @@
 -- What is read from scratch is the winning region.
 --
 --   won-in, won-out            : the two cases of `wonAt`
+--   won-all-in, -same, -out    : the outputs that are won with an input, in these cases
+--   reaching-none              : no output reaches one of no states
 --   some-won-in, some-won-out  : the two cases of `someWonAt`
 --   won-region                 : where the rows of j and o are right, `wonAt` is the region
 --   ready-won, ready-row       : so it is where scratch is ready
@@ -10,11 +12,12 @@ use mathlib.Core.Bool.{Bool, true, false, _&&_}
 use mathlib.Core.List.{List}
 use mathlib.Core.Logic.{_⊎_, inl, inr}
 use native.Mathlib.Omega.{arith}
+use lib.Dec.{ltb}
 use Rattle.finite.specs.Bounded.{any}
-use Rattle.finite.proofs.Truth.{decide, same-test, and-intro, and-left, and-right}
+use Rattle.finite.proofs.Truth.{decide, clash, false-of, same-test, and-intro, and-left, and-right, and-false-right}
 use Rattle.finite.proofs.Bounded.{any-intro, any-elim}
 use Rattle.bits.specs.Member.{has, pack, meets}
-use Rattle.bits.proofs.Membership.{has-pack-below, has-lt, pack-lt, pack-ext}
+use Rattle.bits.proofs.Membership.{ext, has-zero, has-pack, has-pack-below, has-lt, pack-lt, pack-ext}
 use Rattle.bits.proofs.Compare.{meets-intro, meets-elim}
 use Rattle.sets.specs.Words.{capacity, setsIn}
 use Rattle.graphs.specs.Closure.{reaches}
@@ -24,7 +27,7 @@ use Rattle.game.specs.declared.Game.{Game}
 use Rattle.play.specs.Play.{graphOf, separatedOf}
 use Rattle.theory.specs.Region.{homeFor, settles, region}
 use Rattle.theory.proofs.Region.{region-settles}
-use Rattle.scratch.specs.Stored.{rowAt, outReachAt, storedAt, storedRow, wonAt, someWonAt, Reached, Ready}
+use Rattle.scratch.specs.Stored.{rowAt, outReachAt, reachingAt, storedAt, storedRow, wonAt, someWonAt, Reached, Ready}
 
 pub won-in : (l : List ℕ) (n c j o : ℕ) {r : Bool} → has c j ≡ true → r ≡ meets capacity (rowAt l n j) (outReachAt l n o) → r ≡ wonAt l n c j o
 unfolding wonAt
@@ -33,6 +36,46 @@ won-in l n c j o h e = rw (h, wonAt) e
 pub won-out : (l : List ℕ) (n c j o : ℕ) {r : Bool} → has c j ≡ false → r ≡ has (rowAt l n j) o → r ≡ wonAt l n c j o
 unfolding wonAt
 won-out l n c j o h e = rw (h, wonAt) e
+
+-- the outputs that are won with i, x being its row
+module _ (l : List ℕ) (n m c i r x : ℕ) (e : x ≡ rowAt l n i) where
+  pub won-all-in : has c i ≡ true → r ≡ pack m (reachingAt l n x) → r ≡ pack m (wonAt l n c i)
+  unfolding reachingAt
+  won-all-in h q =
+      q
+      ∙ pack-ext m (reachingAt l n x) (wonAt l n c i) (λ o b. won-in l n c i o h (ap (λ (y : ℕ). meets capacity y (outReachAt l n o)) e))
+
+  pub won-all-same : has c i ≡ true → (y : ℕ) → x ≡ y → r ≡ pack m (reachingAt l n y) → r ≡ pack m (wonAt l n c i)
+  won-all-same h y q k = won-all-in h (k ∙ ap (λ (z : ℕ). pack m (reachingAt l n z)) (sym q))
+
+  pub won-all-out : (b : ℕ) → has c i ≡ false → ((s : ℕ) → has b s ≡ ltb s m) → ((s : ℕ) → has r s ≡ (has x s && has b s)) → r ≡ pack m (wonAt l n c i)
+  won-all-out b h f g = ext r (pack m (wonAt l n c i)) at
+    where
+      swap : (u v : Bool) → (u && v) ≡ (v && u)
+      swap true true = refl
+      swap true false = refl
+      swap false true = refl
+      swap false false = refl
+
+      at : (s : ℕ) → has r s ≡ has (pack m (wonAt l n c i)) s
+      at s =
+          g s ∙ ap₂ _&&_ (won-out l n c i s h (ap (λ (y : ℕ). has y s) e)) (f s)
+          ∙ swap (wonAt l n c i s) (ltb s m) ∙ sym (has-pack m (wonAt l n c i) s)
+
+-- no output reaches one of no states
+pub reaching-none : (l : List ℕ) (n m x y : ℕ) → x ≡ 0 → y ≡ 0 → y ≡ pack m (reachingAt l n x)
+unfolding reachingAt
+reaching-none l n m x y e q = q ∙ ext 0 (pack m (reachingAt l n x)) (λ s. has-zero s ∙ sym (none s))
+  where
+    nothing : (o : ℕ) → meets capacity x (outReachAt l n o) ≡ false
+    nothing o =
+        false-of (meets capacity x (outReachAt l n o))
+        (λ h.
+        let w = meets-elim capacity x (outReachAt l n o) h in
+        clash (w .2) (ap (λ (z : ℕ). has z (w .0)) e ∙ has-zero (w .0)))
+
+    none : (s : ℕ) → has (pack m (reachingAt l n x)) s ≡ false
+    none s = has-pack m (reachingAt l n x) s ∙ and-false-right (ltb s m) (nothing s)
 
 -- whether some output is won, z being what the outputs of y reach
 module _ (l : List ℕ) (n m c j y z : ℕ) (R : Reached l n m y z) where

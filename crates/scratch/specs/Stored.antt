@@ -6,10 +6,12 @@
 --   rowAt l n j                  == the region's row of input j
 --   outReachAt l n o             == the outputs that output o reaches
 --   outArea l n                  == the sets of the outputs' closure
+--   reachingAt l n x o           == output o reaches a state of x
 --   storedAt S j o               == what stands at place o of the region's row of j
 --   storedRow S j                == the region's row of j
 --   wonAt l n c j o              == (j, o) is won, told from l, c being the inputs in nontrivial components
 --   someWonAt l n m c j y        == some output of y below m is won with j
+--   WonKept l n m k              == k has the outputs that reach its homes
 --   Reached l n m y z            == the outputs of y are below m, and z is what they reach
 --   RowPut n j y s t             == scratch t is s with the region's row y for j, of n inputs
 --   NontrivialOf g x             == x are the states in nontrivial components of both graphs
@@ -32,6 +34,7 @@ use Rattle.game.specs.Fits.{Fits}
 use Rattle.play.specs.Play.{graphOf, separatedOf}
 use Rattle.theory.specs.Region.{homeFor, region}
 use Rattle.scratch.specs.declared.Nontrivial.{Nontrivial}
+use Rattle.scratch.specs.declared.WonRow.{WonRow}
 use Rattle.scratch.specs.Scratch.{scratchSets}
 
 unfoldable pub inReachAt : List ℕ → ℕ → ℕ
@@ -46,6 +49,9 @@ outReachAt l n o = getD l (n + n + o) 0
 unfoldable pub outArea : List ℕ → ℕ → List ℕ
 outArea l n = drop (n + n) l
 
+unfoldable pub reachingAt : List ℕ → ℕ → ℕ → ℕ → Bool
+reachingAt l n x o = meets capacity x (outReachAt l n o)
+
 unfoldable pub storedAt : Separated → ℕ → ℕ → Bool
 storedAt S j o = elim (nontrivial (S .input) j) [ true ↦ homeFor S (region S) j o | false ↦ region S j o ]
 
@@ -57,6 +63,9 @@ wonAt l n c j o = elim (has c j) [ true ↦ meets capacity (rowAt l n j) (outRea
 
 unfoldable pub someWonAt : List ℕ → ℕ → ℕ → ℕ → ℕ → ℕ → Bool
 someWonAt l n m c j y = any m (λ p. has y p && wonAt l n c j p)
+
+pub record WonKept (l : List ℕ) (n m : ℕ) (k : WonRow) : Type 0 where
+  pub reaching : bitsOf (k .reaching .0) ≡ pack m (reachingAt l n (bitsOf (k .homes .0)))
 
 pub record Reached (l : List ℕ) (n m y z : ℕ) : Type 0 where
   pub below : (p : ℕ) → has y p ≡ true → p < m

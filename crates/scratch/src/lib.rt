@@ -1,15 +1,15 @@
 // Scratch: its length, what the solver keeps in it, and how it is left. Where each set stands is known here alone: for n inputs first the inputs'
 // closure, then the rows of the winning region, then the outputs' closure.
 ghost use mathlib.Core.Path.{_≡_};
-ghost use Prim.Native.Nat.{_+_, _≤_, _<_};
+ghost use mathlib.Core.List.{List};
+ghost use Prim.Native.Nat.{ℕ, _+_, _≤_, _<_};
 ghost use lib.ListN.{length as lengthOf, drop};
-ghost use Rattle.finite.specs.Bounded.{count as members};
-ghost use Rattle.bits.specs.Member.{has, pack};
+ghost use Rattle.bits.specs.Member.{pack};
 ghost use Rattle.sets.specs.Words.{capacity, bitsOf, setsIn, setCount};
 ghost use Rattle.graph_components.specs.Component.{together, nontrivialAt};
 ghost use Rattle.game.specs.Fits.{Fits};
 ghost use Rattle.scratch.specs.Scratch.{scratchSets, scratchLength, Kept};
-ghost use Rattle.scratch.specs.Stored.{inReachAt, rowAt, outReachAt, outArea, wonAt, someWonAt, Reached, RowPut, NontrivialOf, Laid};
+ghost use Rattle.scratch.specs.Stored.{inReachAt, rowAt, outReachAt, outArea, reachingAt, wonAt, someWonAt, WonKept, Reached, RowPut, NontrivialOf, Laid};
 ghost use Rattle.scratch.specs.Areas.{ClosedAt};
 use game::Game;
 use game::Graph;
@@ -23,6 +23,14 @@ use sets::Set;
 pub struct Nontrivial {
     pub inputs: InSet,
     pub outputs: OutSet,
+}
+
+// What is kept from one input to the next, where the outputs that are won with each are read: the homes of the last one in a nontrivial component, the
+// outputs that reach them, and the outputs that are won with the last input. The inputs of a component have the same homes, so these are looked for once.
+pub struct WonRow {
+    pub homes: OutSet,
+    pub reaching: OutSet,
+    pub row: OutSet,
 }
 
 // How many words of scratch a game asks for.
@@ -49,12 +57,12 @@ pub fn put_region_row(s: &mut [u64], n: usize, j: InState, x: OutSet)
     sets::put(s, n + j.0, x.0);
 }
 
-// How many inputs input i reaches.
-pub fn reach_count(s: &[u64], i: InState) -> usize
+// The inputs that input i reaches.
+pub fn in_reach(s: &[u64], i: InState) -> InSet
     requires { ⌜ i .0 < setCount (now s) ⌝ }
-    ensures { λ r. ⌜ r ≡ members capacity (has (inReachAt (setsIn (now (s .entry))) (i .0))) ⌝ }
+    ensures { λ r. ⌜ bitsOf (r .0) ≡ inReachAt (setsIn (now (s .entry))) (i .0) ⌝ }
 {
-    sets::count(sets::row(s, i.0))
+    InSet(sets::row(s, i.0))
 }
 
 // The outputs that output o reaches.
@@ -148,16 +156,69 @@ pub fn some_won(s: &[u64], n: usize, m: usize, c: InSet, j: InState, y: OutSet, 
     sets::meets(homes.0, y.0)
 }
 
+// The outputs that reach a state of x, of m outputs.
+fn reaching(s: &[u64], n: usize, m: usize, x: OutSet) -> OutSet
+    requires { ⌜ (n ≤ capacity) × (m ≤ capacity) × (scratchSets n m ≤ setCount (now s)) ⌝ }
+    ensures { λ r. ⌜ bitsOf (r .0) ≡ pack m (reachingAt (setsIn (now (s .entry))) n (bitsOf (x .0))) ⌝ }
+{
+    let mut y = sets::empty();
+    let mut o: usize = 0;
+    while o < m {
+        let reach = out_reach(s, n, OutState(o));
+        y = sets::insert_if(y, o, sets::meets(x.0, reach.0));
+        o += 1;
+    }
+    OutSet(y)
+}
+
+// Nothing is kept yet: no output reaches one of no homes.
+pub fn won_first() -> WonRow
+    ensures { λ r. ⌜ ((l : List ℕ) (n m : ℕ) → WonKept l n m r) ⌝ }
+{
+    let none = OutSet(sets::empty());
+    WonRow {
+        homes: none,
+        reaching: none,
+        row: none,
+    }
+}
+
+// The outputs that are won with input i, of m outputs, k being what is kept of the inputs before. In a trivial component the row is the answer.
+pub fn won_next(s: &[u64], n: usize, m: usize, c: InSet, i: InState, k: WonRow) -> WonRow
+    requires { ⌜ (n ≤ capacity) × (m ≤ capacity) × (i .0 < n) × (scratchSets n m ≤ setCount (now s)) × WonKept (setsIn (now s)) n m k ⌝ }
+    ensures { λ r. ⌜ WonKept (setsIn (now (s .entry))) n m r
+        × (bitsOf (r .row .0) ≡ pack m (wonAt (setsIn (now (s .entry))) n (bitsOf (c .0)) (i .0))) ⌝ }
+{
+    let last = k.homes;
+    let reached = k.reaching;
+    let homes = region_row(s, n, i);
+    if sets::member(c.0, i.0) {
+        if sets::same(homes.0, last.0) {
+            return WonRow {
+                homes: last,
+                reaching: reached,
+                row: reached,
+            };
+        }
+        let found = reaching(s, n, m, homes);
+        return WonRow {
+            homes,
+            reaching: found,
+            row: found,
+        };
+    }
+    WonRow {
+        homes: last,
+        reaching: reached,
+        row: OutSet(sets::intersection(homes.0, sets::below(m))),
+    }
+}
+
 // The outputs that are won with input i, of m outputs.
 pub fn won_outputs(s: &[u64], n: usize, m: usize, c: InSet, i: InState) -> OutSet
     requires { ⌜ (n ≤ capacity) × (m ≤ capacity) × (i .0 < n) × (scratchSets n m ≤ setCount (now s)) ⌝ }
     ensures { λ r. ⌜ bitsOf (r .0) ≡ pack m (wonAt (setsIn (now (s .entry))) n (bitsOf (c .0)) (i .0)) ⌝ }
 {
-    let mut x = sets::empty();
-    let mut o: usize = 0;
-    while o < m {
-        x = sets::insert_if(x, o, won(s, n, c, i, OutState(o)));
-        o += 1;
-    }
-    OutSet(x)
+    let k = won_next(s, n, m, c, i, won_first());
+    k.row
 }

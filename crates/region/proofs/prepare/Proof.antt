@@ -1,6 +1,5 @@
 -- `prepare` works out the closures, then the components, then the rows.
-use Rattle.region_dues.proofs.Meaning.{fits-few}
-use Rattle.region.proofs.Parts.{filling-first, serving-first, kept-words}
+use Rattle.region.proofs.Parts.{kept-words}
 use mathlib.Core.Path.{refl}
 use native.Mathlib.Omega.{arith}
 use borrow.Author.Needs.{needs}
@@ -17,7 +16,7 @@ served-requires : tie.Need-served-requires
 served-requires c κs =
     let closed = c .before .before .before .before .before in
     let F = closed .before .before .before .pre .0 in
-    (fits-few _ F, F .input .most, F .output .most, closed .close .ensures .0 .long)
+    (F, closed .close .ensures .0)
 
 fill-requires : tie.Need-fill-requires
 fill-requires c κs =
@@ -26,7 +25,7 @@ fill-requires c κs =
     let closed = found .before .before .before .before in
     let F = closed .before .before .before .pre .0 in
     let L = closed .close .ensures .0 in
-    (filling-first F L _ (found .nontrivial-states .ensures), serving-first F L _ (served .served .ensures), refl, refl)
+    (F, L, found .nontrivial-states .ensures, served .served .ensures, refl, refl)
 
 same-length : tie.Need-same-length
 same-length c = search needs

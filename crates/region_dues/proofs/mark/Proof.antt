@@ -5,17 +5,18 @@ use Rattle.region_dues.specs.Dues.{servedIn, serverList, Whole, Marked}
 use Rattle.region_dues.proofs.Halves.{marked-put}
 use Rattle.region_dues.proofs.Steps.{marked-start, marked-end}
 use native.Mathlib.Omega.{arith}
+use borrow.Author.Needs.{needs}
 use Rattle.region_dues.proofs.mark.Statement.{statement}
 use Rattle.region_dues.proofs.mark.Tie as tie
 
 abbrev Inv-loop : tie.InvT-loop
-Inv-loop c d g n u₀ r₀ u r = (r ≤ n) × Whole u × Marked g (bitsOf (c .0)) (d .0) r (serverList u₀) (serverList u)
+Inv-loop c g n u₀ r₀ u r = (r ≤ n) × Whole u × Marked g (bitsOf (c .0)) r (serverList u₀) (serverList u)
 
 abbrev μ-loop : tie.MeasureT-loop
-μ-loop c d g n u₀ r₀ u r = n - r
+μ-loop c g n u₀ r₀ u r = n - r
 
 loop-holds : tie.Need-loop-holds Inv-loop μ-loop
-loop-holds c = (omega arith, c .pre .2, marked-start _ _ _ _)
+loop-holds c = (omega arith, c .pre .1, marked-start _ _ _)
 
 mul-q : tie.Need-mul-q Inv-loop μ-loop
 mul-q c = omega arith
@@ -32,8 +33,8 @@ all-guaranteed-requires c κs =
     let F = b .before .pre .0 in
     F .guaranteed (b .loop .r) (omega (arith, F .requirements))
 
-insert-if-requires : tie.Need-insert-if-requires Inv-loop μ-loop
-insert-if-requires c κs = omega arith
+union-if-requires : tie.Need-union-if-requires Inv-loop μ-loop
+union-if-requires c κs = search needs
 
 with-server-requires : tie.Need-with-server-requires Inv-loop μ-loop
 with-server-requires c κs =
@@ -54,14 +55,14 @@ loop-again c =
     let F = b .before .pre .0 in (
       omega arith,
       c .with-server .ensures .0,
-      marked-put _ _ _ _ (b .loop .u) _ (b .loop .r) _ _ _ (omega (arith, F .requirements)) (b .loop .inv .2) (at-server .server .ensures)
-          (c .before .before .all-guaranteed .ensures) (c .before .insert-if .ensures) (c .with-server .ensures .1),
+      marked-put _ _ _ (b .loop .u) _ (b .loop .r) _ _ _ (omega (arith, F .requirements)) (b .loop .inv .2) (at-server .server .ensures)
+          (c .before .before .all-guaranteed .ensures) (c .before .union-if .ensures) (c .with-server .ensures .1),
     )
 
 returns : tie.Need-returns Inv-loop μ-loop
 returns c =
     let l = c .before .loop in
-    (l .inv .1, marked-end _ _ _ _ (l .r) _ _ (omega arith) (omega arith) (l .inv .2))
+    (l .inv .1, marked-end _ _ _ (l .r) _ _ (omega arith) (omega arith) (l .inv .2))
 
 pub mark-spec : {M : Type 1} → statement M
 mark-spec =
@@ -74,7 +75,7 @@ mark-spec =
     element-copy-out-q
     server-requires
     all-guaranteed-requires
-    insert-if-requires
+    union-if-requires
     with-server-requires
     add-r
     loop-less

@@ -1,58 +1,18 @@
--- `won_outputs` collects the outputs below o.
-use Prim.Native.Nat.{_≤_, _-_}
-use mathlib.Core.Path.{_≡_, _∙_}
-use Rattle.bits.specs.Member.{pack}
-use Rattle.bits.proofs.Collect.{collect-none, collect-next, collect-end}
-use Rattle.sets.specs.Words.{bitsOf, setsIn}
-use Rattle.scratch.specs.Stored.{wonAt}
-use native.Mathlib.Omega.{arith}
+-- `won_outputs` keeps nothing.
 use borrow.Author.Needs.{needs}
 use Rattle.scratch.proofs.won_outputs.Statement.{statement}
 use Rattle.scratch.proofs.won_outputs.Tie as tie
 
-abbrev Inv-loop : tie.InvT-loop
-Inv-loop s n m c i x₀ o₀ x o = (o ≤ m) × (bitsOf x ≡ pack o (wonAt (setsIn s) n (bitsOf (c .0)) (i .0)))
+won-first-requires : tie.Need-won-first-requires
+won-first-requires c κs = search needs
 
-abbrev μ-loop : tie.MeasureT-loop
-μ-loop s n m c i x₀ o₀ x o = m - o
+won-next-requires : tie.Need-won-next-requires
+won-next-requires c κs =
+    let p = c .before .before .pre in
+    (p .0, p .1, p .2, p .3, c .won-first .ensures _ _ _)
 
-empty-requires : tie.Need-empty-requires Inv-loop μ-loop
-empty-requires c κs = search needs
-
-loop-holds : tie.Need-loop-holds Inv-loop μ-loop
-loop-holds c = (omega arith, c .empty .ensures .1 ∙ collect-none _)
-
-won-requires : tie.Need-won-requires Inv-loop μ-loop
-won-requires c κs = omega arith
-
-insert-if-requires : tie.Need-insert-if-requires Inv-loop μ-loop
-insert-if-requires c κs = omega arith
-
-add-o : tie.Need-add-o Inv-loop μ-loop
-add-o c = omega arith
-
-loop-less : tie.Need-loop-less Inv-loop μ-loop
-loop-less c = omega arith
-
-loop-again : tie.Need-loop-again Inv-loop μ-loop
-loop-again c =
-    let b = c .before .before .before in
-    (omega arith, collect-next _ (b .loop .o) _ _ _ (b .loop .inv .1) (c .before .won .ensures) (c .insert-if .ensures))
-
-returns : tie.Need-returns Inv-loop μ-loop
-returns c = collect-end _ (c .before .loop .o) _ _ (omega arith) (omega arith) (c .before .loop .inv .1)
+returns : tie.Need-returns
+returns c = search needs
 
 pub won-outputs-spec : {M : Type 1} → statement M
-won-outputs-spec =
-    tie.close
-    (tie.spec
-    Inv-loop
-    μ-loop
-    empty-requires
-    loop-holds
-    won-requires
-    insert-if-requires
-    add-o
-    loop-less
-    loop-again
-    returns)
+won-outputs-spec = tie.close (tie.spec won-first-requires won-next-requires returns)
