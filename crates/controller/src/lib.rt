@@ -7,6 +7,7 @@ use controller_rows::Size;
 use game::Game;
 use game::InSet;
 use game::OutState;
+use table_sizes::Outline;
 ghost use mathlib.Core.Path.{_≡_};
 ghost use Prim.Native.Nat.{_≤_, _<_};
 ghost use lib.ListN.{length, drop};
@@ -17,6 +18,7 @@ ghost use Rattle.game.specs.declared.Acceptance.the-variants.{Accepted};
 ghost use Rattle.play.specs.Play.{separatedOf};
 ghost use Rattle.theory.specs.Entries.{controllerEntries};
 ghost use mathlib.Core.List.{_++_};
+ghost use Rattle.table_sizes.specs.Outlined.{Outlined};
 ghost use Rattle.controller_rows.specs.Writes.{lengthOf};
 ghost use Rattle.controller_table.specs.Filled.{Filled, Every, At, Below, Sized, Given};
 ghost use Rattle.controller.specs.Sizes.{ByInput, ByComponent};
@@ -24,9 +26,20 @@ ghost use Rattle.bits.specs.Member.{pack};
 ghost use Rattle.compact.specs.Rank.{leads};
 ghost use Rattle.compact.specs.Compact.{compactLength, compactEntries};
 
-// The rows whose home is d; c are the inputs in nontrivial components.
-fn settle(g: Game, s: &[u64], room: &mut [u16], z: Size, c: InSet, d: OutState)
-    requires { ⌜ Given g z (now s) (bitsOf (c .0)) × (d .0 < z .outputs) × (lengthOf z ≤ length (now room)) ⌝ }
+// The rows whose home is d; c are the inputs in nontrivial components. Here and below the rows of the output graph, `outs`, are read where they stand, and the
+// requirements in the outline, `given`: a game goes by value, and of it only counts are read.
+fn settle(
+    g: Game,
+    given: Outline,
+    outs: &[u64; sets::ROW_WORDS],
+    s: &[u64],
+    room: &mut [u16],
+    z: Size,
+    c: InSet,
+    d: OutState,
+)
+    requires { ⌜ Given g z (now s) (bitsOf (c .0)) × (d .0 < z .outputs) × (lengthOf z ≤ length (now room))
+        × Outlined g given × (now outs ≡ g .output .moves) ⌝ }
     ensures { λ r. ⌜ Filled (separatedOf g) z (At (separatedOf g) (d .0)) (now (room .entry)) (now (room .exit)) ⌝ }
 {
     let inputs = controller_homeward::residents(s, z.inputs, c, d, d);
@@ -39,40 +52,55 @@ fn settle(g: Game, s: &[u64], room: &mut [u16], z: Size, c: InSet, d: OutState)
         component,
         inputs,
     };
-    controller_homeward::approach(g, s, room, z, c, w);
-    controller_tour::tour(g, room, z, w);
+    controller_homeward::approach(g, outs, s, room, z, c, w);
+    controller_tour::tour(g, given, outs, room, z, w);
 }
 
 // The rows with a home.
-fn settle_all(g: Game, s: &[u64], room: &mut [u16], z: Size, c: InSet)
-    requires { ⌜ Given g z (now s) (bitsOf (c .0)) × (lengthOf z ≤ length (now room)) ⌝ }
+fn settle_all(
+    g: Game,
+    given: Outline,
+    outs: &[u64; sets::ROW_WORDS],
+    s: &[u64],
+    room: &mut [u16],
+    z: Size,
+    c: InSet,
+)
+    requires { ⌜ Given g z (now s) (bitsOf (c .0)) × (lengthOf z ≤ length (now room)) × Outlined g given × (now outs ≡ g .output .moves) ⌝ }
     ensures { λ r. ⌜ Filled (separatedOf g) z (Below (separatedOf g) (z .outputs)) (now (room .entry)) (now (room .exit)) ⌝ }
 {
     let m = z.outputs;
     let mut d = 0;
     while d < m {
-        settle(g, s, room, z, c, OutState(d));
+        settle(g, given, outs, s, room, z, c, OutState(d));
         d += 1;
     }
 }
 
 // All rows.
-fn rows(g: Game, s: &[u64], room: &mut [u16], z: Size, c: InSet)
-    requires { ⌜ Given g z (now s) (bitsOf (c .0)) × (lengthOf z ≤ length (now room)) ⌝ }
+fn rows(
+    g: Game,
+    given: Outline,
+    outs: &[u64; sets::ROW_WORDS],
+    s: &[u64],
+    room: &mut [u16],
+    z: Size,
+    c: InSet,
+)
+    requires { ⌜ Given g z (now s) (bitsOf (c .0)) × (lengthOf z ≤ length (now room)) × Outlined g given × (now outs ≡ g .output .moves) ⌝ }
     ensures { λ r. ⌜ Filled (separatedOf g) z Every (now (room .entry)) (now (room .exit)) ⌝ }
 {
-    let h = g.output;
-    unsettled::plains(room, s, z, c, &h.moves);
-    settle_all(g, s, room, z, c);
+    unsettled::plains(room, s, z, c, outs);
+    settle_all(g, given, outs, s, room, z, c);
 }
 
 // The size of the table of an accepted game, with rows by input.
-fn size_of(g: Game) -> Size
-    requires { ⌜ acceptance g ≡ Accepted ⌝ }
+fn size_of(g: Game, given: Outline) -> Size
+    requires { ⌜ (acceptance g ≡ Accepted) × Outlined g given ⌝ }
     ensures { λ r. ⌜ Sized g r × ByInput r ⌝ }
 {
     let inputs = g.input.states;
-    let counters = table_sizes::controller_counters(g);
+    let counters = given.controller;
     Size {
         inputs,
         outputs: g.output.states,
@@ -85,22 +113,30 @@ fn size_of(g: Game) -> Size
 }
 
 // Writes the controller's table into the front of the buffer, from the scratch s of an accepted game; c are the inputs in nontrivial components.
-pub fn fill(g: Game, s: &[u64], c: InSet, room: &mut [u16])
-    requires { ⌜ (acceptance g ≡ Accepted) × Ready g (now s) (bitsOf (c .0)) × (length (controllerEntries (separatedOf g)) ≤ length (now room)) ⌝ }
+pub fn fill(
+    g: Game,
+    given: Outline,
+    outs: &[u64; sets::ROW_WORDS],
+    s: &[u64],
+    c: InSet,
+    room: &mut [u16],
+)
+    requires { ⌜ (acceptance g ≡ Accepted) × Ready g (now s) (bitsOf (c .0)) × (length (controllerEntries (separatedOf g)) ≤ length (now room))
+        × Outlined g given × (now outs ≡ g .output .moves) ⌝ }
     ensures { λ r. ⌜ now (room .exit) ≡ controllerEntries (separatedOf g) ++ drop (length (controllerEntries (separatedOf g))) (now (room .entry)) ⌝ }
 {
-    let z = size_of(g);
+    let z = size_of(g, given);
     starts::starts(room, s, z, c, game::in_initial(g), game::out_initial(g));
-    rows(g, s, room, z, c);
+    rows(g, given, outs, s, room, z, c);
 }
 
 // The size of the table of an accepted game, with rows by component; the leaders are the smallest inputs of the components.
-fn compact_size(g: Game, leaders: InSet) -> Size
-    requires { ⌜ (acceptance g ≡ Accepted) × (bitsOf (leaders .0) ≡ pack (g .input .states) (leads (separatedOf g))) ⌝ }
+fn compact_size(g: Game, given: Outline, leaders: InSet) -> Size
+    requires { ⌜ (acceptance g ≡ Accepted) × (bitsOf (leaders .0) ≡ pack (g .input .states) (leads (separatedOf g))) × Outlined g given ⌝ }
     ensures { λ r. ⌜ Sized g r × ByComponent g r ⌝ }
 {
     let inputs = g.input.states;
-    let counters = table_sizes::controller_counters(g);
+    let counters = given.controller;
     Size {
         inputs,
         outputs: g.output.states,
@@ -113,13 +149,21 @@ fn compact_size(g: Game, leaders: InSet) -> Size
 }
 
 // The same table with its rows by component, written directly.
-pub fn fill_compact(g: Game, s: &[u64], c: InSet, leaders: InSet, room: &mut [u16])
+pub fn fill_compact(
+    g: Game,
+    given: Outline,
+    outs: &[u64; sets::ROW_WORDS],
+    s: &[u64],
+    c: InSet,
+    leaders: InSet,
+    room: &mut [u16],
+)
     requires { ⌜ (acceptance g ≡ Accepted) × Ready g (now s) (bitsOf (c .0)) × (bitsOf (leaders .0) ≡ pack (g .input .states) (leads (separatedOf g)))
-        × (compactLength (separatedOf g) ≤ length (now room)) ⌝ }
+        × (compactLength (separatedOf g) ≤ length (now room)) × Outlined g given × (now outs ≡ g .output .moves) ⌝ }
     ensures { λ r. ⌜ now (room .exit) ≡ compactEntries (separatedOf g) ++ drop (compactLength (separatedOf g)) (now (room .entry)) ⌝ }
 {
-    let z = compact_size(g, leaders);
+    let z = compact_size(g, given, leaders);
     starts::starts(room, s, z, c, game::in_initial(g), game::out_initial(g));
     graph_ranks::write_ranks(g, room);
-    rows(g, s, room, z, c);
+    rows(g, given, outs, s, room, z, c);
 }

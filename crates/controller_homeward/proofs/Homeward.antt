@@ -47,7 +47,7 @@ use Rattle.table_walks.specs.Staying.{Approaches}
 use Rattle.controller_rows.specs.declared.Size.{Size}
 use Rattle.controller_rows.specs.declared.Home.{Home}
 use Rattle.controller_rows.specs.Writes.{inputOf, layoutOf}
-use Rattle.controller_table.specs.Filled.{Filled, Resides, Away, Given, HomeOf}
+use Rattle.controller_table.specs.Filled.{Filled, Resides, Away, Given, HomeOf, Sized}
 use Rattle.controller_table.proofs.Fills.{filled-none, filled-more, filled-part}
 use Rattle.controller_table.proofs.Laid.{outputs-are, width-is, laid-rows, laid-input, laid-filled}
 use Rattle.controller_table.proofs.Loops.{comp-in}
@@ -99,6 +99,10 @@ first-of reach homes d {b} e f = f ∙ rw e (and-true (has reach d))
 pub record Homing (g : Game) (z : Size) (w : Home) (x : ℕ) (l m : List ℕ) : Type 0 where
   pub inputs : (j : ℕ) → has x j ≡ true → (j < z .inputs) × (has (bitsOf (w .inputs .0)) j ≡ true)
   pub filled : Filled (separatedOf g) z (λ o c j. Away (separatedOf g) (w .state .0) o c j × (has x j ≡ false)) l m
+
+-- the outputs are counted in the game or in the table's size
+pub near-of : (g : Game) (z : Size) → Sized g z → (inside n : ℕ) (p : ℕ → Bool) → n ≡ g .output .states → inside ≡ pack n p → inside ≡ pack (z .outputs) p
+near-of g z Z inside n p a e = e ∙ ap (λ (k : ℕ). pack k p) (a ∙ sym (Z .outputs))
 
 module _ (g : Game) (z : Size) (s : List ℕ) (inner : ℕ) (G : Given g z s inner) (w : Home) (H : HomeOf (separatedOf g) w) where
   T : Told (separatedOf g) (setsIn s) (z .inputs) inner (setsIn (g .output .moves))
@@ -234,20 +238,20 @@ module _ (g : Game) (z : Size) (s : List ℕ) (inner : ℕ) (G : Given g z s inn
           (leads-narrow (separatedOf g .output .states) (edge (separatedOf g .output)) (joined (separatedOf g .output) (w .state .0)) (Near homes)
           (near-closed homes) o q (home-leads (separatedOf g .output) (w .state .0) o (near-reached homes o b q) (H .core))))
 
-    -- x are inputs at home d; those of them with these lower homes are a group
-    pub group-filled : (group over : ℕ) {l m : List ℕ} → ((j : ℕ) → has x j ≡ true → has (bitsOf (w .inputs .0)) j ≡ true)
+    -- x are inputs at home d; those of them with these lower homes are a group; k are the rows that were read
+    pub group-filled : {k : List ℕ} → k ≡ g .output .moves → (group over : ℕ) {l m : List ℕ} → ((j : ℕ) → has x j ≡ true → has (bitsOf (w .inputs .0)) j ≡ true)
         → group ≡ pack (z .inputs) (λ j. has x j && alikeAt (setsIn s) (z .inputs) (w .state .0) homes j)
         → ((b : ℕ) → has over b ≡ (ltb b (z .width) && has group (inputOf z b)))
-        → Approaches (setsIn (g .output .moves)) y inside (bitsOf (w .component .0)) over l m
+        → Approaches (setsIn k) y inside (bitsOf (w .component .0)) over l m
         → Filled (separatedOf g) z (λ o c j. Away (separatedOf g) (w .state .0) o c j × (has group j ≡ true)) l m
     unfolding alikeAt
-    group-filled group over sub e O A = record {
+    group-filled a group over sub e O A = record {
       long = A .long;
       fills = λ E T.
           let R = laid-rows g z y (G .sized) D E T in
           laid-filled g z y (G .sized) D E
           (part-in y (λ o c b. controllerRow (separatedOf g) o c (inputOf z b)) E R
-          (A .fills (λ o c b. controllerRow (separatedOf g) o c (inputOf z b)) E R
+          ((rw a at A) .fills (λ o c b. controllerRow (separatedOf g) o c (inputOf z b)) E R
           (record { row = λ o h b lo k c v lh lb m. row o h (inputOf z b) lo k c (laid-input g z y (G .sized) D E T b lb) (in-group b m) }))
           (λ o c b lo lc lb p.
           let a : o < separatedOf g .output .states = omega (arith, outputs-are g z y (G .sized) D) in

@@ -104,13 +104,20 @@ fn nearest(s: &[u64], n: usize, m: usize, homes: OutSet, d: OutState) -> OutSet
 }
 
 // The rows outside a home: the way to it. An input of c has its home there at an output that reaches it and no lower home of that input; so the way is
-// searched once for the inputs with the same lower homes, among such outputs.
-pub fn approach(g: Game, s: &[u64], room: &mut [u16], z: Size, c: InSet, w: Home)
-    requires { ⌜ Given g z (now s) (bitsOf (c .0)) × HomeOf (separatedOf g) w × (lengthOf z ≤ length (now room)) ⌝ }
+// searched once for the inputs with the same lower homes, among such outputs. The rows of the output graph, `outs`, are read where they stand.
+pub fn approach(
+    g: Game,
+    outs: &[u64; sets::ROW_WORDS],
+    s: &[u64],
+    room: &mut [u16],
+    z: Size,
+    c: InSet,
+    w: Home,
+)
+    requires { ⌜ Given g z (now s) (bitsOf (c .0)) × HomeOf (separatedOf g) w × (lengthOf z ≤ length (now room)) × (now outs ≡ g .output .moves) ⌝ }
     ensures { λ r. ⌜ Filled (separatedOf g) z (AwayRow (separatedOf g) (w .state .0)) (now (room .entry)) (now (room .exit)) ⌝ }
 {
     let n = z.inputs;
-    let m = z.outputs;
     let y = rows::layout_of(z);
     let d = w.state;
     let inputs = w.inputs;
@@ -119,11 +126,10 @@ pub fn approach(g: Game, s: &[u64], room: &mut [u16], z: Size, c: InSet, w: Home
         let j = sets::lowest(rest);
         let homes = lower(s, n, InState(j), d);
         let group = alike(s, n, InSet(rest), homes, d);
-        let inside = nearest(s, n, m, homes, d);
-        let h = g.output;
+        let inside = nearest(s, n, g.output.states, homes, d);
         let component = w.component;
         let over = leaders::columns_of(z, group);
-        table_walks::approach(&h.moves, room, y, inside.0, component.0, over);
+        table_walks::approach(outs, room, y, inside.0, component.0, over);
         rest = sets::difference(rest, group.0);
     }
 }

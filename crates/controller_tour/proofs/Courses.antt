@@ -57,15 +57,16 @@ module _ (g : Game) (y : Layout) (c over q : ℕ) where
   pub home-none : (l : List ℕ) → Toured g y c over q 0 l l
   home-none l = record { long = refl; fills = λ p e. headed-none y (setsIn (g .output .moves)) c over q p l }
 
-  pub home-further : (t : Stretch) (k : ℕ) {l m r r′ : List ℕ} → t .from ≡ k
+  -- x are the rows that were read
+  pub home-further : {x : List ℕ} → x ≡ g .output .moves → (t : Stretch) (k : ℕ) {l m r r′ : List ℕ} → t .from ≡ k
       → ((i : ℕ) → i < t .count → has (setOf t i) ≡ goalAt (guarantees (separatedOf g)) (t .from + i))
-      → Toured g y c over q k l m → Stretched (setsIn (g .output .moves)) y c over q t (t .count) m r → r′ ≡ r
+      → Toured g y c over q k l m → Stretched (setsIn x) y c over q t (t .count) m r → r′ ≡ r
       → Toured g y c over q (k + t .count) l r′
-  home-further t k e sets F S d = rw d (record {
+  home-further a t k e sets F S d = rw d (record {
     long = S .long ∙ F .long;
     fills = λ p f.
         headed-further y (setsIn (g .output .moves)) c over q p t k e
-        (λ i b. sets i b ∙ ap (λ (x : List (ℕ → Bool)). goalAt x (t .from + i)) (sym f)) (F .fills p f) S;
+        (λ i b. sets i b ∙ ap (λ (x : List (ℕ → Bool)). goalAt x (t .from + i)) (sym f)) (F .fills p f) (rw a at S);
   })
 
 module _ (g : Game) (z : Size) (y : Layout) (Z : Sized g z) (D : y ≡ layoutOf z) where
@@ -102,8 +103,8 @@ module _ (g : Game) (z : Size) (y : Layout) (Z : Sized g z) (D : y ≡ layoutOf 
         tours = λ o c b lo i lc lb k. clash k (has-zero b);
       }
 
-      pub rests-moving : Moving (setsIn (g .output .moves)) (y .states) (bitsOf (w .component .0))
-      rests-moving = course-moving y (setsIn (g .output .moves)) (bitsOf (w .component .0)) 0 q blank
+      pub rests-moving : {x : List ℕ} → x ≡ g .output .moves → Moving (setsIn x) (y .states) (bitsOf (w .component .0))
+      rests-moving a = rw a (course-moving y (setsIn (g .output .moves)) (bitsOf (w .component .0)) 0 q blank)
 
       pub home-counted : q ≢ 0 → Counted q (y .counters) 0
       unfolding layoutOf
@@ -167,10 +168,10 @@ module _ (g : Game) (z : Size) (y : Layout) (Z : Sized g z) (D : y ≡ layoutOf 
         }
 
         -- with no goal
-        pub rests-filled : q ≡ 0 → {l m : List ℕ} → Stayed (setsIn (g .output .moves)) y (bitsOf (w .component .0)) over l m
+        pub rests-filled : {x : List ℕ} → x ≡ g .output .moves → q ≡ 0 → {l m : List ℕ} → Stayed (setsIn x) y (bitsOf (w .component .0)) over l m
             → Filled (separatedOf g) z (There (separatedOf g) (w .state .0)) l m
         unfolding home-course
-        rests-filled e S = record {
+        rests-filled a e S = record {
           long = S .long;
-          fills = λ E T. there E T (S .fills (home-course E T 0 (record { is = sym e ∙ Q .is })));
+          fills = λ E T. there E T ((rw a at S) .fills (home-course E T 0 (record { is = sym e ∙ Q .is })));
         }

@@ -5,45 +5,62 @@ use controller_rows::leaders;
 use controller_rows::rows;
 use game::Game;
 use table_counters::CounterSet;
+use table_sizes::Outline;
 ghost use Prim.Native.Nat.{_≤_};
 ghost use mathlib.Core.Logic.{_≢_};
+ghost use mathlib.Core.Path.{_≡_};
 ghost use lib.ListN.{length};
 ghost use Rattle.play.specs.Play.{separatedOf};
+ghost use Rattle.table_sizes.specs.Outlined.{Outlined};
 ghost use Rattle.controller_rows.specs.Writes.{lengthOf};
 ghost use Rattle.controller_table.specs.Filled.{Filled, There, Sized, HomeOf, Goals};
 
-// The rows at a home for every goal of q, one requirement after the other.
-fn seek_all(g: Game, room: &mut [u16], z: Size, w: Home, q: CounterSet)
+// The rows at a home for every goal of q, one requirement after the other. Of the game, which goes by value, only counts are read: its output graph's rows are
+// lent, as `outs`, and its requirements are read in the outline.
+fn seek_all(
+    g: Game,
+    given: Outline,
+    outs: &[u64; sets::ROW_WORDS],
+    room: &mut [u16],
+    z: Size,
+    w: Home,
+    q: CounterSet,
+)
     requires { ⌜ Sized g z × HomeOf (separatedOf g) w × Goals (separatedOf g) w (q .0) × (q .0 ≢ 0)
-        × (lengthOf z ≤ length (now room)) ⌝ }
+        × (lengthOf z ≤ length (now room)) × Outlined g given × (now outs ≡ g .output .moves) ⌝ }
     ensures { λ r. ⌜ Filled (separatedOf g) z (There (separatedOf g) (w .state .0)) (now (room .entry)) (now (room .exit)) ⌝ }
 {
-    let h = g.output;
     let y = rows::layout_of(z);
     let component = w.component;
     let over = leaders::columns_of(z, w.inputs);
     let mut n: usize = 0;
     let mut r: usize = 0;
     while r < g.k {
-        let t = table_sizes::guarantees_of(g.requirements[r], n);
-        table_tours::aim_some(&h.moves, room, y, component.0, over, q, t);
+        let t = table_sizes::guarantees_of(given.requirements[r], n);
+        table_tours::aim_some(outs, room, y, component.0, over, q, t);
         n += t.count;
         r += 1;
     }
 }
 
 // The rows at a home. The goals are found once for all counters.
-pub fn tour(g: Game, room: &mut [u16], z: Size, w: Home)
-    requires { ⌜ Sized g z × HomeOf (separatedOf g) w × (lengthOf z ≤ length (now room)) ⌝ }
+pub fn tour(
+    g: Game,
+    given: Outline,
+    outs: &[u64; sets::ROW_WORDS],
+    room: &mut [u16],
+    z: Size,
+    w: Home,
+)
+    requires { ⌜ Sized g z × HomeOf (separatedOf g) w × (lengthOf z ≤ length (now room)) × Outlined g given × (now outs ≡ g .output .moves) ⌝ }
     ensures { λ r. ⌜ Filled (separatedOf g) z (There (separatedOf g) (w .state .0)) (now (room .entry)) (now (room .exit)) ⌝ }
 {
     let component = w.component;
-    let q = table_sizes::guarantees_met(g, component);
+    let q = table_sizes::guarantees_met(g, given, component);
     if table_counters::is_empty(q) {
-        let h = g.output;
         let over = leaders::columns_of(z, w.inputs);
-        table_tours::stay(&h.moves, room, rows::layout_of(z), component.0, over);
+        table_tours::stay(outs, room, rows::layout_of(z), component.0, over);
         return;
     }
-    seek_all(g, room, z, w, q);
+    seek_all(g, given, outs, room, z, w, q);
 }

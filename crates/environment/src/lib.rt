@@ -2,6 +2,7 @@
 use game::Game;
 use game::InSet;
 use game::InState;
+use table_sizes::Outline;
 ghost use mathlib.Core.Path.{_≡_};
 ghost use mathlib.Core.Bool.{false};
 ghost use mathlib.Core.List.{_++_};
@@ -11,12 +12,25 @@ ghost use Rattle.sets.specs.Words.{bitsOf};
 ghost use Rattle.graphs.specs.Component.{number};
 ghost use Rattle.play.specs.Play.{graphOf, separatedOf};
 ghost use Rattle.theory.specs.Entries.{environmentEntries};
+ghost use Rattle.table_sizes.specs.Outlined.{Outlined};
 ghost use Rattle.environment_table.specs.Table.{Solved, Known, Roomy, Filled};
 ghost use Rattle.environment_table.specs.Reading.{plain};
 
-// The rows of the component whose number is i, where it is nontrivial and i its number.
-fn component_rows(g: Game, s: &[u64], inner: InSet, counters: usize, i: InState, room: &mut [u16])
-    requires { ⌜ Known g (now s) (bitsOf (inner .0)) × Roomy g counters (length (now room)) × (i .0 < g .input .states) ⌝ }
+// The rows of the component whose number is i, where it is nontrivial and i its number. Here and below the rows of both graphs, `ins` and `outs`, are read
+// where they stand, and the requirements in the outline, `given`: a game goes by value, and of it only counts and initial states are read.
+fn component_rows<'a>(
+    g: Game,
+    given: Outline,
+    ins: &'a [u64; sets::ROW_WORDS],
+    outs: &'a [u64; sets::ROW_WORDS],
+    s: &[u64],
+    inner: InSet,
+    counters: usize,
+    i: InState,
+    room: &mut [u16],
+)
+    requires { ⌜ Known g (now s) (bitsOf (inner .0)) × Roomy g counters (length (now room)) × (i .0 < g .input .states)
+        × Outlined g given × (now ins ≡ g .input .moves) × (now outs ≡ g .output .moves) ⌝ }
     ensures { λ r. ⌜ Filled g (λ a h b. (number (graphOf (g .input)) a ≡ i .0) × (plain g a b ≡ false)) (now (room .entry)) (now (room .exit)) ⌝ }
 {
     if !sets::member(inner.0, i.0) {
@@ -26,30 +40,48 @@ fn component_rows(g: Game, s: &[u64], inner: InSet, counters: usize, i: InState,
     if sets::lowest(c.0) != i.0 {
         return;
     }
-    let over = environment_escape::escapes(g, s, inner, counters, c, i, room);
-    environment_tour::tours(g, counters, c, over, room);
+    let over = environment_escape::escapes(g, ins, outs, s, inner, counters, c, i, room);
+    environment_tour::tours(g, given, ins, counters, c, over, room);
 }
 
 // The rows of all nontrivial components.
-fn walked_rows(g: Game, s: &[u64], inner: InSet, counters: usize, room: &mut [u16])
-    requires { ⌜ Known g (now s) (bitsOf (inner .0)) × Roomy g counters (length (now room)) ⌝ }
+fn walked_rows<'a>(
+    g: Game,
+    given: Outline,
+    ins: &'a [u64; sets::ROW_WORDS],
+    outs: &'a [u64; sets::ROW_WORDS],
+    s: &[u64],
+    inner: InSet,
+    counters: usize,
+    room: &mut [u16],
+)
+    requires { ⌜ Known g (now s) (bitsOf (inner .0)) × Roomy g counters (length (now room))
+        × Outlined g given × (now ins ≡ g .input .moves) × (now outs ≡ g .output .moves) ⌝ }
     ensures { λ r. ⌜ Filled g (λ a h b. plain g a b ≡ false) (now (room .entry)) (now (room .exit)) ⌝ }
 {
     let n = g.input.states;
     let mut i: usize = 0;
     while i < n {
-        component_rows(g, s, inner, counters, InState(i), room);
+        component_rows(g, given, ins, outs, s, inner, counters, InState(i), room);
         i += 1;
     }
 }
 
 // The front of room becomes the environment's table; the rest stays. `inner` are the inputs in nontrivial components.
-pub fn fill(g: Game, s: &[u64], inner: InSet, room: &mut [u16])
-    requires { ⌜ Solved g (now s) (bitsOf (inner .0)) (length (now room)) ⌝ }
+pub fn fill<'a>(
+    g: Game,
+    given: Outline,
+    ins: &'a [u64; sets::ROW_WORDS],
+    outs: &'a [u64; sets::ROW_WORDS],
+    s: &[u64],
+    inner: InSet,
+    room: &mut [u16],
+)
+    requires { ⌜ Solved g (now s) (bitsOf (inner .0)) (length (now room)) × Outlined g given × (now ins ≡ g .input .moves) × (now outs ≡ g .output .moves) ⌝ }
     ensures { λ r. ⌜ now (room .exit) ≡ environmentEntries (separatedOf g) ++ drop (length (environmentEntries (separatedOf g))) (now (room .entry)) ⌝ }
 {
-    let counters = table_sizes::environment_counters(g);
+    let counters = given.environment;
     room[0] = environment_plain::start_entry(g, s, inner);
-    environment_plain::plain_rows(g, s, inner, counters, room);
-    walked_rows(g, s, inner, counters, room);
+    environment_plain::plain_rows(g, ins, outs, s, inner, counters, room);
+    walked_rows(g, given, ins, outs, s, inner, counters, room);
 }

@@ -99,6 +99,11 @@ module _ (g : Game) (M n : ℕ) (z : Layout) (R : Roomy g M n) (Z : EnvironmentL
           subst (λ (y : ℕ). Leads y (kept (setsIn (g .input .moves)) c) (has gates) a) (sym (Z .states))
           (way-leads g c k W b (G .below b e) (G .leaving b e) a i gates (G .same b e))
 
+  -- x are the rows that were read
+  pub way-lent : {x : List ℕ} → x ≡ g .input .moves → (gates over : ℕ) {l m : List ℕ} → Gated g k gates over → Approaches (setsIn x) z c gates over l m
+      → Filled g (λ a h b. (joined (graphOf (g .input)) k a ≡ true) × (has over b ≡ true) × (has gates a ≡ false)) l m
+  way-lent q gates over G A = way-filled gates over G (rw q at A)
+
 -- the layout with its own count of counters
 module _ (g : Game) (M : ℕ) (z : Layout) (Z : EnvironmentLayout (g .input .states) M (g .output .states) z) where
   pub own-layout : EnvironmentLayout (g .input .states) (z .counters) (g .output .states) z

@@ -136,9 +136,11 @@ fn escape(
     }
 }
 
-// The same for every output. The answer is the set of those that are left to a tour.
-pub fn escapes(
+// The same for every output. The answer is the set of those that are left to a tour. The rows of both graphs are read where they stand.
+pub fn escapes<'a>(
     g: Game,
+    ins: &'a [u64; sets::ROW_WORDS],
+    outs: &'a [u64; sets::ROW_WORDS],
     s: &[u64],
     inner: InSet,
     counters: usize,
@@ -146,13 +148,12 @@ pub fn escapes(
     first: InState,
     room: &mut [u16],
 ) -> OutSet
-    requires { ⌜ Known g (now s) (bitsOf (inner .0)) × Roomy g counters (length (now room)) × Whole g (bitsOf (c .0)) (first .0) ⌝ }
+    requires { ⌜ Known g (now s) (bitsOf (inner .0)) × Roomy g counters (length (now room)) × Whole g (bitsOf (c .0)) (first .0)
+        × (now ins ≡ g .input .moves) × (now outs ≡ g .output .moves) ⌝ }
     ensures { λ r. ⌜ Escaped g (first .0) (now (room .entry)) (now (room .exit)) (bitsOf (r .0)) ⌝ }
 {
-    let h = g.input;
-    let q = g.output;
-    let z = rows::layout_of(h.states, counters, q.states);
-    let leaving = InSet(graph_components::leaving(h, &h.moves, c.0));
+    let z = rows::layout_of(g.input.states, counters, g.output.states);
+    let leaving = InSet(graph_components::leaving(g.input, ins, c.0));
     let part = Part {
         states: c,
         leaving,
@@ -166,13 +167,13 @@ pub fn escapes(
     let mut o: usize = 0;
     while o < g.output.states {
         let t = escape(
-            &h.moves,
+            ins,
             s,
             z,
             inner,
             part,
             OutState(o),
-            OutSet(sets::row_of(&q.moves, o)),
+            OutSet(sets::row_of(outs, o)),
             group,
             room,
         );
@@ -182,6 +183,6 @@ pub fn escapes(
     }
     let gates = group.gates;
     let outputs = group.outputs;
-    table_walks::approach(&h.moves, room, z, c.0, gates.0, outputs.0);
+    table_walks::approach(ins, room, z, c.0, gates.0, outputs.0);
     OutSet(touring)
 }

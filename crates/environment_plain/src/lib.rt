@@ -194,20 +194,19 @@ fn push_columns<'a>(
 }
 
 // All rows that need no walk: none where the position is won, and the pushes.
-pub fn plain_rows(g: Game, s: &[u64], inner: InSet, counters: usize, room: &mut [u16])
-    requires { ⌜ Known g (now s) (bitsOf (inner .0)) × Roomy g counters (length (now room)) ⌝ }
+pub fn plain_rows<'a>(
+    g: Game,
+    ins: &'a [u64; sets::ROW_WORDS],
+    outs: &'a [u64; sets::ROW_WORDS],
+    s: &[u64],
+    inner: InSet,
+    counters: usize,
+    room: &mut [u16],
+)
+    requires { ⌜ Known g (now s) (bitsOf (inner .0)) × Roomy g counters (length (now room)) × (now ins ≡ g .input .moves) × (now outs ≡ g .output .moves) ⌝ }
     ensures { λ r. ⌜ Filled g (λ a h b. plain g a b ≡ true) (now (room .entry)) (now (room .exit)) ⌝ }
 {
     none_rows(g, s, inner, counters, room);
     let lone = InSet(sets::difference(sets::below(g.input.states), inner.0));
-    push_columns(
-        g,
-        &g.input.moves,
-        &g.output.moves,
-        s,
-        inner,
-        counters,
-        lone,
-        room,
-    );
+    push_columns(g, ins, outs, s, inner, counters, lone, room);
 }

@@ -75,21 +75,23 @@ module _ (g : Game) (M n : ℕ) (z : Layout) (R : Roomy g M n) (Z : EnvironmentL
     unfolding aims-course tour-course
     aims-none l = headed-none z (setsIn (g .input .moves)) c over q aims-course l
 
-    pub aims-further : (t : Stretch) (k : ℕ) {l m r r′ : List ℕ} → t .from ≡ k
+    -- x are the rows that were read, here and below
+    pub aims-further : {x : List ℕ} → x ≡ g .input .moves → (t : Stretch) (k : ℕ) {l m r r′ : List ℕ} → t .from ≡ k
         → ((i : ℕ) → i < t .count → has (setOf t i) ≡ goalAt (assumptions (separatedOf g)) (t .from + i))
-        → FilledIn z (entriesOf g) (Headed z c over q 0 k) l m → Stretched (setsIn (g .input .moves)) z c over q t (t .count) m r → r′ ≡ r
+        → FilledIn z (entriesOf g) (Headed z c over q 0 k) l m → Stretched (setsIn x) z c over q t (t .count) m r → r′ ≡ r
         → FilledIn z (entriesOf g) (Headed z c over q 0 (k + t .count)) l r′
     unfolding aims-course tour-course
-    aims-further t k e sets F D d = rw d (headed-further z (setsIn (g .input .moves)) c over q aims-course t k e sets F D)
+    aims-further a t k e sets F D d = rw d (headed-further z (setsIn (g .input .moves)) c over q aims-course t k e sets F (rw a at D))
 
   -- with no goal
   module _ (c over q : ℕ) (L : Left g c over) (e : q ≡ pack (length (assumptions (separatedOf g))) (metIn (assumptions (separatedOf g)) c)) (none : q ≡ 0) where
     rests : Course z (setsIn (g .input .moves)) c over 0
     rests = tour-course c over 0 L (sym none ∙ e)
 
-    pub rests-moving : Moving (setsIn (g .input .moves)) (z .states) c
-    rests-moving = course-moving z (setsIn (g .input .moves)) c over 0 rests
+    pub rests-moving : {x : List ℕ} → x ≡ g .input .moves → Moving (setsIn x) (z .states) c
+    rests-moving a = rw a (course-moving z (setsIn (g .input .moves)) c over 0 rests)
 
-    pub rests-filled : {l m : List ℕ} → Stayed (setsIn (g .input .moves)) z c over l m → Filled g (λ a h b. (has c a ≡ true) × (has over b ≡ true)) l m
+    pub rests-filled : {x : List ℕ} → x ≡ g .input .moves → {l m : List ℕ} → Stayed (setsIn x) z c over l m
+        → Filled g (λ a h b. (has c a ≡ true) × (has over b ≡ true)) l m
     unfolding rests tour-course
-    rests-filled S = laid-filled g M n z R Z (S .fills rests)
+    rests-filled a S = laid-filled g M n z R Z ((rw a at S) .fills rests)

@@ -4,42 +4,61 @@ use game::Game;
 use game::InSet;
 use game::OutSet;
 use table_counters::CounterSet;
+use table_sizes::Outline;
 ghost use mathlib.Core.Path.{_≡_};
 ghost use mathlib.Core.Bool.{true};
 ghost use lib.ListN.{length};
 ghost use Rattle.bits.specs.Member.{has};
 ghost use Rattle.sets.specs.Words.{bitsOf};
+ghost use Rattle.table_sizes.specs.Outlined.{Outlined};
 ghost use Rattle.environment_table.specs.Table.{Roomy, Filled};
 ghost use Rattle.environment_table.specs.Touring.{Left, Aims};
 
-// The rows towards all goals, one requirement after the other.
-fn aims(g: Game, counters: usize, c: InSet, q: CounterSet, over: OutSet, room: &mut [u16])
-    requires { ⌜ Roomy g counters (length (now room)) × Aims g (bitsOf (c .0)) (q .0) (bitsOf (over .0)) counters ⌝ }
+// The rows towards all goals, one requirement after the other. Of the game, which goes by value, only counts are read: its input graph's rows are lent, as
+// `ins`, and its requirements are read in the outline.
+fn aims(
+    g: Game,
+    given: Outline,
+    ins: &[u64; sets::ROW_WORDS],
+    counters: usize,
+    c: InSet,
+    q: CounterSet,
+    over: OutSet,
+    room: &mut [u16],
+)
+    requires { ⌜ Roomy g counters (length (now room)) × Aims g (bitsOf (c .0)) (q .0) (bitsOf (over .0)) counters
+        × Outlined g given × (now ins ≡ g .input .moves) ⌝ }
     ensures { λ r. ⌜ Filled g (λ k h b. (has (bitsOf (c .0)) k ≡ true) × (has (bitsOf (over .0)) b ≡ true)) (now (room .entry)) (now (room .exit)) ⌝ }
 {
-    let h = g.input;
-    let z = rows::layout_of(h.states, counters, g.output.states);
+    let z = rows::layout_of(g.input.states, counters, g.output.states);
     let mut n: usize = 0;
     let mut r: usize = 0;
     while r < g.k {
-        let t = table_sizes::assumptions_of(g.requirements[r], n);
-        table_tours::aim_some(&h.moves, room, z, c.0, over.0, q, t);
+        let t = table_sizes::assumptions_of(given.requirements[r], n);
+        table_tours::aim_some(ins, room, z, c.0, over.0, q, t);
         n += t.count;
         r += 1;
     }
 }
 
 // The rows of the component c and the outputs of `over`, those with which it has no way out. The goals are found once for all of them.
-pub fn tours(g: Game, counters: usize, c: InSet, over: OutSet, room: &mut [u16])
-    requires { ⌜ Roomy g counters (length (now room)) × Left g (bitsOf (c .0)) (bitsOf (over .0)) ⌝ }
+pub fn tours(
+    g: Game,
+    given: Outline,
+    ins: &[u64; sets::ROW_WORDS],
+    counters: usize,
+    c: InSet,
+    over: OutSet,
+    room: &mut [u16],
+)
+    requires { ⌜ Roomy g counters (length (now room)) × Left g (bitsOf (c .0)) (bitsOf (over .0)) × Outlined g given × (now ins ≡ g .input .moves) ⌝ }
     ensures { λ r. ⌜ Filled g (λ k h b. (has (bitsOf (c .0)) k ≡ true) × (has (bitsOf (over .0)) b ≡ true)) (now (room .entry)) (now (room .exit)) ⌝ }
 {
-    let q = table_sizes::assumptions_met(g, c);
+    let q = table_sizes::assumptions_met(g, given, c);
     if table_counters::is_empty(q) {
-        let h = g.input;
-        let z = rows::layout_of(h.states, counters, g.output.states);
-        table_tours::stay(&h.moves, room, z, c.0, over.0);
+        let z = rows::layout_of(g.input.states, counters, g.output.states);
+        table_tours::stay(ins, room, z, c.0, over.0);
         return;
     }
-    aims(g, counters, c, q, over, room);
+    aims(g, given, ins, counters, c, q, over, room);
 }

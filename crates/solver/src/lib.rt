@@ -2,10 +2,12 @@
 ghost use mathlib.Core.Path.{_≡_};
 ghost use Rattle.game.specs.declared.Acceptance.the-variants.{Accepted};
 ghost use Rattle.game.specs.Acceptance.{acceptance};
+ghost use Rattle.table_sizes.specs.Outlined.{Outlined};
 ghost use Rattle.solver.specs.Promise.{Solved};
 ghost use Rattle.solver.specs.Compact.{SolvedCompact};
 use game::Acceptance;
 use game::Game;
+use table_sizes::Outline;
 
 mod by_component; // the controller's table with its rows by component
 
@@ -16,29 +18,33 @@ pub enum Verdict {
     Refused(u8),
 }
 
-// The solver on an accepted game, where the buffers are long enough.
-fn solve_accepted(
+// The solver on an accepted game, where the buffers are long enough. The rows of both graphs are lent to it, and its requirements outlined, so that nothing
+// below copies a game to read one of its rows.
+fn solve_accepted<'a>(
     g: Game,
+    given: Outline,
+    ins: &'a [u64; sets::ROW_WORDS],
+    outs: &'a [u64; sets::ROW_WORDS],
     scratch: &mut [u64],
     controller: &mut [u16],
     panel: &mut [u16],
 ) -> Verdict
-    requires { ⌜ acceptance g ≡ Accepted ⌝ }
+    requires { ⌜ (acceptance g ≡ Accepted) × Outlined g given × (now ins ≡ g .input .moves) × (now outs ≡ g .output .moves) ⌝ }
     ensures { λ r. ⌜ Solved g (now (scratch .entry)) (now (scratch .exit)) (now (controller .entry)) (now (controller .exit)) (now (panel .entry))
         (now (panel .exit)) r ⌝ }
 {
     if scratch.len() < scratch::length(g) {
         return Verdict::Refused(8);
     }
-    let c = table_sizes::controller_length(g);
+    let c = table_sizes::controller_length_of(g, given);
     if controller.len() < c {
         return Verdict::Refused(9);
     }
-    let e = table_sizes::environment_length(g);
+    let e = table_sizes::environment_length_of(g, given);
     if panel.len() < e {
         return Verdict::Refused(10);
     }
-    if solver_winner::write_winner(g, scratch, controller, panel) {
+    if solver_winner::write_winner(g, given, ins, outs, scratch, controller, panel) {
         return Verdict::System(c);
     }
     Verdict::Environment(e)
@@ -57,7 +63,18 @@ pub fn solve_into(
     let accepted = acceptance::accept(g);
     match accepted {
         Acceptance::Refused(n) => Verdict::Refused(n),
-        Acceptance::Accepted => solve_accepted(g, scratch, controller, panel),
+        Acceptance::Accepted => {
+            let given = table_sizes::outline_of(g);
+            solve_accepted(
+                g,
+                given,
+                &g.input.moves,
+                &g.output.moves,
+                scratch,
+                controller,
+                panel,
+            )
+        },
     }
 }
 
@@ -74,6 +91,17 @@ pub fn solve_compact_into(
     let accepted = acceptance::accept(g);
     match accepted {
         Acceptance::Refused(n) => Verdict::Refused(n),
-        Acceptance::Accepted => by_component::solve_accepted(g, scratch, controller, panel),
+        Acceptance::Accepted => {
+            let given = table_sizes::outline_of(g);
+            by_component::solve_accepted(
+                g,
+                given,
+                &g.input.moves,
+                &g.output.moves,
+                scratch,
+                controller,
+                panel,
+            )
+        },
     }
 }

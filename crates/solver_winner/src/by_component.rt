@@ -1,6 +1,7 @@
 // The winner's table, the controller's with its rows by component.
 use game::Game;
 use game::InSet;
+use table_sizes::Outline;
 ghost use mathlib.Core.Path.{_≡_};
 ghost use Prim.Native.Nat.{_≤_};
 ghost use lib.ListN.{length};
@@ -12,13 +13,17 @@ ghost use Rattle.play.specs.Play.{separatedOf};
 ghost use Rattle.theory.specs.Entries.{environmentEntries};
 ghost use Rattle.compact.specs.Rank.{leads};
 ghost use Rattle.compact.specs.Compact.{compactLength};
+ghost use Rattle.table_sizes.specs.Outlined.{Outlined};
 ghost use Rattle.scratch.specs.Scratch.{scratchLength};
 ghost use Rattle.solver_winner.specs.Written.{WrittenCompact};
 
 // Writes the winner's table of an accepted game and clears scratch; the leaders are the smallest inputs of the components. Answers whether that is the
 // system's.
-pub fn write_winner(
+pub fn write_winner<'a>(
     g: Game,
+    given: Outline,
+    ins: &'a [u64; sets::ROW_WORDS],
+    outs: &'a [u64; sets::ROW_WORDS],
     leaders: InSet,
     scratch: &mut [u64],
     controller: &mut [u16],
@@ -26,7 +31,8 @@ pub fn write_winner(
 ) -> bool
     requires { ⌜ (acceptance g ≡ Accepted) × (bitsOf (leaders .0) ≡ pack (g .input .states) (leads (separatedOf g)))
         × (scratchLength g ≤ length (now scratch)) × (compactLength (separatedOf g) ≤ length (now controller))
-        × (length (environmentEntries (separatedOf g)) ≤ length (now panel)) ⌝ }
+        × (length (environmentEntries (separatedOf g)) ≤ length (now panel))
+        × Outlined g given × (now ins ≡ g .input .moves) × (now outs ≡ g .output .moves) ⌝ }
     ensures { λ r. ⌜ WrittenCompact g (now (scratch .entry)) (now (scratch .exit)) (now (controller .entry)) (now (controller .exit)) (now (panel .entry))
         (now (panel .exit)) r ⌝ }
 {
@@ -34,11 +40,11 @@ pub fn write_winner(
     let x = region::prepare(g, scratch);
     let inner = x.inputs;
     if region_verdict::system_wins(g, scratch, inner) {
-        controller::fill_compact(g, scratch, inner, leaders, controller);
+        controller::fill_compact(g, given, outs, scratch, inner, leaders, controller);
         scratch_clearing::clear(scratch, used);
         return true;
     }
-    environment::fill(g, scratch, inner, panel);
+    environment::fill(g, given, ins, outs, scratch, inner, panel);
     scratch_clearing::clear(scratch, used);
     false
 }

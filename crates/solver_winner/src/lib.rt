@@ -6,16 +6,27 @@ ghost use Rattle.game.specs.declared.Acceptance.the-variants.{Accepted};
 ghost use Rattle.game.specs.Acceptance.{acceptance};
 ghost use Rattle.play.specs.Play.{separatedOf};
 ghost use Rattle.theory.specs.Entries.{controllerEntries, environmentEntries};
+ghost use Rattle.table_sizes.specs.Outlined.{Outlined};
 ghost use Rattle.scratch.specs.Scratch.{scratchLength};
 ghost use Rattle.solver_winner.specs.Written.{Written};
 use game::Game;
+use table_sizes::Outline;
 
 pub mod by_component; // with the controller's rows by component
 
 // Writes the winner's table of an accepted game and clears scratch. Answers whether that is the system's.
-pub fn write_winner(g: Game, scratch: &mut [u64], controller: &mut [u16], panel: &mut [u16]) -> bool
+pub fn write_winner<'a>(
+    g: Game,
+    given: Outline,
+    ins: &'a [u64; sets::ROW_WORDS],
+    outs: &'a [u64; sets::ROW_WORDS],
+    scratch: &mut [u64],
+    controller: &mut [u16],
+    panel: &mut [u16],
+) -> bool
     requires { ⌜ (acceptance g ≡ Accepted) × (scratchLength g ≤ length (now scratch)) × (length (controllerEntries (separatedOf g)) ≤ length (now controller))
-        × (length (environmentEntries (separatedOf g)) ≤ length (now panel)) ⌝ }
+        × (length (environmentEntries (separatedOf g)) ≤ length (now panel))
+        × Outlined g given × (now ins ≡ g .input .moves) × (now outs ≡ g .output .moves) ⌝ }
     ensures { λ r. ⌜ Written g (now (scratch .entry)) (now (scratch .exit)) (now (controller .entry)) (now (controller .exit)) (now (panel .entry))
         (now (panel .exit)) r ⌝ }
 {
@@ -23,11 +34,11 @@ pub fn write_winner(g: Game, scratch: &mut [u64], controller: &mut [u16], panel:
     let x = region::prepare(g, scratch);
     let inner = x.inputs;
     if region_verdict::system_wins(g, scratch, inner) {
-        controller::fill(g, scratch, inner, controller);
+        controller::fill(g, given, outs, scratch, inner, controller);
         scratch_clearing::clear(scratch, used);
         return true;
     }
-    environment::fill(g, scratch, inner, panel);
+    environment::fill(g, given, ins, outs, scratch, inner, panel);
     scratch_clearing::clear(scratch, used);
     false
 }

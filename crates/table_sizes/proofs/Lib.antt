@@ -2,4 +2,5 @@
 pub mod Concat
 pub mod Below
 pub mod Numbered
+pub mod Outlined
 pub mod Lengths

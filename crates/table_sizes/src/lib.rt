@@ -18,16 +18,26 @@ ghost use Rattle.theory.specs.Entries.{controllerCounters, environmentCounters,
 ghost use Rattle.table_sizes.specs.Below.{guaranteeSide, assumptionSide};
 ghost use Rattle.table_goals.specs.Stretches.{metIn};
 ghost use Rattle.table_sizes.specs.Numbered.{SetsOf};
+ghost use Rattle.table_sizes.specs.Outlined.{Outlined};
+
+// The requirements of an accepted game, and how many counters each of its tables has: what a writer of a table reads of the game besides its counts and the
+// rows of its graphs. A game goes by value, and to read a requirement of it by number would copy the rows too.
+pub struct Outline {
+    pub requirements: [Requirement; 8],
+    pub controller: usize,
+    pub environment: usize,
+}
 
 // How many guarantees all requirements have.
 pub fn guarantee_count(g: Game) -> usize
     requires { ⌜ acceptance g ≡ Accepted ⌝ }
     ensures { λ r. ⌜ r ≡ length (guarantees (separatedOf g)) ⌝ }
 {
+    let requirements = g.requirements;
     let mut n = 0;
     let mut r = 0;
     while r < g.k {
-        let q = g.requirements[r];
+        let q = requirements[r];
         n += q.guaranteed;
         r += 1;
     }
@@ -39,10 +49,11 @@ pub fn assumption_count(g: Game) -> usize
     requires { ⌜ acceptance g ≡ Accepted ⌝ }
     ensures { λ r. ⌜ r ≡ length (assumptions (separatedOf g)) ⌝ }
 {
+    let requirements = g.requirements;
     let mut n = 0;
     let mut r = 0;
     while r < g.k {
-        let q = g.requirements[r];
+        let q = requirements[r];
         n += q.assumed;
         r += 1;
     }
@@ -69,15 +80,15 @@ pub fn guarantees_of(q: Requirement, from: usize) -> Stretch
 }
 
 // The numbers of the guarantees that have a state in x.
-pub fn guarantees_met(g: Game, x: OutSet) -> CounterSet
-    requires { ⌜ acceptance g ≡ Accepted ⌝ }
+pub fn guarantees_met(g: Game, given: Outline, x: OutSet) -> CounterSet
+    requires { ⌜ (acceptance g ≡ Accepted) × Outlined g given ⌝ }
     ensures { λ q. ⌜ q .0 ≡ pack (length (guarantees (separatedOf g))) (metIn (guarantees (separatedOf g)) (bitsOf (x .0))) ⌝ }
 {
     let mut q = table_counters::empty();
     let mut n: usize = 0;
     let mut r: usize = 0;
     while r < g.k {
-        let s = guarantees_of(g.requirements[r], n);
+        let s = guarantees_of(given.requirements[r], n);
         q = table_goals::add_met(q, s, x.0);
         n += s.count;
         r += 1;
@@ -105,15 +116,15 @@ pub fn assumptions_of(q: Requirement, from: usize) -> Stretch
 }
 
 // The numbers of the assumptions that have a state in x.
-pub fn assumptions_met(g: Game, x: InSet) -> CounterSet
-    requires { ⌜ acceptance g ≡ Accepted ⌝ }
+pub fn assumptions_met(g: Game, given: Outline, x: InSet) -> CounterSet
+    requires { ⌜ (acceptance g ≡ Accepted) × Outlined g given ⌝ }
     ensures { λ q. ⌜ q .0 ≡ pack (length (assumptions (separatedOf g))) (metIn (assumptions (separatedOf g)) (bitsOf (x .0))) ⌝ }
 {
     let mut q = table_counters::empty();
     let mut n: usize = 0;
     let mut r: usize = 0;
     while r < g.k {
-        let s = assumptions_of(g.requirements[r], n);
+        let s = assumptions_of(given.requirements[r], n);
         q = table_goals::add_met(q, s, x.0);
         n += s.count;
         r += 1;
@@ -147,6 +158,19 @@ pub fn environment_counters(g: Game) -> usize
     at_least_one(assumption_count(g))
 }
 
+// The outline of an accepted game.
+pub fn outline_of(g: Game) -> Outline
+    requires { ⌜ acceptance g ≡ Accepted ⌝ }
+    ensures { λ r. ⌜ Outlined g r ⌝ }
+{
+    let requirements = g.requirements;
+    Outline {
+        requirements,
+        controller: controller_counters(g),
+        environment: environment_counters(g),
+    }
+}
+
 // How many entries the controller's table has.
 pub fn controller_length(g: Game) -> usize
     requires { ⌜ acceptance g ≡ Accepted ⌝ }
@@ -163,4 +187,21 @@ pub fn environment_length(g: Game) -> usize
 {
     let outputs = g.output.states;
     1 + g.input.states * environment_counters(g) * outputs
+}
+
+// The same two from the outline, whose counters are known.
+pub fn controller_length_of(g: Game, given: Outline) -> usize
+    requires { ⌜ (acceptance g ≡ Accepted) × Outlined g given ⌝ }
+    ensures { λ r. ⌜ r ≡ length (controllerEntries (separatedOf g)) ⌝ }
+{
+    let inputs = g.input.states;
+    inputs + g.output.states * given.controller * inputs
+}
+
+pub fn environment_length_of(g: Game, given: Outline) -> usize
+    requires { ⌜ (acceptance g ≡ Accepted) × Outlined g given ⌝ }
+    ensures { λ r. ⌜ r ≡ length (environmentEntries (separatedOf g)) ⌝ }
+{
+    let outputs = g.output.states;
+    1 + g.input.states * given.environment * outputs
 }

@@ -8,17 +8,12 @@ use Rattle.controller.proofs.Components.{components-columns}
 use Rattle.controller.proofs.compact_size.Statement.{statement}
 use Rattle.controller.proofs.compact_size.Tie as tie
 
-controller-counters-requires : tie.Need-controller-counters-requires
-controller-counters-requires c κs = search needs
-
 below-requires : tie.Need-below-requires
-below-requires c κs =
-    let b = c .before in
-    omega (arith, c .controller-counters .ensures, controller-few (b .args .g) (accepted-fits (b .args .g) (b .pre .0)))
+below-requires c κs = omega (arith, c .pre .2 .controller, controller-few (c .args .g) (accepted-fits (c .args .g) (c .pre .0)))
 
-add-t6 : tie.Need-add-t6
-add-t6 c =
-    let b = c .before .before in
+add-t7 : tie.Need-add-t7
+add-t7 c =
+    let b = c .before in
     omega (arith, accepted-fits (b .args .g) (b .pre .0) .input .most)
 
 components-requires : tie.Need-components-requires
@@ -27,14 +22,13 @@ components-requires c κs = search needs
 returns : tie.Need-returns
 returns c =
     let k = c .before in
-    let n = k .before in
-    let b = n .before in
+    let b = k .before in
     let f = accepted-fits (b .args .g) (b .pre .0) in (
       record {
         accepted = b .pre .0;
         inputs = refl;
         outputs = refl;
-        counters = n .controller-counters .ensures;
+        counters = b .pre .2 .controller;
         all = k .below .ensures;
         starts = omega arith;
         front = omega (arith, f .input .most);
@@ -44,4 +38,4 @@ returns c =
     )
 
 pub compact-size-spec : {M : Type 1} → statement M
-compact-size-spec = tie.close (tie.spec controller-counters-requires below-requires add-t6 components-requires returns)
+compact-size-spec = tie.close (tie.spec below-requires add-t7 components-requires returns)

@@ -35,7 +35,8 @@ rows-requires c κs =
     let t = c .before .before .before in
     let k = t .before .before .before .before in
     let e = k .size-of .ensures in
-    (given k, omega (arith, k .before .before .before .pre .2, input-long _ _ (e .0) (e .1), long-starts (t .starts .ensures)))
+    let p = k .before .before .before .pre in
+    (given k, omega (arith, p .2, input-long _ _ (e .0) (e .1), long-starts (t .starts .ensures)), p .3, p .4)
 
 same-length : tie.Need-same-length
 same-length c = search needs

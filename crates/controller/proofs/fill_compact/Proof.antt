@@ -46,7 +46,7 @@ rows-requires c κs =
     let k = t .before .before .before .before in
     let e = k .compact-size .ensures in
     let p = k .before .before .before .pre in
-    (given k, omega (arith, p .3, component-long _ _ (e .0) (e .1), w .write-ranks .ensures .long, long-starts (t .starts .ensures)))
+    (given k, omega (arith, p .3, component-long _ _ (e .0) (e .1), w .write-ranks .ensures .long, long-starts (t .starts .ensures)), p .4, p .5)
 
 same-length : tie.Need-same-length
 same-length c = search needs

@@ -9,16 +9,14 @@ use Rattle.controller.proofs.rows.Tie as tie
 
 plains-requires : tie.Need-plains-requires
 plains-requires c κs =
-    let h = c .before .before .before in
-    let p = h .before .before .before .pre in
+    let p = c .before .before .before .pre in
     (table-of _ _ (p .0 .sized) _ (p .1), scratch-long (p .0))
 
 settle-all-requires : tie.Need-settle-all-requires
 settle-all-requires c κs =
     let w = c .before .before .before in
-    let h = w .before .before .before .before in
-    let p = h .before .before .before .pre in
-    (p .0, omega (arith, p .1, long-plains (w .plains .ensures)))
+    let p = w .before .before .before .before .pre in
+    (p .0, omega (arith, p .1, long-plains (w .plains .ensures)), p .2, p .3)
 
 same-length : tie.Need-same-length
 same-length c = search needs
@@ -27,9 +25,8 @@ returns : tie.Need-returns
 returns c =
     let a = c .before .before in
     let w = a .before .before .before .before in
-    let h = w .before .before .before .before in
-    let p = h .before .before .before .pre in
-    rows-filled _ _ _ _ (p .0) (p .1) (w .plains .ensures) (a .settle-all .ensures)
+    let p = w .before .before .before .before .pre in
+    rows-filled _ _ _ _ (p .0) (p .1) (rw (p .3) at (w .plains .ensures)) (a .settle-all .ensures)
 
 pub rows-spec : {M : Type 1} → statement M
 rows-spec = tie.close (tie.spec plains-requires settle-all-requires same-length returns)

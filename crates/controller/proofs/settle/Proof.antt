@@ -43,6 +43,7 @@ approach-requires c κs =
       home-given (b .args .g) (b .args .z) (b .args .s .now) (bitsOf (b .args .c .0)) (b .pre .0) (b .args .d .0) (b .pre .1) (r .residents .result)
           (r .residents .ensures) _ (some _ (e .is-empty .ensures) (t .if1 .left)) (k .out-component .ensures),
       b .pre .2,
+      b .pre .4,
     )
 
 tour-requires : tie.Need-tour-requires
@@ -57,6 +58,8 @@ tour-requires c κs =
       home-given (b .args .g) (b .args .z) (b .args .s .now) (bitsOf (b .args .c .0)) (b .pre .0) (b .args .d .0) (b .pre .1)
           (r .residents .result) (r .residents .ensures) _ (some _ (e .is-empty .ensures) (t .if1 .left)) (k .out-component .ensures),
       omega (arith, b .pre .2, n .approach .ensures .long),
+      b .pre .3,
+      b .pre .4,
     )
 
 same-length : tie.Need-same-length

@@ -1,6 +1,7 @@
 -- `approach` goes through the inputs at home, those with the same lower homes at once.
 use mathlib.Core.Path.{refl}
 use mathlib.Core.Logic.{_≢_}
+use native.Mathlib.Omega.{arith}
 use borrow.Author.Needs.{needs}
 use Rattle.finite.specs.Bounded.{count}
 use Rattle.bits.specs.Member.{has}
@@ -12,6 +13,7 @@ use Rattle.controller_homeward.proofs.Homeward.{
   Homing,
   home-read,
   home-within,
+  near-of,
   group-filled,
   homing-start,
   homing-within,
@@ -24,10 +26,10 @@ use Rattle.controller_homeward.proofs.approach.Statement.{statement}
 use Rattle.controller_homeward.proofs.approach.Tie as tie
 
 abbrev Inv-loop : tie.InvT-loop
-Inv-loop g s room₀ z w n m y d rest₀ room rest = Homing g z w (bitsOf rest) room₀ room
+Inv-loop g outs s room₀ z w n y d rest₀ room rest = Homing g z w (bitsOf rest) room₀ room
 
 abbrev μ-loop : tie.MeasureT-loop
-μ-loop g s room₀ z w n m y d rest₀ room rest = count capacity (has (bitsOf rest))
+μ-loop g outs s room₀ z w n y d rest₀ room rest = count capacity (has (bitsOf rest))
 
 some-left : (c : tie.Then1 Inv-loop μ-loop) → bitsOf (c .before .before .loop .rest) ≢ 0
 some-left c = is-some _ (c .before .is-empty .ensures) (c .if1 .taken)
@@ -72,11 +74,11 @@ nearest-requires c κs =
     let v = l .before .before .before .before in
     let p = v .before .before .before .pre in
     let r = home-read _ _ _ _ (p .0) _ (p .1) in
-    (r .0, r .1, r .2, r .4)
+    (r .0, omega (arith, r .1, p .0 .sized .outputs), r .2, omega (arith, r .4, p .0 .sized .outputs))
 
 columns-of-requires : tie.Need-columns-of-requires Inv-loop μ-loop
 columns-of-requires c κs =
-    let o = c .before .before .before .before .before in
+    let o = c .before .before .before .before in
     let l = o .before .before .before in
     let v = l .before .before .before .before in
     let p = v .before .before .before .pre in
@@ -84,8 +86,8 @@ columns-of-requires c κs =
 
 approach-requires : tie.Need-approach-requires Inv-loop μ-loop
 approach-requires c κs =
-    let k = c .before .before .before in
-    let x = k .before .before .before in
+    let k = c .before in
+    let x = k .before .before in
     let o = x .before .before .before in
     let l = o .before .before .before in
     let v = l .before .before .before .before in
@@ -100,8 +102,8 @@ difference-requires c κs = search needs
 loop-less : tie.Need-loop-less Inv-loop μ-loop
 loop-less c =
     let a = c .before .before .before in
-    let k = a .before .before .before .before in
-    let x = k .before .before .before in
+    let k = a .before .before in
+    let x = k .before .before in
     let o = x .before .before .before in
     let l = o .before .before .before in
     let v = l .before .before .before .before in
@@ -112,14 +114,15 @@ loop-less c =
 loop-again : tie.Need-loop-again Inv-loop μ-loop
 loop-again c =
     let a = c .before .before .before in
-    let k = a .before .before .before .before in
-    let x = k .before .before .before in
+    let k = a .before .before in
+    let x = k .before .before in
     let o = x .before .before .before in
     let l = o .before .before .before in
     let v = l .before .before .before .before in
     let p = v .before .before .before .pre in
+    let near = near-of _ _ (p .0 .sized) _ _ _ refl (x .nearest .ensures) in
     homing-next _ _ _ _ (p .0) _ (p .1) _ (l .loop .inv) _ _ (c .difference .ensures)
-    (group-filled _ _ _ _ (p .0) _ (p .1) _ (v .layout-of .ensures) _ _ (bitsOf (l .loop .rest)) (x .nearest .ensures) _ _
+    (group-filled _ _ _ _ (p .0) _ (p .1) _ (v .layout-of .ensures) _ _ (bitsOf (l .loop .rest)) near (p .3) _ _
     (λ j h. l .loop .inv .inputs j h .1) (x .before .alike .ensures) (k .columns-of .ensures) (a .approach .ensures))
     refl
 

@@ -13,20 +13,19 @@ use Rattle.environment.proofs.walked_rows.Statement.{statement}
 use Rattle.environment.proofs.walked_rows.Tie as tie
 
 abbrev Inv-loop : tie.InvT-loop
-Inv-loop g s inner counters room₀ n i₀ room i = (i ≤ n) × Filled g (λ a h b. (number (graphOf (g .input)) a < i) × (plain g a b ≡ false)) room₀ room
+Inv-loop g given ins outs s inner counters room₀ n i₀ room i =
+    (i ≤ n) × Filled g (λ a h b. (number (graphOf (g .input)) a < i) × (plain g a b ≡ false)) room₀ room
 
 abbrev μ-loop : tie.MeasureT-loop
-μ-loop g s inner counters room₀ n i₀ room i = n - i
+μ-loop g given ins outs s inner counters room₀ n i₀ room i = n - i
 
 loop-holds : tie.Need-loop-holds Inv-loop μ-loop
 loop-holds c = (omega arith, filled-none _ _ (λ a h b p. omega (arith, p .0)))
 
 component-rows-requires : tie.Need-component-rows-requires Inv-loop μ-loop
-component-rows-requires c κs = (
-  c .before .before .before .before .before .pre .0,
-  roomy-more _ (c .before .before .before .before .before .pre .1) (c .before .before .loop .inv .1),
-  c .before .loop-test .taken,
-)
+component-rows-requires c κs =
+    let p = c .before .before .before .before .before .pre in
+    (p .0, roomy-more _ (p .1) (c .before .before .loop .inv .1), c .before .loop-test .taken, p .2, p .3, p .4)
 
 add-i : tie.Need-add-i Inv-loop μ-loop
 add-i c = omega arith

@@ -1,5 +1,4 @@
 -- `plain_rows`: the won positions, and then the pushes.
-use mathlib.Core.Path.{refl}
 use borrow.Author.Needs.{needs}
 use Rattle.environment_table.proofs.Places.{roomy-more}
 use Rattle.environment_table.proofs.Known.{lone-of, plain-join}
@@ -17,15 +16,15 @@ difference-requires c κs = search needs
 
 push-columns-requires : tie.Need-push-columns-requires
 push-columns-requires c κs =
-    let d = c .before .before .before .before in
+    let d = c .before in
     let at-none-rows = d .before .before .before .before in
     let at-start = at-none-rows .before .before .before .before in
     let p = at-start .pre in (
       p .0,
       roomy-more _ (p .1) (at-none-rows .none-rows .ensures),
       lone-of _ _ _ (d .before .below .ensures) (d .difference .ensures),
-      refl,
-      refl,
+      p .2,
+      p .3,
     )
 
 same-length : tie.Need-same-length
@@ -34,7 +33,7 @@ same-length c = search needs
 returns : tie.Need-returns
 returns c =
     let w = c .before .before in
-    let d = w .before .before .before .before .before in
+    let d = w .before .before in
     let r = d .before .before .before .before in
     plain-join _ (r .none-rows .ensures) (w .push-columns .ensures)
 

@@ -8,6 +8,7 @@ use Rattle.theory.specs.Choice.{assumptions}
 use Rattle.table_sizes.specs.Below.{assumptionSide, setsIn}
 use Rattle.table_sizes.specs.Numbered.{Upto}
 use Rattle.table_sizes.proofs.Below.{assumptions-listed, few, assumed-few}
+use Rattle.table_sizes.proofs.Outlined.{outlined-sets}
 use Rattle.table_sizes.proofs.Numbered.{upto-none, upto-next, upto-all, stretch-short, stretch-set}
 use Rattle.table_layout.specs.Rows.{Filled}
 use Rattle.table_layout.proofs.Places.{fits-same}
@@ -19,18 +20,18 @@ use Rattle.environment_tour.proofs.aims.Statement.{statement}
 use Rattle.environment_tour.proofs.aims.Tie as tie
 
 abbrev Inv-loop : tie.InvT-loop
-Inv-loop counters c q over room₀ g h z n₀ r₀ room n r =
+Inv-loop g ins counters c q over room₀ given z n₀ r₀ room n r =
     (r ≤ g .k) × (g .k ≤ 8) × Upto assumptionSide g r n × Filled z (entriesOf g) (Headed z (bitsOf (c .0)) (bitsOf (over .0)) (q .0) 0 n) room₀ room
 
 abbrev μ-loop : tie.MeasureT-loop
-μ-loop counters c q over room₀ g h z n₀ r₀ room n r = g .k - r
+μ-loop g ins counters c q over room₀ given z n₀ r₀ room n r = g .k - r
 
 layout-of-requires : tie.Need-layout-of-requires Inv-loop μ-loop
 layout-of-requires c κs = search needs
 
 loop-holds : tie.Need-loop-holds Inv-loop μ-loop
 loop-holds c =
-    let p = c .before .before .before .pre in
+    let p = c .before .before .pre in
     (omega arith, few _ (p .0 .accepted), upto-none assumptionSide assumptions-listed _, aims-none _ _ _ _ (p .0) (c .layout-of .ensures) _ _ _ (p .1) _)
 
 mul-assumptions-of : tie.Need-mul-assumptions-of Inv-loop μ-loop
@@ -45,30 +46,32 @@ assumptions-of-requires c κs = search needs
 aim-some-requires : tie.Need-aim-some-requires Inv-loop μ-loop
 unfolding assumptionSide
 aim-some-requires c κs =
-    let o = c .before .before .before in
-    let l = o .before .before .before in
+    let o = c .before in
+    let l = o .before .before .before .before in
     let i = l .loop .inv in
-    let p = l .before .before .before .before .pre in
+    let p = l .before .before .before .pre in
     let z = l .before .layout-of .ensures in
-    let b = o .before .before .loop-test .taken in
-    let f = assumed-few _ (p .0 .accepted) (l .loop .r) b in (
+    let b = o .before .before .if1 .taken in
+    let f = assumed-few _ (p .0 .accepted) (l .loop .r) b in
+    let W = outlined-sets assumptionSide _ _ (p .2) (l .loop .r) _ _ (o .assumptions-of .ensures) in (
       fits-same _ _ _ (i .3 .grows .long) (laid-fits _ _ _ _ (p .0) z),
       aims-members _ _ _ _ (p .0) z _ _ _ (p .1),
       aims-counted _ _ _ _ (p .0) z _ _ _ (p .1),
-      stretch-short assumptionSide assumptions-listed _ (l .loop .r) _ _ b (i .1) f (i .2) (o .assumptions-of .ensures),
+      stretch-short assumptionSide assumptions-listed _ (l .loop .r) _ _ b (i .1) f (i .2) W,
     )
 
 add-n : tie.Need-add-n Inv-loop μ-loop
 unfolding assumptionSide
 add-n c =
     let s = c .before .before .before in
-    let o = s .before .before .before .before in
-    let l = o .before .before .before in
+    let o = s .before .before in
+    let l = o .before .before .before .before in
     let i = l .loop .inv in
-    let p = l .before .before .before .before .pre in
-    let b = o .before .before .loop-test .taken in
+    let p = l .before .before .before .pre in
+    let b = o .before .before .if1 .taken in
     let f = assumed-few _ (p .0 .accepted) (l .loop .r) b in
-    omega (arith, i .1, upto-next assumptionSide assumptions-listed _ (l .loop .r) _ _ b (i .1) f (i .2) (o .assumptions-of .ensures) .few)
+    let W = outlined-sets assumptionSide _ _ (p .2) (l .loop .r) _ _ (o .assumptions-of .ensures) in
+    omega (arith, i .1, upto-next assumptionSide assumptions-listed _ (l .loop .r) _ _ b (i .1) f (i .2) W .few)
 
 add-r : tie.Need-add-r Inv-loop μ-loop
 add-r c = omega arith
@@ -80,30 +83,31 @@ loop-again : tie.Need-loop-again Inv-loop μ-loop
 unfolding assumptionSide setsIn assumptions
 loop-again c =
     let s = c .before .before .before in
-    let o = s .before .before .before .before in
-    let l = o .before .before .before in
+    let o = s .before .before in
+    let l = o .before .before .before .before in
     let i = l .loop .inv in
-    let p = l .before .before .before .before .pre in
-    let b = o .before .before .loop-test .taken in
-    let f = assumed-few _ (p .0 .accepted) (l .loop .r) b in (
+    let p = l .before .before .before .pre in
+    let b = o .before .before .if1 .taken in
+    let f = assumed-few _ (p .0 .accepted) (l .loop .r) b in
+    let W = outlined-sets assumptionSide _ _ (p .2) (l .loop .r) _ _ (o .assumptions-of .ensures) in (
       omega arith,
       i .1,
-      upto-next assumptionSide assumptions-listed _ (l .loop .r) _ _ b (i .1) f (i .2) (o .assumptions-of .ensures),
-      aims-further _ _ _ _ (p .0) (l .before .layout-of .ensures) _ _ _ (p .1) _ _ (o .assumptions-of .ensures .first)
-          (stretch-set assumptionSide assumptions-listed _ (l .loop .r) _ _ b (i .1) f (i .2) (o .assumptions-of .ensures)) (i .3) (s .aim-some .ensures) refl,
+      upto-next assumptionSide assumptions-listed _ (l .loop .r) _ _ b (i .1) f (i .2) W,
+      aims-further _ _ _ _ (p .0) (l .before .layout-of .ensures) _ _ _ (p .1) (p .3) _ _ (o .assumptions-of .ensures .first)
+          (stretch-set assumptionSide assumptions-listed _ (l .loop .r) _ _ b (i .1) f (i .2) W) (i .3) (s .aim-some .ensures) refl,
     )
 
 same-length : tie.Need-same-length Inv-loop μ-loop
-same-length c = c .before .loop .inv .3 .grows .long
+same-length c = c .before .before .loop .inv .3 .grows .long
 
 returns : tie.Need-returns Inv-loop μ-loop
 unfolding assumptionSide setsIn assumptions
 returns c =
-    let l = c .before in
+    let l = c .before .before in
     let i = l .loop .inv in
-    let p = l .before .before .before .before .pre in
+    let p = l .before .before .before .pre in
     aims-filled _ _ _ _ (p .0) (l .before .layout-of .ensures) _ _ _ (p .1) _
-    (upto-all assumptionSide assumptions-listed _ (l .loop .r) _ (i .0) (c .loop-test .left) (i .2)) (i .3)
+    (upto-all assumptionSide assumptions-listed _ (l .loop .r) _ (i .0) (c .if1 .left) (i .2)) (i .3)
 
 pub aims-spec : {M : Type 1} → statement M
 aims-spec =

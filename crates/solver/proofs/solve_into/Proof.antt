@@ -1,6 +1,6 @@
 -- `solve_into`.
 use Rattle.solver.proofs.Verdicts.{solve-faulty}
-use mathlib.Core.Path.{sym, _∙_}
+use mathlib.Core.Path.{refl, sym, _∙_}
 use borrow.Author.Needs.{needs}
 use Rattle.solver.proofs.solve_into.Statement.{statement}
 use Rattle.solver.proofs.solve_into.Tie as tie
@@ -14,8 +14,14 @@ enum-known-accepted c = search needs
 enum-told : tie.Need-enum-told
 enum-told c = search needs
 
+outline-of-requires : tie.Need-outline-of-requires
+outline-of-requires c κs = sym (c .before .before .accept .ensures .answer) ∙ c .enum-told .given .1
+
 solve-accepted-requires : tie.Need-solve-accepted-requires
-solve-accepted-requires c κs = sym (c .before .before .before .before .before .accept .ensures .answer) ∙ c .before .before .before .enum-told .given .1
+solve-accepted-requires c κs =
+    let o = c .before .before .before .before .before .before in
+    let t = o .before in
+    (sym (t .before .before .accept .ensures .answer) ∙ t .enum-told .given .1, o .outline-of .ensures, refl, refl)
 
 returns : tie.Need-returns
 returns c = solve-faulty _ _ _ _ _ (sym (c .before .before .before .accept .ensures .answer) ∙ c .before .accepted .given .1)
@@ -39,6 +45,7 @@ solve-into-spec =
     accept-requires
     enum-known-accepted
     enum-told
+    outline-of-requires
     solve-accepted-requires
     returns
     same-length

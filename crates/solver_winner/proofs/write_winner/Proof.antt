@@ -25,7 +25,7 @@ fill-requires c κs =
     let prepare = c .before .before .before .before .before .before .before .before in
     let length = prepare .before .before in
     let p = length .before .before .before .before .pre in
-    (p .0, prepare .prepare .ensures .ready, p .2)
+    (p .0, prepare .prepare .ensures .ready, p .2, p .4, p .6)
 
 clear-requires : tie.Need-clear-requires
 clear-requires c κs = search needs
@@ -54,7 +54,7 @@ fill-requires-2 c κs =
     let prepare = c .before .before .before .before .before .before .before .before in
     let length = prepare .before .before in
     let p = length .before .before .before .before .pre in
-    record { known = record { accepted = p .0; ready = prepare .prepare .ensures .ready }; room = p .3 }
+    (record { known = record { accepted = p .0; ready = prepare .prepare .ensures .ready }; room = p .3 }, p .4, p .5, p .6)
 
 clear-requires-2 : tie.Need-clear-requires-2
 clear-requires-2 c κs = search needs

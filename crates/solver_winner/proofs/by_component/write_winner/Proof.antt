@@ -26,7 +26,7 @@ fill-compact-requires c κs =
     let prepare = won .before .before .before .before in
     let length = prepare .before .before in
     let p = length .before .before .before .before .pre in
-    (p .0, prepare .prepare .ensures .ready, p .1, p .3)
+    (p .0, prepare .prepare .ensures .ready, p .1, p .3, p .5, p .7)
 
 clear-requires : tie.Need-clear-requires
 clear-requires c κs = search needs
@@ -57,7 +57,7 @@ fill-requires c κs =
     let prepare = won .before .before .before .before in
     let length = prepare .before .before in
     let p = length .before .before .before .before .pre in
-    record { known = record { accepted = p .0; ready = prepare .prepare .ensures .ready }; room = p .4 }
+    (record { known = record { accepted = p .0; ready = prepare .prepare .ensures .ready }; room = p .4 }, p .5, p .6, p .7)
 
 clear-requires-2 : tie.Need-clear-requires-2
 clear-requires-2 c κs = search needs
