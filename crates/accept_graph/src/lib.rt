@@ -5,8 +5,10 @@ ghost use mathlib.Core.Path.{_≡_};
 ghost use mathlib.Core.Bool.{not, _||_};
 ghost use lib.Dec.{eqb, leb};
 ghost use Rattle.bits.specs.Member.{within};
-ghost use Rattle.sets.specs.Words.{bitsOf};
+ghost use Prim.Native.Nat.{min};
+ghost use Rattle.sets.specs.Words.{capacity, bitsOf, setsIn};
 ghost use Rattle.game.specs.Acceptance.{limit as limitOf, countFits, statesFit, hasInitial};
+ghost use Rattle.accept_graph.specs.Past.{Past};
 
 // n where place j is below used, else 0.
 pub fn limit(used: usize, j: usize, n: usize) -> usize
@@ -35,14 +37,43 @@ fn row_fits(row: Set, n: usize, s: usize) -> bool
     sets::within(row, limit(n, s, n))
 }
 
+// The states of all rows past the first n, joined: a plain union goes through them faster than a test of each, and a small game has many.
+fn joined_past(moves: &[u64; sets::ROW_WORDS], n: usize) -> Set
+    ensures { λ r. ⌜ Past (setsIn (now (moves .entry))) n capacity (bitsOf r) ⌝ }
+{
+    let mut x = sets::empty();
+    let mut s = n;
+    while s < sets::CAPACITY {
+        x = sets::union(x, sets::row_of(moves, s));
+        s += 1;
+    }
+    x
+}
+
+// n, but not more than there are rows.
+fn first_rows(n: usize) -> usize
+    ensures { λ r. ⌜ r ≡ min n capacity ⌝ }
+{
+    if n < sets::CAPACITY {
+        return n;
+    }
+    sets::CAPACITY
+}
+
+// The rows past the count are looked at together.
 pub fn states_fit(g: Graph) -> bool
     ensures { λ r. ⌜ r ≡ statesFit g ⌝ }
 {
     if !sets::within(g.initial, g.states) {
         return false;
     }
+    let past = joined_past(&g.moves, g.states);
+    if !sets::is_empty(past) {
+        return false;
+    }
+    let m = first_rows(g.states);
     let mut s = 0;
-    while s < sets::CAPACITY {
+    while s < m {
         if !row_fits(sets::row_of(&g.moves, s), g.states, s) {
             return false;
         }

@@ -1,0 +1,2 @@
+-- Laws for the rows past the count of states.
+pub mod Past
