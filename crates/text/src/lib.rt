@@ -2,6 +2,7 @@
 use game::Acceptance;
 use game::Game;
 use text_pieces::Step;
+use text_put::measure;
 use text_scan::whole;
 ghost use mathlib.Core.Path.{_≡_};
 ghost use Rattle.text.specs.Write.{Writes};
@@ -89,9 +90,7 @@ pub fn write(g: Game, buffer: &mut [u8]) -> WriteAnswer
     match a {
         Acceptance::Refused(n) => WriteAnswer::Refused(n),
         Acceptance::Accepted => {
-            // the length is found by writing into a buffer that nobody reads
-            let mut scratch = [0u8; 1];
-            let n = text_put::put_game(&mut scratch, 0, g);
+            let n = measure::game_length(g);
             if buffer.len() < n {
                 return WriteAnswer::Refused(13);
             }

@@ -49,7 +49,7 @@ decimal-two v h =
     let l = ltb-false v 10 b in
     omega (arith, ap length (decimal-step v l), length-append (decimal (v / 10)) ((48 + v % 10) ∷ []), ap length (decimal-one (v / 10) (omega arith))))
 
-decimal-short : (v : ℕ) → v < 1000 → length (decimal v) ≤ 3
+pub decimal-short : (v : ℕ) → v < 1000 → length (decimal v) ≤ 3
 decimal-short v h =
     by-cases (ltb v 10)
     (λ b. omega (arith, ap length (decimal-one v (ltb-true v 10 b))))
@@ -81,7 +81,7 @@ members-short (suc n) lo x gap h =
     )))
     (λ b. rw (members-skip n lo x b) (omega (arith, members-short n (suc lo) x gap (omega arith))))
 
-set-short : (x : ℕ) → length (setText x) ≤ 514
+pub set-short : (x : ℕ) → length (setText x) ≤ 514
 unfolding setRest
 set-short x =
     omega (
@@ -90,6 +90,9 @@ set-short x =
       length-append (items false (map decimal (members capacity 0 x))) (41 ∷ []),
       members-short capacity 0 x false (omega arith),
     )
+
+pub set-few : {r : ℕ} (x : ℕ) → r ≡ length (setText x) → r ≤ 514
+set-few x e = omega (arith, set-short x)
 
 cells-short : (n j : ℕ) (ws : List ℕ) (gap : Bool) → length (items gap (map setText (cells n j ws))) ≤ 515 * n
 unfolding cells items
@@ -103,7 +106,7 @@ sets-short n ws h =
     let all : n - 0 ≡ n = omega arith in
     omega (arith, ap length (sets-open n ws), length-append (items false (map setText (cells (n - 0) 0 ws))) (41 ∷ []), cells-short (n - 0) 0 ws false)
 
-opening-short : (w : ℕ) → length (opening w) ≤ 13
+pub opening-short : (w : ℕ) → length (opening w) ≤ 13
 opening-short w = omega (arith, opening-length w, word-short w)
 
 number-short : (v b : ℕ) → v < 1000 → length (decimal v ++ b ∷ []) ≤ 4
@@ -114,6 +117,12 @@ unfolding one
 one-short true = omega arith
 one-short false = omega arith
 
+state-short : (w s f x : ℕ) → s < 1000 → f < 1000 → length (stateLine w s f x) ≤ 537
+state-short w s f x a b = omega (arith, state-length w s f x, opening-short w, number-short s 32 a, number-short f 32 b, set-short x)
+
+pub state-few : {r : ℕ} (w s x : ℕ) → ((f : ℕ) → f < 10 → r ≡ length (stateLine w s f x)) → s < 1000 → r ≤ 537
+state-few w s x e a = omega (arith, e 0 (omega arith), state-short w s 0 x a (omega arith))
+
 states-short : (w n s : ℕ) (h : PlainGraph) → s + n ≤ capacity → length (stateLines w n s h) ≤ 537 * n
 unfolding stateLines
 states-short w zero s h l = omega arith
@@ -123,15 +132,11 @@ states-short w (suc n) s h l =
     omega (
       arith,
       length-append (stateLine w s f x) (stateLines w n (suc s) h),
-      state-length w s f x,
-      opening-short w,
-      number-short s 32 (omega arith),
-      number-short f 32 (one-short (has (h .initial) s)),
-      set-short x,
+      state-short w s f x (omega arith) (one-short (has (h .initial) s)),
       states-short w n (suc s) h (omega arith),
     )
 
-requirement-short : (q : Requirement) → Few q → length (requirementLine q) ≤ 4140
+pub requirement-short : (q : Requirement) → Few q → length (requirementLine q) ≤ 4140
 requirement-short q F =
     omega (
       arith,
@@ -140,6 +145,9 @@ requirement-short q F =
       sets-short (q .assumed) (inWords (q .assumptions)) (F .assumed),
       sets-short (q .guaranteed) (outWords (q .guarantees)) (F .guaranteed),
     )
+
+pub requirement-few : {r : ℕ} (q : Requirement) → r ≡ length (requirementLine q) → Few q → r ≤ 4140
+requirement-few q e F = omega (arith, requirement-short q F)
 
 requirements-short : (n r : ℕ) (qs : List Requirement) → ((i : ℕ) → r ≤ i → i < r + n → Few (getD qs i noRequirement))
     → length (requirementLines n r qs) ≤ 4140 * n

@@ -80,6 +80,21 @@ pub puts-length : {d : List ℕ} {at : ℕ} {t : List ℕ} {r : ℕ} {e : List �
 puts-length {d} {at} {t} P = ap length (P .kept) ∙ overlay-length d at t
 
 -- numbers
+pub digits-one : (v : ℕ) → v < 10 → length (decimal v) ≡ 1
+digits-one v h = ap length (decimal-one v h)
+
+digits-more : (v : ℕ) → 10 ≤ v → length (decimal v) ≡ length (decimal (v / 10)) + 1
+digits-more v h = ap length (decimal-step v h) ∙ length-append (decimal (v / 10)) ((48 + v % 10) ∷ [])
+
+pub digits-two : (v : ℕ) → 10 ≤ v → v < 100 → length (decimal v) ≡ 2
+digits-two v h l = omega (arith, digits-more v h, digits-one (v / 10) (omega arith))
+
+pub digits-three : (v : ℕ) → 100 ≤ v → v < 1000 → length (decimal v) ≡ 3
+digits-three v h l = omega (arith, digits-more v (omega arith), digits-two (v / 10) (omega arith) (omega arith))
+
+pub two-digits : (v : ℕ) → 10 ≤ v → v < 100 → (48 + v / 10) ∷ [] ++ (48 + v % 10) ∷ [] ≡ decimal v
+two-digits v h l = sym (decimal-step v h ∙ ap (λ (t : List ℕ). t ++ (48 + v % 10) ∷ []) (decimal-one (v / 10) (omega arith)))
+
 pub number-room : (at v n : ℕ) → 10 ≤ v → at + length (decimal v) ≤ n → at + length (decimal (v / 10)) + 1 ≤ n
 number-room at v n h l = omega (arith, ap length (decimal-step v h), length-append (decimal (v / 10)) ((48 + v % 10) ∷ []))
 

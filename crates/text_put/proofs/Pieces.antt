@@ -1,17 +1,23 @@
 -- What is left of a text under way, and the pieces that it is made of.
-use Prim.Native.Nat.{ℕ, zero, suc, _+_, _-_, _≤_, _<_}
+use Prim.Native.Nat.{ℕ, zero, suc, _+_, _-_, _^_, _≤_, _<_}
 use native.Mathlib.Omega.{arith}
 use native.Mathlib.Numerals.{add-one}
-use mathlib.Core.Bool.{Bool, true, false}
+use mathlib.Core.Bool.{Bool, true, false, _&&_, not}
 use mathlib.Core.List.{List, [], _∷_, _++_, map, append-assoc, append-nil}
+use mathlib.Core.Logic.{_≢_}
 use mathlib.Core.Path.{_≡_, refl, sym, _∙_, ap, subst}
+use lib.Dec.{eqb}
 use lib.ListN.{length, getD, drop, length-append, drop-of-length-le}
 use lib.Seq.{drop-cons}
 use Rattle.sets.specs.Words.{capacity, bitsOf, setsIn, noStates}
 use Rattle.sets.proofs.Rows.{no-bits}
-use Rattle.finite.specs.Bounded.{one}
+use Rattle.finite.specs.Bounded.{one, least, count}
+use Rattle.finite.proofs.Bounded.{least-before}
 use Rattle.finite.proofs.Truth.{clash}
 use Rattle.bits.specs.Member.{has}
+use Rattle.bits.proofs.Membership.{has-lt}
+use Rattle.bits.proofs.Remove.{less-in, less-falls}
+use Rattle.bits.proofs.Visit.{small-word, lowest-below, lowest-in, lowest-less}
 use Rattle.text_grammar.specs.Number.{decimal}
 use Rattle.game.specs.Access.{noRequirement}
 use Rattle.game.specs.declared.InSet.{InSet}
@@ -41,9 +47,9 @@ use Rattle.text_shape.specs.Text.{
   emptyRequirement,
 }
 use Rattle.text_shape.specs.Shape.{opening}
-use Rattle.text_shape.proofs.Members.{members-take, members-skip}
 use Rattle.text_shape.proofs.SetLists.{part-cons, item-text}
 use Rattle.text_put.specs.Put.{Puts}
+use Rattle.text_put.proofs.Lowest.{members-none, members-lowest}
 use Rattle.text_put.proofs.Buffer.{Remains, remains-step, remains-none, remains-room}
 
 -- fixed bytes, one at a time
@@ -59,35 +65,42 @@ bytes-room l k n R h g = remains-room (getD l k 0 ∷ []) (drop (suc k) l) n R (
 pub bytes-end : {d : List ℕ} {i : ℕ} {e : List ℕ} {at : ℕ} (l : List ℕ) (k : ℕ) → Remains d i l e at (drop k l) → length l ≤ k → Puts d i l at e
 bytes-end {d} {i} {e} {at} l k R h = remains-none (subst (λ (t : List ℕ). Remains d i l e at t) (drop-of-length-le l h) R)
 
--- a set: the members from s on, and the closing bracket
-unfoldable pub setRest : Bool → ℕ → ℕ → List ℕ
-setRest gap s x = items gap (map decimal (members (capacity - s) s x)) ++ 41 ∷ []
+-- a set: the members of what is left of it, and the closing bracket
+unfoldable pub setRest : Bool → ℕ → List ℕ
+setRest gap x = items gap (map decimal (members capacity 0 x)) ++ 41 ∷ []
 
-pub set-open : (x : ℕ) → 40 ∷ [] ++ setRest false 0 x ≡ setText x
+pub set-open : (x : ℕ) → 40 ∷ [] ++ setRest false x ≡ setText x
 unfolding setRest setText bracket
 set-open x = refl
 
-module _ (gap : Bool) (s x : ℕ) where
-  pub set-take : s < capacity → has x s ≡ true → setRest gap s x ≡ (gapText gap ++ decimal s) ++ setRest true (s + 1) x
-  unfolding setRest
-  set-take l h =
-      let split : capacity - s ≡ suc (capacity - (s + 1)) = omega arith in
-      ap (λ (n : ℕ). items gap (map decimal (members n s x)) ++ 41 ∷ []) split
-      ∙ ap (λ (ms : List ℕ). items gap (map decimal ms) ++ 41 ∷ []) (members-take (capacity - (s + 1)) s x h)
-      ∙ ap (λ (n : ℕ). items gap (map decimal (s ∷ members (capacity - (s + 1)) n x)) ++ 41 ∷ []) (sym (add-one s))
-      ∙ item-text gap (decimal s) (map decimal (members (capacity - (s + 1)) (s + 1) x)) ∙ sym (append-assoc (gapText gap) (decimal s) _)
+pub set-last : (gap : Bool) (x : ℕ) → x ≡ 0 → setRest gap x ≡ 41 ∷ []
+unfolding setRest items
+set-last gap x z =
+    ap (λ (ms : List ℕ). items gap (map decimal ms) ++ 41 ∷ []) (ap (members capacity 0) z ∙ members-none capacity 0)
 
-  pub set-skip : s < capacity → has x s ≡ false → setRest gap s x ≡ setRest gap (s + 1) x
-  unfolding setRest
-  set-skip l h =
-      let split : capacity - s ≡ suc (capacity - (s + 1)) = omega arith in
-      ap (λ (n : ℕ). items gap (map decimal (members n s x)) ++ 41 ∷ []) split
-      ∙ ap (λ (ms : List ℕ). items gap (map decimal ms) ++ 41 ∷ []) (members-skip (capacity - (s + 1)) s x h)
-      ∙ ap (λ (n : ℕ). items gap (map decimal (members (capacity - (s + 1)) n x)) ++ 41 ∷ []) (sym (add-one s))
+-- v is the lowest member of x
+module _ (x v : ℕ) (small : x < 2 ^ capacity) (some : x ≢ 0) (low : v ≡ least capacity (has x)) where
+  pub member-small : v < capacity
+  member-small = lowest-below capacity x v small some low
 
-  pub set-last : capacity ≤ s → setRest gap s x ≡ 41 ∷ []
-  unfolding setRest members items
-  set-last l = let none : capacity - s ≡ 0 = omega arith in ap (λ (n : ℕ). items gap (map decimal (members n s x)) ++ 41 ∷ []) none
+  -- and y is x without it
+  module _ (y : ℕ) (less : (s : ℕ) → has y s ≡ (has x s && not (eqb s (least capacity (has x))))) where
+    others : (s : ℕ) → has y s ≡ (has x s && not (eqb s v))
+    others = lowest-less capacity x v y low less
+
+    pub set-take : (gap : Bool) → setRest gap x ≡ (gapText gap ++ decimal v) ++ setRest true y
+    unfolding setRest
+    set-take gap =
+        ap (λ (ms : List ℕ). items gap (map decimal ms) ++ 41 ∷ [])
+        (members-lowest x y v (lowest-in capacity x v small some low) (λ s l. least-before capacity (has x) s (omega arith)) others capacity 0 (omega arith)
+        (omega (arith, member-small)))
+        ∙ item-text gap (decimal v) (map decimal (members capacity 0 y)) ∙ sym (append-assoc (gapText gap) (decimal v) _)
+
+    pub set-falls : count capacity (has y) < count capacity (has x)
+    set-falls = less-falls x v y others capacity member-small (lowest-in capacity x v small some low)
+
+    pub rest-small : y < 2 ^ capacity
+    rest-small = small-word capacity y (λ s m. has-lt capacity x s small (less-in x v y others s m))
 
 -- a list of sets: those from j on, and the closing bracket
 unfoldable pub setsRest : Bool → ℕ → ℕ → List ℕ → List ℕ
@@ -190,7 +203,7 @@ module _ (gap : Bool) (t : List ℕ) (at n : ℕ) where
   gap-none h l = omega (arith, ap length (gap-off gap t h))
 
 -- the room of a bracket and what follows it
-pub set-room : (at x n : ℕ) → at + length (setText x) ≤ n → at + 1 + length (setRest false 0 x) ≤ n
+pub set-room : (at x n : ℕ) → at + length (setText x) ≤ n → at + 1 + length (setRest false x) ≤ n
 set-room at x n l = omega (arith, ap length (set-open x))
 
 pub sets-room : (at k n : ℕ) (ws : List ℕ) → at + length (setsText k ws) ≤ n → at + 1 + length (setsRest false 0 k ws) ≤ n
@@ -198,9 +211,11 @@ sets-room at k n ws l = omega (arith, ap length (sets-open k ws))
 
 -- the room of the next piece
 module _ {d : List ℕ} {i : ℕ} {all e : List ℕ} {at : ℕ} where
-  pub member-room : (gap : Bool) (s x n : ℕ) → Remains d i all e at (setRest gap s x) → s < capacity → has x s ≡ true → i + length all ≤ n
-      → at + length (gapText gap ++ decimal s) ≤ n
-  member-room gap s x n R l h g = remains-room (gapText gap ++ decimal s) (setRest true (s + 1) x) n R (set-take gap s x l h) g
+  pub member-room : (x v : ℕ) (small : x < 2 ^ capacity) (some : x ≢ 0) (low : v ≡ least capacity (has x)) (y : ℕ)
+      → ((s : ℕ) → has y s ≡ (has x s && not (eqb s (least capacity (has x))))) → (gap : Bool) (n : ℕ) → Remains d i all e at (setRest gap x)
+      → i + length all ≤ n → at + length (gapText gap ++ decimal v) ≤ n
+  member-room x v small some low y less gap n R g =
+      remains-room (gapText gap ++ decimal v) (setRest true y) n R (set-take x v small some low y less gap) g
 
   pub item-room : (gap : Bool) (j k : ℕ) (ws : List ℕ) (x n : ℕ) → Remains d i all e at (setsRest gap j k ws) → j < k → x ≡ getD ws j 0 → i + length all ≤ n
       → at + length (gapText gap ++ setText x) ≤ n

@@ -1,5 +1,5 @@
 // The text of a game, written piece by piece. Each function writes a text at a place of the buffer and answers the place behind it.
-// What lies past the buffer's end is left out, so that a text's length is found by writing it into any buffer.
+// What lies past the buffer's end is left out.
 use game::Game;
 use game::Graph;
 use game::Requirement;
@@ -18,6 +18,8 @@ ghost use Rattle.bits.specs.Member.{has};
 ghost use Rattle.text_shape.specs.Shape.{opening};
 ghost use Rattle.text_put.specs.Put.{Puts, Few, Writable};
 
+pub mod measure; // how long the text is
+
 const ZERO: usize = b'0' as usize;
 
 // One byte.
@@ -32,16 +34,48 @@ pub fn put_byte(buffer: &mut [u8], at: usize, b: u8) -> usize
     at + 1
 }
 
+// A digit.
+fn put_digit(buffer: &mut [u8], at: usize, v: usize) -> usize
+    requires { ⌜ (v < 10) × (at + 1 ≤ 2 ^ 32) ⌝ }
+    ensures { λ r. ⌜ Puts (now (buffer .entry)) at ((48 + v) ∷ []) r (now (buffer .exit)) ⌝ }
+{
+    put_byte(buffer, at, (ZERO + v) as u8)
+}
+
+// A decimal number of two digits.
+fn put_pair(buffer: &mut [u8], at: usize, v: usize) -> usize
+    requires { ⌜ (10 ≤ v) × (v < 100) × (at + 2 ≤ 2 ^ 32) ⌝ }
+    ensures { λ r. ⌜ Puts (now (buffer .entry)) at (decimal v) r (now (buffer .exit)) ⌝ }
+{
+    let m = put_digit(buffer, at, v / 10);
+    put_digit(buffer, m, v % 10)
+}
+
+// A decimal number of up to three digits: a state, a count and nearly every number that is written.
+fn put_small(buffer: &mut [u8], at: usize, v: usize) -> usize
+    requires { ⌜ (v < 1000) × (at + length (decimal v) ≤ 2 ^ 32) ⌝ }
+    ensures { λ r. ⌜ Puts (now (buffer .entry)) at (decimal v) r (now (buffer .exit)) ⌝ }
+{
+    if v < 10 {
+        return put_digit(buffer, at, v);
+    }
+    if v < 100 {
+        return put_pair(buffer, at, v);
+    }
+    let m = put_pair(buffer, at, v / 10);
+    put_digit(buffer, m, v % 10)
+}
+
 // A decimal number.
 pub fn put_number(buffer: &mut [u8], at: usize, v: usize) -> usize
     requires { ⌜ at + length (decimal v) ≤ 2 ^ 32 ⌝ }
     ensures { λ r. ⌜ Puts (now (buffer .entry)) at (decimal v) r (now (buffer .exit)) ⌝ }
 {
-    if v < 10 {
-        return put_byte(buffer, at, (ZERO + v) as u8);
+    if v < 1000 {
+        return put_small(buffer, at, v);
     }
     let m = put_number(buffer, at, v / 10);
-    put_byte(buffer, m, (ZERO + v % 10) as u8)
+    put_digit(buffer, m, v % 10)
 }
 
 // A decimal number and the byte b.
@@ -78,16 +112,16 @@ pub fn put_end(buffer: &mut [u8], at: usize) -> usize
     put_byte(buffer, m, b'\n')
 }
 
-// A blank where gap holds, and a decimal number.
+// A blank where gap holds, and the member v.
 fn put_member(buffer: &mut [u8], at: usize, gap: bool, v: usize) -> usize
-    requires { ⌜ at + length (gapText gap ++ decimal v) ≤ 2 ^ 32 ⌝ }
+    requires { ⌜ (v < capacity) × (at + length (gapText gap ++ decimal v) ≤ 2 ^ 32) ⌝ }
     ensures { λ r. ⌜ Puts (now (buffer .entry)) at (gapText gap ++ decimal v) r (now (buffer .exit)) ⌝ }
 {
     if gap {
         let m = put_byte(buffer, at, b' ');
-        return put_number(buffer, m, v);
+        return put_small(buffer, m, v);
     }
-    put_number(buffer, at, v)
+    put_small(buffer, at, v)
 }
 
 // A set.
@@ -97,15 +131,12 @@ pub fn put_set(buffer: &mut [u8], at: usize, x: Set) -> usize
 {
     let mut to = put_byte(buffer, at, b'(');
     let mut gap = false;
-    let mut s: usize = 0;
-    while s < sets::CAPACITY {
-        if sets::member(x, s) {
-            to = put_member(buffer, to, gap, s);
-            gap = true;
-            s += 1;
-            continue;
-        }
-        s += 1;
+    let mut rest = x;
+    while !sets::is_empty(rest) {
+        let s = sets::lowest(rest);
+        rest = sets::without_lowest(rest);
+        to = put_member(buffer, to, gap, s);
+        gap = true;
     }
     put_byte(buffer, to, b')')
 }

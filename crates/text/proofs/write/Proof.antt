@@ -1,9 +1,10 @@
 -- `write` meets its contract.
-use native.Mathlib.Nat.{zero-add}
-use mathlib.Core.Path.{sym, _∙_}
+use mathlib.Core.Path.{_≡_, sym, _∙_}
 use native.Mathlib.Omega.{arith}
 use borrow.Author.Needs.{needs}
-use Rattle.text.proofs.Writer.{accepted-room, writes-refused, writes-short, writes-text}
+use Rattle.game.specs.Acceptance.{acceptance}
+use Rattle.game.specs.declared.Acceptance.the-variants.{Accepted}
+use Rattle.text.proofs.Writer.{accepted-writable, accepted-room, writes-refused, writes-short, writes-text}
 use Rattle.text.proofs.write.Statement.{statement}
 use Rattle.text.proofs.write.Tie as tie
 
@@ -16,22 +17,17 @@ enum-known-a c = search needs
 enum-told : tie.Need-enum-told
 enum-told c = search needs
 
-slice-aggregate-put-game : tie.Need-slice-aggregate-put-game
-slice-aggregate-put-game c = search needs
+told : (c : tie.After-enum-told) → acceptance (c .before .before .before .before .args .g) ≡ Accepted
+told c = sym (c .before .before .accept .ensures .answer) ∙ c .enum-told .given .1
 
-put-game-requires : tie.Need-put-game-requires
-put-game-requires c κs = accepted-room _ (sym (c .before .before .before .accept .ensures .answer) ∙ c .before .enum-told .given .1)
+game-length-requires : tie.Need-game-length-requires
+game-length-requires c κs = accepted-writable _ (told c)
 
 returns : tie.Need-returns
-returns c =
-    let t = c .before .before .before .before in
-    writes-short _ _ (sym (t .before .before .accept .ensures .answer) ∙ t .enum-told .given .1)
-    (omega (arith, c .if1 .taken, c .before .before .put-game .ensures .next))
+returns c = writes-short _ _ (told (c .before .before)) (omega (arith, c .if1 .taken, c .before .game-length .ensures))
 
-put-game-requires-2 : tie.Need-put-game-requires-2
-put-game-requires-2 c κs =
-    let t = c .before .before .before .before .before in
-    accepted-room _ (sym (t .before .before .accept .ensures .answer) ∙ t .enum-told .given .1)
+put-game-requires : tie.Need-put-game-requires
+put-game-requires c κs = accepted-room _ (told (c .before .before .before))
 
 returns-2 : tie.Need-returns-2
 returns-2 c = writes-refused _ _ _ (sym (c .before .before .before .accept .ensures .answer) ∙ c .before .a .given .1)
@@ -41,11 +37,11 @@ same-length c = search needs
 
 returns-3 : tie.Need-returns-3
 returns-3 c =
-    let i = c .before .before .before .before in
-    let m = i .before .before in
-    let t = m .before .before in
-    writes-text _ _ (sym (t .before .before .accept .ensures .answer) ∙ t .enum-told .given .1) _ _ (m .put-game .ensures .next ∙ zero-add _)
-    (omega (arith, i .if1 .left, m .put-game .ensures .next)) (c .before .before .put-game2 .ensures .kept)
+    let at-put-game = c .before .before in
+    let at-if1 = at-put-game .before .before in
+    let at-length = at-if1 .before in
+    writes-text _ _ (told (at-length .before)) _ _ (at-length .game-length .ensures)
+    (omega (arith, at-if1 .if1 .left, at-length .game-length .ensures)) (at-put-game .put-game .ensures .kept)
 
 pub write-spec : {M : Type 1} → statement M
 write-spec =
@@ -54,10 +50,9 @@ write-spec =
     accept-requires
     enum-known-a
     enum-told
-    slice-aggregate-put-game
-    put-game-requires
+    game-length-requires
     returns
-    put-game-requires-2
+    put-game-requires
     returns-2
     same-length
     returns-3)

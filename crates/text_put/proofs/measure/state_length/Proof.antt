@@ -1,0 +1,80 @@
+-- `state_length` meets its contract.
+use native.Mathlib.Omega.{arith}
+use Rattle.sets.specs.Words.{bitsOf}
+use Rattle.text_put.proofs.Lengths.{state-counted}
+use Rattle.text_put.proofs.Bounds.{decimal-short, set-short, opening-short}
+use borrow.Author.Needs.{needs}
+use Rattle.text_put.proofs.measure.state_length.Statement.{statement}
+use Rattle.text_put.proofs.measure.state_length.Tie as tie
+
+opening-length-requires : tie.Need-opening-length-requires
+opening-length-requires c κs = search needs
+
+digits-requires : tie.Need-digits-requires
+digits-requires c κs = search needs
+
+add-result : tie.Need-add-result
+add-result c =
+    let p = c .before .before in
+    omega (
+      arith,
+      c .before .opening-length .ensures,
+      opening-short (p .args .w),
+      c .digits .ensures,
+      decimal-short (p .args .s) (p .pre .1),
+    )
+
+set-length-requires : tie.Need-set-length-requires
+set-length-requires c κs = search needs
+
+add-result-2 : tie.Need-add-result-2
+add-result-2 c =
+    let d = c .before in
+    let p = d .before .before in
+    omega (
+      arith,
+      d .before .opening-length .ensures,
+      opening-short (p .args .w),
+      d .digits .ensures,
+      decimal-short (p .args .s) (p .pre .1),
+      c .set-length .ensures,
+      set-short (bitsOf (p .args .x)),
+    )
+
+add-result-3 : tie.Need-add-result-3
+add-result-3 c =
+    let d = c .before in
+    let p = d .before .before in
+    omega (
+      arith,
+      d .before .opening-length .ensures,
+      opening-short (p .args .w),
+      d .digits .ensures,
+      decimal-short (p .args .s) (p .pre .1),
+      c .set-length .ensures,
+      set-short (bitsOf (p .args .x)),
+    )
+
+returns : tie.Need-returns
+returns c =
+    let d = c .before in
+    let p = d .before .before in
+    λ f h. omega (
+      arith,
+      state-counted (p .args .w) (p .args .s) f (bitsOf (p .args .x)) h,
+      d .before .opening-length .ensures,
+      d .digits .ensures,
+      c .set-length .ensures,
+    )
+
+pub state-length-spec : {M : Type 1} → statement M
+state-length-spec =
+    tie.close
+    (tie.spec
+    opening-length-requires
+    digits-requires
+    add-result
+    set-length-requires
+    add-result-2
+    add-result-3
+    returns)
