@@ -2,6 +2,7 @@
 --
 --   kit-faulty, kit-scratch-short, kit-controller-short, kit-room-short    : the refusals that are told before the solver begins
 --   system-length          : the solver hands over the whole table
+--   scratch-enough         : scratch has a word for each old mode
 --   kit-system, kit-environment, kit-refused    : its answers
 use Prim.Native.Nat.{ℕ, _+_, _≤_, _<_}
 use mathlib.Core.Path.{_≡_, refl, sym, _∙_, ap, subst}
@@ -13,6 +14,7 @@ use lib.ListN.{length, take, drop}
 use lib.Seq.{take-append-seam}
 use borrow.Author.Tests.{le-leb, lt-leb}
 use Rattle.finite.proofs.Truth.{and-intro}
+use Rattle.finite.proofs.Front.{front-at, front-intro}
 use Rattle.arena.specs.Win.{ControllerWins, DemandThree, system}
 use Rattle.arena.proofs.Demand.{system-holds}
 use Rattle.game.specs.declared.Acceptance.{Acceptance}
@@ -24,6 +26,8 @@ use Rattle.theory.specs.Region.{verdict}
 use Rattle.theory.specs.Entries.{controllerEntries}
 use Rattle.demands.specs.Demands.{playOf, controllerOf}
 use Rattle.scratch.specs.Scratch.{scratchLength}
+use Rattle.scratch_clearing.specs.Clearing.{cleared}
+use Rattle.scratch_clearing.proofs.Clearing.{cleared-length}
 use Rattle.solver.specs.declared.Verdict.{Verdict}
 use Rattle.solver.specs.declared.Verdict.the-variants.{System, Environment, Refused}
 use Rattle.solver.specs.Promise.{
@@ -66,6 +70,19 @@ front-of l m n q = ap (λ (i : ℕ). take i (l ++ m)) q ∙ take-append-seam l m
 modes-in : (k : Kit) → k .old .modes ≤ length (controllerEntries (separatedOf (gameFrom k)))
 unfolding controllerLength gameFrom graphFrom
 modes-in k = omega (arith, controller-long k)
+
+-- ---- scratch
+
+modes-few : (k : Kit) → k .old .modes ≤ scratchLength (gameFrom k)
+unfolding gameFrom graphFrom
+modes-few k = omega arith
+
+-- what is zero is cleared already
+cleared-again : (m n : ℕ) (s : List ℕ) → m ≤ n → n ≤ length s → cleared m (cleared n s) ≡ cleared n s
+unfolding cleared
+cleared-again m n s a b =
+    sym (front-intro (λ i. 0) (cleared n s) (cleared n s) m 0 (omega (arith, cleared-length s (cleared n s) n b refl))
+    (λ i h. front-at (λ i. 0) s n i 0 (omega arith)) refl)
 
 -- ---- the number
 
@@ -200,13 +217,24 @@ module _ (k : Kit) (s c e t : List ℕ) where
           ap (take n) (S .controller)
           ∙ front-of (controllerEntries (separatedOf (gameFrom k))) (drop n c) n (system-length n (S .answer) ∙ sym (controller-long k))
 
-      pub kit-system : (n : ℕ) (s′ c′ e′ t′ : List ℕ) → Solved (gameFrom k) s s′ c c′ e e′ (System n) → t′ ≡ kitEntries k (take n c′) ++ drop (kitLength k) t
-          → KitSolved k s s′ c c′ e e′ t t′ (System (kitLength k))
+      -- the words that the writing of the kit's table uses are zero already
+      pub scratch-enough : (n : ℕ) (s′ c′ e′ : List ℕ) → Solved (gameFrom k) s s′ c c′ e e′ (System n) → k .old .modes ≤ length s′
+      unfolding verdictScratch
+      scratch-enough n s′ c′ e′ S = omega (arith, modes-few k, cleared-length s s′ (scratchLength (gameFrom k)) b (S .scratch))
+
+      scratch-kept : (n : ℕ) (s′ s″ c′ e′ : List ℕ) → Solved (gameFrom k) s s′ c c′ e e′ (System n) → s″ ≡ cleared (k .old .modes) s′
+          → s″ ≡ cleared (scratchLength (gameFrom k)) s
+      unfolding verdictScratch
+      scratch-kept n s′ s″ c′ e′ S q =
+          q ∙ ap (cleared (k .old .modes)) (S .scratch) ∙ cleared-again (k .old .modes) (scratchLength (gameFrom k)) s (modes-few k) b
+
+      pub kit-system : (n : ℕ) (s′ s″ c′ e′ t′ : List ℕ) → Solved (gameFrom k) s s′ c c′ e e′ (System n) → s″ ≡ cleared (k .old .modes) s′
+          → t′ ≡ kitEntries k (take n c′) ++ drop (kitLength k) t → KitSolved k s s″ c c′ e e′ t t′ (System (kitLength k))
       unfolding lifted verdictScratch controllerAfter environmentAfter solverAnswer kitAfter Kept Decided
-      kit-system n s′ c′ e′ t′ S q = record {
+      kit-system n s′ s″ c′ e′ t′ S w q = record {
         answer = answer-lifted (System n) (S .answer);
         number = told (answer-lifted (System n) (S .answer));
-        scratch = S .scratch;
+        scratch = scratch-kept n s′ s″ c′ e′ S w;
         controller = S .controller ∙ ap (λ (m : ℕ). controllerEntries (separatedOf (gameFrom k)) ++ drop m c) (system-length n (S .answer));
         environment = S .environment;
         kit = filled;

@@ -2,6 +2,7 @@
 --
 --   game-accepted, words-of, length-of, counters-of    : the game is the kit's
 --   front-in, front-long    : the controller's table is a part of its room
+--   scratch-ready           : scratch has a word for each old mode
 --   ready                   : it is what the writing of the kit's table asks for
 --   done-system, done-environment, done-refused    : the kit's answer
 use Prim.Native.Nat.{ℕ, _+_, _≤_}
@@ -15,6 +16,7 @@ use Rattle.game.specs.Acceptance.{acceptance}
 use Rattle.play.specs.Play.{separatedOf}
 use Rattle.theory.specs.Entries.{controllerCounters, controllerEntries}
 use Rattle.scratch.specs.Scratch.{scratchLength}
+use Rattle.scratch_clearing.specs.Clearing.{cleared}
 use Rattle.solver.specs.declared.Verdict.{Verdict}
 use Rattle.solver.specs.declared.Verdict.the-variants.{System, Environment, Refused}
 use Rattle.solver.specs.Promise.{controllerLength, controllerAfter, Solved}
@@ -25,7 +27,7 @@ use Rattle.kit_drives.proofs.Acceptance.{kit-fitting}
 use Rattle.kit_rows.specs.Rows.{counters, kitLength, kitEntries, KitReady}
 use Rattle.kit.specs.Promise.{KitSolved}
 use Rattle.kit.specs.Roomy.{Roomy}
-use Rattle.kit.proofs.Answers.{system-length, handed, kit-system, kit-environment, kit-refused}
+use Rattle.kit.proofs.Answers.{system-length, handed, scratch-enough, kit-system, kit-environment, kit-refused}
 use Rattle.kit.proofs.Lengths.{controller-long, kit-ready}
 
 pub game-accepted : (k : Kit) (g : Game) → kitAcceptance k ≡ Accepted → g ≡ gameFrom k → acceptance g ≡ Accepted
@@ -70,10 +72,14 @@ module _ (k : Kit) (g : Game) (l : ℕ) (s s′ c c′ e e′ t : List ℕ) (P :
         kit-ready k (P .accepted) m (counters-of k g m (P .game) h) (length (take n c′)) (length t)
         (ap length whole ∙ controller-long k) (P .room)
 
-    pub done-system : {t′ : List ℕ} → t′ ≡ kitEntries k (take n c′) ++ drop (kitLength k) t → KitSolved k s s′ c c′ e e′ t t′ (System l)
-    done-system {t′} h =
-        subst (λ (m : ℕ). KitSolved k s s′ c c′ e e′ t t′ (System m)) (sym (P .table))
-        (kit-system k s c e t (P .accepted) (P .scratch) (P .controller) (P .room) n s′ c′ e′ t′ (of-kit (System n) q) h)
+    pub scratch-ready : k .old .modes ≤ length s′
+    scratch-ready = scratch-enough k s c e t (P .accepted) (P .scratch) (P .controller) (P .room) n s′ c′ e′ (of-kit (System n) q)
+
+    pub done-system : {s″ t′ : List ℕ} → t′ ≡ kitEntries k (take n c′) ++ drop (kitLength k) t → s″ ≡ cleared (k .old .modes) s′
+        → KitSolved k s s″ c c′ e e′ t t′ (System l)
+    done-system {s″} {t′} h w =
+        subst (λ (m : ℕ). KitSolved k s s″ c c′ e e′ t t′ (System m)) (sym (P .table))
+        (kit-system k s c e t (P .accepted) (P .scratch) (P .controller) (P .room) n s′ s″ c′ e′ t′ (of-kit (System n) q) w h)
 
   pub done-environment : {n : ℕ} → v ≡ Environment n → KitSolved k s s′ c c′ e e′ t t (Environment n)
   done-environment {n} q = kit-environment k s c e t (P .accepted) (P .scratch) (P .controller) (P .room) n s′ c′ e′ (of-kit (Environment n) q)

@@ -41,6 +41,7 @@ fn solve_fitting(
                 k,
                 table_sizes::controller_counters(g),
                 &controller[..n],
+                scratch,
                 room,
             );
             Verdict::System(t)

@@ -1,6 +1,7 @@
 -- Entries written one after the other.
 --
 --   into-none, into-next, into-join, into-done    : none, one more, one writing after the other, all of them
+--   CountSays E n I U to T first                  == E has the rows of one output and counter, as the controller's say them
 --   Rounds d M o to T done l m                    == the rows of output o and the first `done` counters were written
 --   started-*, moded-*, counted-*, rounds-*       : the turns and the ends of the loops
 --   mode-fits, block-small                        : what the rows of one old mode ask
@@ -8,13 +9,16 @@ use Prim.Native.Nat.{ℕ, _+_, _*_, _≤_, _<_}
 use native.Mathlib.Nat.{add-mul, one-mul, add-zero, add-assoc, mul-le-mul, mul-le-mul-right}
 use mathlib.Core.Path.{_≡_, refl, sym, _∙_, ap, subst}
 use mathlib.Core.List.{List, _++_}
+use mathlib.Core.Logic.{_≢_}
 use native.Mathlib.Omega.{arith}
 use native.Mathlib.Decide.{decLt}
 use lib.ListN.{length, getD, drop, set, length-set}
 use Rattle.table_filling.specs.Grows.{Right}
 use Rattle.table_filling.proofs.Grows.{grows-none, grows-more, grows-set, right-set, grows-done}
 use Rattle.kit_drives.specs.declared.Drive.{Drive}
-use Rattle.kit_rows.specs.Writing.{commandRow, Into, ModeFits, ModeAgrees, Moded, CountFits, CountAgrees, Counted, Started}
+use Rattle.kit_drives.specs.Drive.{nextIn}
+use Rattle.kit_rows.specs.Writing.{commandRow, Said, told, Into, ModeFits, ModeAgrees, Moded, CountFits, CountAgrees, Counted, Started}
+use Rattle.kit_rows.proofs.Search.{told-said}
 
 module _ (E : List ℕ) where
   pub into-none : (l : List ℕ) (a : ℕ) → a ≤ length E → Into E l l a a
@@ -67,19 +71,19 @@ module _ (T : List ℕ) (I : ℕ) where
 
 -- the rows of one old mode
 
-module _ (n : List ℕ) (U : ℕ) (to T : List ℕ) (base i at : ℕ) where
-  pub moded-none : (l : List ℕ) → Moded n U to T base i at 0 l l
+module _ (n : List ℕ) (U : ℕ) (S : List ℕ) (i at : ℕ) where
+  pub moded-none : (l : List ℕ) → Moded n U S i at 0 l l
   moded-none l = record { long = refl; fills = λ E A. rw add-zero (into-none E l at (omega (arith, A .below))) }
 
-  pub moded-next : (u : ℕ) {l m : List ℕ} {v : ℕ} → u < U → at + u < length m → v ≡ commandRow n to T base i u → Moded n U to T base i at u l m
-      → Moded n U to T base i at (u + 1) l (set m (at + u) v)
+  pub moded-next : (u : ℕ) {l m : List ℕ} {v : ℕ} → u < U → at + u < length m → v ≡ told n S i u → Moded n U S i at u l m
+      → Moded n U S i at (u + 1) l (set m (at + u) v)
   moded-next u {l} {m} {v} b c e D = record {
     long = length-set m (at + u) v ∙ D .long;
     fills = λ E A. into-next E (at + (u + 1)) v (omega arith) (omega (arith, A .below)) c (e ∙ A .entry u b) (D .fills E A);
   }
 
-  pub moded-end : (u : ℕ) {l m : List ℕ} → u ≤ U → U ≤ u → Moded n U to T base i at u l m → Moded n U to T base i at U l m
-  moded-end u {l} {m} a b D = subst (λ (k : ℕ). Moded n U to T base i at k l m) (omega arith) D
+  pub moded-end : (u : ℕ) {l m : List ℕ} → u ≤ U → U ≤ u → Moded n U S i at u l m → Moded n U S i at U l m
+  moded-end u {l} {m} a b D = subst (λ (k : ℕ). Moded n U S i at k l m) (omega arith) D
 
 -- the rows of one output and counter: block after block
 
@@ -97,59 +101,78 @@ pub block-small : (U x : ℕ) → x ≤ 524288 → U ≤ 16 → x * U ≤ 838860
 block-small U x a b = mul-le-mul {n₂ = 524288} {m₂ = 16} a b
 
 module _ (n : List ℕ) (I U first : ℕ) where
-  pub mode-fits : (c r i m : ℕ) → CountFits n I U first c r → i < I → m ≡ r → ModeFits n U (I + first) i (I + (first + i) * U) c m
-  mode-fits c r i m F b e = record {
+  pub mode-fits : (S : List ℕ) (r i m : ℕ) → CountFits n I U S first r → i < I → m ≡ r → ModeFits n U S i (I + (first + i) * U) m
+  mode-fits S r i m F b e = record {
     mode = omega (arith, F .modes);
     few = F .few;
     reads = λ u l. F .reads i u b l;
     room = rw e (block-last I U first i r b (F .room));
   }
 
-  module _ (to T : List ℕ) where
-    pub counted-none : (l : List ℕ) → Counted n I U to T first 0 l l
+  module _ (S : List ℕ) where
+    pub counted-none : (l : List ℕ) → Counted n I U S first 0 l l
     counted-none l = record { long = refl; fills = λ E A. rw add-zero (into-none E l (I + first * U) (below E (A .below))) }
       where
         below : (E : List ℕ) → I + (first + I) * U ≤ length E → I + first * U ≤ length E
         below E b = omega (arith, mul-le-mul-right {m = first} {n = first + I} U (omega arith))
 
-    mode-agrees : (E : List ℕ) (i : ℕ) → i < I → CountAgrees E n I U to T first → ModeAgrees E n U to T (I + first) i (I + (first + i) * U)
+    mode-agrees : (E : List ℕ) (i : ℕ) → i < I → CountAgrees E n I U S first → ModeAgrees E n U S i (I + (first + i) * U)
     mode-agrees E i b A = record {
       below = block-last I U first i (length E) b (A .below);
       entry = λ u l. A .entry i u b l ∙ ap (λ (k : ℕ). getD E k 0) (sym (add-assoc I ((first + i) * U) u));
     }
 
-    pub counted-next : (i : ℕ) {l m k r : List ℕ} → i < I → Counted n I U to T first i l m → Moded n U to T (I + first) i (I + (first + i) * U) U m k → r ≡ k
-        → Counted n I U to T first (i + 1) l r
+    pub counted-next : (i : ℕ) {l m k r : List ℕ} → i < I → Counted n I U S first i l m → Moded n U S i (I + (first + i) * U) U m k → r ≡ k
+        → Counted n I U S first (i + 1) l r
     counted-next i {l} {m} {k} {r} b D M e = record {
       long = ap length e ∙ M .long ∙ D .long;
       fills = λ E A.
           rw e (subst (Into E l k (I + first * U)) (block-next I U first i) (into-join E (D .fills E A) (M .fills E (mode-agrees E i b A))));
     }
 
-    pub counted-end : (i : ℕ) {l m : List ℕ} → i ≤ I → I ≤ i → Counted n I U to T first i l m → Counted n I U to T first I l m
-    counted-end i {l} {m} a b D = subst (λ (k : ℕ). Counted n I U to T first k l m) (omega arith) D
+    pub counted-end : (i : ℕ) {l m : List ℕ} → i ≤ I → I ≤ i → Counted n I U S first i l m → Counted n I U S first I l m
+    counted-end i {l} {m} a b D = subst (λ (k : ℕ). Counted n I U S first k l m) (omega arith) D
 
 -- the rows of one output: counter after counter
+
+-- E has the rows of one output and counter, from block number first on
+pub record CountSays (E n : List ℕ) (I U : ℕ) (to T : List ℕ) (first : ℕ) : Type 0 where
+  pub below : I + (first + I) * U ≤ length E
+  pub entry : (i u : ℕ) → i < I → u < U → commandRow n to T (I + first) i u ≡ getD E (I + ((first + i) * U + u)) 0
+
+-- every command that is not barred leads to one of I modes
+Named : List ℕ → ℕ → ℕ → Type 0
+Named n I U = (i u : ℕ) → i < I → u < U → nextIn n i u ≢ 255 → nextIn n i u < I
+
+count-agrees : (E n : List ℕ) (I U : ℕ) (to T : List ℕ) (first : ℕ) {l S : List ℕ} → Named n I U → Said to T (I + first) I l S → CountSays E n I U to T first
+    → CountAgrees E n I U S first
+unfolding Named
+count-agrees E n I U to T first N D A = record {
+  below = A .below;
+  entry = λ i u li lu. told-said n to T (I + first) i u D (N i u li lu) ∙ A .entry i u li lu;
+}
 
 pub record Rounds (d : Drive) (M o : ℕ) (to T : List ℕ) (done : ℕ) (l m : List ℕ) : Type 0 where
   pub long : length m ≡ length l
   pub fills : (E : List ℕ) → d .modes + o * M * d .modes * d .commands ≤ length E
-      → ((c : ℕ) → c < M → CountAgrees E (d .next) (d .modes) (d .commands) to T ((o * M + c) * d .modes))
+      → ((c : ℕ) → c < M → CountSays E (d .next) (d .modes) (d .commands) to T ((o * M + c) * d .modes))
       → Into E l m (d .modes + o * M * d .modes * d .commands) (d .modes + (o * M + done) * d .modes * d .commands)
 
 module _ (d : Drive) (M o : ℕ) (to T : List ℕ) where
   pub rounds-none : (l : List ℕ) → Rounds d M o to T 0 l l
   rounds-none l = record { long = refl; fills = λ E b f. rw add-zero (into-none E l (d .modes + o * M * d .modes * d .commands) b) }
 
-  pub rounds-next : (c : ℕ) {l m k r : List ℕ} → c < M → Rounds d M o to T c l m
-      → Counted (d .next) (d .modes) (d .commands) to T ((o * M + c) * d .modes) (d .modes) m k → r ≡ k → Rounds d M o to T (c + 1) l r
-  rounds-next c {l} {m} {k} {r} b D S e = record {
-    long = ap length e ∙ S .long ∙ D .long;
-    fills = λ E s f.
+  pub rounds-next : (c : ℕ) {l m k r s S : List ℕ} → ((i u : ℕ) → i < d .modes → u < d .commands → nextIn (d .next) i u ≢ 255 → nextIn (d .next) i u < d .modes)
+      → c < M → Rounds d M o to T c l m → Said to T (d .modes + (o * M + c) * d .modes) (d .modes) s S
+      → Counted (d .next) (d .modes) (d .commands) S ((o * M + c) * d .modes) (d .modes) m k → r ≡ k → Rounds d M o to T (c + 1) l r
+  unfolding Named
+  rounds-next c {l} {m} {k} {r} {s} {S} N b D W C e = record {
+    long = ap length e ∙ C .long ∙ D .long;
+    fills = λ E w f.
         rw e
         (subst (λ (x : ℕ). Into E l k (d .modes + o * M * d .modes * d .commands) (d .modes + x * d .commands))
         (next-row (o * M + c) (d .modes) ∙ ap (λ (y : ℕ). y * d .modes) (add-assoc (o * M) c 1))
-        (into-join E (D .fills E s f) (S .fills E (f c b))));
+        (into-join E (D .fills E w f) (C .fills E (count-agrees E (d .next) (d .modes) (d .commands) to T ((o * M + c) * d .modes) N W (f c b)))));
   }
 
   pub rounds-end : (c : ℕ) {l m : List ℕ} → c ≤ M → M ≤ c → Rounds d M o to T c l m → Rounds d M o to T M l m

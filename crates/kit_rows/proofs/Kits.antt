@@ -2,7 +2,7 @@
 --
 --   entries-long      : how many entries it has
 --   start-in, row-in  : what stands at the place of a start and of a row
---   counters-small, first-small, count-fits : what the rows of one output and counter ask
+--   counters-small, first-small, rows-below, count-fits : what the rows of one output and counter ask
 --   outputs-*         : the rows of one output, of one after the other, and of all
 use Prim.Native.Nat.{ℕ, zero, suc, _+_, _*_, _/_, _%_, _≤_, _<_}
 use native.Mathlib.Nat.{zero-mul, add-zero, add-assoc, mul-le-mul, mul-le-mul-right, mod-lt}
@@ -25,8 +25,8 @@ use Rattle.kit_drives.specs.declared.Drive.{Drive}
 use Rattle.kit_drives.specs.declared.Kit.{Kit}
 use Rattle.kit_drives.specs.Drive.{nextIn, commandFor}
 use Rattle.kit_rows.specs.Rows.{counters, kitLength, commanded, kitRow, kitEntries, KitReady}
-use Rattle.kit_rows.specs.Writing.{lowestIn, commandsOf, translated, commandRow, Into, CountFits, CountAgrees, Outputs, Started}
-use Rattle.kit_rows.proofs.Blocks.{Rounds, next-row, into-none, into-join, into-done}
+use Rattle.kit_rows.specs.Writing.{lowestIn, commandsOf, translated, commandRow, Said, Into, CountFits, Outputs, Started}
+use Rattle.kit_rows.proofs.Blocks.{CountSays, Rounds, next-row, into-none, into-join, into-done}
 
 -- within a list, the value for places past its end is never seen
 inside : (l : List ℕ) (k d e : ℕ) → k < length l → getD l k d ≡ getD l k e
@@ -159,18 +159,29 @@ module _ (k : Kit) (T : List ℕ) (M n : ℕ) (R : KitReady k M (length T) n) wh
         rw (next-row (o * M + c) (k .old .modes))
         (mul-le-mul {n₂ = 4096} {m₂ = capacity} (omega (arith, counters-small c b)) (R .old .modes))
 
-    pub count-fits : (c r : ℕ) → c < M → r ≡ n → CountFits (k .old .next) (k .old .modes) (k .old .commands) ((o * M + c) * k .old .modes) (length T) r
-    count-fits c r b e = record {
+    -- the controller's rows of one output and counter
+    pub rows-below : (c : ℕ) → c < M → k .old .modes + (o * M + c) * k .old .modes + k .old .modes ≤ length T
+    rows-below c b =
+        let next : o * M + c + 1 ≤ k .new .modes * M = omega (arith, digits-lt lo b) in
+        omega (arith, R .controller, next-row (o * M + c) (k .old .modes), mul-le-mul-right (k .old .modes) next)
+
+    pub count-fits : (c r : ℕ) {l S : List ℕ} → c < M → r ≡ n → k .old .modes ≤ length S
+        → Said (commandsTo o) T (k .old .modes + (o * M + c) * k .old .modes) (k .old .modes) l S
+        → CountFits (k .old .next) (k .old .modes) (k .old .commands) S ((o * M + c) * k .old .modes) r
+    count-fits c r b e s W = record {
       modes = R .old .modes;
       few = R .old .commands;
       small = first-small c b;
-      reads = λ i u li lu. record { below = λ ne. read-below o c i u lo b li lu ne };
+      reads = λ i u li lu. record {
+        below = λ ne. omega (arith, R .named i u li lu ne);
+        small = λ ne. W .small (nextIn (k .old .next) i u) (R .named i u li lu ne);
+      };
       room = omega (arith, block-end c b, R .room);
     }
 
-    count-agrees : (c : ℕ) → c < M
-        → CountAgrees (kitEntries k T) (k .old .next) (k .old .modes) (k .old .commands) (commandsTo o) T ((o * M + c) * k .old .modes)
-    count-agrees c b = record {
+    count-says : (c : ℕ) → c < M
+        → CountSays (kitEntries k T) (k .old .next) (k .old .modes) (k .old .commands) (commandsTo o) T ((o * M + c) * k .old .modes)
+    count-says c b = record {
       below = omega (arith, block-end c b, entries-long k T modes-in);
       entry = λ i u li lu.
           subst (λ (x : ℕ). commandRow (k .old .next) (commandsTo o) T (k .old .modes + (o * x + c) * k .old .modes) i u
@@ -185,7 +196,7 @@ module _ (k : Kit) (T : List ℕ) (M n : ℕ) (R : KitReady k M (length T) n) wh
           (k .old .modes + y * k .old .modes * k .old .commands)) (next-row o (counters k))
           (subst (λ (x : ℕ). Into (kitEntries k T) l m (k .old .modes + o * x * k .old .modes * k .old .commands)
           (k .old .modes + (o * x + x) * k .old .modes * k .old .commands)) (R .counters)
-          (D .fills (kitEntries k T) (omega (arith, blocks-below (o * M) (omega arith), entries-long k T modes-in)) count-agrees));
+          (D .fills (kitEntries k T) (omega (arith, blocks-below (o * M) (omega arith), entries-long k T modes-in)) count-says));
     }
 
   -- all outputs

@@ -2,27 +2,30 @@
 --
 --   lowest-start, lowest-past, lowest-here, lowest-none : the search stops at the first command that leads there, or at the end
 --   lowest-small                : there are at most as many commands
---   translated-*, row-*         : an entry by cases
+--   translated-*, told-*        : an entry by cases
+--   said-*                      : the entries of one output and counter, one more at a time
+--   lent-*                      : scratch, of which the front is used
 use Prim.Native.Nat.{ℕ, _+_, _*_, _/_, _%_, _≤_, _<_}
-use mathlib.Core.Path.{_≡_, refl, sym, _∙_, ap}
-use mathlib.Core.Bool.{false}
+use mathlib.Core.Path.{_≡_, refl, sym, _∙_, ap, subst}
+use mathlib.Core.Bool.{true, false}
 use mathlib.Core.List.{List}
-use mathlib.Core.Logic.{_≢_}
+use mathlib.Core.Logic.{_⊎_, inl, inr, _≢_}
 use native.Mathlib.Omega.{arith}
-use native.Mathlib.Decide.{decLt}
+use native.Mathlib.Decide.{decLt, ℕ-discrete}
 use native.Mathlib.Nat.{mod-lt}
 use lib.Dec.{eqb}
-use lib.ListN.{getD}
+use lib.ListN.{length, getD, set, length-set}
+use lib.Seq.{getD-set-same, getD-set-other, drop-set-lt}
 use borrow.Author.Tests.{eq-eqb, ne-eqb}
 use Rattle.finite.specs.Bounded.{least}
 use Rattle.finite.proofs.Bounded.{least-le, least-unique, least-any, any-false}
 use Rattle.finite.proofs.Loops.{any-start, any-turn, any-end}
-use Rattle.finite.proofs.Truth.{clash}
+use Rattle.finite.proofs.Truth.{clash, decide}
 use Rattle.finite.proofs.Tabulate.{getD-tabulate}
 use Rattle.sets.specs.Words.{capacity}
 use Rattle.theory.specs.Entries.{stride}
 use Rattle.kit_drives.specs.Drive.{nextIn, madeBy}
-use Rattle.kit_rows.specs.Writing.{lowestIn, commandsOf, translated, commandRow}
+use Rattle.kit_rows.specs.Writing.{lowestIn, commandsOf, translated, commandRow, Said, told, Lent}
 
 module _ (n : List ℕ) (o t : ℕ) where
   pub lowest-start : madeBy n 0 o t ≡ false
@@ -61,12 +64,60 @@ translated-some n c o e q d =
     rw (ne-eqb e 65535 q, translated)
     (ap (λ (x : ℕ). x + 16 * (e / stride)) (d ∙ sym (getD-tabulate (lowestIn n c o) capacity (e % stride) 0 (mod-lt e (omega arith)))))
 
-module _ (n to T : List ℕ) (base i u : ℕ) where
-  pub row-barred : {j : ℕ} → j ≡ nextIn n i u → j ≡ 255 → 65535 ≡ commandRow n to T base i u
-  unfolding commandRow
-  row-barred e q = rw (eq-eqb (nextIn n i u) 255 (sym e ∙ q), commandRow) refl
+-- the entries of one output and counter, one more at a time
 
-  pub row-taken : {j r : ℕ} → j ≡ nextIn n i u → j ≢ 255 → r ≡ translated to (getD T (base + j) 0) → r ≡ commandRow n to T base i u
-  unfolding commandRow
-  row-taken e q d =
-      rw (ne-eqb (nextIn n i u) 255 (λ h. q (e ∙ h)), commandRow) (d ∙ ap (λ (x : ℕ). translated to (getD T (base + x) 0)) e)
+module _ (to T : List ℕ) (base : ℕ) where
+  pub said-none : (l : List ℕ) → Said to T base 0 l l
+  said-none l = record { long = refl; entry = λ j h. absurd (omega arith); small = λ j h. absurd (omega arith); rest = λ n h. refl }
+
+  pub said-next : (j : ℕ) {l m : List ℕ} {v : ℕ} → j < length m → v ≡ translated to (getD T (base + j) 0) → v < 65536 → Said to T base j l m
+      → Said to T base (j + 1) l (set m j v)
+  said-next j {l} {m} {v} b e s D = record {
+    long = length-set m j v ∙ D .long;
+    entry = λ i h. go i h (ℕ-discrete i j);
+    small = λ i h. few i h (ℕ-discrete i j);
+    rest = λ n h. drop-set-lt n m j v (omega arith) ∙ D .rest n (omega arith);
+  }
+    where
+      go : (i : ℕ) → i < j + 1 → Dec (i ≡ j) → getD (set m j v) i 0 ≡ translated to (getD T (base + i) 0)
+      go i h (yes q) = rw q (getD-set-same m j v 0 b ∙ e)
+      go i h (no q) = getD-set-other m j i v 0 q ∙ D .entry i (omega arith)
+
+      few : (i : ℕ) → i < j + 1 → Dec (i ≡ j) → getD (set m j v) i 0 < 65536
+      few i h (yes q) = rw q (omega (arith, getD-set-same m j v 0 b))
+      few i h (no q) = omega (arith, getD-set-other m j i v 0 q, D .small i (omega arith))
+
+  pub said-end : (j n : ℕ) {l m : List ℕ} → j ≤ n → n ≤ j → Said to T base j l m → Said to T base n l m
+  said-end j n {l} {m} a b D = subst (λ (k : ℕ). Said to T base k l m) (omega arith) D
+
+module _ (n S : List ℕ) (i u : ℕ) where
+  pub told-barred : {j : ℕ} → j ≡ nextIn n i u → j ≡ 255 → 65535 ≡ told n S i u
+  unfolding told
+  told-barred e q = rw (eq-eqb (nextIn n i u) 255 (sym e ∙ q), told) refl
+
+  pub told-taken : {j r : ℕ} → j ≡ nextIn n i u → j ≢ 255 → r ≡ getD S j 0 → r ≡ told n S i u
+  unfolding told
+  told-taken e q d = rw (ne-eqb (nextIn n i u) 255 (λ h. q (e ∙ h)), told) (d ∙ ap (λ (x : ℕ). getD S x 0) e)
+
+  pub told-small : {j : ℕ} → j ≡ nextIn n i u → getD S (nextIn n i u) 0 < 65536 → getD S j 0 < 65536
+  told-small e h = rw e h
+
+-- it is the row that the controller's says
+pub told-said : (n to T : List ℕ) (base i u : ℕ) {k : ℕ} {l S : List ℕ} → Said to T base k l S → (nextIn n i u ≢ 255 → nextIn n i u < k)
+    → told n S i u ≡ commandRow n to T base i u
+unfolding told commandRow
+told-said n to T base i u {k} {l} {S} D b = go (decide (eqb (nextIn n i u) 255))
+  where
+    go : (eqb (nextIn n i u) 255 ≡ true) ⊎ (eqb (nextIn n i u) 255 ≡ false) → told n S i u ≡ commandRow n to T base i u
+    go (inl q) = rw (q, told, commandRow) refl
+    go (inr q) = rw (q, told, commandRow) (D .entry (nextIn n i u) (b (λ h. clash (eq-eqb (nextIn n i u) 255 h) q)))
+
+-- scratch, of which the front is used
+pub lent-none : (n : ℕ) (l : List ℕ) → Lent n l l
+lent-none n l = record { long = refl; rest = refl }
+
+pub lent-said : {n : ℕ} {l m r to T : List ℕ} {base : ℕ} → Lent n l m → Said to T base n m r → Lent n l r
+lent-said {n} L W = record { long = W .long ∙ L .long; rest = W .rest n (omega arith) ∙ L .rest }
+
+pub lent-more : {n : ℕ} {l m r : List ℕ} → Lent n l m → Lent n m r → Lent n l r
+lent-more L K = record { long = K .long ∙ L .long; rest = K .rest ∙ L .rest }

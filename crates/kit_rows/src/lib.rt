@@ -8,8 +8,9 @@ ghost use Prim.Native.Nat.{_+_, _<_, _≤_};
 ghost use lib.ListN.{length, drop};
 ghost use Rattle.sets.specs.Words.{capacity};
 ghost use Rattle.kit_rows.specs.Rows.{kitLength, kitEntries, KitReady};
-ghost use Rattle.kit_rows.specs.Writing.{lowestIn, commandsOf, translated as translatedOf, commandRow, ReadsIn, ModeFits};
-ghost use Rattle.kit_rows.specs.Writing.{Moded, CountFits, Counted, Outputs, Started};
+ghost use Rattle.kit_rows.specs.Writing.{lowestIn, commandsOf, translated as translatedOf, Said, told, ReadsIn, ModeFits};
+ghost use Rattle.kit_rows.specs.Writing.{Moded, CountFits, Counted, Outputs, Lent, Started};
+ghost use Rattle.scratch_clearing.specs.Clearing.{cleared};
 
 // The new drive at one output: the mode that it is in, and how many commands it has.
 struct Origin {
@@ -32,8 +33,7 @@ fn lowest_command(next: &[u8; 2048], commands: usize, o: usize, t: usize) -> usi
     commands
 }
 
-// The entry that says by a command of the new drive what the controller's entry e says by a mode. The command is searched anew for each row: a list
-// of the commands for all modes would be an array of over eight words (M-103).
+// The entry that says by a command of the new drive what the controller's entry e says by a mode.
 fn translated(new: &[u8; 2048], from: Origin, e: u16) -> u16
     requires { ⌜ (from .commands ≤ 16) × (from .mode < capacity) ⌝ }
     ensures { λ r. ⌜ r ≡ translatedOf (commandsOf (now (new .entry)) (from .commands) (from .mode)) e ⌝ }
@@ -45,46 +45,55 @@ fn translated(new: &[u8; 2048], from: Origin, e: u16) -> u16
     u as u16 + 16 * (e / 128)
 }
 
-// The row of old mode i and old command u, where the controller's rows of its output and counter begin at base: none where the command is barred.
-fn row(
-    next: &[u8; 2048],
+// The controller's rows of one output and counter, which begin at base, said by commands: an entry for each old mode, at the front of kept. Every old
+// command that leads to a mode has the same entry, so that its command is searched once. The caller lends kept: a list for all modes would be an array
+// of over eight words (M-103).
+fn translate(
     new: &[u8; 2048],
     from: Origin,
     controller: &[u16],
     base: usize,
-    i: usize,
-    u: usize,
-) -> u16
-    requires { ⌜ (from .commands ≤ 16) × (from .mode < capacity) × (i < capacity) × (u < 16) × ReadsIn (now next) base i u (length (now controller)) ⌝ }
-    ensures { λ r. ⌜ r ≡ commandRow (now (next .entry)) (commandsOf (now (new .entry)) (from .commands) (from .mode)) (now (controller .entry)) base i u ⌝ }
+    modes: usize,
+    kept: &mut [u64],
+)
+    requires { ⌜ (from .commands ≤ 16) × (from .mode < capacity) × (base + modes ≤ length (now controller)) × (modes ≤ length (now kept)) ⌝ }
+    ensures { λ r. ⌜ Said (commandsOf (now (new .entry)) (from .commands) (from .mode)) (now (controller .entry)) base modes (now (kept .entry))
+        (now (kept .exit)) ⌝ }
+{
+    let mut j: usize = 0;
+    while j < modes {
+        kept[j] = translated(new, from, controller[base + j]) as u64;
+        j += 1;
+    }
+}
+
+// The row of old mode i and old command u: none where the command is barred, else the entry of the mode that it leads to.
+fn row(next: &[u8; 2048], kept: &[u64], i: usize, u: usize) -> u16
+    requires { ⌜ (i < capacity) × (u < 16) × ReadsIn (now next) (now kept) i u ⌝ }
+    ensures { λ r. ⌜ r ≡ told (now (next .entry)) (now (kept .entry)) i u ⌝ }
 {
     let j = kit_drives::next_mode(next, i, u);
     if j == 255 {
         return 65535;
     }
-    translated(new, from, controller[base + j])
+    kept[j] as u16
 }
 
 // The rows of old mode i, at the places from `at` on.
 fn mode_rows(
     next: &[u8; 2048],
     commands: usize,
-    new: &[u8; 2048],
-    from: Origin,
-    controller: &[u16],
-    base: usize,
+    kept: &[u64],
     i: usize,
     room: &mut [u16],
     at: usize,
 )
-    requires { ⌜ (from .commands ≤ 16) × (from .mode < capacity)
-        × ModeFits (now next) commands base i at (length (now controller)) (length (now room)) ⌝ }
-    ensures { λ r. ⌜ Moded (now (next .entry)) commands (commandsOf (now (new .entry)) (from .commands) (from .mode)) (now (controller .entry)) base i at
-        commands (now (room .entry)) (now (room .exit)) ⌝ }
+    requires { ⌜ ModeFits (now next) commands (now kept) i at (length (now room)) ⌝ }
+    ensures { λ r. ⌜ Moded (now (next .entry)) commands (now (kept .entry)) i at commands (now (room .entry)) (now (room .exit)) ⌝ }
 {
     let mut u: usize = 0;
     while u < commands {
-        room[at + u] = row(next, new, from, controller, base, i, u);
+        room[at + u] = row(next, kept, i, u);
         u += 1;
     }
 }
@@ -94,26 +103,19 @@ fn counter_rows(
     next: &[u8; 2048],
     modes: usize,
     commands: usize,
-    new: &[u8; 2048],
-    from: Origin,
-    controller: &[u16],
+    kept: &[u64],
     first: usize,
     room: &mut [u16],
 )
-    requires { ⌜ (from .commands ≤ 16) × (from .mode < capacity)
-        × CountFits (now next) modes commands first (length (now controller)) (length (now room)) ⌝ }
-    ensures { λ r. ⌜ Counted (now (next .entry)) modes commands (commandsOf (now (new .entry)) (from .commands) (from .mode)) (now (controller .entry)) first
-        modes (now (room .entry)) (now (room .exit)) ⌝ }
+    requires { ⌜ CountFits (now next) modes commands (now kept) first (length (now room)) ⌝ }
+    ensures { λ r. ⌜ Counted (now (next .entry)) modes commands (now (kept .entry)) first modes (now (room .entry)) (now (room .exit)) ⌝ }
 {
     let mut i: usize = 0;
     while i < modes {
         mode_rows(
             next,
             commands,
-            new,
-            from,
-            controller,
-            modes + first,
+            kept,
             i,
             room,
             modes + (first + i) * commands,
@@ -123,9 +125,17 @@ fn counter_rows(
 }
 
 // The rows of output o.
-fn output_rows(k: Kit, counters: usize, o: usize, controller: &[u16], room: &mut [u16])
-    requires { ⌜ KitReady k counters (length (now controller)) (length (now room)) × (o < k .new .modes) ⌝ }
-    ensures { λ r. ⌜ Outputs k (now (controller .entry)) o (o + 1) (now (room .entry)) (now (room .exit)) ⌝ }
+fn output_rows(
+    k: Kit,
+    counters: usize,
+    o: usize,
+    controller: &[u16],
+    kept: &mut [u64],
+    room: &mut [u16],
+)
+    requires { ⌜ KitReady k counters (length (now controller)) (length (now room)) × (o < k .new .modes) × (k .old .modes ≤ length (now kept)) ⌝ }
+    ensures { λ r. ⌜ Outputs k (now (controller .entry)) o (o + 1) (now (room .entry)) (now (room .exit))
+        × Lent (k .old .modes) (now (kept .entry)) (now (kept .exit)) ⌝ }
 {
     let old = k.old;
     let new = k.new;
@@ -135,16 +145,16 @@ fn output_rows(k: Kit, counters: usize, o: usize, controller: &[u16], room: &mut
     };
     let mut c: usize = 0;
     while c < counters {
-        counter_rows(
-            &old.next,
-            old.modes,
-            old.commands,
+        let first = (o * counters + c) * old.modes;
+        translate(
             &new.next,
             from,
             controller,
-            (o * counters + c) * old.modes,
-            room,
+            old.modes + first,
+            old.modes,
+            kept,
         );
+        counter_rows(&old.next, old.modes, old.commands, kept, first, room);
         c += 1;
     }
 }
@@ -161,16 +171,18 @@ fn starts(modes: usize, controller: &[u16], room: &mut [u16])
     }
 }
 
-// The front of room becomes the kit's table; the rest stays.
-pub fn fill(k: Kit, counters: usize, controller: &[u16], room: &mut [u16])
-    requires { ⌜ KitReady k counters (length (now controller)) (length (now room)) ⌝ }
-    ensures { λ r. ⌜ now (room .exit) ≡ kitEntries k (now (controller .entry)) ++ drop (kitLength k) (now (room .entry)) ⌝ }
+// The front of room becomes the kit's table; the rest stays. The front of scratch is used, and cleared.
+pub fn fill(k: Kit, counters: usize, controller: &[u16], scratch: &mut [u64], room: &mut [u16])
+    requires { ⌜ KitReady k counters (length (now controller)) (length (now room)) × (k .old .modes ≤ length (now scratch)) ⌝ }
+    ensures { λ r. ⌜ (now (room .exit) ≡ kitEntries k (now (controller .entry)) ++ drop (kitLength k) (now (room .entry)))
+        × (now (scratch .exit) ≡ cleared (k .old .modes) (now (scratch .entry))) ⌝ }
 {
     starts(k.old.modes, controller, room);
     let outputs = k.new.modes;
     let mut o: usize = 0;
     while o < outputs {
-        output_rows(k, counters, o, controller, room);
+        output_rows(k, counters, o, controller, scratch, room);
         o += 1;
     }
+    scratch_clearing::clear(scratch, k.old.modes);
 }

@@ -1,5 +1,5 @@
 -- `solve_fitting`: the solver's answer, and the kit's table where the system wins.
-use Rattle.kit.proofs.Handing.{game-accepted, front-in, front-long, ready, done-system, done-environment, done-refused}
+use Rattle.kit.proofs.Handing.{game-accepted, front-in, front-long, scratch-ready, ready, done-system, done-environment, done-refused}
 use borrow.Author.Needs.{needs}
 use Rattle.kit.proofs.solve_fitting.Statement.{statement}
 use Rattle.kit.proofs.solve_fitting.Tie as tie
@@ -38,13 +38,16 @@ slice-aggregate-fill c =
 
 fill-requires : tie.Need-fill-requires
 fill-requires c κs =
-    let at-answer = c .before .before .before .before in
+    let at-counters = c .before .before .before in
+    let at-answer = at-counters .before .before in
     let at-step = at-answer .before .before .before .before .before in
     let at-solve-into = at-step .before .before .before in
     let at-step2 = at-solve-into .before .before .before .before .before in
     let at-start = at-step2 .before .before .before in
-    ready _ _ _ _ _ _ _ _ _ (at-start .args .room .now) (at-start .pre) (at-solve-into .solve-into .ensures) (at-answer .answer .given .1) _
-    (c .before .before .controller-counters .ensures)
+    let solved = at-solve-into .solve-into .ensures in (
+      ready _ _ _ _ _ _ _ _ _ (at-start .args .room .now) (at-start .pre) solved (at-answer .answer .given .1) _ (at-counters .controller-counters .ensures),
+      scratch-ready _ _ _ _ _ _ _ _ _ (at-start .args .room .now) (at-start .pre) solved (at-answer .answer .given .1),
+    )
 
 enum-known-answer-2 : tie.Need-enum-known-answer-2
 enum-known-answer-2 c = search needs
@@ -53,38 +56,28 @@ enum-known-answer-3 : tie.Need-enum-known-answer-3
 enum-known-answer-3 c = search needs
 
 same-length : tie.Need-same-length
-same-length c =
-    let at-step = c .before .before .before .before .before in
-    let at-step2 = at-step .before .before .before .before .before in
-    let at-solve-into = at-step2 .before .before .before .before .before in
-    at-solve-into .solve-into .kept .1 .0
+same-length c = search needs
 
 same-length-2 : tie.Need-same-length-2
-same-length-2 c =
-    let at-step = c .before .before .before .before .before in
-    let at-step2 = at-step .before .before .before .before .before in
-    let at-solve-into = at-step2 .before .before .before .before .before in
-    at-solve-into .solve-into .kept .1 .1 .0
+same-length-2 c = search needs
 
 same-length-3 : tie.Need-same-length-3
-same-length-3 c =
-    let at-step = c .before .before .before .before .before in
-    let at-step2 = at-step .before .before .before .before .before in
-    let at-solve-into = at-step2 .before .before .before .before .before in
-    at-solve-into .solve-into .kept .1 .1 .1 .0
+same-length-3 c = search needs
 
 same-length-4 : tie.Need-same-length-4
-same-length-4 c = c .before .before .fill .kept .1 .1 .1 .0
+same-length-4 c = search needs
 
 returns : tie.Need-returns
 returns c =
-    let at-fill = c .before .before in
-    let at-answer = at-fill .before .before .before .before .before in
+    let at-fill = c .before .before .before .before in
+    let at-counters = at-fill .before .before .before .before in
+    let at-answer = at-counters .before .before in
     let at-step = at-answer .before .before .before .before .before in
     let at-solve-into = at-step .before .before .before in
     let at-step2 = at-solve-into .before .before .before .before .before in
     let at-start = at-step2 .before .before .before in
-    done-system _ _ _ _ _ _ _ _ _ _ (at-start .pre) (at-solve-into .solve-into .ensures) (at-answer .answer .given .1) (at-fill .fill .ensures)
+    done-system _ _ _ _ _ _ _ _ _ _ (at-start .pre) (at-solve-into .solve-into .ensures) (at-answer .answer .given .1) (at-fill .fill .ensures .0)
+    (at-fill .fill .ensures .1)
 
 same-length-5 : tie.Need-same-length-5
 same-length-5 c =
