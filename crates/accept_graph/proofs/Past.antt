@@ -16,7 +16,7 @@ use Rattle.finite.proofs.Truth.{false-of, or-left, or-right}
 use Rattle.finite.proofs.Bounded.{all-intro, all-elim}
 use Rattle.bits.specs.Member.{has, within}
 use Rattle.bits.proofs.Membership.{ext, has-zero, within-zero, zero-within}
-use Rattle.bits.proofs.Compare.{member-nonzero, nonzero-member}
+use Rattle.bits.proofs.Compare.{member-nonzero}
 use Rattle.sets.specs.Words.{capacity, setsIn}
 use Rattle.game.specs.declared.Graph.{Graph}
 use Rattle.game.specs.Acceptance.{limit, rowFits}
@@ -64,7 +64,8 @@ past-end rows n k x l P = record { none = λ z s a b. P .none z s a (omega arith
 pub past-fails : (g : Graph) (s : ℕ) → g .states ≤ s → getD (setsIn (g .moves)) s 0 ≢ 0 → rowFits g s ≡ false
 unfolding rowFits
 past-fails g s l ne =
-    false-of (rowFits g s) (λ e. ne (within-zero (getD (setsIn (g .moves)) s 0) (ap (within (getD (setsIn (g .moves)) s 0)) (limit-out (g .states) s (g .states) l) ∙ e)))
+    false-of (rowFits g s) (λ e.
+    ne (within-zero (getD (setsIn (g .moves)) s 0) (ap (within (getD (setsIn (g .moves)) s 0)) (limit-out (g .states) s (g .states) l) ∙ e)))
 
 pub past-fits : (g : Graph) (m k x : ℕ) → m ≡ min (g .states) capacity → m ≤ k → x ≡ 0 → Past (setsIn (g .moves)) (g .states) capacity x
     → all k (rowFits g) ≡ true → all capacity (rowFits g) ≡ true

@@ -3,7 +3,6 @@ use game::Graph;
 use sets::Set;
 ghost use mathlib.Core.Path.{_≡_};
 ghost use mathlib.Core.Bool.{not, _||_};
-ghost use lib.Dec.{eqb, leb};
 ghost use Rattle.bits.specs.Member.{within};
 ghost use Prim.Native.Nat.{min};
 ghost use Rattle.sets.specs.Words.{capacity, bitsOf, setsIn};

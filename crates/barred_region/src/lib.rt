@@ -1,13 +1,12 @@
 // The winning region of the game with bars and one requirement, worked out in scratch: source document 002's fixpoint, told in crate barred.
 ghost use mathlib.Core.Path.{_≡_};
 ghost use Prim.Native.Nat.{_≤_, _<_};
-ghost use lib.ListN.{length};
 ghost use Rattle.sets.specs.Words.{bitsOf, setsIn, setCount};
 ghost use Rattle.game.specs.Access.{requirementAt};
 ghost use Rattle.game.specs.Fits.{Fits};
 ghost use Rattle.barred.specs.Region.{assumed};
 ghost use Rattle.barred_stay.specs.Stay.{Within};
-ghost use Rattle.barred_region.specs.Region.{only, Waits, WidenedBy, Widened, Reached, Trimmed, Settled, Passed, Freed, Kept};
+ghost use Rattle.barred_region.specs.Region.{Waits, WidenedBy, Widened, Reached, Trimmed, Settled, Passed, Freed, Kept};
 use barred_rows::KEPT;
 use barred_rows::REACHED;
 use barred_rows::STAYING;

@@ -2,7 +2,6 @@
 use Prim.Native.Nat.{ℕ, zero, suc, _+_, _*_, _-_, _≤_, _<_}
 use native.Mathlib.Omega.{arith}
 use native.Mathlib.Numerals.{add-one}
-use mathlib.Core.Bool.{Bool, true, false}
 use mathlib.Core.List.{List, [], _∷_, _++_, append-assoc, append-nil}
 use mathlib.Core.Path.{_≡_, refl, sym, _∙_, ap}
 use lib.Dec.{eqb}
@@ -10,13 +9,12 @@ use lib.ListN.{length, getD, length-append}
 use borrow.Author.Tests.{eq-eqb, ne-eqb}
 use Rattle.text_grammar.specs.Number.{decimal}
 use Rattle.text_grammar.proofs.Format.{by-cases}
-use Rattle.text_shape.specs.Text.{word, line, bracket, items, gapText}
+use Rattle.text_shape.specs.Text.{line, bracket, items, gapText}
 use Rattle.text_shape.specs.Shape.{opening}
 use Rattle.text_put.specs.Put.{Puts}
-use Rattle.text_put.proofs.Buffer.{Remains, remains-room, puts-as}
+use Rattle.text_put.proofs.Buffer.{puts-as}
 use Rattle.print_lines.proofs.Lines.{number-short, opening-short, puts-nothing}
-use Rattle.catalogue_tally.specs.declared.Tally.{Tally}
-use Rattle.catalogue_lines.specs.Figures.{numberWord, wonWord, countLine, pairText, numberLine, numberLines, wonLine, figuresPrint}
+use Rattle.catalogue_lines.specs.Figures.{numberWord, wonWord, countLine, pairText, numberLine, numberLines, wonLine}
 
 pub count-pieces : (w n : ℕ) → opening w ++ ((decimal n ++ 41 ∷ []) ++ 10 ∷ []) ≡ countLine w n
 unfolding countLine line bracket items gapText opening

@@ -12,7 +12,7 @@
 --   Modest o           == o has the positions of at most one game of 64 × 64 states
 --   Within os t        == t has at most as many positions as such games
 --   Roomy t            == t counts far fewer games and positions than its words hold
-use Prim.Native.Nat.{ℕ, zero, suc, _+_, _*_, _≤_, _<_}
+use Prim.Native.Nat.{ℕ, _+_, _*_, _≤_, _<_}
 use mathlib.Core.Bool.{Bool, true, false}
 use mathlib.Core.List.{List, [], _∷_}
 use mathlib.Core.Path.{_≡_}

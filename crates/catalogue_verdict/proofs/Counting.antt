@@ -1,5 +1,5 @@
 -- Counting what a map marks, and what the solver's answer comes to.
-use Prim.Native.Nat.{ℕ, zero, suc, _+_, _*_, _≤_, _<_}
+use Prim.Native.Nat.{ℕ, _+_, _*_, _≤_, _<_}
 use native.Mathlib.Omega.{arith}
 use native.Mathlib.Nat.{mul-le-mul}
 use native.Mathlib.Numerals.{add-one}
@@ -8,11 +8,9 @@ use mathlib.Core.List.{List}
 use mathlib.Core.Path.{_≡_, refl, sym, _∙_, ap, subst}
 use lib.ListN.{length, getD}
 use Rattle.finite.specs.Bounded.{one, count}
-use Rattle.finite.proofs.Bounded.{count-le}
 use Rattle.bits.specs.Member.{has}
 use Rattle.sets.specs.Words.{rowWords, setsIn, setCount, wordsFor}
 use Rattle.sets.proofs.Rows.{words-held}
-use lib.Dec.{leb}
 use borrow.Author.Tests.{le-leb}
 use Rattle.finite.proofs.Truth.{and-intro}
 use Rattle.game.specs.declared.Game.{Game}

@@ -3,7 +3,7 @@
 --   removals-only      : nothing is put in
 --   Emptying           == the places below v are out
 --   emptying-*         : how that begins, goes on and ends
-use Prim.Native.Nat.{ℕ, _+_, _-_, _≤_, _<_}
+use Prim.Native.Nat.{ℕ, _+_, _≤_, _<_}
 use mathlib.Core.Path.{_≡_, _∙_, ap}
 use mathlib.Core.Bool.{true, false}
 use mathlib.Core.List.{List}

@@ -118,13 +118,15 @@ unfolding moved compactExample
 back = refl
 
 -- a list too short; two inputs of one component that differ; a room too short by one; a room that fits
-pub refusals-over : (overNumber example (0 ∷ []) 0 ∷ overNumber example differing 0 ∷ overNumber example fullExample 23 ∷ overNumber example fullExample 24 ∷ [])
+pub refusals-over :
+    (overNumber example (0 ∷ []) 0 ∷ overNumber example differing 0 ∷ overNumber example fullExample 23 ∷ overNumber example fullExample 24 ∷ [])
     ≡ 23 ∷ 21 ∷ 9 ∷ 0 ∷ []
 unfolding numbersOf
 refusals-over = refl
 
 -- a list too short; a rank that is not the game's; a room too short by one; a room that fits
-pub refusals-back : (backNumber example (0 ∷ []) 0 ∷ backNumber example misranked 0 ∷ backNumber example compactExample 29 ∷ backNumber example compactExample 30 ∷ [])
+pub refusals-back :
+    (backNumber example (0 ∷ []) 0 ∷ backNumber example misranked 0 ∷ backNumber example compactExample 29 ∷ backNumber example compactExample 30 ∷ [])
     ≡ 23 ∷ 22 ∷ 9 ∷ 0 ∷ []
 unfolding numbersOf
 refusals-back = refl

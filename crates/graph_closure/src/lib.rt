@@ -3,7 +3,7 @@ use game::Graph;
 use sets::Set;
 ghost use mathlib.Core.Path.{_≡_};
 ghost use Prim.Native.Nat.{ℕ, _≤_};
-ghost use Rattle.sets.specs.Words.{capacity, bitsOf, setsIn, setCount};
+ghost use Rattle.sets.specs.Words.{capacity, lowStates, bitsOf, setsIn, setCount};
 ghost use Rattle.graph_closure.specs.Sweep.{grown, firstRows, Ran, Closed};
 
 // Row s becomes s and its moves. A move past the count is none.
@@ -22,7 +22,7 @@ fn start(h: Graph, rows: &mut [u64])
 
 // The set x with the rows of its members below n, which are in its low word, those that join on the way included.
 fn joined_low(rows: &[u64], n: usize, x: Set) -> Set
-    requires { ⌜ (n ≤ 64) × (n ≤ setCount (now rows)) ⌝ }
+    requires { ⌜ (n ≤ lowStates) × (n ≤ setCount (now rows)) ⌝ }
     ensures { λ r. ⌜ bitsOf r ≡ grown (setsIn (now (rows .entry))) n (bitsOf x) ⌝ }
 {
     let mut y = x;
@@ -36,13 +36,13 @@ fn joined_low(rows: &[u64], n: usize, x: Set) -> Set
     y
 }
 
-// The same on, for the members from 64 on, which are in the high word.
+// The same on, for the members that are in the high word.
 fn joined_high(rows: &[u64], n: usize, x: Set) -> Set
-    requires { ⌜ (64 ≤ n) × (n ≤ capacity) × (n ≤ setCount (now rows)) ⌝ }
-    ensures { λ r. ⌜ ((z : ℕ) → bitsOf x ≡ grown (setsIn (now (rows .entry))) 64 z → bitsOf r ≡ grown (setsIn (now (rows .entry))) n z) ⌝ }
+    requires { ⌜ (lowStates ≤ n) × (n ≤ capacity) × (n ≤ setCount (now rows)) ⌝ }
+    ensures { λ r. ⌜ ((z : ℕ) → bitsOf x ≡ grown (setsIn (now (rows .entry))) lowStates z → bitsOf r ≡ grown (setsIn (now (rows .entry))) n z) ⌝ }
 {
     let mut y = x;
-    let mut t = 64;
+    let mut t = sets::LOW;
     while t < n {
         if sets::member_high(y, t) {
             y = sets::union(y, sets::row(rows, t));
@@ -57,10 +57,10 @@ fn joined(rows: &[u64], n: usize, x: Set) -> Set
     requires { ⌜ (n ≤ capacity) × (n ≤ setCount (now rows)) ⌝ }
     ensures { λ r. ⌜ bitsOf r ≡ grown (setsIn (now (rows .entry))) n (bitsOf x) ⌝ }
 {
-    if n <= 64 {
+    if n <= sets::LOW {
         return joined_low(rows, n, x);
     }
-    joined_high(rows, n, joined_low(rows, 64, x))
+    joined_high(rows, n, joined_low(rows, sets::LOW, x))
 }
 
 // One sweep over the states below n, in place, which moves the count of sweeps on. Whether it added a state to a row.

@@ -3,7 +3,7 @@ ghost use mathlib.Core.Path.{_≡_};
 ghost use mathlib.Core.Bool.{_&&_, not};
 ghost use Prim.Native.Nat.{ℕ, _≤_, _<_};
 ghost use Rattle.bits.specs.Member.{has, pack, meets};
-ghost use Rattle.sets.specs.Words.{capacity, bitsOf, setsIn, setCount};
+ghost use Rattle.sets.specs.Words.{capacity, lowStates, bitsOf, setsIn, setCount};
 ghost use Rattle.graph_components.specs.Component.{together, nontrivialAt, enters};
 use game::Graph;
 use sets::Set;
@@ -21,7 +21,7 @@ fn both_ways(row: Set, other: Set, s: usize, t: usize) -> bool
 
 // The same of states of the low word.
 fn both_ways_low(row: Set, other: Set, s: usize, t: usize) -> bool
-    requires { ⌜ (s < 64) × (t < 64) ⌝ }
+    requires { ⌜ (s < lowStates) × (t < lowStates) ⌝ }
     ensures { λ r. ⌜ r ≡ (has (bitsOf row) t && has (bitsOf other) s) ⌝ }
 {
     if sets::member_low(row, t) {
@@ -32,7 +32,7 @@ fn both_ways_low(row: Set, other: Set, s: usize, t: usize) -> bool
 
 // The states that s reaches and that reach s, in a graph whose states are all of the low word.
 fn component_low(rows: &[u64], n: usize, s: usize) -> Set
-    requires { ⌜ (n ≤ 64) × (s < n) × (n ≤ setCount (now rows)) ⌝ }
+    requires { ⌜ (n ≤ lowStates) × (s < n) × (n ≤ setCount (now rows)) ⌝ }
     ensures { λ r. ⌜ bitsOf r ≡ pack n (together (setsIn (now (rows .entry))) s) ⌝ }
 {
     let row = sets::row(rows, s);
@@ -50,7 +50,7 @@ pub fn component(rows: &[u64], n: usize, s: usize) -> Set
     requires { ⌜ (n ≤ capacity) × (s < n) × (n ≤ setCount (now rows)) ⌝ }
     ensures { λ r. ⌜ bitsOf r ≡ pack n (together (setsIn (now (rows .entry))) s) ⌝ }
 {
-    if n <= 64 {
+    if n <= sets::LOW {
         return component_low(rows, n, s);
     }
     let row = sets::row(rows, s);

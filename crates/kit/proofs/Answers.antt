@@ -47,7 +47,7 @@ use Rattle.solver.specs.Promise.{
 }
 use Rattle.kit_drives.specs.declared.Kit.{Kit}
 use Rattle.kit_drives.specs.Drive.{graphFrom, gameFrom}
-use Rattle.kit_drives.specs.Acceptance.{kitAcceptance, kitTests}
+use Rattle.kit_drives.specs.Acceptance.{kitAcceptance}
 use Rattle.kit_drives.proofs.Acceptance.{kit-fitting, kit-after}
 use Rattle.kit_rows.specs.Rows.{kitLength, kitEntries}
 use Rattle.kit_rows.proofs.Kits.{entries-long}

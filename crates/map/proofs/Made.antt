@@ -13,7 +13,7 @@ use Rattle.game.specs.declared.Game.{Game}
 use Rattle.game.specs.declared.Acceptance.{Acceptance}
 use Rattle.game.specs.declared.Acceptance.the-variants.{Accepted, Refused as Faulty}
 use Rattle.game.specs.Acceptance.{acceptance}
-use Rattle.game.specs.Numbers.{firstOf, gameTests}
+use Rattle.game.specs.Numbers.{firstOf}
 use Rattle.game.proofs.Numbers.{after, game-after}
 use Rattle.scratch_clearing.specs.Clearing.{cleared}
 use Rattle.scratch.specs.Scratch.{scratchLength}

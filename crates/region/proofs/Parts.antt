@@ -15,7 +15,7 @@ use Rattle.play.specs.Play.{graphOf}
 use Rattle.scratch.specs.declared.Nontrivial.{Nontrivial}
 use Rattle.scratch.specs.Scratch.{scratchSets, Kept}
 use Rattle.scratch.specs.Stored.{NontrivialOf, Laid}
-use Rattle.region_ranks.specs.Fill.{Filling, PastKept}
+use Rattle.region_rows.specs.Fill.{Filling, PastKept}
 
 -- no row is asked for yet
 pub filling-first : {g : Game} {s : List ℕ} → Fits g → Laid g s → (x : Nontrivial) → NontrivialOf g x → (left : ℕ)

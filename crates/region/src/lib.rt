@@ -7,7 +7,7 @@ ghost use Rattle.game.specs.Fits.{Fits};
 ghost use Rattle.scratch.specs.Scratch.{scratchLength};
 ghost use Rattle.scratch.specs.Stored.{NontrivialOf, Laid, Ready};
 ghost use Rattle.region_dues.specs.Dues.{serverList, Serving};
-ghost use Rattle.region_ranks.specs.Fill.{PastKept};
+ghost use Rattle.region_rows.specs.Fill.{PastKept};
 ghost use Rattle.region.specs.Fill.{Prepared};
 use game::Game;
 use game::InSet;
@@ -28,7 +28,7 @@ fn fill<'a>(
 {
     let mut left = InSet(sets::below(g.input.states));
     while !sets::is_empty(left.0) {
-        left = region_ranks::fill_component(g, ins, outs, t, s, x, left);
+        left = region_rows::fill_component(g, ins, outs, t, s, x, left);
     }
 }
 

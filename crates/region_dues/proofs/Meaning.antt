@@ -77,7 +77,8 @@ module _ (g : Game) (F : Fits g) where
   unfolding inMeets inMeetsAt due requirementOf separatedOf
   due-means q i =
       all-same (q .assumed) (inMeetsAt q (pack (g .input .states) (joined (graphOf (g .input)) i)))
-      (λ j. meetsAt (graphOf (g .input)) i (has (bitsOf (getD (q .assumptions) j noInput .0)))) (λ j b. in-meets i (bitsOf (getD (q .assumptions) j noInput .0)))
+      (λ j. meetsAt (graphOf (g .input)) i (has (bitsOf (getD (q .assumptions) j noInput .0))))
+      (λ j b. in-meets i (bitsOf (getD (q .assumptions) j noInput .0)))
       ∙ sym (allOf-tabulate (meetsAt (graphOf (g .input)) i) (q .assumed) (λ j. has (bitsOf (getD (q .assumptions) j noInput .0))))
 
   served-means : (q : RequirementRecord) (d : ℕ)
@@ -85,7 +86,8 @@ module _ (g : Game) (F : Fits g) where
   unfolding outMeets outMeetsAt served requirementOf separatedOf
   served-means q d =
       all-same (q .guaranteed) (outMeetsAt q (pack (g .output .states) (joined (graphOf (g .output)) d)))
-      (λ j. meetsAt (graphOf (g .output)) d (has (bitsOf (getD (q .guarantees) j noOutput .0)))) (λ j b. out-meets d (bitsOf (getD (q .guarantees) j noOutput .0)))
+      (λ j. meetsAt (graphOf (g .output)) d (has (bitsOf (getD (q .guarantees) j noOutput .0))))
+      (λ j b. out-meets d (bitsOf (getD (q .guarantees) j noOutput .0)))
       ∙ sym (allOf-tabulate (meetsAt (graphOf (g .output)) d) (q .guaranteed) (λ j. has (bitsOf (getD (q .guarantees) j noOutput .0))))
 
   -- a component serves a requirement exactly where each of its members does
@@ -100,7 +102,8 @@ module _ (g : Game) (F : Fits g) where
 
       below : t < g .output .states
       below =
-          has-lt (g .output .states) (pack (g .output .states) (joined (graphOf (g .output)) d)) t (pack-lt (g .output .states) (joined (graphOf (g .output)) d))
+          has-lt (g .output .states) (pack (g .output .states) (joined (graphOf (g .output)) d)) t
+          (pack-lt (g .output .states) (joined (graphOf (g .output)) d))
           (ap (λ (x : ℕ). has x t) (sym whole) ∙ h)
 
       together-t : joined (graphOf (g .output)) d t ≡ true

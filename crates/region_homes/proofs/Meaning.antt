@@ -52,7 +52,8 @@ module _ (g : Game) (F : Fits g) where
         there : reaches (graphOf (g .input)) i j ≡ true
         there =
             let v = leaves-elim (graphOf (g .input)) i j h in
-            reaches-trans (graphOf (g .input)) i (v .0) j (joined-there (graphOf (g .input)) i (v .0) (v .1)) (reaches-edge (graphOf (g .input)) (v .0) j (v .2))
+            reaches-trans (graphOf (g .input)) i (v .0) j (joined-there (graphOf (g .input)) i (v .0) (v .1))
+            (reaches-edge (graphOf (g .input)) (v .0) j (v .2))
 
         back : reaches (graphOf (g .input)) j i ≡ false
         back =

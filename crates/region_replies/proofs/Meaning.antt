@@ -51,7 +51,8 @@ module _ (g : Game) (F : Fits g) where
         → replyAt g l c i o ≡ replies (separatedOf g) (region (separatedOf g)) i o
     unfolding replyAt replyWith repliesAt replied excused replies answers separatedOf graphOf
     reply-means o lo t =
-        all-same (g .input .states) (replied l (g .input .states) c (getD (setsIn (g .input .moves)) i 0) (getD (setsIn (g .output .moves)) o 0) (g .output .states))
+        all-same (g .input .states)
+        (replied l (g .input .states) c (getD (setsIn (g .input .moves)) i 0) (getD (setsIn (g .output .moves)) o 0) (g .output .states))
         (λ j. not (edge (graphOf (g .input)) i j) || any (g .output .states) (λ p. edge (graphOf (g .output)) o p && region (separatedOf g) j p))
         (λ j lj.
         one-answered (has (getD (setsIn (g .input .moves)) i 0) j) (has (getD (setsIn (g .output .moves)) o 0)) (λ p. wonAt l (g .input .states) c j p)

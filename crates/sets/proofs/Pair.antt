@@ -2,20 +2,19 @@
 use Prim.Native.Nat.{ℕ, _+_, _-_, _^_, _≤_, _<_}
 use mathlib.Core.Path.{_≡_, refl, sym, _∙_, ap, ap₂}
 use mathlib.Core.Bool.{Bool, true, false, not, _&&_, _||_}
-use mathlib.Core.List.{List, [], _∷_}
+use mathlib.Core.List.{[], _∷_}
 use mathlib.Core.Logic.{_≢_}
-use native.Mathlib.Nat.{zero-mul}
 use native.Mathlib.Omega.{arith}
 use native.Mathlib.Decide.{ℕ-discrete, decLt}
 use lib.Dec.{eqb, ltb}
 use lib.Bits.{bitOr}
-use borrow.Author.Tests.{eqb-true, eqb-false, eq-eqb, ne-eqb, lt-ltb, le-ltb}
+use borrow.Author.Tests.{eqb-true, eq-eqb, ne-eqb, lt-ltb, le-ltb}
 use Rattle.finite.specs.Bounded.{least, count}
-use Rattle.finite.proofs.Bounded.{least-le, least-below}
+use Rattle.finite.proofs.Bounded.{least-below}
 use Rattle.bits.proofs.Compare.{nonzero-below}
-use Rattle.finite.proofs.Truth.{or-false-left, or-false-right, and-intro, and-left, and-right, same-test, not-true, not-false}
+use Rattle.finite.proofs.Truth.{or-false-left, or-false-right, and-intro, and-left, and-right, same-test}
 use Rattle.bits.specs.Member.{has, within, subset, meets}
-use Rattle.bits.proofs.Membership.{has-zero, has-or, has-below, has-past, ext}
+use Rattle.bits.proofs.Membership.{has-zero, has-or, has-past, ext}
 use Rattle.sets.specs.Words.{value}
 use Rattle.sets.proofs.Values.{Words, has-first, has-later, value-lt, has-words, empty-words, within-first, within-later, within-not}
 use Rattle.sets.proofs.Values.{least-first, least-later, count-words, subset-words, meets-words}

@@ -6,23 +6,23 @@
 --   linked             : an operation on words, bit by bit, is that operation on sets
 --   least-word, ..     : the lowest member, the count and the tests, one word after the other
 use Prim.Native.Nat.{ℕ, zero, suc, _+_, _-_, _*_, _^_, _≤_, _<_}
-use mathlib.Core.Path.{_≡_, refl, sym, _∙_, ap, ap₂}
-use mathlib.Core.Bool.{Bool, true, false, not, _&&_, _||_}
+use mathlib.Core.Path.{_≡_, sym, _∙_, ap, ap₂}
+use mathlib.Core.Bool.{Bool, true, false, _&&_, _||_}
 use mathlib.Core.List.{List, [], _∷_}
 use mathlib.Core.Logic.{_⊎_, inl, inr, _≢_}
 use native.Mathlib.Nat.{suc-mul}
 use native.Mathlib.Numerals.{unary-clauses}
 use native.Mathlib.Decide.{decLt}
 use native.Mathlib.Omega.{arith}
-use lib.Dec.{eqb, ltb}
+use lib.Dec.{eqb}
 use lib.Arith.{digits-lt}
 use lib.ListN.{length, getD}
 use lib.Pow.{pow-pos, pow-add}
-use Rattle.finite.specs.Bounded.{all, any, least, count, one}
+use Rattle.finite.specs.Bounded.{any, least, count, one}
 use Rattle.finite.proofs.Truth.{clash, false-of, and-intro, and-left, and-right, or-left, or-right, or-cases, same-test}
-use Rattle.finite.proofs.Bounded.{all-intro, all-elim, any-intro, any-elim, least-le, least-member, least-before, least-unique, least-below, count-same}
-use borrow.Author.Tests.{eqb-true, eq-eqb, ne-eqb}
-use Rattle.bits.specs.Member.{has, within, implies, both, subset, meets}
+use Rattle.finite.proofs.Bounded.{all-elim, least-le, least-member, least-before, least-unique, least-below, count-same}
+use borrow.Author.Tests.{eqb-true, eq-eqb}
+use Rattle.bits.specs.Member.{has, within, implies, subset, meets}
 use Rattle.bits.proofs.Membership.{has-zero, has-block-low, has-block-high, has-past, has-within, within-has, ext}
 use Rattle.bits.proofs.Compare.{nonzero-below, nonzero-member, subset-intro, meets-intro, meets-elim}
 use Rattle.sets.specs.Words.{value}

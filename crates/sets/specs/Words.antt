@@ -3,6 +3,7 @@
 --
 --   capacity    == how many states a set can hold
 --   highest     == the highest of them
+--   lowStates   == how many of them the low word holds
 --   rowWords    == how many words the rows of a graph take
 --   value w l   == the number whose words of w bits are l, low first: laws of it hold for any number of words
 --   bitsOf x    == the number of the set x: state s belongs to x when `has (bitsOf x) s`
@@ -26,6 +27,9 @@ capacity = 128
 
 abbrev pub highest : ℕ
 highest = 127
+
+abbrev pub lowStates : ℕ
+lowStates = 64
 
 abbrev pub rowWords : ℕ
 rowWords = 256

@@ -39,7 +39,8 @@ use Rattle.text_shape.proofs.Members.{members-take, members-skip}
 use Rattle.text_shape.proofs.Opening.{opening-length}
 use Rattle.text_shape.proofs.WordTable.{word-short}
 use Rattle.text_put.specs.Put.{Few, Writable}
-use Rattle.text_put.proofs.Pieces.{set-open, setRest, sets-open, setsRest, header-length, state-length, requirement-length, game-length, requirement-past}
+use Rattle.text_put.proofs.Pieces.{set-open, setRest, sets-open, setsRest}
+use Rattle.text_put.proofs.Pieces.{header-length, state-length, requirement-length, game-length, requirement-past}
 
 decimal-two : (v : ℕ) → v < 100 → length (decimal v) ≤ 2
 decimal-two v h =

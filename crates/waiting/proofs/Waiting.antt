@@ -10,7 +10,7 @@ use Rattle.graphs.specs.Closure.{reaches}
 use Rattle.graphs.specs.Component.{joined, nontrivial, meetsAt}
 use Rattle.graphs.proofs.Graph.{edge-from, edge-to}
 use Rattle.graphs.proofs.Closure.{Path, path-reaches, reaches-path, reaches-edge, reaches-self, reaches-trans}
-use Rattle.graphs.proofs.Component.{joined-intro, joined-sym, joined-trans, joined-back, nontrivial-move, nontrivial-same}
+use Rattle.graphs.proofs.Component.{joined-intro, joined-trans, joined-back, nontrivial-move, nontrivial-same}
 use Rattle.graphs.proofs.Measure.{targets}
 use Rattle.arena.specs.Arena.{arenaOf}
 use Rattle.arena.specs.Play.{Configuration, ControllerFirst, ControllerTurn, Reachable, visitsOutput}

@@ -1,13 +1,10 @@
 -- `free`.
-use Prim.Native.Nat.{ℕ, _-_, _≤_}
+use Prim.Native.Nat.{_-_, _≤_}
 use mathlib.Core.Path.{_≡_, refl, _∙_}
-use mathlib.Core.Bool.{Bool}
-use lib.Dec.{ltb}
 use lib.ListN.{length}
 use native.Mathlib.Omega.{arith}
 use borrow.Author.Needs.{needs}
-use Rattle.bits.specs.Member.{has}
-use Rattle.sets.specs.Words.{bitsOf, setsIn}
+use Rattle.sets.specs.Words.{setsIn}
 use Rattle.sets.proofs.Rows.{count-same, sets-long}
 use Rattle.barred_region.specs.Region.{Freed}
 use Rattle.barred_region.proofs.Keeping.{freed-none, freed-next}

@@ -1,11 +1,11 @@
 -- `empty`.
-use Prim.Native.Nat.{ℕ, _-_, _≤_}
-use mathlib.Core.Path.{_≡_, refl, _∙_, ap}
+use Prim.Native.Nat.{_-_, _≤_}
+use mathlib.Core.Path.{_≡_, refl, _∙_}
 use mathlib.Core.Logic.{⊎-elim}
 use lib.ListN.{length}
 use native.Mathlib.Omega.{arith}
-use Rattle.sets.specs.Words.{bitsOf, setsIn}
-use Rattle.sets.proofs.Rows.{count-same, sets-long, is-some, is-none}
+use Rattle.sets.specs.Words.{setsIn}
+use Rattle.sets.proofs.Rows.{count-same, sets-long}
 use borrow.Author.Needs.{needs}
 use Rattle.barred_rows.specs.Areas.{Emptied}
 use Rattle.barred_rows.proofs.Rows.{emptied-none, emptied-next}

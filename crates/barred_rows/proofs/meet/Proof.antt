@@ -1,10 +1,10 @@
 -- `meet`.
-use Prim.Native.Nat.{ℕ, _+_, _-_, _≤_, _<_}
+use Prim.Native.Nat.{_+_, _-_, _≤_, _<_}
 use mathlib.Core.Path.{_≡_, refl, _∙_, ap}
 use mathlib.Core.Logic.{⊎-elim}
 use lib.ListN.{length}
 use native.Mathlib.Omega.{arith}
-use Rattle.sets.specs.Words.{bitsOf, setsIn}
+use Rattle.sets.specs.Words.{setsIn}
 use Rattle.sets.proofs.Rows.{count-same, sets-long, is-some, is-none}
 use borrow.Author.Needs.{needs}
 use Rattle.barred_rows.specs.Areas.{Met}

@@ -1,10 +1,8 @@
 -- `follow`.
-use mathlib.Core.Path.{_≡_, ap, subst}
+use mathlib.Core.Path.{_≡_}
 use native.Mathlib.Omega.{arith}
-use Prim.Native.Nat.{ℕ}
 use Rattle.bits.proofs.Visit.{lowest-less}
-use Rattle.sets.specs.Words.{bitsOf, setsIn, capacity}
-use Rattle.barred_stay.specs.Stay.{Shrunk}
+use Rattle.sets.specs.Words.{bitsOf, capacity}
 use Rattle.barred_stay.proofs.Staying.{left-lowest}
 use borrow.Author.Needs.{needs}
 use Rattle.barred_stay.proofs.follow.Statement.{statement}

@@ -1,5 +1,4 @@
 -- `stay`.
-use Prim.Native.Nat.{ℕ}
 use mathlib.Core.Path.{_≡_, refl, _∙_}
 use mathlib.Core.Logic.{inl}
 use lib.ListN.{length}

@@ -1,7 +1,7 @@
 -- `count_names` meets its contract.
 use native.Mathlib.Omega.{arith}
 use Prim.Native.Nat.{_+_, _-_, _≤_}
-use mathlib.Core.Path.{_≡_, refl}
+use mathlib.Core.Path.{_≡_}
 use lib.ListN.{length, drop}
 use Rattle.catalogue_names.specs.Names.{names}
 use Rattle.catalogue_names.proofs.Splitting.{names-more, names-end}

@@ -42,7 +42,8 @@ insert-requires c κs = omega arith
 
 put-requires : tie.Need-put-requires Inv-loop μ-loop
 put-requires c κs =
-    let b = c .before .before .before .before .before .before .before in
+    let m = c .before .before .before in
+    let b = m .before .before .before .before in
     omega (arith, count-same (b .loop .rows) (b .before .before .before .args .rows .now) (b .loop .inv .1))
 
 add-s : tie.Need-add-s Inv-loop μ-loop

@@ -36,7 +36,8 @@ same-requires c κs = search needs
 
 put-requires : tie.Need-put-requires Inv-loop μ-loop
 put-requires c κs =
-    let b = c .before .before .before .before .before .before .before .before in
+    let j = c .before .before .before .before in
+    let b = j .before .before .before .before in
     omega (arith, count-same (b .loop .rows) (b .before .before .args .rows .now) (b .loop .inv .1))
 
 add-s : tie.Need-add-s Inv-loop μ-loop

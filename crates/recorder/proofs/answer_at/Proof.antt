@@ -1,6 +1,5 @@
 -- `answer_at` by the step's number.
 use Rattle.recorder.proofs.Steps.{answer-start, answer-next, accepted-begins, accepted-steps}
-use borrow.Author.Needs.{needs}
 use Rattle.recorder.proofs.answer_at.Statement.{statement}
 use Rattle.recorder.proofs.answer_at.Tie as tie
 

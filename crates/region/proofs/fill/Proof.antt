@@ -3,8 +3,8 @@ use Rattle.finite.specs.Bounded.{count}
 use Rattle.bits.specs.Member.{has}
 use Rattle.sets.specs.Words.{capacity, bitsOf}
 use Rattle.sets.proofs.Rows.{is-some, is-none}
-use Rattle.region_ranks.specs.Fill.{Filling, PastKept}
-use Rattle.region_ranks.proofs.Order.{kept-none, kept-more, filling-done}
+use Rattle.region_rows.specs.Fill.{Filling, PastKept}
+use Rattle.region_rows.proofs.Order.{kept-none, kept-more, filling-done}
 use Rattle.region.proofs.Parts.{filling-first}
 use borrow.Author.Needs.{needs}
 use Rattle.region.proofs.fill.Statement.{statement}

@@ -1,5 +1,4 @@
 -- `server` reads the half that has the set.
-use native.Mathlib.Omega.{arith}
 use mathlib.Core.Path.{_∙_}
 use borrow.Author.Needs.{needs}
 use Rattle.region_dues.proofs.Halves.{server-first, server-second}

@@ -1,5 +1,4 @@
 -- `with_server` writes the half that has the set.
-use native.Mathlib.Omega.{arith}
 use borrow.Author.Needs.{needs}
 use Rattle.region_dues.proofs.Halves.{put-first, put-second}
 use Rattle.region_dues.proofs.with_server.Statement.{statement}

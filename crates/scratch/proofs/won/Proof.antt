@@ -1,6 +1,5 @@
 -- `won` reads one row or two.
 use mathlib.Core.Path.{sym, _∙_, ap, ap₂}
-use mathlib.Core.Bool.{Bool}
 use Prim.Native.Nat.{ℕ}
 use Rattle.bits.specs.Member.{has, meets}
 use Rattle.sets.specs.Words.{capacity}

@@ -2,7 +2,6 @@
 use native.Mathlib.Omega.{arith}
 use Rattle.sets.specs.Words.{bitsOf, setCount}
 use Rattle.sets.proofs.Rows.{rows-at}
-use borrow.Author.Needs.{needs}
 use Rattle.sets.proofs.row.Statement.{statement}
 use Rattle.sets.proofs.row.Tie as tie
 

@@ -1,6 +1,6 @@
 -- `solve` meets its contract: the print of the part that is handed over is the game's.
 use native.Mathlib.Omega.{arith}
-use mathlib.Core.Path.{refl, sym}
+use mathlib.Core.Path.{sym}
 use Rattle.solve.proofs.Printed.{part-short, prints-system, prints-environment, prints-refused}
 use borrow.Author.Needs.{needs}
 use Rattle.solve.proofs.solve.Statement.{statement}

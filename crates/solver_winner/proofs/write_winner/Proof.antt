@@ -22,7 +22,9 @@ system-wins-requires c κs = c .before .before .before .before .prepare .ensures
 
 fill-requires : tie.Need-fill-requires
 fill-requires c κs =
-    let prepare = c .before .before .before .before .before .before .before .before in
+    let branch = c .before .before in
+    let won = branch .before .before .before in
+    let prepare = won .before .before .before in
     let length = prepare .before .before in
     let p = length .before .before .before .before .pre in
     (p .0, prepare .prepare .ensures .ready, p .2, p .4, p .6)
@@ -41,7 +43,8 @@ returns c =
     let clear = c .before .before in
     let fill = clear .before .before .before .before in
     let branch = fill .before .before .before in
-    let prepare = branch .before .before .before .before .before .before in
+    let won = branch .before .before .before in
+    let prepare = won .before .before .before in
     record {
       wins = sym (sym (branch .before .system-wins .ensures) ∙ branch .if1 .taken);
       scratch = cleared-kept _ _ _ _ (prepare .prepare .ensures .kept) (prepare .before .before .length .ensures) (clear .clear .ensures);
@@ -51,7 +54,9 @@ returns c =
 
 fill-requires-2 : tie.Need-fill-requires-2
 fill-requires-2 c κs =
-    let prepare = c .before .before .before .before .before .before .before .before in
+    let branch = c .before .before in
+    let won = branch .before .before .before in
+    let prepare = won .before .before .before in
     let length = prepare .before .before in
     let p = length .before .before .before .before .pre in
     (record { known = record { accepted = p .0; ready = prepare .prepare .ensures .ready }; room = p .3 }, p .4, p .5, p .6)
@@ -70,7 +75,8 @@ returns-2 c =
     let clear = c .before .before in
     let fill = clear .before .before .before .before in
     let branch = fill .before .before .before in
-    let prepare = branch .before .before .before .before .before .before in
+    let won = branch .before .before .before in
+    let prepare = won .before .before .before in
     record {
       wins = sym (sym (branch .before .system-wins .ensures) ∙ branch .if1 .left);
       scratch = cleared-kept _ _ _ _ (prepare .prepare .ensures .kept) (prepare .before .before .length .ensures) (clear .clear2 .ensures);

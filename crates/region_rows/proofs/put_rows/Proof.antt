@@ -3,11 +3,11 @@ use Rattle.finite.specs.Bounded.{count}
 use Rattle.bits.specs.Member.{has}
 use Rattle.sets.specs.Words.{capacity, bitsOf}
 use Rattle.sets.proofs.Rows.{is-some, is-none, count-same}
-use Rattle.region_ranks.proofs.Rows.{Putting, putting-start, putting-below, putting-falls, putting-next, putting-end}
+use Rattle.region_rows.proofs.Rows.{Putting, putting-start, putting-below, putting-falls, putting-next, putting-end}
 use native.Mathlib.Omega.{arith}
 use borrow.Author.Needs.{needs}
-use Rattle.region_ranks.proofs.put_rows.Statement.{statement}
-use Rattle.region_ranks.proofs.put_rows.Tie as tie
+use Rattle.region_rows.proofs.put_rows.Statement.{statement}
+use Rattle.region_rows.proofs.put_rows.Tie as tie
 
 abbrev Inv-loop : tie.InvT-loop
 Inv-loop s₀ n r rest₀ s rest = Putting n (bitsOf rest₀) (bitsOf (r .0)) s₀ (bitsOf rest) s

@@ -21,7 +21,7 @@ use Rattle.play.specs.Play.{graphOf, separatedOf}
 use Rattle.scratch.specs.declared.Nontrivial.{Nontrivial}
 use Rattle.scratch.specs.Scratch.{scratchSets}
 use Rattle.scratch.specs.Stored.{inReachAt, rowAt, outReachAt, storedRow, NontrivialOf, Laid}
-use Rattle.region_ranks.specs.declared.Descent.{Descent}
+use Rattle.region_rows.specs.declared.Descent.{Descent}
 
 pub record RowReady (g : Game) (s : List ℕ) (x : Nontrivial) (i : ℕ) : Type 0 where
   pub fits : Fits g

@@ -25,7 +25,6 @@ use Rattle.graphs.proofs.Component.{leaves-elim, joined-intro, joined-there, jo
 use Rattle.arena.specs.Arena.{Separated}
 use Rattle.game.specs.declared.Game.{Game}
 use Rattle.game.specs.declared.OutSet.{OutSet}
-use Rattle.game.proofs.Laws.{Fits}
 use Rattle.play.specs.Play.{graphOf, separatedOf}
 use Rattle.graph_components.specs.Component.{together, enters}
 use Rattle.graph_components.proofs.Closed.{component-closed, leaving-closed}
@@ -41,7 +40,7 @@ use Rattle.region_homes.specs.Homes.{homeAt}
 use Rattle.region_homes.proofs.Meaning.{home-row-means}
 use Rattle.region_replies.specs.Replies.{replyAt}
 use Rattle.region_replies.proofs.Meaning.{reply-row-means}
-use Rattle.region_ranks.specs.Fill.{RowReady, Bottom, RowsPut, Filling, PastKept}
+use Rattle.region_rows.specs.Fill.{RowReady, Bottom, RowsPut, Filling, PastKept}
 
 module _ {g : Game} {s : List ℕ} {x : Nontrivial} {i : ℕ} (R : RowReady g s x i) where
   abbrev c : ℕ

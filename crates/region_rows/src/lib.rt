@@ -10,7 +10,7 @@ ghost use Rattle.graphs.specs.Component.{joined};
 ghost use Rattle.play.specs.Play.{graphOf, separatedOf};
 ghost use Rattle.scratch.specs.Stored.{storedRow, Laid};
 ghost use Rattle.region_dues.specs.Dues.{serverList, Serving};
-ghost use Rattle.region_ranks.specs.Fill.{RowReady, Inside, Descending, Bottom, RowsPut, Filling, PastKept};
+ghost use Rattle.region_rows.specs.Fill.{RowReady, Inside, Descending, Bottom, RowsPut, Filling, PastKept};
 use game::Game;
 use game::InSet;
 use game::InState;
@@ -18,8 +18,8 @@ use game::OutSet;
 use region_dues::Servers;
 use scratch::Nontrivial;
 
-// The region's row of input i, a being its component, where the rows of the inputs that it reaches past its component stand. Here and below the rows of the graphs,
-// `ins` and `outs`, are read where they stand: a game goes by value, and to read a row of it would copy all of them for each input.
+// The region's row of input i, a being its component, where the rows of the inputs that it reaches past its component stand. Here and below the rows of
+// the graphs, `ins` and `outs`, are read where they stand: a game goes by value, and to read a row of it would copy all of them for each input.
 fn stored_row(
     g: Game,
     ins: &[u64; sets::ROW_WORDS],
@@ -53,7 +53,8 @@ struct Descent {
 
 // Looks at one input more, and goes to it where it does not lead back.
 fn descend(g: Game, s: &[u64], left: InSet, d: Descent) -> Descent
-    requires { ⌜ (g .input .states ≤ capacity) × Laid g (now s) × Inside g (bitsOf (left .0)) × Descending g (bitsOf (left .0)) d × (bitsOf (d .rest .0) ≢ 0) ⌝ }
+    requires { ⌜ (g .input .states ≤ capacity) × Laid g (now s) × Inside g (bitsOf (left .0)) × Descending g (bitsOf (left .0)) d
+        × (bitsOf (d .rest .0) ≢ 0) ⌝ }
     ensures { λ r. ⌜ Descending g (bitsOf (left .0)) r
         × (members capacity (has (bitsOf (r .rest .0))) < members capacity (has (bitsOf (d .rest .0)))) ⌝ }
 {

@@ -1,10 +1,10 @@
 -- `stored_row` works out homes, or replies.
 use mathlib.Core.Path.{sym, _∙_}
 use Rattle.region_dues.proofs.Meaning.{fits-few}
-use Rattle.region_ranks.proofs.Order.{entered-below, among-below, row-homes, row-replies}
+use Rattle.region_rows.proofs.Order.{entered-below, among-below, row-homes, row-replies}
 use borrow.Author.Needs.{needs}
-use Rattle.region_ranks.proofs.stored_row.Statement.{statement}
-use Rattle.region_ranks.proofs.stored_row.Tie as tie
+use Rattle.region_rows.proofs.stored_row.Statement.{statement}
+use Rattle.region_rows.proofs.stored_row.Tie as tie
 
 member-requires : tie.Need-member-requires
 member-requires c κs = search needs

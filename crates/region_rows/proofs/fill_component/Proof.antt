@@ -1,9 +1,9 @@
 -- `fill_component` works out the row of one input, which is that of its component.
-use Rattle.region_ranks.proofs.Order.{bottom-below, filling-ready, row-component, component-below, filling-falls, filling-next, kept-writes}
+use Rattle.region_rows.proofs.Order.{bottom-below, filling-ready, row-component, component-below, filling-falls, filling-next, kept-writes}
 use native.Mathlib.Omega.{arith}
 use borrow.Author.Needs.{needs}
-use Rattle.region_ranks.proofs.fill_component.Statement.{statement}
-use Rattle.region_ranks.proofs.fill_component.Tie as tie
+use Rattle.region_rows.proofs.fill_component.Statement.{statement}
+use Rattle.region_rows.proofs.fill_component.Tie as tie
 
 bottom-requires : tie.Need-bottom-requires
 bottom-requires c κs =

@@ -3,12 +3,12 @@ use Rattle.finite.specs.Bounded.{count}
 use Rattle.bits.specs.Member.{has}
 use Rattle.sets.specs.Words.{capacity, bitsOf}
 use Rattle.sets.proofs.Rows.{none, some}
-use Rattle.region_ranks.specs.Fill.{Descending}
-use Rattle.region_ranks.proofs.Down.{first-below, descending-start, descending-end}
+use Rattle.region_rows.specs.Fill.{Descending}
+use Rattle.region_rows.proofs.Down.{first-below, descending-start, descending-end}
 use native.Mathlib.Omega.{arith}
 use borrow.Author.Needs.{needs}
-use Rattle.region_ranks.proofs.bottom.Statement.{statement}
-use Rattle.region_ranks.proofs.bottom.Tie as tie
+use Rattle.region_rows.proofs.bottom.Statement.{statement}
+use Rattle.region_rows.proofs.bottom.Tie as tie
 
 abbrev Inv-loop : tie.InvT-loop
 Inv-loop g s left first d₀ d = Descending g (bitsOf (left .0)) d

@@ -19,7 +19,7 @@ use Rattle.bits.proofs.Visit.{small-word, lowest-in, lowest-less}
 use Rattle.sets.specs.Words.{capacity, setsIn}
 use Rattle.scratch.specs.Scratch.{scratchSets}
 use Rattle.scratch.specs.Stored.{inReachAt, rowAt, outReachAt, RowPut}
-use Rattle.region_ranks.specs.Fill.{RowsPut}
+use Rattle.region_rows.specs.Fill.{RowsPut}
 
 module _ (n a y : ℕ) (s : List ℕ) where
   pub record Putting (rest : ℕ) (t : List ℕ) : Type 0 where

@@ -12,7 +12,7 @@ use lib.Dec.{eqb, ltb}
 use Rattle.finite.specs.Bounded.{least, count}
 use Rattle.finite.proofs.Truth.{clash, and-intro, and-left, and-right, and-cases}
 use Rattle.finite.proofs.Bounded.{count-mono}
-use Rattle.bits.specs.Member.{has, pack}
+use Rattle.bits.specs.Member.{has}
 use Rattle.bits.proofs.Membership.{has-zero, has-pack, has-pack-below}
 use Rattle.bits.proofs.Remove.{less-in, less-other, less-falls}
 use Rattle.bits.proofs.Visit.{small-word, lowest-in, lowest-less}
@@ -23,8 +23,8 @@ use Rattle.graphs.proofs.Closure.{reaches-to, reaches-self, reaches-trans}
 use Rattle.game.specs.declared.Game.{Game}
 use Rattle.play.specs.Play.{graphOf}
 use Rattle.scratch.specs.Stored.{inReachAt, Laid}
-use Rattle.region_ranks.specs.declared.Descent.{Descent}
-use Rattle.region_ranks.specs.Fill.{Inside, Descending, Bottom}
+use Rattle.region_rows.specs.declared.Descent.{Descent}
+use Rattle.region_rows.specs.Fill.{Inside, Descending, Bottom}
 
 module _ (g : Game) (s : List ℕ) (most : g .input .states ≤ capacity) (L : Laid g s) (left : ℕ) (I : Inside g left) where
   abbrev R : ℕ → ℕ → Bool

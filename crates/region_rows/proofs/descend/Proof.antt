@@ -1,10 +1,10 @@
 -- `descend` stays where the next input leads back, and goes to it where it does not.
 use mathlib.Core.Path.{sym, _∙_}
-use Rattle.region_ranks.proofs.Down.{descend-at, descend-below, descending-falls, descending-stays, descending-shrinks, descending-goes}
+use Rattle.region_rows.proofs.Down.{descend-at, descend-below, descending-falls, descending-stays, descending-shrinks, descending-goes}
 use native.Mathlib.Omega.{arith}
 use borrow.Author.Needs.{needs}
-use Rattle.region_ranks.proofs.descend.Statement.{statement}
-use Rattle.region_ranks.proofs.descend.Tie as tie
+use Rattle.region_rows.proofs.descend.Statement.{statement}
+use Rattle.region_rows.proofs.descend.Tie as tie
 
 lowest-requires : tie.Need-lowest-requires
 lowest-requires c κs = search needs
