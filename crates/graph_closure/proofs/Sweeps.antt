@@ -12,10 +12,11 @@ use lib.Dec.{eqb}
 use lib.ListN.{length, getD, set, drop, length-set}
 use lib.Seq.{getD-set-same, getD-set-other, set-getD, drop-set-lt}
 use borrow.Author.Tests.{eqb-true, eq-eqb, ne-eqb}
-use Rattle.finite.proofs.Truth.{or-right, or-false, or-false-left, or-false-right, not-false}
+use Rattle.finite.proofs.Truth.{clash, or-right, or-false, or-false-left, or-false-right, not-false}
 use Rattle.bits.specs.Member.{has}
+use Rattle.bits.proofs.Membership.{has-zero}
 use Rattle.graphs.specs.Rows.{rel}
-use Rattle.graph_closure.specs.Sweep.{grown, swept, adds, Swept}
+use Rattle.graph_closure.specs.Sweep.{grown, swept, adds, Fixed, Swept}
 use Rattle.graph_closure.proofs.Growth.{grown-keeps, grown-takes, grown-sound, grown-same}
 
 rel-same : (m : List ℕ) (s v u : ℕ) → s < length m → rel (set m s v) s u ≡ has v u
@@ -25,6 +26,31 @@ rel-same m s v u h = ap (λ (x : ℕ). has x u) (getD-set-same m s v 0 h)
 rel-other : (m : List ℕ) (s v a u : ℕ) → a ≢ s → rel (set m s v) a u ≡ rel m a u
 unfolding rel
 rel-other m s v a u ne = ap (λ (x : ℕ). has x u) (getD-set-other m s a v 0 ne)
+
+-- ---- a set that holds the rows of its members
+
+pub fixed-none : (l : List ℕ) (n x : ℕ) → x ≡ 0 → Fixed l n x
+fixed-none l n x z = record { rows = λ t u b h r. clash h (ap (λ (v : ℕ). has v t) z ∙ has-zero t) }
+
+pub fixed-same : (l : List ℕ) (n x y : ℕ) → x ≡ y → Fixed l n y → x ≡ grown l n x
+fixed-same l n x y e F =
+    e ∙ sym (grown-same l n y (F .rows)) ∙ ap (grown l n) (sym e)
+
+pub fixed-now : (l : List ℕ) (n old new : ℕ) → new ≡ grown l n old → new ≡ old → Fixed l n old
+fixed-now l n old new e q = record { rows = λ t u b h r. ap (λ (v : ℕ). has v u) (sym q ∙ e) ∙ grown-takes l n old t u b h r }
+
+-- it stays so where one of its members takes in the rows of that one's members
+pub fixed-put : (l : List ℕ) (n x s old v : ℕ) → s < n → s < length l → old ≡ getD l s 0 → v ≡ grown l n old → Fixed l n x → Fixed (set l s v) n x
+unfolding rel
+fixed-put l n x s old v b c e q F = record { rows = λ t u a h r. at t u a h r (ℕ-discrete t s) }
+  where
+    at : (t u : ℕ) → t < n → has x t ≡ true → rel (set l s v) t u ≡ true → Dec (t ≡ s) → has x u ≡ true
+    at t u a h r (yes k) =
+        let here : has x s ≡ true = ap (has x) (sym k) ∙ h in
+        let m : rel (set l s v) s u ≡ true = ap (λ (w : ℕ). rel (set l s v) w u) (sym k) ∙ r in
+        grown-sound l (has x) n (F .rows) old (λ w g. F .rows s w b here (ap (λ (z : ℕ). has z w) (sym e) ∙ g)) u
+        (ap (λ (z : ℕ). has z u) (sym q) ∙ sym (rel-same l s v u c) ∙ m)
+    at t u a h r (no k) = F .rows t u a h (sym (rel-other l s v t u k) ∙ r)
 
 module _ (n : ℕ) (l : List ℕ) where
   -- row s as a sweep leaves it

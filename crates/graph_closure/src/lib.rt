@@ -2,9 +2,10 @@
 use game::Graph;
 use sets::Set;
 ghost use mathlib.Core.Path.{_≡_};
+ghost use mathlib.Core.List.{List};
 ghost use Prim.Native.Nat.{ℕ, _≤_};
 ghost use Rattle.sets.specs.Words.{capacity, lowStates, bitsOf, setsIn, setCount};
-ghost use Rattle.graph_closure.specs.Sweep.{grown, firstRows, Ran, Closed};
+ghost use Rattle.graph_closure.specs.Sweep.{grown, firstRows, Fixed, Ran, Closed};
 
 // Row s becomes s and its moves. A move past the count is none.
 fn start(h: Graph, rows: &mut [u64])
@@ -63,16 +64,40 @@ fn joined(rows: &[u64], n: usize, x: Set) -> Set
     joined_high(rows, n, joined_low(rows, sets::LOW, x))
 }
 
+// The same, where the set `fixed` is known to hold the rows of its members: nothing joins it.
+fn renewed(rows: &[u64], n: usize, fixed: Set, x: Set) -> Set
+    requires { ⌜ (n ≤ capacity) × (n ≤ setCount (now rows)) × Fixed (setsIn (now rows)) n (bitsOf fixed) ⌝ }
+    ensures { λ r. ⌜ bitsOf r ≡ grown (setsIn (now (rows .entry))) n (bitsOf x) ⌝ }
+{
+    if sets::same(x, fixed) {
+        return x;
+    }
+    joined(rows, n, x)
+}
+
+// The set that is known to be such after one more row: that row, where nothing joined it. States of one component come to have the same row, so it is
+// looked through once for all of them.
+fn latest(fixed: Set, old: Set, new: Set) -> Set
+    ensures { λ r. ⌜ ((l : List ℕ) (n : ℕ) → bitsOf new ≡ grown l n (bitsOf old) → Fixed l n (bitsOf fixed) → Fixed l n (bitsOf r)) ⌝ }
+{
+    if sets::same(new, old) {
+        return old;
+    }
+    fixed
+}
+
 // One sweep over the states below n, in place, which moves the count of sweeps on. Whether it added a state to a row.
 fn sweep(rows: &mut [u64], n: usize, sweeps: &mut usize) -> bool
     requires { ⌜ (n ≤ capacity) × (n ≤ setCount (now rows)) × (now sweeps ≤ capacity) ⌝ }
     ensures { λ r. ⌜ Ran n (setsIn (now (rows .entry))) (setsIn (now (rows .exit))) r (now (sweeps .entry)) (now (sweeps .exit)) ⌝ }
 {
     let mut added = false;
+    let mut fixed = sets::empty();
     let mut s = 0;
     while s < n {
         let old = sets::row(rows, s);
-        let new = joined(rows, n, old);
+        let new = renewed(rows, n, fixed, old);
+        fixed = latest(fixed, old, new);
         if !sets::same(new, old) {
             sets::put(rows, s, new);
             added = true;

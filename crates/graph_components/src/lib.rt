@@ -80,35 +80,34 @@ fn comes_back(rows: &[u64], n: usize, s: usize, x: Set) -> bool
     false
 }
 
-// The states of nontrivial components: a move stays inside.
-pub fn nontrivial(h: Graph, rows: &[u64]) -> Set
-    requires { ⌜ (h .states ≤ capacity) × (h .states ≤ setCount (now rows)) ⌝ }
-    ensures { λ r. ⌜ bitsOf r ≡ pack (h .states) (nontrivialAt (setsIn (h .moves)) (setsIn (now (rows .entry))) (h .states)) ⌝ }
+// The states of nontrivial components: a move stays inside. Of the graph its rows, `moves`, and the number n of its states are given: a graph goes by value,
+// and to read a row of it would copy all of them.
+pub fn nontrivial(moves: &[u64; sets::ROW_WORDS], n: usize, rows: &[u64]) -> Set
+    requires { ⌜ (n ≤ capacity) × (n ≤ setCount (now rows)) ⌝ }
+    ensures { λ r. ⌜ bitsOf r ≡ pack n (nontrivialAt (setsIn (now (moves .entry))) (setsIn (now (rows .entry))) n) ⌝ }
 {
-    let n = h.states;
     let mut c = sets::empty();
     let mut s: usize = 0;
     while s < n {
-        let row = sets::row_of(&h.moves, s);
+        let row = sets::row_of(moves, s);
         c = sets::insert_if(c, s, comes_back(rows, n, s, row));
         s += 1;
     }
     c
 }
 
-// The states that moves out of the states of c enter. The rows, `moves`, are read where they stand: a graph goes by value, and to read a row of it would
-// copy all of them.
+// The states that moves out of the states of c enter. Here too the rows are read where they stand.
 fn entering(h: Graph, moves: &[u64; sets::ROW_WORDS], c: Set) -> Set
     requires { ⌜ (h .states ≤ capacity) × (now moves ≡ h .moves) ⌝ }
     ensures { λ r. ⌜ ((t : ℕ) → has (bitsOf r) t ≡ enters (setsIn (h .moves)) (bitsOf c) (h .states) t) ⌝ }
 {
     let n = h.states;
     let mut x = sets::empty();
-    let mut k: usize = 0;
-    while k < n {
-        let row = sets::row_of(moves, k);
-        x = sets::union_if(x, row, sets::member(c, k));
-        k += 1;
+    let mut rest = sets::intersection(c, sets::below(n));
+    while !sets::is_empty(rest) {
+        let k = sets::lowest(rest);
+        x = sets::union(x, sets::row_of(moves, k));
+        rest = sets::without_lowest(rest);
     }
     x
 }

@@ -109,13 +109,13 @@ pub fn close(g: Game, s: &mut [u64])
     close_at(g.output, s, n + n);
 }
 
-// The states of f in nontrivial components, its closure standing from set number at of s on.
-fn nontrivial_at(f: Graph, s: &[u64], at: usize) -> Set
-    requires { ⌜ (f .states ≤ capacity) × (at ≤ capacity + capacity) × (at + f .states ≤ setCount (now s)) ⌝ }
-    ensures { λ r. ⌜ bitsOf r ≡ pack (f .states) (nontrivialAt (setsIn (f .moves)) (drop at (setsIn (now (s .entry)))) (f .states)) ⌝ }
+// The states in nontrivial components of a graph of k states with the rows `moves`, its closure standing from set number at of s on.
+fn nontrivial_at(moves: &[u64; sets::ROW_WORDS], k: usize, s: &[u64], at: usize) -> Set
+    requires { ⌜ (k ≤ capacity) × (at ≤ capacity + capacity) × (at + k ≤ setCount (now s)) ⌝ }
+    ensures { λ r. ⌜ bitsOf r ≡ pack k (nontrivialAt (setsIn (now (moves .entry))) (drop at (setsIn (now (s .entry)))) k) ⌝ }
 {
     let start = sets::words(at);
-    graph_components::nontrivial(f, &s[start..])
+    graph_components::nontrivial(moves, k, &s[start..])
 }
 
 // The states in nontrivial components, from both closures.
@@ -124,9 +124,10 @@ pub fn nontrivial_states(g: Game, s: &[u64]) -> Nontrivial
     ensures { λ r. ⌜ NontrivialOf g r ⌝ }
 {
     let n = g.input.states;
+    let m = g.output.states;
     Nontrivial {
-        inputs: InSet(nontrivial_at(g.input, s, 0)),
-        outputs: OutSet(nontrivial_at(g.output, s, n + n)),
+        inputs: InSet(nontrivial_at(&g.input.moves, n, s, 0)),
+        outputs: OutSet(nontrivial_at(&g.output.moves, m, s, n + n)),
     }
 }
 

@@ -12,10 +12,10 @@ use Rattle.graph_components.proofs.nontrivial.Statement.{statement}
 use Rattle.graph_components.proofs.nontrivial.Tie as tie
 
 abbrev Inv-loop : tie.InvT-loop
-Inv-loop rows h n c₀ s₀ c s = (s ≤ n) × (bitsOf c ≡ pack s (nontrivialAt (setsIn (h .moves)) (setsIn rows) n))
+Inv-loop moves n rows c₀ s₀ c s = (s ≤ n) × (bitsOf c ≡ pack s (nontrivialAt (setsIn moves) (setsIn rows) n))
 
 abbrev μ-loop : tie.MeasureT-loop
-μ-loop rows h n c₀ s₀ c s = n - s
+μ-loop moves n rows c₀ s₀ c s = n - s
 
 empty-requires : tie.Need-empty-requires Inv-loop μ-loop
 empty-requires c κs = search needs
@@ -41,7 +41,7 @@ loop-less c = omega arith
 loop-again : tie.Need-loop-again Inv-loop μ-loop
 loop-again c =
     let read = c .before .before in
-    let b = read .before .before .before .before in (
+    let b = read .before .before in (
       omega arith,
       collect-next _ (b .loop .s) _ _ _ (b .loop .inv .1)
           (nontrivial-at _ _ _ _ _ (read .row-of .ensures .1) (c .before .comes-back .ensures)) (c .insert-if .ensures),

@@ -36,7 +36,7 @@ returns : tie.Need-returns
 returns c =
     let a = c .before .before .before .before .args in
     let part = part-sets (a .at) _ (a .s .now) (c .before .before .words .ensures) in
-    c .nontrivial .ensures ∙ ap (λ (l : List ℕ). pack (a .f .states) (nontrivialAt (setsIn (a .f .moves)) l (a .f .states))) part
+    c .nontrivial .ensures ∙ ap (λ (l : List ℕ). pack (a .k) (nontrivialAt (setsIn (a .moves .now)) l (a .k))) part
 
 pub nontrivial-at-spec : {M : Type 1} → statement M
 nontrivial-at-spec =

@@ -17,11 +17,12 @@ nontrivial-at-requires-2 c κs = search needs
 
 returns : tie.Need-returns
 returns c =
-    let b = c .before .before .before in
+    let first = c .before .before .before in
+    let b = first .before .before .before .before in
     let f = b .pre .0 in
     let l = b .pre .1 in
     record {
-      inputs = c .before .nontrivial-at .ensures ∙ nontrivial-closed _ _ (in-closes l) (f .input .most);
+      inputs = first .nontrivial-at .ensures ∙ nontrivial-closed _ _ (in-closes l) (f .input .most);
       outputs = c .nontrivial-at2 .ensures ∙ nontrivial-closed _ _ (out-closes l) (f .output .most);
     }
 
