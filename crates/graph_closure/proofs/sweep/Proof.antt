@@ -62,7 +62,8 @@ loop-again c =
     let made = c .before .before .before .renewed .ensures in
     let tested = c .before .same .ensures in
     let known = c .before .before .latest .ensures _ _ made (b .loop .inv .3) in
-    let long : b .loop .s < length (setsIn (b .loop .rows)) = omega (arith, sets-long (b .loop .rows), count-same (b .loop .rows) (a .rows .now) (b .loop .inv .1)) in
+    let many = count-same (b .loop .rows) (a .rows .now) (b .loop .inv .1) in
+    let long : b .loop .s < length (setsIn (b .loop .rows)) = omega (arith, sets-long (b .loop .rows), many) in
     ⊎-elim
     (λ w. (
       omega arith,
