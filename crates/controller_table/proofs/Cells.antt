@@ -1,6 +1,7 @@
 -- The places of rows in a layout.
 --
 --   some-counter          : every game has one
+--   place-room            : a row's place is one of the list
 --   cell-of               : every place past the front is a row's
 use Prim.Native.Nat.{ℕ, zero, suc, _+_, _-_, _*_, _/_, _%_, _≤_, _<_}
 use native.Mathlib.Nat.{div-add-mod', mod-lt, div-lt-iff-lt-mul, mul-zero, le-max-left}
@@ -10,6 +11,7 @@ use lib.ListN.{length}
 use Rattle.arena.specs.Arena.{Separated}
 use Rattle.theory.specs.Choice.{guarantees}
 use Rattle.theory.specs.Entries.{controllerCounters}
+use Rattle.theory.proofs.Entries.{place-below}
 use Rattle.table_layout.specs.declared.Layout.{Layout}
 use Rattle.table_layout.specs.Rows.{place}
 
@@ -18,6 +20,10 @@ unfolding controllerCounters
 some-counter S = le-max-left 1 (length (guarantees S))
 
 module _ (y : Layout) where
+  pub place-room : (o c b : ℕ) → o < y .states → c < y .counters → b < y .width → place y o c b < y .base + y .states * y .counters * y .width
+  unfolding place
+  place-room o c b lo lc lb = omega (arith, place-below (y .states) (y .counters) (y .width) o c b lo lc lb)
+
   -- a place past the front
   pub record Cell (k : ℕ) : Type 0 where
     pub output : ℕ
