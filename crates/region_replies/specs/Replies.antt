@@ -4,9 +4,10 @@
 --   replyAt g l c i o               == output o has a reply to every next input of i
 --   answersAt rows x y o            == output o is in x and has a move into y
 --   Held rows y x                   == every output of x has a move into y, if that has a state
+--   Known rows x y r                == every output of x outside r has a move into y
 use Prim.Native.Nat.{ℕ}
 use mathlib.Core.Path.{_≡_}
-use mathlib.Core.Bool.{Bool, true, not, _&&_, _||_}
+use mathlib.Core.Bool.{Bool, true, false, not, _&&_, _||_}
 use mathlib.Core.List.{List}
 use mathlib.Core.Logic.{_≢_}
 use lib.ListN.{getD}
@@ -40,3 +41,6 @@ answersAt rows x y o = has x o && meets capacity (getD rows o 0) y
 
 pub record Held (rows : List ℕ) (y x : ℕ) : Type 0 where
   pub answers : y ≢ 0 → (o : ℕ) → has x o ≡ true → meets capacity (getD rows o 0) y ≡ true
+
+pub record Known (rows : List ℕ) (x y r : ℕ) : Type 0 where
+  pub answers : (o : ℕ) → has x o ≡ true → has r o ≡ false → meets capacity (getD rows o 0) y ≡ true

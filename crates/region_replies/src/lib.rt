@@ -1,47 +1,34 @@
 // The region's rows of inputs in trivial components: the outputs with a reply to every next input.
 ghost use mathlib.Core.Path.{_≡_};
 ghost use mathlib.Core.Bool.{true};
+ghost use mathlib.Core.List.{List};
 ghost use Prim.Native.Nat.{ℕ, _≤_, _<_};
 ghost use Rattle.bits.specs.Member.{has, pack};
 ghost use Rattle.sets.specs.Words.{capacity, bitsOf, setsIn, setCount};
 ghost use Rattle.scratch.specs.Scratch.{scratchSets};
-ghost use Rattle.region_replies.specs.Replies.{answersAt, Held, replyAt};
+ghost use Rattle.region_replies.specs.Replies.{Held, Known, replyAt};
 use game::Game;
 use game::InSet;
 use game::InState;
 use game::OutSet;
 
-// The outputs of x with a move into y. The rows of the graph, `outs`, are read where they stand.
-fn answering(outs: &[u64; sets::ROW_WORDS], m: usize, x: OutSet, y: OutSet) -> OutSet
-    requires { ⌜ (m ≤ capacity) × ((o : ℕ) → has (bitsOf (x .0)) o ≡ true → o < m) ⌝ }
-    ensures { λ r. ⌜ bitsOf (r .0) ≡ pack m (answersAt (setsIn (now (outs .entry))) (bitsOf (x .0)) (bitsOf (y .0))) ⌝ }
+// The outputs of x that are to be looked at for the set `won`: none where they are known to have a move into it, since they have one into the set `last`.
+// Next inputs of one component are won with the same outputs, and are not looked at again.
+fn unknown(last: OutSet, x: OutSet, won: OutSet) -> OutSet
+    ensures { λ r. ⌜ ((o : ℕ) → has (bitsOf (r .0)) o ≡ true → has (bitsOf (x .0)) o ≡ true)
+        × ((rows : List ℕ) → Held rows (bitsOf (last .0)) (bitsOf (x .0)) → Known rows (bitsOf (x .0)) (bitsOf (won .0)) (bitsOf (r .0))) ⌝ }
 {
-    let mut z = sets::empty();
-    let mut rest = x.0;
-    while !sets::is_empty(rest) {
-        let o = sets::lowest(rest);
-        z = sets::insert_if(z, o, sets::meets(sets::row_of(outs, o), y.0));
-        rest = sets::without_lowest(rest);
-    }
-    OutSet(z)
-}
-
-// The same, where the outputs of x are known to have a move into the set `last`, if it has a state: next inputs of one component are won with the same
-// outputs, and are not tested again.
-fn narrowed(outs: &[u64; sets::ROW_WORDS], m: usize, last: OutSet, x: OutSet, y: OutSet) -> OutSet
-    requires { ⌜ (m ≤ capacity) × ((o : ℕ) → has (bitsOf (x .0)) o ≡ true → o < m) × Held (setsIn (now outs)) (bitsOf (last .0)) (bitsOf (x .0)) ⌝ }
-    ensures { λ r. ⌜ ((o : ℕ) → has (bitsOf (r .0)) o ≡ answersAt (setsIn (now (outs .entry))) (bitsOf (x .0)) (bitsOf (y .0)) o) ⌝ }
-{
-    if sets::is_empty(y.0) {
-        return y;
-    }
-    if sets::same(y.0, last.0) {
+    if sets::is_empty(won.0) {
         return x;
     }
-    answering(outs, m, x, y)
+    if sets::same(won.0, last.0) {
+        return OutSet(sets::empty());
+    }
+    x
 }
 
-// The outputs with a reply to every next input of i: for each of these the outputs with a move into those that are won with it.
+// The outputs with a reply to every next input of i, all at once: for each next input those that are left are looked at, and the ones with a move to an
+// output that is won with it stay. Where there is none, no later input is looked at.
 pub fn reply_row(
     g: Game,
     ins: &[u64; sets::ROW_WORDS],
@@ -59,15 +46,28 @@ pub fn reply_row(
     let next = sets::row_of(ins, i.0);
     let mut k = scratch::won_first();
     let mut last = OutSet(sets::empty());
-    let mut x = OutSet(sets::below(m));
+    let mut x = sets::below(m);
     let mut rest = sets::intersection(next, sets::below(n));
-    while !sets::is_empty(rest) {
+    'next: while !sets::is_empty(rest) {
         let j = sets::lowest(rest);
         k = scratch::won_next(s, n, m, c, InState(j), k);
         let won = k.row;
-        x = narrowed(outs, m, last, x, won);
+        let first = unknown(last, OutSet(x), won);
+        let mut left = first.0;
+        x = sets::difference(x, left);
+        loop {
+            if sets::is_empty(left) {
+                if sets::is_empty(x) {
+                    break 'next;
+                }
+                break;
+            }
+            let o = sets::lowest(left);
+            x = sets::insert_if(x, o, sets::meets(sets::row_of(outs, o), won.0));
+            left = sets::without_lowest(left);
+        }
         last = won;
         rest = sets::without_lowest(rest);
     }
-    x
+    OutSet(x)
 }

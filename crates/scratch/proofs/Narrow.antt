@@ -10,7 +10,7 @@ use native.Mathlib.Omega.{arith}
 use native.Mathlib.Decide.{ℕ-discrete}
 use lib.Dec.{eqb}
 use Rattle.finite.specs.Bounded.{all, least, count}
-use Rattle.finite.proofs.Truth.{decide, clash, true-of, same-test, and-intro, and-left, and-right, and-cases, or-left, or-right, or-false}
+use Rattle.finite.proofs.Truth.{decide, clash, true-of, same-test, and-intro, and-left, and-right, and-cases, or-left, or-right, or-cases, or-false, not-true}
 use Rattle.finite.proofs.Bounded.{all-intro, all-elim}
 use Rattle.bits.specs.Member.{has, pack}
 use Rattle.bits.proofs.Membership.{ext, has-zero, has-lt, pack-lt, has-pack-below}
@@ -39,6 +39,18 @@ module _ (p : ℕ → ℕ → Bool) (n m x among : ℕ) where
   module _ (within : (j : ℕ) → has x j ≡ true → j < n) (most : n ≤ capacity) (outputs : (d : ℕ) → has among d ≡ true → d < m) where
     pub narrowed-members : (rest y : ℕ) → Narrowed rest y → (d : ℕ) → has y d ≡ true → d < m
     narrowed-members rest y N d h = outputs d (N .right d h .0)
+
+    -- what passes with every input has not been lost
+    passes-in : (rest y : ℕ) → Narrowed rest y → (d : ℕ) → has (pack m passes) d ≡ true → has y d ≡ true
+    unfolding passes
+    passes-in rest y N d h =
+        let b = has-lt m (pack m passes) d (pack-lt m passes) h in
+        let found = sym (has-pack-below m passes d b) ∙ h in
+        let a = and-left (has among d) (all n (λ j. not (has x j) || p j d)) found in
+        let safe = and-right (has among d) (all n (λ j. not (has x j) || p j d)) found in
+        true-of (has y d) (λ f.
+        let v = N .lost d a f in
+        clash (all-elim n (λ j. not (has x j) || p j d) safe (v .0) (within (v .0) (v .1))) (or-false (ap not (v .1)) (v .2)))
 
     module _ (rest y : ℕ) (N : Narrowed rest y) (some : rest ≢ 0) (j : ℕ) (e : j ≡ least capacity (has rest)) where
       small : (s : ℕ) → has rest s ≡ true → s < capacity
@@ -75,9 +87,28 @@ module _ (p : ℕ → ℕ → Bool) (n m x among : ℕ) where
             at o old won i a b (yes k) = ap (λ (v : ℕ). p v o) k ∙ sym (q o (narrowed-members rest y N o old)) ∙ won
             at o old won i a b (no k) = N .right o old .1 i a (sym (less-other rest j r less i k) ∙ b)
 
+      -- where none of them passes with j, none passes with every input
+      pub narrowed-stop : (w : ℕ → Bool) (z : ℕ) → ((o : ℕ) → o < m → w o ≡ p j o) → ((o : ℕ) → has z o ≡ (has y o && w o)) → z ≡ 0 → z ≡ pack m passes
+      unfolding passes
+      narrowed-stop w z q f e₀ =
+          ext z (pack m passes) (λ d. same-test (has z d) (has (pack m passes) d) (λ h. clash h (ap (λ (v : ℕ). has v d) e₀ ∙ has-zero d)) (back d))
+        where
+          with-j : (d : ℕ) → (not (has x j) || p j d) ≡ true → p j d ≡ true
+          with-j d h =
+              elim (or-cases (not (has x j)) (p j d) h) [
+                | inl k ↦ clash (N .inside j here) (not-true (has x j) k)
+                | inr k ↦ k
+              ]
+
+          back : (d : ℕ) → has (pack m passes) d ≡ true → has z d ≡ true
+          back d h =
+              let b = has-lt m (pack m passes) d (pack-lt m passes) h in
+              let safe = and-right (has among d) (all n (λ i. not (has x i) || p i d)) (sym (has-pack-below m passes d b) ∙ h) in
+              f d ∙ and-intro (passes-in rest y N d h) (q d b ∙ with-j d (all-elim n (λ i. not (has x i) || p i d) safe j narrowed-below))
+
     pub narrowed-end : (rest y : ℕ) → Narrowed rest y → rest ≡ 0 → y ≡ pack m passes
     unfolding passes
-    narrowed-end rest y N z = ext y (pack m passes) (λ d. same-test (has y d) (has (pack m passes) d) (to d) (back d))
+    narrowed-end rest y N z = ext y (pack m passes) (λ d. same-test (has y d) (has (pack m passes) d) (to d) (passes-in rest y N d))
       where
         none : (j : ℕ) → has rest j ≡ false
         none j = ap (λ (v : ℕ). has v j) z ∙ has-zero j
@@ -90,13 +121,3 @@ module _ (p : ℕ → ℕ → Bool) (n m x among : ℕ) where
         to d h =
             let a = N .right d h .0 in
             has-pack-below m passes d (outputs d a) ∙ and-intro a (all-intro n (λ j. not (has x j) || p j d) (λ j b. one d h j (decide (has x j))))
-
-        back : (d : ℕ) → has (pack m passes) d ≡ true → has y d ≡ true
-        back d h =
-            let b = has-lt m (pack m passes) d (pack-lt m passes) h in
-            let found = sym (has-pack-below m passes d b) ∙ h in
-            let a = and-left (has among d) (all n (λ j. not (has x j) || p j d)) found in
-            let safe = and-right (has among d) (all n (λ j. not (has x j) || p j d)) found in
-            true-of (has y d) (λ f.
-            let v = N .lost d a f in
-            clash (all-elim n (λ j. not (has x j) || p j d) safe (v .0) (within (v .0) (v .1))) (or-false (ap not (v .1)) (v .2)))

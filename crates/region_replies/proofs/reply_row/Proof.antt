@@ -1,4 +1,5 @@
--- `reply_row`. Invariant: x are the outputs that answer the next inputs, but those of `rest`.
+-- `reply_row`. The outer loop: x are the outputs that answer the next inputs, but those of `rest`. The inner one looks at those that are left, and leaves the
+-- outer one where none answers.
 use Prim.Native.Nat.{ℕ, _<_}
 use mathlib.Core.Path.{_≡_, sym, _∙_, ap, ap₂}
 use mathlib.Core.Bool.{true}
@@ -10,11 +11,12 @@ use Rattle.finite.specs.Bounded.{count}
 use Rattle.bits.specs.Member.{has, pack, meets}
 use Rattle.bits.proofs.Visit.{cut-in}
 use Rattle.sets.specs.Words.{capacity, bitsOf, setsIn}
-use Rattle.sets.proofs.Rows.{is-some, is-none}
+use Rattle.sets.proofs.Rows.{is-some, is-none, none, some}
 use Rattle.scratch.specs.Stored.{WonKept}
-use Rattle.scratch.proofs.Narrow.{Narrowed, narrowed-start, narrowed-members, narrowed-below, narrowed-falls, narrowed-next, narrowed-end}
+use Rattle.scratch.proofs.Narrow.{Narrowed, narrowed-start, narrowed-members, narrowed-below, narrowed-falls, narrowed-next, narrowed-stop, narrowed-end}
 use Rattle.region_replies.specs.Replies.{replyWith, replyAt, answersAt, Held}
 use Rattle.region_replies.proofs.Answers.{held-none, held-now, answered, answered-all}
+use Rattle.region_replies.proofs.Answers.{Looking, looking-start, looking-below, looking-falls, looking-next, looking-end}
 use native.Mathlib.Omega.{arith}
 use borrow.Author.Needs.{needs}
 use Rattle.region_replies.proofs.reply_row.Statement.{statement}
@@ -24,43 +26,49 @@ all-below : (b m : ℕ) → ((s : ℕ) → has b s ≡ ltb s m) → (d : ℕ) �
 all-below b m f d h = ltb-true d m (sym (f d) ∙ h)
 
 abbrev Inv-loop : tie.InvT-loop
-Inv-loop ins outs s c n m k₀ last₀ x₀ rest₀ k last x rest =
-    WonKept (setsIn s) n m k
-    × Narrowed (answered (setsIn s) n (bitsOf (c .0)) (setsIn outs) m) n m (bitsOf rest₀) (bitsOf (x₀ .0)) (bitsOf rest) (bitsOf (x .0))
-    × Held (setsIn outs) (bitsOf (last .0)) (bitsOf (x .0))
+Inv-loop ins outs s c n m k x₀ rest j won left₀ x left = Looking (setsIn outs) (bitsOf (won .0)) (bitsOf left₀) (bitsOf x₀) (bitsOf left) (bitsOf x)
 
 abbrev μ-loop : tie.MeasureT-loop
-μ-loop ins outs s c n m k₀ last₀ x₀ rest₀ k last x rest = count capacity (has (bitsOf rest))
+μ-loop ins outs s c n m k x₀ rest j won left₀ x left = count capacity (has (bitsOf left))
 
-row-of-requires : tie.Need-row-of-requires Inv-loop μ-loop
+abbrev Inv-next : tie.InvT-next
+Inv-next ins outs s c n m k₀ last₀ x₀ rest₀ k last x rest =
+    WonKept (setsIn s) n m k
+    × Narrowed (answered (setsIn s) n (bitsOf (c .0)) (setsIn outs) m) n m (bitsOf rest₀) (bitsOf x₀) (bitsOf rest) (bitsOf x)
+    × Held (setsIn outs) (bitsOf (last .0)) (bitsOf x)
+
+abbrev μ-next : tie.MeasureT-next
+μ-next ins outs s c n m k₀ last₀ x₀ rest₀ k last x rest = count capacity (has (bitsOf rest))
+
+row-of-requires : tie.Need-row-of-requires Inv-loop μ-loop Inv-next μ-next
 row-of-requires c κs = omega arith
 
-won-first-requires : tie.Need-won-first-requires Inv-loop μ-loop
+won-first-requires : tie.Need-won-first-requires Inv-loop μ-loop Inv-next μ-next
 won-first-requires c κs = search needs
 
-empty-requires : tie.Need-empty-requires Inv-loop μ-loop
+empty-requires : tie.Need-empty-requires Inv-loop μ-loop Inv-next μ-next
 empty-requires c κs = search needs
 
-below-requires : tie.Need-below-requires Inv-loop μ-loop
+below-requires : tie.Need-below-requires Inv-loop μ-loop Inv-next μ-next
 below-requires c κs = search needs
 
-below-requires-2 : tie.Need-below-requires-2 Inv-loop μ-loop
+below-requires-2 : tie.Need-below-requires-2 Inv-loop μ-loop Inv-next μ-next
 below-requires-2 c κs = search needs
 
-intersection-requires : tie.Need-intersection-requires Inv-loop μ-loop
+intersection-requires : tie.Need-intersection-requires Inv-loop μ-loop Inv-next μ-next
 intersection-requires c κs = search needs
 
-loop-holds : tie.Need-loop-holds Inv-loop μ-loop
-loop-holds c =
+next-holds : tie.Need-next-holds Inv-loop μ-loop Inv-next μ-next
+next-holds c =
     (c .before .before .before .before .won-first .ensures _ _ _, narrowed-start _ _ _ _ _, held-none _ _ _ (c .before .before .before .empty .ensures .1))
 
-is-empty-requires : tie.Need-is-empty-requires Inv-loop μ-loop
+is-empty-requires : tie.Need-is-empty-requires Inv-loop μ-loop Inv-next μ-next
 is-empty-requires c κs = search needs
 
-lowest-requires : tie.Need-lowest-requires Inv-loop μ-loop
+lowest-requires : tie.Need-lowest-requires Inv-loop μ-loop Inv-next μ-next
 lowest-requires c κs = search needs
 
-won-next-requires : tie.Need-won-next-requires Inv-loop μ-loop
+won-next-requires : tie.Need-won-next-requires Inv-loop μ-loop Inv-next μ-next
 won-next-requires c κs =
     let e = c .before .before in
     let b = e .before in
@@ -69,27 +77,94 @@ won-next-requires c κs =
     let p = first .before .before .before .before .before .pre in
     let within = cut-in _ _ _ _ (cut .before .below2 .ensures) (cut .intersection .ensures) in
     let outputs = all-below _ _ (first .below .ensures) in
-    let some = is-some _ (e .is-empty .ensures) (c .before .if1 .taken) in
-    (p .0, p .1, narrowed-below _ _ _ _ _ (λ j h. within j h .0) (p .0) outputs _ _ (b .loop .inv .1) some _ (c .lowest .ensures), p .3, b .loop .inv .0)
+    let ne = is-some _ (e .is-empty .ensures) (c .before .if1 .taken) in
+    (p .0, p .1, narrowed-below _ _ _ _ _ (λ j h. within j h .0) (p .0) outputs _ _ (b .next .inv .1) ne _ (c .lowest .ensures), p .3, b .next .inv .0)
 
-narrowed-requires : tie.Need-narrowed-requires Inv-loop μ-loop
-narrowed-requires c κs =
-    let b = c .before .before .before .before .before in
+unknown-requires : tie.Need-unknown-requires Inv-loop μ-loop Inv-next μ-next
+unknown-requires c κs = search needs
+
+difference-requires : tie.Need-difference-requires Inv-loop μ-loop Inv-next μ-next
+difference-requires c κs = search needs
+
+loop-holds : tie.Need-loop-holds Inv-loop μ-loop Inv-next μ-next
+loop-holds c = looking-start _ _ _ _
+
+is-empty-requires-2 : tie.Need-is-empty-requires-2 Inv-loop μ-loop Inv-next μ-next
+is-empty-requires-2 c κs = search needs
+
+is-empty-requires-3 : tie.Need-is-empty-requires-3 Inv-loop μ-loop Inv-next μ-next
+is-empty-requires-3 c κs = search needs
+
+lowest-requires-2 : tie.Need-lowest-requires-2 Inv-loop μ-loop Inv-next μ-next
+lowest-requires-2 c κs = search needs
+
+-- the outputs that are looked at are some of all
+looked-small : (a : tie.At-loop Inv-loop μ-loop Inv-next μ-next) → let u = a .before .before .before in
+    (o : ℕ) → has (bitsOf (u .unknown .result .0)) o ≡ true → o < capacity
+looked-small a o h =
+    let u = a .before .before .before in
+    let l = u .before .before .before in
+    let b = l .before .before .before in
     let cut = b .before in
     let first = cut .before .before in
     let p = first .before .before .before .before .before .pre in
     let within = cut-in _ _ _ _ (cut .before .below2 .ensures) (cut .intersection .ensures) in
     let outputs = all-below _ _ (first .below .ensures) in
-    (p .1, narrowed-members _ _ _ _ _ (λ j h. within j h .0) (p .0) outputs _ _ (b .loop .inv .1), b .loop .inv .2)
+    omega (arith, p .1, narrowed-members _ _ _ _ _ (λ j i. within j i .0) (p .0) outputs _ _ (b .next .inv .1) o (u .unknown .ensures .0 o h))
 
-without-lowest-requires : tie.Need-without-lowest-requires Inv-loop μ-loop
+row-of-requires-2 : tie.Need-row-of-requires-2 Inv-loop μ-loop Inv-next μ-next
+row-of-requires-2 c κs =
+    let i = c .before .before in
+    let a = i .before in
+    looking-below _ _ _ _ _ _ (looked-small a) (a .loop .inv) (some _ (i .is-empty2 .ensures) (c .before .if2 .left)) _ (c .lowest2 .ensures)
+
+meets-requires : tie.Need-meets-requires Inv-loop μ-loop Inv-next μ-next
+meets-requires c κs = search needs
+
+insert-if-requires : tie.Need-insert-if-requires Inv-loop μ-loop Inv-next μ-next
+insert-if-requires c κs =
+    let l = c .before .before in
+    let i = l .before .before in
+    let a = i .before in
+    looking-below _ _ _ _ _ _ (looked-small a) (a .loop .inv) (some _ (i .is-empty2 .ensures) (l .before .if2 .left)) _ (l .lowest2 .ensures)
+
+without-lowest-requires : tie.Need-without-lowest-requires Inv-loop μ-loop Inv-next μ-next
 without-lowest-requires c κs =
     let l = c .before .before .before in
-    is-some _ (l .before .before .is-empty .ensures) (l .before .if1 .taken)
+    some _ (l .before .before .is-empty2 .ensures) (l .before .if2 .left)
 
-loop-less : tie.Need-loop-less Inv-loop μ-loop
+loop-less : tie.Need-loop-less Inv-loop μ-loop Inv-next μ-next
 loop-less c =
     let l = c .before .before .before .before in
+    let i = l .before .before in
+    let a = i .before in
+    looking-falls _ _ _ _ _ _ (looked-small a) (a .loop .inv) (some _ (i .is-empty2 .ensures) (l .before .if2 .left)) _ (l .lowest2 .ensures) _
+    (c .without-lowest .ensures)
+
+loop-again : tie.Need-loop-again Inv-loop μ-loop Inv-next μ-next
+loop-again c =
+    let w = c .before .before in
+    let r = w .before in
+    let l = r .before in
+    let i = l .before .before in
+    let a = i .before in
+    let u = a .before .before .before in
+    let y = bitsOf (u .before .before .won-next .result .row .0) in
+    looking-next _ _ _ _ _ _ (looked-small a) (a .loop .inv) (some _ (i .is-empty2 .ensures) (l .before .if2 .left)) _ (l .lowest2 .ensures) _
+    (c .without-lowest .ensures) _ _ (w .meets .ensures ∙ ap (λ (v : ℕ). meets capacity v y) (r .row-of2 .ensures .1)) (c .before .insert-if .ensures)
+
+without-lowest-requires-2 : tie.Need-without-lowest-requires-2 Inv-loop μ-loop Inv-next μ-next
+without-lowest-requires-2 c κs =
+    let a = c .before .before .before .before in
+    let u = a .before .before .before in
+    let l = u .before .before .before in
+    is-some _ (l .before .before .is-empty .ensures) (l .before .if1 .taken)
+
+next-less : tie.Need-next-less Inv-loop μ-loop Inv-next μ-next
+next-less c =
+    let a = c .before .before .before .before .before in
+    let u = a .before .before .before in
+    let l = u .before .before .before in
     let e = l .before .before in
     let b = e .before in
     let cut = b .before in
@@ -97,13 +172,18 @@ loop-less c =
     let p = first .before .before .before .before .before .pre in
     let within = cut-in _ _ _ _ (cut .before .below2 .ensures) (cut .intersection .ensures) in
     let outputs = all-below _ _ (first .below .ensures) in
-    let some = is-some _ (e .is-empty .ensures) (l .before .if1 .taken) in
-    narrowed-falls _ _ _ _ _ (λ j h. within j h .0) (p .0) outputs _ _ (b .loop .inv .1) some _ (l .lowest .ensures) _ (c .without-lowest .ensures)
+    let ne = is-some _ (e .is-empty .ensures) (l .before .if1 .taken) in
+    narrowed-falls _ _ _ _ _ (λ j h. within j h .0) (p .0) outputs _ _ (b .next .inv .1) ne _ (l .lowest .ensures) _ (c .without-lowest2 .ensures)
 
-loop-again : tie.Need-loop-again Inv-loop μ-loop
+-- The outputs that stay are those that answer.
+next-again : tie.Need-next-again Inv-loop μ-loop Inv-next μ-next
 unfolding answered answersAt
-loop-again c =
-    let w = c .before .before .before in
+next-again c =
+    let t = c .before .before .before in
+    let i = t .before in
+    let a = i .before in
+    let u = a .before .before .before in
+    let w = u .before .before in
     let l = w .before in
     let e = l .before .before in
     let b = e .before in
@@ -112,15 +192,17 @@ loop-again c =
     let p = first .before .before .before .before .before .pre in
     let within = cut-in _ _ _ _ (cut .before .below2 .ensures) (cut .intersection .ensures) in
     let outputs = all-below _ _ (first .below .ensures) in
-    let some = is-some _ (e .is-empty .ensures) (l .before .if1 .taken) in
-    let rows = setsIn (first .before .before .before .before .before .args .outs .now) in (
+    let ne = is-some _ (e .is-empty .ensures) (l .before .if1 .taken) in
+    let rows = setsIn (first .before .before .before .before .before .args .outs .now) in
+    let stay = looking-end rows _ _ _ _ _ _ (a .loop .inv) (none _ (i .is-empty2 .ensures) (t .if2 .taken)) (u .unknown .ensures .0)
+    (u .unknown .ensures .1 rows (b .next .inv .2)) (a .before .difference .ensures) in (
       w .won-next .ensures .0,
-      narrowed-next _ _ _ _ _ (λ j h. within j h .0) (p .0) outputs _ _ (b .loop .inv .1) some _ (l .lowest .ensures) _ (c .without-lowest .ensures) _ _
-          (λ o a. ap (λ (v : ℕ). meets capacity (getD rows o 0) v) (w .won-next .ensures .1)) (c .before .narrowed .ensures),
-      held-now _ _ _ _ (c .before .narrowed .ensures),
+      narrowed-next _ _ _ _ _ (λ j h. within j h .0) (p .0) outputs _ _ (b .next .inv .1) ne _ (l .lowest .ensures) _ (c .without-lowest2 .ensures) _ _
+          (λ o h. ap (λ (v : ℕ). meets capacity (getD rows o 0) v) (w .won-next .ensures .1)) stay,
+      held-now _ _ _ _ stay,
     )
 
-returns : tie.Need-returns Inv-loop μ-loop
+returns : tie.Need-returns Inv-loop μ-loop Inv-next μ-next
 unfolding replyAt
 returns c =
     let b = c .before .before in
@@ -132,10 +214,39 @@ returns c =
     let a = first .before .before .before .before .before .args in
     let n = a .g .input .states in
     let m = a .g .output .states in
-    let ended = narrowed-end _ _ _ _ _ (λ j h. within j h .0) (p .0) outputs _ _ (b .loop .inv .1) (is-none _ (c .before .is-empty .ensures) (c .if1 .left)) in
+    let ended = narrowed-end _ _ _ _ _ (λ j h. within j h .0) (p .0) outputs _ _ (b .next .inv .1) (is-none _ (c .before .is-empty .ensures) (c .if1 .left)) in
     answered-all _ _ _ _ _ _ (p .1) _ _ _ _ (cut .before .below2 .ensures) (cut .intersection .ensures) (first .below .ensures) ended
     ∙ ap₂ (λ (y : ℕ) (l : List ℕ). pack m (replyWith (setsIn (a .s .now)) n (bitsOf (a .c .0)) y (setsIn l) m))
     (first .before .before .before .row-of .ensures .1 ∙ ap (λ (l : List ℕ). getD (setsIn l) (a .i .0) 0) (p .4)) (p .5)
+
+returns-2 : tie.Need-returns-2 Inv-loop μ-loop Inv-next μ-next
+unfolding replyAt answered answersAt
+returns-2 c =
+    let t = c .before .before in
+    let i = t .before in
+    let a = i .before in
+    let u = a .before .before .before in
+    let w = u .before .before in
+    let l = w .before in
+    let e = l .before .before in
+    let b = e .before in
+    let cut = b .before in
+    let first = cut .before .before in
+    let p = first .before .before .before .before .before .pre in
+    let within = cut-in _ _ _ _ (cut .before .below2 .ensures) (cut .intersection .ensures) in
+    let outputs = all-below _ _ (first .below .ensures) in
+    let ne = is-some _ (e .is-empty .ensures) (l .before .if1 .taken) in
+    let g = first .before .before .before .before .before .args in
+    let rows = setsIn (g .outs .now) in
+    let n = g .g .input .states in
+    let m = g .g .output .states in
+    let stay = looking-end rows _ _ _ _ _ _ (a .loop .inv) (none _ (i .is-empty2 .ensures) (t .if2 .taken)) (u .unknown .ensures .0)
+    (u .unknown .ensures .1 rows (b .next .inv .2)) (a .before .difference .ensures) in
+    let stopped = narrowed-stop _ _ _ _ _ (λ j h. within j h .0) (p .0) outputs _ _ (b .next .inv .1) ne _ (l .lowest .ensures) _ _
+    (λ o h. ap (λ (v : ℕ). meets capacity (getD rows o 0) v) (w .won-next .ensures .1)) stay (none _ (c .before .is-empty3 .ensures) (c .if3 .taken)) in
+    answered-all _ _ _ _ _ _ (p .1) _ _ _ _ (cut .before .below2 .ensures) (cut .intersection .ensures) (first .below .ensures) stopped
+    ∙ ap₂ (λ (y : ℕ) (v : List ℕ). pack m (replyWith (setsIn (g .s .now)) n (bitsOf (g .c .0)) y (setsIn v) m))
+    (first .before .before .before .row-of .ensures .1 ∙ ap (λ (v : List ℕ). getD (setsIn v) (g .i .0) 0) (p .4)) (p .5)
 
 pub reply-row-spec : {M : Type 1} → statement M
 reply-row-spec =
@@ -143,18 +254,32 @@ reply-row-spec =
     (tie.spec
     Inv-loop
     μ-loop
+    Inv-next
+    μ-next
     row-of-requires
     won-first-requires
     empty-requires
     below-requires
     below-requires-2
     intersection-requires
-    loop-holds
+    next-holds
     is-empty-requires
     lowest-requires
     won-next-requires
-    narrowed-requires
+    unknown-requires
+    difference-requires
+    loop-holds
+    is-empty-requires-2
+    is-empty-requires-3
+    lowest-requires-2
+    row-of-requires-2
+    meets-requires
+    insert-if-requires
     without-lowest-requires
     loop-less
     loop-again
-    returns)
+    without-lowest-requires-2
+    next-less
+    next-again
+    returns
+    returns-2)
