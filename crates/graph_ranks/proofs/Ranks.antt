@@ -1,6 +1,6 @@
 -- Walking the components by their smallest states, and the ranks that are written or read on the way.
 --
---   Left, left-start, -below, -above, -leads, -whole, -next, -skip : the inputs whose component's smallest state has not been passed
+--   Left, left-start, -below, -leads, -whole, -next, -skip   : the inputs whose component's smallest state has not been passed
 --   Putting, putting-start, -below, -next, -falls, -end      : one rank written for the members of a set
 --   Checking, checking-start, -below, -next, -falls, -end, -fails : one rank read for them
 --   Ranking, ranking-start, -next, -skip, -end               : the ranks written
@@ -79,9 +79,6 @@ module _ (S : Separated) where
 
   number-le : (j : ℕ) → j < n → number (S .input) j ≤ j
   number-le j b = number-least (S .input) j j (joined-self (S .input) j b)
-
-  pub left-above : (j left t : ℕ) → Left j left → has left t ≡ true → j ≤ t
-  left-above j left t L m = omega (arith, left-number j left t L m, number-le t (left-below j left t L m))
 
   pub left-leads : (j left : ℕ) → Left j left → j < n → has left j ≡ leads S j
   left-leads j left L b =

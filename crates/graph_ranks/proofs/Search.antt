@@ -1,31 +1,32 @@
 -- The loops of the search for a component.
 --
 --   Going, going-start, -below, -next, -falls, -end      : forward from a state
---   alone-component, unmarked-component                  : a state with no move to another; one that no other moves to
---   search-component                                     : what backward and forward search find
---   entered-start, -next                                 : the states that a higher one moves to
+--   alone-component, search-component                    : a state with no move to another; what backward and forward search find
+--   block-component                                      : what is found in a block is found in the whole
+--   crossed-start, -next, span-none, -some               : the places that moves cross
+--   block-whole, block-below, free-small                 : what is left below a place that none crosses
 --   Sweeping, sweeping-start, -below, -next, -end        : one sweep backward
 --   Backing, backing-start, -next, -falls, -end          : sweeps until one finds nothing
-use Prim.Native.Nat.{ℕ, _+_, _<_}
+use Prim.Native.Nat.{ℕ, _+_, _≤_, _<_}
 use mathlib.Core.Path.{_≡_, refl, sym, _∙_, ap}
 use mathlib.Core.Bool.{Bool, true, false, _&&_, _||_, not}
 use mathlib.Core.List.{List}
 use mathlib.Core.Logic.{_⊎_, inl, inr, _≢_}
-use native.Mathlib.Decide.{ℕ-discrete}
-use native.Mathlib.Numerals.{add-one}
+use native.Mathlib.Omega.{arith}
+use native.Mathlib.Decide.{decLt}
 use lib.Dec.{eqb, ltb}
 use lib.ListN.{getD}
-use borrow.Author.Tests.{eqb-true, eq-eqb, ltb-true, lt-ltb}
+use borrow.Author.Tests.{eqb-true, eq-eqb, ltb-true, ltb-false, lt-ltb, le-ltb}
 use Rattle.finite.specs.Bounded.{least, count, any}
-use Rattle.finite.proofs.Truth.{decide, clash, false-of, and-intro, and-left, and-right, or-left, or-right, or-cases, not-true}
-use Rattle.finite.proofs.Bounded.{count-less, any-elim, any-false}
+use Rattle.finite.proofs.Truth.{decide, clash, false-of, and-intro, and-left, and-right, or-left, or-right, or-cases, or-false-left, or-false-right, not-true}
+use Rattle.finite.proofs.Bounded.{count-less, least-at-most, any-elim, any-false}
 use Rattle.bits.specs.Member.{has, meets}
 use Rattle.bits.proofs.Membership.{has-zero, ext}
 use Rattle.bits.proofs.Compare.{meets-intro, meets-elim}
 use Rattle.bits.proofs.Remove.{less-in, less-out, less-falls}
 use Rattle.bits.proofs.Visit.{small-word, lowest-below, lowest-in, lowest-less}
 use Rattle.sets.specs.Words.{capacity}
-use Rattle.graph_ranks.specs.Search.{Narrow, Small, Onward, Backward, Entered, Marks, Ahead, Swept, Behind, Component}
+use Rattle.graph_ranks.specs.Search.{Narrow, Small, Onward, Backward, Crossed, Block, Ahead, Swept, Behind, Component}
 
 not-of : {b : Bool} → b ≡ false → not b ≡ true
 not-of e = rw e refl
@@ -366,27 +367,6 @@ module _ (rows : List ℕ) (inside s : ℕ) where
           rw j (single-own s x d);
     }
 
-  -- a state that no other state inside moves to
-  module _ (x marked : ℕ) (d : (t : ℕ) → has x t ≡ (has 0 t || eqb t s)) (M : Marks rows marked inside s) (e : has marked s ≡ false) where
-    only-own : (t : ℕ) → has inside t ≡ true → has (getD rows t 0) s ≡ true → t ≡ s
-    only-own t i m =
-        elim (ℕ-discrete t s) [
-          | yes q ↦ q
-          | no q ↦ clash (M t i q m) e
-        ]
-
-    pub unmarked-component : Component rows inside s x
-    unmarked-component = record {
-      ahead = λ p o m t k. let q = single-is s x d t k in rw q o;
-      behind = λ p o m t k. let q = single-is s x d t k in rw q o;
-      whole = λ t a b.
-          let q = b (λ u. eqb u s) (eq-eqb s s refl) (λ u v i m k.
-          let j = eqb-true v s k in
-          eq-eqb u s (only-own u i (rw j at m))) in
-          let j = eqb-true t s q in
-          rw j (single-own s x d);
-    }
-
   module _ (back r : ℕ) (own : has inside s ≡ true) (B : Behind rows inside s back) (A : Ahead rows back s r) where
     back-inside : (t : ℕ) → has back t ≡ true → has inside t ≡ true
     back-inside = B .least (has inside) own (λ t u i m p. i)
@@ -423,14 +403,105 @@ module _ (rows : List ℕ) (inside s : ℕ) where
           ];
     }
 
--- ---- the states that a higher one moves to
+-- ---- a part of a set that what moves into it belongs to
+
+module _ (rows : List ℕ) (n left s part : ℕ) (B : Block rows n left s part) (below : (t : ℕ) → has left t ≡ true → t < n) where
+  -- in p, or left and outside the part: what such a state moves to is such a state
+  unfoldable heldOr : (ℕ → Bool) → ℕ → Bool
+  heldOr p t = p t || (has left t && not (has part t))
+
+  goes-held : (p : ℕ → Bool) → Onward rows part p → Onward rows left (heldOr p)
+  unfolding heldOr
+  goes-held p m t u q r i =
+      elim (decide (has part u)) [
+        | inl k ↦ elim (or-cases (p t) (has left t && not (has part t)) q) [
+          | inl l ↦ or-left (has left u && not (has part u)) (m t u l r k)
+          | inr l ↦ clash (B .backward below t u (and-left (has left t) (not (has part t)) l) r k)
+              (not-true (has part t) (and-right (has left t) (not (has part t)) l))
+        ]
+        | inr k ↦ or-right (p u) (and-intro i (not-of k))
+      ]
+
+  pub block-component : has left s ≡ true → (c : ℕ) → Component rows part s c → Component rows left s c
+  unfolding heldOr
+  block-component own c C = record {
+    ahead = λ p o m t k. C .ahead p o (λ u v h r i. m u v h r (B .inside v i)) t k;
+    behind = λ p o m t k. C .behind p o (λ u v i r h. m u v (B .inside u i) r h) t k;
+    whole = λ t a b.
+        let inside = b (has part) (B .own own) (B .backward below) in
+        C .whole t (λ p o m.
+        elim (or-cases (p t) (has left t && not (has part t)) (a (heldOr p) (or-left (has left s && not (has part s)) o) (goes-held p m))) [
+          | inl k ↦ k
+          | inr k ↦ clash inside (not-true (has part t) (and-right (has left t) (not (has part t)) k))
+        ])
+        (λ p o m. and-left (p t) (has part t) (b (λ u. p u && has part u) (and-intro o (B .own own)) (λ u v i r h.
+        let j = B .backward below u v i r (and-right (p v) (has part v) h) in
+        and-intro (m u v j r (and-left (p v) (has part v) h)) j)));
+  }
+
+-- ---- the places that moves cross
 
 module _ (rows : List ℕ) where
-  pub entered-start : (x : ℕ) → x ≡ 0 → Entered rows 0 x
-  unfolding any
-  entered-start x e s = ap (λ (y : ℕ). has y s) e ∙ has-zero s
+  pub crossed-start : (x : ℕ) → Crossed rows 0 x
+  crossed-start x q t v b l m e = absurd (omega arith)
 
-  pub entered-next : (n row below lower x y : ℕ) → Entered rows n x → row ≡ getD rows n 0 → ((s : ℕ) → has below s ≡ ltb s n)
-      → ((s : ℕ) → has lower s ≡ (has row s && has below s)) → ((s : ℕ) → has y s ≡ (has lower s || has x s)) → Entered rows (n + 1) y
-  unfolding any
-  entered-next n row below lower x y E r b l d s = rw (add-one n) (d s ∙ rw (l s, b s, r, E s) refl)
+  pub crossed-next : (n row x y z : ℕ) → Crossed rows n x → row ≡ getD rows n 0
+      → ((q v : ℕ) → q ≤ n → v < q → has row v ≡ true → has y q ≡ true) → ((s : ℕ) → has z s ≡ (has x s || has y s)) → Crossed rows (n + 1) z
+  crossed-next n row x y z C r f d q t v b l m e =
+      elim (decLt t n) [
+        | yes k ↦ d q ∙ or-left (has y q) (C q t v k l m e)
+        | no k ↦
+            let i : t ≡ n = omega arith in
+            d q ∙ or-right (has x q) (f q v (omega arith) m (ap (λ (w : ℕ). has w v) r ∙ (rw i at e)))
+      ]
+
+-- the places above the lowest state of a row
+module _ (row l t a b r : ℕ) (e : l ≡ least capacity (has row)) (small : t < capacity) where
+  lowest-le : (v : ℕ) → has row v ≡ true → l ≤ v
+  lowest-le v m = rw e (least-at-most capacity (has row) v m)
+
+  pub span-none : t ≤ l → (q v : ℕ) → q ≤ t → v < q → has row v ≡ true → has r q ≡ true
+  span-none h q v i k m = absurd (omega (arith, lowest-le v m))
+
+  pub span-some : ((s : ℕ) → has a s ≡ ltb s (t + 1)) → ((s : ℕ) → has b s ≡ ltb s (l + 1)) → ((s : ℕ) → has r s ≡ (has a s && not (has b s)))
+      → (q v : ℕ) → q ≤ t → v < q → has row v ≡ true → has r q ≡ true
+  span-some f g d q v i k m =
+      d q
+      ∙ and-intro (f q ∙ lt-ltb q (t + 1) (omega arith))
+      (ap not (g q ∙ le-ltb q (l + 1) (omega (arith, lowest-le v m))))
+
+pub block-whole : (rows : List ℕ) (n left s : ℕ) → Block rows n left s left
+block-whole rows n left s = record { inside = λ t h. h; own = λ h. h; backward = λ b t u i m h. i }
+
+-- what is left below the next place that nothing crosses
+module _ (places n left s below′ more free : ℕ) (small : n ≤ capacity) (l : s < n) (f : (t : ℕ) → has below′ t ≡ ltb t n)
+    (g : (t : ℕ) → has more t ≡ (has places t || ltb t (s + 1))) (d : (t : ℕ) → has free t ≡ (has below′ t && not (has more t))) where
+  module _ (q : ℕ) (some : free ≢ 0) (e : q ≡ least capacity (has free)) where
+    free-below : (t : ℕ) → has free t ≡ true → t < n
+    free-below t h = ltb-true t n (sym (f t) ∙ and-left (has below′ t) (not (has more t)) (sym (d t) ∙ h))
+
+    free-here : has free q ≡ true
+    free-here = lowest-in capacity free q (small-word capacity free (λ t h. omega (arith, free-below t h))) some e
+
+    pub free-small : q < n
+    free-small = free-below q free-here
+
+    apart : (has places q || ltb q (s + 1)) ≡ false
+    apart = sym (g q) ∙ not-true (has more q) (and-right (has below′ q) (not (has more q)) (sym (d q) ∙ free-here))
+
+    pub block-below : (b r : ℕ) → ((t : ℕ) → has b t ≡ ltb t q) → ((t : ℕ) → has r t ≡ (has left t && has b t)) → (rows : List ℕ)
+        → Crossed rows n places → Block rows n left s r
+    block-below b r h k rows C = record {
+      inside = λ t m. and-left (has left t) (has b t) (sym (k t) ∙ m);
+      own = λ m. k s ∙ and-intro m (h s ∙ lt-ltb s q (omega (arith, ltb-false q (s + 1) (or-false-right (has places q) (ltb q (s + 1)) apart))));
+      backward = λ w t u i m j.
+          let o = ltb-true u q (sym (h u) ∙ and-right (has left u) (has b u) (sym (k u) ∙ j)) in
+          k t ∙ and-intro i (h t ∙ lt-ltb t q (under t u (w t i) m o));
+    }
+      where
+        under : (t u : ℕ) → t < n → has (getD rows t 0) u ≡ true → u < q → t < q
+        under t u i m j =
+            elim (decLt t q) [
+              | yes o ↦ o
+              | no o ↦ clash (C q t u i (omega arith) j m) (or-false-left (has places q) (ltb q (s + 1)) apart)
+            ]

@@ -2,7 +2,7 @@
 --
 --   around-joined, around-all : what the search finds is the component in the game's terms
 --   leads-now        : which input is the smallest of its component
---   left-marks       : an input that is left is entered from above, or alone
+--   left-inputs      : what is left are inputs
 --   left-reduced     : the walk goes one input on
 --   members-fit      : the places of a component's ranks lie in a list that has all ranks
 --   counted          : the count of the smallest states is that of the components
@@ -12,15 +12,14 @@
 use Prim.Native.Nat.{ℕ, _+_, _≤_, _<_}
 use mathlib.Core.Path.{_≡_, refl, sym, _∙_, ap}
 use lib.Dec.{ltb}
-use lib.ListN.{getD}
 use borrow.Author.Tests.{ltb-true, lt-ltb}
 use mathlib.Core.Bool.{true, false, _&&_, not}
 use mathlib.Core.List.{List}
 use mathlib.Core.Logic.{inl, inr}
 use native.Mathlib.Omega.{arith}
 use Rattle.finite.specs.Bounded.{count}
-use Rattle.finite.proofs.Truth.{decide, and-intro}
-use Rattle.finite.proofs.Bounded.{any-intro, count-le, count-same, count-wide}
+use Rattle.finite.proofs.Truth.{decide}
+use Rattle.finite.proofs.Bounded.{count-le, count-same, count-wide}
 use Rattle.bits.specs.Member.{has, pack}
 use Rattle.bits.proofs.Membership.{has-pack-below, has-pack-past}
 use Rattle.sets.specs.declared.Set.{Set}
@@ -34,13 +33,12 @@ use Rattle.game.proofs.Laws.{accepted-fits}
 use Rattle.play.specs.Play.{graphOf, separatedOf}
 use Rattle.compact.specs.Rank.{leads, componentCount}
 use Rattle.compact.specs.Moving.{ranksFit}
-use Rattle.graph_ranks.specs.Search.{Narrow, Small, Entered, Marks, Component, Reduced}
+use Rattle.graph_ranks.specs.Search.{Narrow, Small, Component, Reduced}
 use Rattle.graph_ranks.specs.Ranks.{Put, ranked, RanksWritten}
 use Rattle.graph_ranks.proofs.Found.{narrow, component-found}
 use Rattle.graph_ranks.proofs.Ranks.{
   Left,
   left-below,
-  left-above,
   left-start,
   left-leads,
   left-whole,
@@ -96,18 +94,9 @@ module _ (g : Game) (A : acceptance g ≡ Accepted) where
   unfolding separatedOf graphOf
   left-all left d = left-start (separatedOf g) left d
 
-  pub left-small : (j left : ℕ) → Left (separatedOf g) j left → Small left
+  pub left-inputs : (j left : ℕ) → Left (separatedOf g) j left → (t : ℕ) → has left t ≡ true → t < g .input .states
   unfolding separatedOf graphOf
-  left-small j left L t m = input-small t (left-below (separatedOf g) j left t L m)
-
-  -- no input that is left is below the next one
-  pub left-marks : (j left x : ℕ) → Left (separatedOf g) j left → Entered (setsIn (g .input .moves)) (g .input .states) x
-      → Marks (setsIn (g .input .moves)) x left j
-  unfolding separatedOf graphOf
-  left-marks j left x L E t i q m =
-      E j
-      ∙ any-intro (g .input .states) (λ u. has (getD (setsIn (g .input .moves)) u 0) j && ltb j u) t (left-below (separatedOf g) j left t L i)
-      (and-intro m (lt-ltb j t (omega (arith, left-above (separatedOf g) j left t L i))))
+  left-inputs j left L t m = left-below (separatedOf g) j left t L m
 
   pub leads-now : (j left : ℕ) → Left (separatedOf g) j left → j < g .input .states → has left j ≡ leads (separatedOf g) j
   unfolding separatedOf graphOf

@@ -4,21 +4,18 @@
 --   Small x                    == the members of x are such states
 --   Onward rows inside p       == p has what its members move to, as far as that is inside
 --   Backward rows inside p     == p has every state inside that moves to a member
---   Entered rows n r           == r has the states that a higher one of the n states moves to
---   Marks rows x inside s      == s is in x where another state inside moves to it
+--   Crossed rows n r           == r has each place q that a move crosses: from one of the n states that is not below q to one below q
+--   Block rows n left s r      == of left, whose states are below n, r has s and every state with a move into r
 --   Ahead rows inside s r      == r is the least such onward set with s
 --   Swept rows left found r    == r has what was found and every state of left with a move there, and nothing that need not belong
 --   Behind rows inside s r     == r is the least such backward set with s
 --   Component rows inside s r  == r has the states that every onward set with s has, and every backward one: those that s reaches, and that reach s
 --   Reduced rows left s r      == r is left, without the component of s where s is left
-use Prim.Native.Nat.{ℕ, _<_}
+use Prim.Native.Nat.{ℕ, _≤_, _<_}
 use mathlib.Core.Path.{_≡_}
 use mathlib.Core.Bool.{Bool, true, false, _&&_, not}
 use mathlib.Core.List.{List}
-use mathlib.Core.Logic.{_≢_}
-use lib.Dec.{ltb}
 use lib.ListN.{getD}
-use Rattle.finite.specs.Bounded.{any}
 use Rattle.bits.specs.Member.{has}
 use Rattle.sets.specs.Words.{capacity}
 
@@ -34,11 +31,13 @@ Onward rows inside p = (t u : ℕ) → p t ≡ true → has (getD rows t 0) u �
 abbrev pub Backward : List ℕ → ℕ → (ℕ → Bool) → Type 0
 Backward rows inside p = (t u : ℕ) → has inside t ≡ true → has (getD rows t 0) u ≡ true → p u ≡ true → p t ≡ true
 
-abbrev pub Entered : List ℕ → ℕ → ℕ → Type 0
-Entered rows n r = (s : ℕ) → has r s ≡ any n (λ t. has (getD rows t 0) s && ltb s t)
+abbrev pub Crossed : List ℕ → ℕ → ℕ → Type 0
+Crossed rows n r = (q t v : ℕ) → t < n → q ≤ t → v < q → has (getD rows t 0) v ≡ true → has r q ≡ true
 
-abbrev pub Marks : List ℕ → ℕ → ℕ → ℕ → Type 0
-Marks rows x inside s = (t : ℕ) → has inside t ≡ true → t ≢ s → has (getD rows t 0) s ≡ true → has x s ≡ true
+pub record Block (rows : List ℕ) (n left s r : ℕ) : Type 0 where
+  pub inside : (t : ℕ) → has r t ≡ true → has left t ≡ true
+  pub own : has left s ≡ true → has r s ≡ true
+  pub backward : ((t : ℕ) → has left t ≡ true → t < n) → Backward rows left (has r)
 
 pub record Ahead (rows : List ℕ) (inside s r : ℕ) : Type 0 where
   pub own : has r s ≡ true

@@ -5,6 +5,7 @@ use game::InState;
 use sets::Set;
 ghost use mathlib.Core.Path.{_≡_};
 ghost use mathlib.Core.Bool.{true};
+ghost use mathlib.Core.List.{List};
 ghost use Prim.Native.Nat.{ℕ, _+_, _≤_, _<_};
 ghost use lib.ListN.{length};
 ghost use Rattle.bits.specs.Member.{has, pack};
@@ -15,7 +16,7 @@ ghost use Rattle.game.specs.declared.Acceptance.the-variants.{Accepted};
 ghost use Rattle.play.specs.Play.{graphOf, separatedOf};
 ghost use Rattle.compact.specs.Rank.{leads, componentCount};
 ghost use Rattle.compact.specs.Moving.{ranksFit};
-ghost use Rattle.graph_ranks.specs.Search.{Narrow, Small, Entered, Marks, Ahead, Swept, Behind, Component, Reduced};
+ghost use Rattle.graph_ranks.specs.Search.{Narrow, Small, Crossed, Block, Ahead, Swept, Behind, Component, Reduced};
 ghost use Rattle.graph_ranks.specs.Ranks.{Put, ranked as holds, RanksWritten};
 
 // The states that s reaches by way of states of a set, with s.
@@ -77,44 +78,63 @@ fn among(moves: &[u64; sets::ROW_WORDS], inside: Set, s: usize) -> Set
     ahead(moves, behind(moves, inside, s), s)
 }
 
-// The states that a higher one of the n states moves to. A walk by smallest states leaves none but higher ones, so that one which is not entered by
-// them is known to be alone before anything is searched.
-fn entered(moves: &[u64; sets::ROW_WORDS], n: usize) -> Set
+// The places above the lowest state of a row, up to t: place q is crossed by a move from t, which is not below it, to a state below it.
+fn span(row: Set, t: usize) -> Set
+    requires { ⌜ t < capacity ⌝ }
+    ensures { λ r. ⌜ ((q v : ℕ) → q ≤ t → v < q → has (bitsOf row) v ≡ true → has (bitsOf r) q ≡ true) ⌝ }
+{
+    let l = sets::lowest(row);
+    if t <= l {
+        return sets::empty();
+    }
+    sets::difference(sets::below(t + 1), sets::below(l + 1))
+}
+
+// The places that moves of the n states cross downwards. No component lies on both sides of a place that none crosses.
+fn crossed(moves: &[u64; sets::ROW_WORDS], n: usize) -> Set
     requires { ⌜ n ≤ capacity ⌝ }
-    ensures { λ r. ⌜ Entered (setsIn (now (moves .entry))) n (bitsOf r) ⌝ }
+    ensures { λ r. ⌜ Crossed (setsIn (now (moves .entry))) n (bitsOf r) ⌝ }
 {
     let mut found = sets::empty();
     let mut t: usize = 0;
     while t < n {
-        let lower = sets::intersection(sets::row_of(moves, t), sets::below(t));
-        found = sets::union(lower, found);
+        found = sets::union(found, span(sets::row_of(moves, t), t));
         t += 1;
     }
     found
 }
 
-// The component of s among the states of a set; s is one of the states marked where another of them moves to it.
-fn around(moves: &[u64; sets::ROW_WORDS], marked: Set, inside: Set, s: usize) -> Set
-    requires { ⌜ Narrow (setsIn (now moves)) × Small (bitsOf inside) × (has (bitsOf inside) s ≡ true)
-        × Marks (setsIn (now moves)) (bitsOf marked) (bitsOf inside) s ⌝ }
-    ensures { λ r. ⌜ Component (setsIn (now (moves .entry))) (bitsOf inside) s (bitsOf r) ⌝ }
+// The states of `left` that are below the next place above s which nothing crosses, so that the search for a component need not look past it.
+fn block(places: Set, n: usize, left: Set, s: usize) -> Set
+    requires { ⌜ (n ≤ capacity) × (s < n) ⌝ }
+    ensures { λ r. ⌜ ((rows : List ℕ) → Crossed rows n (bitsOf places) → Block rows n (bitsOf left) s (bitsOf r)) ⌝ }
 {
-    if !sets::member(marked, s) {
-        return sets::insert(sets::empty(), s);
+    let free = sets::difference(sets::below(n), sets::union(places, sets::below(s + 1)));
+    if sets::is_empty(free) {
+        return left;
     }
-    among(moves, inside, s)
+    sets::intersection(left, sets::below(sets::lowest(free)))
+}
+
+// The component of s among the states of `left`, all below n; the places are those that moves cross.
+fn around(moves: &[u64; sets::ROW_WORDS], places: Set, n: usize, left: Set, s: usize) -> Set
+    requires { ⌜ Narrow (setsIn (now moves)) × (n ≤ capacity) × ((t : ℕ) → has (bitsOf left) t ≡ true → t < n) × (has (bitsOf left) s ≡ true)
+        × Crossed (setsIn (now moves)) n (bitsOf places) ⌝ }
+    ensures { λ r. ⌜ Component (setsIn (now (moves .entry))) (bitsOf left) s (bitsOf r) ⌝ }
+{
+    among(moves, block(places, n, left, s), s)
 }
 
 // What is left, without the component of s where s is left.
-fn reduced(moves: &[u64; sets::ROW_WORDS], marked: Set, left: Set, s: usize) -> Set
-    requires { ⌜ Narrow (setsIn (now moves)) × Small (bitsOf left) × (s < capacity)
-        × Marks (setsIn (now moves)) (bitsOf marked) (bitsOf left) s ⌝ }
+fn reduced(moves: &[u64; sets::ROW_WORDS], places: Set, n: usize, left: Set, s: usize) -> Set
+    requires { ⌜ Narrow (setsIn (now moves)) × (n ≤ capacity) × ((t : ℕ) → has (bitsOf left) t ≡ true → t < n) × (s < capacity)
+        × Crossed (setsIn (now moves)) n (bitsOf places) ⌝ }
     ensures { λ r. ⌜ Reduced (setsIn (now (moves .entry))) (bitsOf left) s (bitsOf r) ⌝ }
 {
     if !sets::member(left, s) {
         return left;
     }
-    sets::difference(left, around(moves, marked, left, s))
+    sets::difference(left, around(moves, places, n, left, s))
 }
 
 // The component of input j.
@@ -130,13 +150,13 @@ pub fn leading(g: Game) -> InSet
     requires { ⌜ acceptance g ≡ Accepted ⌝ }
     ensures { λ r. ⌜ bitsOf (r .0) ≡ pack (g .input .states) (leads (separatedOf g)) ⌝ }
 {
-    let marked = entered(&g.input.moves, g.input.states);
+    let places = crossed(&g.input.moves, g.input.states);
     let mut leaders = sets::empty();
     let mut left = sets::below(g.input.states);
     let mut j: usize = 0;
     while j < g.input.states {
         leaders = sets::insert_if(leaders, j, sets::member(left, j));
-        left = reduced(&g.input.moves, marked, left, j);
+        left = reduced(&g.input.moves, places, g.input.states, left, j);
         j += 1;
     }
     InSet(leaders)
@@ -184,13 +204,13 @@ pub fn write_ranks(g: Game, room: &mut [u16])
     requires { ⌜ (acceptance g ≡ Accepted) × (g .input .states + g .input .states ≤ length (now room)) ⌝ }
     ensures { λ r. ⌜ RanksWritten g (now (room .entry)) (now (room .exit)) ⌝ }
 {
-    let marked = entered(&g.input.moves, g.input.states);
+    let places = crossed(&g.input.moves, g.input.states);
     let mut left = sets::below(g.input.states);
     let mut rank: u16 = 0;
     let mut j: usize = 0;
     while j < g.input.states {
         if sets::member(left, j) {
-            let c = around(&g.input.moves, marked, left, j);
+            let c = around(&g.input.moves, places, g.input.states, left, j);
             put_rank(room, g.input.states, c, rank);
             left = sets::difference(left, c);
             rank += 1;
@@ -204,13 +224,13 @@ pub fn ranks_fit(g: Game, table: &[u16]) -> bool
     requires { ⌜ (acceptance g ≡ Accepted) × (g .input .states + g .input .states ≤ length (now table)) ⌝ }
     ensures { λ r. ⌜ r ≡ ranksFit (separatedOf g) (now (table .entry)) ⌝ }
 {
-    let marked = entered(&g.input.moves, g.input.states);
+    let places = crossed(&g.input.moves, g.input.states);
     let mut left = sets::below(g.input.states);
     let mut rank: u16 = 0;
     let mut j: usize = 0;
     while j < g.input.states {
         if sets::member(left, j) {
-            let c = around(&g.input.moves, marked, left, j);
+            let c = around(&g.input.moves, places, g.input.states, left, j);
             if !ranked(table, g.input.states, c, rank) {
                 return false;
             }

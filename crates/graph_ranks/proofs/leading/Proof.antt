@@ -10,19 +10,19 @@ use Rattle.game.proofs.Laws.{accepted-fits}
 use Rattle.play.specs.Play.{separatedOf}
 use Rattle.compact.specs.Rank.{leads}
 use Rattle.graph_ranks.proofs.Ranks.{Left}
-use Rattle.graph_ranks.proofs.Walk.{moves-narrow, input-small, left-all, left-small, left-marks, leads-now, left-reduced}
+use Rattle.graph_ranks.proofs.Walk.{moves-narrow, input-small, left-all, left-inputs, leads-now, left-reduced}
 use Rattle.graph_ranks.proofs.leading.Statement.{statement}
 use Rattle.graph_ranks.proofs.leading.Tie as tie
 
 abbrev Inv-loop : tie.InvT-loop
-Inv-loop g marked leaders₀ left₀ j₀ leaders left j =
+Inv-loop g places leaders₀ left₀ j₀ leaders left j =
     (j ≤ g .input .states) × (bitsOf leaders ≡ pack j (leads (separatedOf g))) × Left (separatedOf g) j (bitsOf left)
 
 abbrev μ-loop : tie.MeasureT-loop
-μ-loop g marked leaders₀ left₀ j₀ leaders left j = g .input .states - j
+μ-loop g places leaders₀ left₀ j₀ leaders left j = g .input .states - j
 
-entered-requires : tie.Need-entered-requires Inv-loop μ-loop
-entered-requires c κs = accepted-fits _ (c .before .before .pre) .input .most
+crossed-requires : tie.Need-crossed-requires Inv-loop μ-loop
+crossed-requires c κs = accepted-fits _ (c .before .before .pre) .input .most
 
 empty-requires : tie.Need-empty-requires Inv-loop μ-loop
 empty-requires c κs = search needs
@@ -60,9 +60,10 @@ reduced-requires c κs =
     let j = l .loop .j in
     let d = l .loop .inv .2 in (
       moves-narrow _ (b .pre),
-      left-small _ (b .pre) j _ d,
+      accepted-fits _ (b .pre) .input .most,
+      left-inputs _ (b .pre) j _ d,
       input-small _ (b .pre) _ (i .loop-test .taken),
-      left-marks _ (b .pre) j _ _ d (l .before .before .before .entered .ensures),
+      l .before .before .before .crossed .ensures,
     )
 
 add-j : tie.Need-add-j Inv-loop μ-loop
@@ -103,7 +104,7 @@ leading-spec =
     (tie.spec
     Inv-loop
     μ-loop
-    entered-requires
+    crossed-requires
     empty-requires
     below-requires
     loop-holds

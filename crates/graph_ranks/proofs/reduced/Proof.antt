@@ -14,7 +14,7 @@ returns c = record { passed = λ m. refl; found = λ m. clash m (sym (c .before 
 around-requires : tie.Need-around-requires
 around-requires c κs =
     let b = c .before .before in
-    (b .pre .0, b .pre .1, sym (c .before .member .ensures) ∙ not-false _ (c .if1 .left), b .pre .3)
+    (b .pre .0, b .pre .1, b .pre .2, sym (c .before .member .ensures) ∙ not-false _ (c .if1 .left), b .pre .4)
 
 difference-requires : tie.Need-difference-requires
 difference-requires c κs = search needs
