@@ -93,6 +93,10 @@ module _ (S : Separated) where
   number-member j t b e =
       joined-sym (S .input) t j (ap (joined (S .input) t) (sym e) ∙ number-joined (S .input) t b)
 
+  -- the members of a component are not below the one that leads it
+  pub led-above : (j t : ℕ) → leads S j ≡ true → joined (S .input) j t ≡ true → j ≤ t
+  led-above j t l m = omega (arith, member-number j t l m, number-le t (joined-to (S .input) j t m))
+
   -- a component whose smallest state comes next is left as a whole
   pub left-whole : (j left t : ℕ) → Left j left → leads S j ≡ true → joined (S .input) j t ≡ true → has left t ≡ true
   left-whole j left t L l m = left-intro j left t L (joined-to (S .input) j t m) (omega (arith, member-number j t l m))

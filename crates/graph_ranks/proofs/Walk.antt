@@ -1,6 +1,6 @@
 -- The walk by smallest states, for an accepted game.
 --
---   around-joined, around-all : what the search finds is the component in the game's terms
+--   around-joined, around-above : what the search finds is the component in the game's terms
 --   leads-now        : which input is the smallest of its component
 --   left-inputs      : what is left are inputs
 --   left-reduced     : the walk goes one input on
@@ -12,13 +12,13 @@
 use Prim.Native.Nat.{ℕ, _+_, _≤_, _<_}
 use mathlib.Core.Path.{_≡_, refl, sym, _∙_, ap}
 use lib.Dec.{ltb}
-use borrow.Author.Tests.{ltb-true, lt-ltb}
+use borrow.Author.Tests.{ltb-true, lt-ltb, le-ltb}
 use mathlib.Core.Bool.{true, false, _&&_, not}
 use mathlib.Core.List.{List}
 use mathlib.Core.Logic.{inl, inr}
 use native.Mathlib.Omega.{arith}
 use Rattle.finite.specs.Bounded.{count}
-use Rattle.finite.proofs.Truth.{decide}
+use Rattle.finite.proofs.Truth.{decide, and-intro, and-left}
 use Rattle.finite.proofs.Bounded.{count-le, count-same, count-wide}
 use Rattle.bits.specs.Member.{has, pack}
 use Rattle.bits.proofs.Membership.{has-pack-below, has-pack-past}
@@ -33,7 +33,7 @@ use Rattle.game.proofs.Laws.{accepted-fits}
 use Rattle.play.specs.Play.{graphOf, separatedOf}
 use Rattle.compact.specs.Rank.{leads, componentCount}
 use Rattle.compact.specs.Moving.{ranksFit}
-use Rattle.graph_ranks.specs.Search.{Narrow, Small, Component, Reduced}
+use Rattle.graph_ranks.specs.Search.{Narrow, Component, Reduced}
 use Rattle.graph_ranks.specs.Ranks.{Put, ranked, RanksWritten}
 use Rattle.graph_ranks.proofs.Found.{narrow, component-found}
 use Rattle.graph_ranks.proofs.Ranks.{
@@ -42,6 +42,7 @@ use Rattle.graph_ranks.proofs.Ranks.{
   left-start,
   left-leads,
   left-whole,
+  led-above,
   left-next,
   left-skip,
   count-next,
@@ -76,19 +77,19 @@ module _ (g : Game) (A : acceptance g ≡ Accepted) where
       component-found (g .input) (accepted-fits g A .input) left j c b (λ t m. left-below (separatedOf g) j left t L m)
       (λ t m. left-whole (separatedOf g) j left t L l m) C
 
-  -- the component of an input, found among all
-  pub around-all : (j all c : ℕ) → j < g .input .states → ((t : ℕ) → has all t ≡ ltb t (g .input .states))
-      → Component (setsIn (g .input .moves)) all j c → c ≡ pack (g .input .states) (joined (graphOf (g .input)) j)
-  unfolding graphOf
-  around-all j all c b d C =
-      component-found (g .input) (accepted-fits g A .input) all j c b (λ t m. ltb-true t (g .input .states) (sym (d t) ∙ m))
-      (λ t m. d t ∙ lt-ltb t (g .input .states) (joined-to (graphOf (g .input)) j t m)) C
+  -- the component of an input that leads it, found among those that are not below it
+  pub around-above : (j all low rest c : ℕ) → j < g .input .states → leads (separatedOf g) j ≡ true → ((t : ℕ) → has all t ≡ ltb t (g .input .states))
+      → ((t : ℕ) → has low t ≡ ltb t j) → ((t : ℕ) → has rest t ≡ (has all t && not (has low t))) → Component (setsIn (g .input .moves)) rest j c
+      → c ≡ pack (g .input .states) (joined (graphOf (g .input)) j)
+  unfolding separatedOf graphOf
+  around-above j all low rest c b l d e f C =
+      component-found (g .input) (accepted-fits g A .input) rest j c b
+      (λ t m. ltb-true t (g .input .states) (sym (d t) ∙ and-left (has all t) (not (has low t)) (sym (f t) ∙ m)))
+      (λ t m. f t ∙ and-intro (d t ∙ lt-ltb t (g .input .states) (joined-to (graphOf (g .input)) j t m))
+      (ap not (e t ∙ le-ltb t j (led-above (separatedOf g) j t l m)))) C
 
   pub input-small : (j : ℕ) → j < g .input .states → j < capacity
   input-small j b = omega (arith, accepted-fits g A .input .most)
-
-  pub all-small : (all : ℕ) → ((t : ℕ) → has all t ≡ ltb t (g .input .states)) → Small all
-  all-small all d t m = input-small t (ltb-true t (g .input .states) (sym (d t) ∙ m))
 
   pub left-all : (left : ℕ) → ((t : ℕ) → has left t ≡ ltb t (g .input .states)) → Left (separatedOf g) 0 left
   unfolding separatedOf graphOf

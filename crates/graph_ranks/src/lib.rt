@@ -137,12 +137,13 @@ fn reduced(moves: &[u64; sets::ROW_WORDS], places: Set, n: usize, left: Set, s: 
     sets::difference(left, around(moves, places, n, left, s))
 }
 
-// The component of input j.
+// The component of input j, the smallest of it. So nothing below j is looked at.
 pub fn component(g: Game, j: InState) -> InSet
-    requires { ⌜ (acceptance g ≡ Accepted) × (j .0 < g .input .states) ⌝ }
+    requires { ⌜ (acceptance g ≡ Accepted) × (j .0 < g .input .states) × (leads (separatedOf g) (j .0) ≡ true) ⌝ }
     ensures { λ r. ⌜ bitsOf (r .0) ≡ pack (g .input .states) (joined (graphOf (g .input)) (j .0)) ⌝ }
 {
-    InSet(among(&g.input.moves, sets::below(g.input.states), j.0))
+    let rest = sets::difference(sets::below(g.input.states), sets::below(j.0));
+    InSet(among(&g.input.moves, rest, j.0))
 }
 
 // The inputs that are the smallest of their components.

@@ -1,10 +1,13 @@
 -- `name_firsts` names each input that is the smallest of its component for the inputs of that component.
-use Prim.Native.Nat.{_≤_, _-_}
-use mathlib.Core.Path.{_≡_, refl, sym, _∙_}
+use Prim.Native.Nat.{ℕ, _-_, _≤_, _<_}
+use mathlib.Core.Path.{_≡_, refl, sym, _∙_, ap}
 use mathlib.Core.Logic.{⊎-elim}
 use native.Mathlib.Omega.{arith}
+use Rattle.bits.specs.Member.{has}
+use Rattle.bits.proofs.Membership.{has-pack-below}
 use Rattle.game.proofs.Laws.{accepted-fits}
 use Rattle.play.specs.Play.{separatedOf}
+use Rattle.compact.specs.Rank.{leads}
 use Rattle.compact_checks.specs.Firsts.{Named}
 use Rattle.compact_checks.proofs.Game.{firsts-none, firsts-leader, firsts-other, firsts-end}
 use Rattle.compact_checks.proofs.name_firsts.Statement.{statement}
@@ -27,7 +30,10 @@ member-requires c κs =
 component-requires : tie.Need-component-requires Inv-loop μ-loop
 component-requires c κs =
     let a = c .before .before in
-    (a .before .before .pre .0, omega (arith, a .loop-test .taken, a .before .loop .inv .1))
+    let s = a .before .before in
+    let b : a .before .loop .j < s .args .g .input .states = omega (arith, a .loop-test .taken, a .before .loop .inv .1) in
+    let member = sym (c .before .member .ensures) ∙ c .if1 .taken in
+    (s .pre .0, b, sym (has-pack-below _ (leads (separatedOf (s .args .g))) _ b) ∙ ap (λ (x : ℕ). has x (a .before .loop .j)) (sym (s .pre .1)) ∙ member)
 
 cast-mark : tie.Need-cast-mark Inv-loop μ-loop
 cast-mark c =
