@@ -1,4 +1,4 @@
-// The components of the input graph and their ranks, found with a few sets and no scratch: forward from a state, then backward to it.
+// The components of the input graph and their ranks, found with a few sets and no scratch: backward to a state, then forward from it.
 use game::Game;
 use game::InSet;
 use game::InState;
