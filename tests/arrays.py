@@ -7,7 +7,7 @@ DIR is a repository whose crates are proved. The MIR that `rt mir` prints lists 
 entries below call, directly or not, a local that holds an array of over 64 bytes, also inside a struct or an enum, must be a copy of the game's: its type
 is one of the game's (or of the kit's drives, of which the kit's game is made), or the array inside one; and it is a parameter, or assigned whole from
 another such local, or a function's result. Nothing is written into it, nor is a `&mut` to it made. The two functions that make a kit's game out of its
-drives may write what they make, and so may the one that puts the game's requirements into an outline.
+drives may write what they make, and so may the one that copies the sets of the game's requirements into one list.
 
 Then the test is tried itself. It must find something with a set more in the arrays of eight words, with no type of the game's known, and with the makers
 of a kit's game not known.
@@ -19,7 +19,7 @@ import sys
 BYTES = 64
 ENTRIES = {"map": ["map::won_map"], "solver": ["solver::solve_into", "solver::solve_compact_into"], "kit": ["kit::solve_kit"]}
 GAMES = {"game::Game", "game::Graph", "kit_drives::Kit", "kit_drives::Drive"}
-MAKERS = {"kit_drives::graph_of", "kit_drives::game_of", "table_sizes::outline_of"}
+MAKERS = {"kit_drives::graph_of", "kit_drives::game_of", "game_sets::list_of"}
 
 sys.setrecursionlimit(1_000_000)
 

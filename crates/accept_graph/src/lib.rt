@@ -2,7 +2,6 @@
 use game::Graph;
 use sets::Set;
 ghost use mathlib.Core.Path.{_≡_};
-ghost use mathlib.Core.Bool.{not, _||_};
 ghost use Rattle.bits.specs.Member.{within};
 ghost use Prim.Native.Nat.{min};
 ghost use Rattle.sets.specs.Words.{capacity, bitsOf, setsIn};
@@ -59,21 +58,22 @@ fn first_rows(n: usize) -> usize
     sets::CAPACITY
 }
 
-// The rows past the count are looked at together.
-pub fn states_fit(g: Graph) -> bool
+// The rows past the count are looked at together. The rows of g are lent besides g, as a graph that goes by value is copied.
+pub fn states_fit(g: Graph, moves: &[u64; sets::ROW_WORDS]) -> bool
+    requires { ⌜ now moves ≡ g .moves ⌝ }
     ensures { λ r. ⌜ r ≡ statesFit g ⌝ }
 {
     if !sets::within(g.initial, g.states) {
         return false;
     }
-    let past = joined_past(&g.moves, g.states);
+    let past = joined_past(moves, g.states);
     if !sets::is_empty(past) {
         return false;
     }
     let m = first_rows(g.states);
     let mut s = 0;
     while s < m {
-        if !row_fits(sets::row_of(&g.moves, s), g.states, s) {
+        if !row_fits(sets::row_of(moves, s), g.states, s) {
             return false;
         }
         s += 1;

@@ -16,13 +16,18 @@ fn counts_fit(g: Game) -> bool
     accept_graph::count_fits(g.output)
 }
 
-fn states_in_count(g: Game) -> bool
+fn states_in_count<'a>(
+    g: Game,
+    ins: &'a [u64; sets::ROW_WORDS],
+    outs: &'a [u64; sets::ROW_WORDS],
+) -> bool
+    requires { ⌜ (now ins ≡ g .input .moves) × (now outs ≡ g .output .moves) ⌝ }
     ensures { λ r. ⌜ r ≡ statesInCount g ⌝ }
 {
-    if !accept_graph::states_fit(g.input) {
+    if !accept_graph::states_fit(g.input, ins) {
         return false;
     }
-    accept_graph::states_fit(g.output)
+    accept_graph::states_fit(g.output, outs)
 }
 
 fn initials_exist(g: Game) -> bool
@@ -92,16 +97,31 @@ fn first_failing(
     Acceptance::Accepted
 }
 
-// Whether the game is accepted; else the lowest code whose condition holds. Every test is safe on every record.
-pub fn accept(g: Game) -> Acceptance
+// Whether the game is accepted; else the lowest code whose condition holds. Every test is safe on every record. The rows of both graphs are lent besides
+// the game, so that they are read where the caller has them.
+pub fn accept_lent<'a>(
+    g: Game,
+    ins: &'a [u64; sets::ROW_WORDS],
+    outs: &'a [u64; sets::ROW_WORDS],
+) -> Acceptance
+    requires { ⌜ (now ins ≡ g .input .moves) × (now outs ≡ g .output .moves) ⌝ }
     ensures { λ r. ⌜ Accepts g r ⌝ }
 {
     first_failing(
         counts_fit(g),
-        states_in_count(g),
+        states_in_count(g, ins, outs),
         initials_exist(g),
         g.k <= 8,
         lengths_fit(g),
         sets_fit(g),
     )
+}
+
+// The same for a caller that lends no rows. Only they are copied, where a part of g that is lent would have all of g copied.
+pub fn accept(g: Game) -> Acceptance
+    ensures { λ r. ⌜ Accepts g r ⌝ }
+{
+    let ins = g.input.moves;
+    let outs = g.output.moves;
+    accept_lent(g, &ins, &outs)
 }

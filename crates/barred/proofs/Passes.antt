@@ -22,7 +22,7 @@ use Rattle.theory.specs.Region.{answers, replies}
 use Rattle.theory.specs.Tour.{goalAt}
 use Rattle.theory.proofs.Region.{answers-intro, replies-intro, replies-elim}
 use Rattle.barred.specs.Arena.{Pairs, free}
-use Rattle.barred.specs.Region.{assumed, guaranteed, nothing, target, stayStep, stay, reach, barredRegion}
+use Rattle.barred.specs.Region.{assumed, guaranteed, nothing, barredTarget, stayStep, stay, reach, barredRegion}
 use Rattle.barred.proofs.Rounds.{
   Sub,
   sub-intro,
@@ -65,12 +65,12 @@ module _ (S : Separated) where
       (sub-intro S
       (λ i o a b h.
       and-intro (sub-elim S z i o a b (stay-in S goal wait Z Y i o h))
-      (replies-mono S (target goal wait Z Y (stay S goal wait Z Y)) (target goal′ wait′ Z′ Y′ (stay S goal wait Z Y))
+      (replies-mono S (barredTarget goal wait Z Y (stay S goal wait Z Y)) (barredTarget goal′ wait′ Z′ Y′ (stay S goal wait Z Y))
       (sub-intro S (λ j p c d k. into j p c d k)) i o
       (stay-replies S goal wait Z Y i o a b h))))
     where
-      into : (j p : ℕ) → j < S .input .states → p < S .output .states → target goal wait Z Y (stay S goal wait Z Y) j p ≡ true
-          → target goal′ wait′ Z′ Y′ (stay S goal wait Z Y) j p ≡ true
+      into : (j p : ℕ) → j < S .input .states → p < S .output .states → barredTarget goal wait Z Y (stay S goal wait Z Y) j p ≡ true
+          → barredTarget goal′ wait′ Z′ Y′ (stay S goal wait Z Y) j p ≡ true
       into j p c d k =
           elim (target-elim goal wait Z Y (stay S goal wait Z Y) j p k) [
             | inl g ↦ target-goal goal′ wait′ Z′ Y′ (stay S goal wait Z Y) j p (f p d (g .0)) (sub-elim S z j p c d (g .1))
@@ -85,23 +85,23 @@ module _ (S : Separated) where
   module _ (goal wait : ℕ → Bool) (Z Y X : Pairs) (kept : Sub S (stay S goal wait Z Y) X) where
     -- row i may be shrunk to what has a move into the target of row j, for each move from i to j
     pub stay-kept : (i o j : ℕ) → i < S .input .states → o < S .output .states → edge (S .input) i j ≡ true → stay S goal wait Z Y i o ≡ true
-        → answers S (target goal wait Z Y X) j o ≡ true
+        → answers S (barredTarget goal wait Z Y X) j o ≡ true
     stay-kept i o j a b e h =
-        replies-elim S (target goal wait Z Y X) i o j
-        (replies-mono S (target goal wait Z Y (stay S goal wait Z Y)) (target goal wait Z Y X)
+        replies-elim S (barredTarget goal wait Z Y X) i o j
+        (replies-mono S (barredTarget goal wait Z Y (stay S goal wait Z Y)) (barredTarget goal wait Z Y X)
         (target-mono S goal wait Z Z Y Y (stay S goal wait Z Y) X (sub-refl S Z) (sub-refl S Y) kept) i o (stay-replies S goal wait Z Y i o a b h)) e
 
     -- where no row shrinks any more, X is found
     pub stay-found : Sub S X Z
         → ((i o j : ℕ) → i < S .input .states → o < S .output .states → edge (S .input) i j ≡ true → X i o ≡ true
-        → answers S (target goal wait Z Y X) j o ≡ true)
+        → answers S (barredTarget goal wait Z Y X) j o ≡ true)
         → (i o : ℕ) → i < S .input .states → o < S .output .states → X i o ≡ stay S goal wait Z Y i o
     unfolding stayStep
     stay-found x f =
         same-sets
         (stay-greatest S goal wait Z Y X x
         (sub-intro S
-        (λ i o a b h. and-intro (sub-elim S x i o a b h) (replies-intro S (target goal wait Z Y X) i o (λ j e. f i o j a b e h)))))
+        (λ i o a b h. and-intro (sub-elim S x i o a b h) (replies-intro S (barredTarget goal wait Z Y X) i o (λ j e. f i o j a b e h)))))
         kept
 
 -- ---- C2
@@ -130,7 +130,7 @@ module _ (S : Separated) (bar : Pairs) (q : Requirement) where
       (sub-intro S
       (λ i o a b h.
       and-intro (sub-elim S z i o a b h)
-      (replies-mono S (barredRegion S bar q) (target never never Z nothing (barredRegion S bar q))
+      (replies-mono S (barredRegion S bar q) (barredTarget never never Z nothing (barredRegion S bar q))
       (sub-intro S (λ j p c d k. target-wait never never Z nothing (barredRegion S bar q) j p refl k)) i o (region-replies i o h))))
 
   -- ---- C4
@@ -148,7 +148,7 @@ module _ (S : Separated) (Z : Pairs) where
   kept = stay S never never Z nothing
 
   -- of the target's three parts only X is there
-  only-stay : (j p : ℕ) → target never never Z nothing kept j p ≡ true → kept j p ≡ true
+  only-stay : (j p : ℕ) → barredTarget never never Z nothing kept j p ≡ true → kept j p ≡ true
   unfolding nothing
   only-stay j p h =
       elim (target-elim never never Z nothing kept j p h) [
@@ -159,7 +159,7 @@ module _ (S : Separated) (Z : Pairs) where
   pub trimmed-replies : (i o : ℕ) → i < S .input .states → o < S .output .states → stay S never never Z nothing i o ≡ true
       → replies S (stay S never never Z nothing) i o ≡ true
   trimmed-replies i o a b h =
-      replies-mono S (target never never Z nothing kept) kept (sub-intro S (λ j p c d k. only-stay j p k)) i o
+      replies-mono S (barredTarget never never Z nothing kept) kept (sub-intro S (λ j p c d k. only-stay j p k)) i o
       (stay-replies S never never Z nothing i o a b h)
 
 module _ (S : Separated) (q : Requirement) (Z : Pairs)
@@ -179,7 +179,7 @@ module _ (S : Separated) (q : Requirement) (Z : Pairs)
       (sub-intro S
       (λ i o a b h.
       and-intro h
-      (replies-mono S Z (target first (goalAt (assumed q) 0) Z nothing Z)
+      (replies-mono S Z (barredTarget first (goalAt (assumed q) 0) Z nothing Z)
       (sub-intro S (λ j p c d z. target-goal first (goalAt (assumed q) 0) Z nothing Z j p (first-every p) z)) i o (trimmed i o a b h))))
 
   trimmed-first : Sub S Z (reach S q first Z)

@@ -3,7 +3,7 @@
 --   freed-none, freed-next       : what is not barred is kept, row after row
 --   Keeping g b l m              == of what is kept nothing that is won and not barred has been taken out
 --   keeping-start, keeping-next, keeping-falls, keeping-end
-use Prim.Native.Nat.{ℕ, _+_, _≤_, _<_}
+use Prim.Native.Nat.{ℕ, _+_, _<_}
 use mathlib.Core.Path.{_≡_, refl, sym, _∙_, ap}
 use mathlib.Core.Bool.{Bool, true, false, _&&_, not}
 use mathlib.Core.List.{List, List·Memᴰ}
@@ -32,7 +32,7 @@ use Rattle.play.specs.Play.{graphOf, separatedOf, requirementOf}
 use Rattle.barred_rows.specs.Areas.{keptPairs, keptAt, stayingAt}
 use Rattle.barred_rows.proofs.Rows.{apart-set}
 use Rattle.barred_stay.specs.Stay.{Within}
-use Rattle.barred_region.specs.Region.{only, barOf, Among, Trimmed, Endless, Passed, Freed, Kept}
+use Rattle.barred_region.specs.Region.{only, barOf, Among, Trimmed, Endless, Passed, Freed, RegionKept}
 use Rattle.barred_region.proofs.Among.{among-sub, sub-among, part-reach, counted, counted-less}
 use Rattle.barred_region.proofs.Trimming.{trimmed-endless}
 
@@ -106,7 +106,7 @@ module _ (g : Game) (F : Fits g) (b l : List ℕ) where
         let u = P .some e in
         counted-less g F (record { all = λ i o x y h. P .inside i o x h }) (u .0) (u .1) (u .2) (u .3) (u .5) (u .4)
 
-    pub keeping-end : r ≡ false → Kept g b l n
+    pub keeping-end : r ≡ false → RegionKept g b l n
     unfolding separatedOf graphOf only requirementOf
     keeping-end e = record {
       apart = keeping-next .apart;
@@ -146,7 +146,7 @@ module _ (g : Game) (F : Fits g) (b l : List ℕ) where
             found i o h k ∙ and-right (ltb o (g .output .states)) (barredRegion (separatedOf g) (barOf b) (only g) i o) u)
 
   -- from before what is not barred was kept
-  pub kept-from : (m n k : List ℕ) → Freed g (g .input .states) b l m → Trimmed g m n → Kept g b n k → Kept g b l k
+  pub kept-from : (m n k : List ℕ) → Freed g (g .input .states) b l m → Trimmed g m n → RegionKept g b n k → RegionKept g b l k
   kept-from m n k E T K = record {
     apart = but-then (but-then (but-wider keptAt (stayingAt + g .input .states) (omega arith) (omega arith) (E .apart)) (T .apart)) (K .apart);
     row = K .row;

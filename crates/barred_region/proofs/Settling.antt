@@ -2,7 +2,7 @@
 --
 --   settled-same, settled-less      : one output set
 --   passed-none, passed-same, passed-less    : output set after output set
-use Prim.Native.Nat.{ℕ, suc, _+_, _≤_, _<_}
+use Prim.Native.Nat.{ℕ, suc, _+_, _<_}
 use mathlib.Core.Path.{_≡_, refl, sym, _∙_, ap}
 use mathlib.Core.Bool.{Bool, true, false, _&&_}
 use mathlib.Core.List.{List}
@@ -27,11 +27,11 @@ use Rattle.game.specs.Fits.{Fits}
 use Rattle.play.specs.Play.{graphOf, separatedOf, requirementOf}
 use Rattle.barred_rows.specs.Areas.{keptPairs, reachedPairs, keptAt, reachedAt, stayingAt, Met}
 use Rattle.barred_stay.specs.Stay.{Within}
-use Rattle.barred_region.specs.Region.{only, Among, Reached, Trimmed, Settled, Passed}
+use Rattle.barred_region.specs.Region.{only, Among, ReachFound, Trimmed, Settled, Passed}
 use Rattle.barred_region.proofs.Among.{among-sub, sub-among, part-reach}
 use Rattle.barred_region.proofs.Trimming.{trimmed-endless}
 
-module _ (g : Game) (F : Fits g) (v : ℕ) (l a b : List ℕ) (r : Bool) (R : Reached g v l a) (M : Met (g .input .states) reachedAt keptAt a b r) where
+module _ (g : Game) (F : Fits g) (v : ℕ) (l a b : List ℕ) (r : Bool) (R : ReachFound g v l a) (M : Met (g .input .states) reachedAt keptAt a b r) where
   kept-a : (i : ℕ) → i < g .input .states → getD a i 0 ≡ getD l i 0
   kept-a i h = R .apart .low i (omega (arith, F .input .most))
 

@@ -2,7 +2,7 @@
 --
 --   trimmed         : emptied, stayed, copied
 --   trimmed-endless : what is left goes on for ever
-use Prim.Native.Nat.{ℕ, _+_, _≤_, _<_}
+use Prim.Native.Nat.{ℕ, _+_, _<_}
 use mathlib.Core.Path.{_≡_, sym, _∙_, ap}
 use mathlib.Core.List.{List}
 use native.Mathlib.Nat.{zero-add}

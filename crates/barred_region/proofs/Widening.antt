@@ -9,7 +9,7 @@ use Prim.Native.Nat.{ℕ, suc, _+_, _*_, _-_, _≤_, _<_}
 use mathlib.Core.Path.{_≡_, refl, sym, _∙_, ap}
 use mathlib.Core.Bool.{Bool, true, false, _||_}
 use mathlib.Core.List.{List}
-use mathlib.Core.Logic.{_⊎_, inl, inr}
+use mathlib.Core.Logic.{inl, inr}
 use native.Mathlib.Numerals.{add-one}
 use native.Mathlib.Decide.{ℕ-discrete}
 use native.Mathlib.Omega.{arith}
@@ -33,7 +33,7 @@ use Rattle.game.specs.Fits.{Fits}
 use Rattle.play.specs.Play.{graphOf, separatedOf, requirementOf}
 use Rattle.barred_rows.specs.Areas.{keptPairs, reachedPairs, stayingPairs, reachedAt, stayingAt, Emptied, United}
 use Rattle.barred_stay.specs.Stay.{Within, Stayed}
-use Rattle.barred_region.specs.Region.{only, Among, Waits, WidenedBy, Widened, Reached}
+use Rattle.barred_region.specs.Region.{only, Among, Waits, WidenedBy, Widened, ReachFound}
 use Rattle.barred_region.proofs.Among.{among-sub, sub-among, among-self, among-then, rows-among, part-stay, part-reach}
 use Rattle.barred_region.proofs.Among.{counted, counted-most, counted-less}
 
@@ -208,7 +208,7 @@ module _ (g : Game) (F : Fits g) where
           let u = R .some e in
           omega (arith, counted-less g F (R .more) (u .0) (u .1) (u .2) (u .3) (u .4) (u .5), counted-most g (reachedPairs m′))
 
-      pub reaching-end : r ≡ false → Reached g v l m′
+      pub reaching-end : r ≡ false → ReachFound g v l m′
       unfolding separatedOf graphOf
       reaching-end e = record {
         apart = but-then (T .apart) (R .apart);
@@ -221,7 +221,7 @@ module _ (g : Game) (F : Fits g) where
       }
 
   -- what is kept is as it was before what was reached had been emptied
-  pub reached-from : (v : ℕ) (k l m : List ℕ) → Emptied (g .input .states) reachedAt k l → Reached g v l m → Reached g v k m
+  pub reached-from : (v : ℕ) (k l m : List ℕ) → Emptied (g .input .states) reachedAt k l → ReachFound g v l m → ReachFound g v k m
   reached-from v k l m E R = record {
     apart = but-then wide (R .apart);
     found = λ i o a b. R .found i o a b

@@ -6,12 +6,12 @@
 --   WidenedBy g v w l m r     == where the controller can stay has been added to what is reached, v being the goal and w waited for; r tells whether
 --                                that added a position
 --   Widened g v k l m r       == so it is for the sets from number k on, the last first, up to the first that adds a position
---   Reached g v l m           == what is reached is found
+--   ReachFound g v l m        == what is reached is found
 --   Trimmed g l m             == what is kept has been trimmed
 --   Settled g v l m r         == what does not reach the goal v has been taken out of what is kept; r tells whether there was any
 --   Passed g k l m r          == so it is for the first k output sets
 --   Freed g k b l m           == the first k rows of what is kept have what is not barred
---   Kept g b l m              == what is kept is the winning region
+--   RegionKept g b l m        == what is kept is the winning region
 use Prim.Native.Nat.{ℕ, _+_, _≤_, _<_}
 use mathlib.Core.Path.{_≡_}
 use mathlib.Core.Bool.{Bool, true, false, _&&_, _||_, not}
@@ -62,7 +62,7 @@ pub record Widened (g : Game) (v k : ℕ) (l m : List ℕ) (r : Bool) : Type 0 w
   pub none : r ≡ false → (j : ℕ) → k ≤ j → j < length (assumed (only g))
       → Among g (stay (separatedOf g) (has v) (goalAt (assumed (only g)) j) (keptPairs l) (reachedPairs l)) (reachedPairs l)
 
-pub record Reached (g : Game) (v : ℕ) (l m : List ℕ) : Type 0 where
+pub record ReachFound (g : Game) (v : ℕ) (l m : List ℕ) : Type 0 where
   pub apart : ButFor reachedAt (stayingAt + g .input .states) l m
   pub found : (i o : ℕ) → i < g .input .states → o < g .output .states
       → reachedPairs m i o ≡ reach (separatedOf g) (only g) (has v) (keptPairs l) i o
@@ -105,6 +105,6 @@ pub record Freed (g : Game) (k : ℕ) (b l m : List ℕ) : Type 0 where
   pub apart : ButFor keptAt k l m
   pub row : (i o : ℕ) → i < k → keptPairs m i o ≡ (ltb o (g .output .states) && not (barOf b i o))
 
-pub record Kept (g : Game) (b l m : List ℕ) : Type 0 where
+pub record RegionKept (g : Game) (b l m : List ℕ) : Type 0 where
   pub apart : ButFor keptAt (stayingAt + g .input .states) l m
   pub row : (i : ℕ) → i < g .input .states → getD m i 0 ≡ pack (g .output .states) (barredRegion (separatedOf g) (barOf b) (only g) i)

@@ -1,12 +1,11 @@
 // The winning region of the game with bars and one requirement, worked out in scratch: source document 002's fixpoint, told in crate barred.
-ghost use mathlib.Core.Path.{_≡_};
 ghost use Prim.Native.Nat.{_≤_, _<_};
 ghost use Rattle.sets.specs.Words.{bitsOf, setsIn, setCount};
 ghost use Rattle.game.specs.Access.{requirementAt};
 ghost use Rattle.game.specs.Fits.{Fits};
 ghost use Rattle.barred.specs.Region.{assumed};
 ghost use Rattle.barred_stay.specs.Stay.{Within};
-ghost use Rattle.barred_region.specs.Region.{Waits, WidenedBy, Widened, Reached, Trimmed, Settled, Passed, Freed, Kept};
+ghost use Rattle.barred_region.specs.Region.{Waits, WidenedBy, Widened, ReachFound, Trimmed, Settled, Passed, Freed, RegionKept};
 use barred_rows::KEPT;
 use barred_rows::REACHED;
 use barred_rows::STAYING;
@@ -55,7 +54,7 @@ fn widen(g: Game, s: &mut [u64], goal: OutSet) -> bool
 // Finds what is reached: where the controller comes to the goal, or some set of the requirement stays away.
 fn reach(g: Game, s: &mut [u64], goal: OutSet)
     requires { ⌜ Fits g × (384 ≤ setCount (now s)) × Within g (setsIn (now s)) ⌝ }
-    ensures { λ _. ⌜ Reached g (bitsOf (goal .0)) (setsIn (now (s .entry))) (setsIn (now (s .exit))) ⌝ }
+    ensures { λ _. ⌜ ReachFound g (bitsOf (goal .0)) (setsIn (now (s .entry))) (setsIn (now (s .exit))) ⌝ }
 {
     barred_rows::empty(s, g.input.states, REACHED);
     while widen(g, s, goal) {}
@@ -118,7 +117,7 @@ fn free(g: Game, bars: &[u64], s: &mut [u64])
 // Finds the winning region: row i of what is kept are the outputs that are won with input i and not barred.
 pub fn keep(g: Game, bars: &[u64], s: &mut [u64])
     requires { ⌜ Fits g × (384 ≤ setCount (now s)) × (g .input .states ≤ setCount (now bars)) ⌝ }
-    ensures { λ _. ⌜ Kept g (setsIn (now (bars .entry))) (setsIn (now (s .entry))) (setsIn (now (s .exit))) ⌝ }
+    ensures { λ _. ⌜ RegionKept g (setsIn (now (bars .entry))) (setsIn (now (s .entry))) (setsIn (now (s .exit))) ⌝ }
 {
     free(g, bars, s);
     trim(g, s);

@@ -19,7 +19,7 @@ use Rattle.finite.proofs.But.{but-self, but-then, but-wider}
 use Rattle.bits.specs.Member.{has}
 use Rattle.bits.proofs.Membership.{has-zero}
 use Rattle.bits.proofs.Compare.{nonzero-member}
-use Rattle.barred.specs.Region.{target}
+use Rattle.barred.specs.Region.{barredTarget}
 use Rattle.barred_rows.specs.Areas.{keptPairs, reachedPairs, stayingPairs, stayingAt}
 use Rattle.barred_rows.proofs.Rows.{apart-set}
 use Rattle.barred_stay.specs.Stay.{RowShrunk, Shrunk}
@@ -29,8 +29,8 @@ use Rattle.barred_stay.specs.Stay.{RowShrunk, Shrunk}
 pub target-told : (l : List ℕ) (j v w z y x a b r : ℕ) {k : Bool} → z ≡ getD l j 0 → y ≡ getD l (128 + j) 0 → x ≡ getD l (256 + j) 0 → k ≡ has w j
     → ((p : ℕ) → has a p ≡ (has v p && has z p)) → ((p : ℕ) → has b p ≡ (has y p || (not k && has x p)))
     → ((p : ℕ) → has r p ≡ (has a p || has b p))
-    → (p : ℕ) → has r p ≡ target (has v) (has w) (keptPairs l) (reachedPairs l) (stayingPairs l) j p
-unfolding target
+    → (p : ℕ) → has r p ≡ barredTarget (has v) (has w) (keptPairs l) (reachedPairs l) (stayingPairs l) j p
+unfolding barredTarget
 target-told l j v w z y x a b r ez ey ex ek ea eb er p = rw (er p, ea p, eb p, ez, ey, ex, ek) refl
 
 -- ---- one row

@@ -4,7 +4,7 @@
 --   rowsAllowed               == the outputs that have a move into a set
 --   Staying g v w l x m       == from the sets l, the sets m are reached, and the inputs x are left to be followed; v is the goal, w is waited for
 --   staying-start, staying-next, staying-falls, staying-end
-use Prim.Native.Nat.{ℕ, _+_, _*_, _/_, _%_, _^_, _≤_, _<_}
+use Prim.Native.Nat.{ℕ, _+_, _*_, _/_, _%_, _≤_, _<_}
 use mathlib.Core.Path.{_≡_, refl, sym, _∙_, ap}
 use mathlib.Core.Bool.{Bool, true, false, _&&_, _||_, not}
 use mathlib.Core.List.{List}
@@ -21,7 +21,7 @@ use Rattle.finite.proofs.Truth.{decide, clash, false-of, and-intro, and-left, a
 use Rattle.finite.proofs.Bounded.{any-elim, any-false, count-le, count-mono, count-less, least-below, least-member}
 use Rattle.finite.specs.But.{ButFor}
 use Rattle.finite.proofs.But.{but-self, but-then}
-use Rattle.bits.specs.Member.{has, meets, pack}
+use Rattle.bits.specs.Member.{has, setsMeet, pack}
 use Rattle.bits.proofs.Membership.{has-zero, has-pack-below}
 use Rattle.bits.proofs.Compare.{nonzero-member, meets-intro, meets-elim}
 use Rattle.sets.specs.Words.{capacity, setsIn}
@@ -30,7 +30,7 @@ use Rattle.graphs.proofs.Graph.{edge-to, edge-intro, edge-moves}
 use Rattle.theory.specs.Region.{answers}
 use Rattle.theory.proofs.Region.{answers-intro, answers-elim}
 use Rattle.barred.specs.Arena.{Pairs}
-use Rattle.barred.specs.Region.{target, stay}
+use Rattle.barred.specs.Region.{barredTarget, stay}
 use Rattle.barred.proofs.Rounds.{Sub, sub-intro, sub-elim, target-goal, target-near, target-wait, target-elim, stay-in, stay-mono}
 use Rattle.barred.proofs.Passes.{same-sets, stay-kept, stay-found}
 use Rattle.game.specs.declared.Game.{Game}
@@ -83,7 +83,7 @@ module _ (g : Game) (v w : ℕ) (l : List ℕ) where
 
   -- what a reply is to enter, from the sets m
   abbrev entering : List ℕ → Pairs
-  entering m = target goal wait Z Y (stayingPairs m)
+  entering m = barredTarget goal wait Z Y (stayingPairs m)
 
   pub record Staying (x : ℕ) (m : List ℕ) : Type 0 where
     pub apart : ButFor stayingAt (stayingAt + g .input .states) l m
@@ -113,11 +113,11 @@ module _ (g : Game) (F : Fits g) (v w : ℕ) (l : List ℕ) where
     first = left-lowest (g .input .states) x (R .input) (F .input .most) (T .inputs) ne (R .lowest)
 
     abbrev allowed : ℕ
-    allowed = pack (g .output .states) (λ o. meets capacity (getD (setsIn (g .output .moves)) o 0) (R .entered))
+    allowed = pack (g .output .states) (λ o. setsMeet capacity (getD (setsIn (g .output .moves)) o 0) (R .entered))
 
     -- of the three rows of the target one changes as we go
     told : (p : ℕ) → has (R .entered) p ≡ entering g v w l m (R .input) p
-    unfolding target
+    unfolding barredTarget
     told p = R .target p ∙ same-target
       where
         kept-row : getD m (R .input) 0 ≡ getD l (R .input) 0
@@ -126,7 +126,7 @@ module _ (g : Game) (F : Fits g) (v w : ℕ) (l : List ℕ) where
         reached-row : getD m (128 + R .input) 0 ≡ getD l (128 + R .input) 0
         reached-row = T .apart .low (128 + R .input) (omega (arith, first .0, F .input .most))
 
-        same-target : target (has v) (has w) (keptPairs m) (reachedPairs m) (stayingPairs m) (R .input) p ≡ entering g v w l m (R .input) p
+        same-target : barredTarget (has v) (has w) (keptPairs m) (reachedPairs m) (stayingPairs m) (R .input) p ≡ entering g v w l m (R .input) p
         same-target = rw (kept-row, reached-row) refl
 
     allowed-answers : (o : ℕ) → o < g .output .states → has allowed o ≡ true → answers (separatedOf g) (entering g v w l m) (R .input) o ≡ true

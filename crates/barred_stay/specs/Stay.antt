@@ -6,7 +6,7 @@
 --   Shrunk rows n j r w x x′ l m     == so have the rows of all inputs below n that move to j
 --   Followed ins n outs k v w x x′ l m    == the lowest input of x has been followed, v being the goal; n inputs, k outputs
 --   Stayed g v w l m                 == what is staying is where the controller can stay
-use Prim.Native.Nat.{ℕ, _+_, _≤_, _<_}
+use Prim.Native.Nat.{ℕ, _+_, _<_}
 use mathlib.Core.Path.{_≡_}
 use mathlib.Core.Bool.{true, false, _&&_, _||_, not}
 use mathlib.Core.List.{List}
@@ -15,11 +15,11 @@ use lib.Dec.{eqb}
 use lib.ListN.{getD}
 use Rattle.finite.specs.Bounded.{least}
 use Rattle.finite.specs.But.{ButFor}
-use Rattle.bits.specs.Member.{has, meets, pack}
+use Rattle.bits.specs.Member.{has, setsMeet, pack}
 use Rattle.sets.specs.Words.{capacity}
 use Rattle.game.specs.declared.Game.{Game}
 use Rattle.play.specs.Play.{separatedOf}
-use Rattle.barred.specs.Region.{target, stay}
+use Rattle.barred.specs.Region.{barredTarget, stay}
 use Rattle.barred_rows.specs.Areas.{keptPairs, reachedPairs, stayingPairs, stayingAt}
 
 pub record Within (g : Game) (l : List ℕ) : Type 0 where
@@ -44,8 +44,8 @@ pub record Followed (ins : List ℕ) (n : ℕ) (outs : List ℕ) (k v w x x′ :
   pub rest : ℕ
   pub others : (t : ℕ) → has rest t ≡ (has x t && not (eqb t input))
   pub entered : ℕ
-  pub target : (p : ℕ) → has entered p ≡ target (has v) (has w) (keptPairs l) (reachedPairs l) (stayingPairs l) input p
-  pub shrunk : Shrunk ins n input (pack k (λ o. meets capacity (getD outs o 0) entered)) w rest x′ l m
+  pub target : (p : ℕ) → has entered p ≡ barredTarget (has v) (has w) (keptPairs l) (reachedPairs l) (stayingPairs l) input p
+  pub shrunk : Shrunk ins n input (pack k (λ o. setsMeet capacity (getD outs o 0) entered)) w rest x′ l m
 
 pub record Stayed (g : Game) (v w : ℕ) (l m : List ℕ) : Type 0 where
   pub apart : ButFor stayingAt (stayingAt + g .input .states) l m

@@ -4,10 +4,10 @@ ghost use mathlib.Core.Bool.{true};
 ghost use mathlib.Core.Logic.{_≢_};
 ghost use Prim.Native.Nat.{ℕ, _≤_, _<_};
 ghost use lib.ListN.{getD};
-ghost use Rattle.bits.specs.Member.{has, meets, pack};
+ghost use Rattle.bits.specs.Member.{has, setsMeet, pack};
 ghost use Rattle.sets.specs.Words.{capacity, bitsOf, setsIn, setCount};
 ghost use Rattle.game.specs.Fits.{Fits};
-ghost use Rattle.barred.specs.Region.{target as targeted};
+ghost use Rattle.barred.specs.Region.{barredTarget as targeted};
 ghost use Rattle.barred_rows.specs.Areas.{keptPairs, reachedPairs, stayingPairs};
 ghost use Rattle.barred_stay.specs.Stay.{Within, RowShrunk, Shrunk, Followed, Stayed};
 use barred_rows::KEPT;
@@ -36,7 +36,7 @@ fn target(s: &[u64], j: InState, goal: OutSet, wait: InSet) -> OutSet
 // The outputs below m that have a move into x.
 fn answering(moves: &[u64; ROW_WORDS], m: usize, x: OutSet) -> OutSet
     requires { ⌜ m ≤ capacity ⌝ }
-    ensures { λ r. ⌜ bitsOf (r .0) ≡ pack m (λ o. meets capacity (getD (setsIn (now (moves .entry))) o 0) (bitsOf (x .0))) ⌝ }
+    ensures { λ r. ⌜ bitsOf (r .0) ≡ pack m (λ o. setsMeet capacity (getD (setsIn (now (moves .entry))) o 0) (bitsOf (x .0))) ⌝ }
 {
     let mut c = sets::empty();
     let mut o: usize = 0;

@@ -15,7 +15,7 @@ use borrow.Author.Tests.{eqb-true, eqb-false, eq-eqb, ne-eqb}
 use Rattle.finite.specs.Bounded.{least, leastFrom, count, one}
 use Rattle.finite.proofs.Truth.{decide, clash, and-intro, and-left, and-right, same-test, not-true}
 use Rattle.finite.proofs.Bounded.{all-intro, all-elim, any-intro, any-elim, count-same, least-same}
-use Rattle.bits.specs.Member.{has, implies, both, subset, meets}
+use Rattle.bits.specs.Member.{has, implies, both, subset, setsMeet}
 use Rattle.bits.proofs.Membership.{digit, has-low, has-suc, has-zero, has-and, has-lt, ext, has-block-low}
 
 -- ---- a set that is not empty has a member
@@ -80,26 +80,26 @@ nonzero-common x y ne =
     let b : (has x (m .0) && has y (m .0)) ≡ true = sym (has-and x y (m .0)) ∙ m .1 in
     (m .0, and-left (has x (m .0)) (has y (m .0)) b, and-right (has x (m .0)) (has y (m .0)) b)
 
-pub meets-intro : (w x y s : ℕ) → s < w → has x s ≡ true → has y s ≡ true → meets w x y ≡ true
-unfolding meets both
+pub meets-intro : (w x y s : ℕ) → s < w → has x s ≡ true → has y s ≡ true → setsMeet w x y ≡ true
+unfolding setsMeet both
 meets-intro w x y s l m n = any-intro w (both x y) s l (and-intro m n)
 
-pub meets-elim : (w x y : ℕ) → meets w x y ≡ true → (s : ℕ) × (s < w) × (has x s ≡ true) × (has y s ≡ true)
-unfolding meets both
+pub meets-elim : (w x y : ℕ) → setsMeet w x y ≡ true → (s : ℕ) × (s < w) × (has x s ≡ true) × (has y s ≡ true)
+unfolding setsMeet both
 meets-elim w x y e =
     let k = any-elim w (both x y) e in
     (k .0, k .1, and-left (has x (k .0)) (has y (k .0)) (k .2), and-right (has x (k .0)) (has y (k .0)) (k .2))
 
 -- the test on words: `x & y != 0`
-pub meets-word : (w x y : ℕ) → x < 2 ^ w → not (eqb (bitAnd x y) 0) ≡ meets w x y
-meets-word w x y h = same-test (not (eqb (bitAnd x y) 0)) (meets w x y) to back
+pub meets-word : (w x y : ℕ) → x < 2 ^ w → not (eqb (bitAnd x y) 0) ≡ setsMeet w x y
+meets-word w x y h = same-test (not (eqb (bitAnd x y) 0)) (setsMeet w x y) to back
   where
-    to : not (eqb (bitAnd x y) 0) ≡ true → meets w x y ≡ true
+    to : not (eqb (bitAnd x y) 0) ≡ true → setsMeet w x y ≡ true
     to e =
         let c = nonzero-common x y (eqb-false (bitAnd x y) 0 (not-true (eqb (bitAnd x y) 0) e)) in
         meets-intro w x y (c .0) (has-lt w x (c .0) h (c .1)) (c .1) (c .2)
 
-    back : meets w x y ≡ true → not (eqb (bitAnd x y) 0) ≡ true
+    back : setsMeet w x y ≡ true → not (eqb (bitAnd x y) 0) ≡ true
     back e =
         let c = meets-elim w x y e in
         ap not (ne-eqb (bitAnd x y) 0 (common-nonzero x y (c .0) (c .2) (c .3)))

@@ -5,7 +5,7 @@ ghost use Prim.Native.Nat.{ℕ, _≤_, _<_};
 ghost use mathlib.Core.Logic.{_≢_};
 ghost use lib.Dec.{eqb, ltb};
 ghost use Rattle.finite.specs.Bounded.{least, count as members};
-ghost use Rattle.bits.specs.Member.{has, within as allBelow, subset, meets as meet};
+ghost use Rattle.bits.specs.Member.{has, within as allBelow, subset, setsMeet as meet};
 
 // Whether state s belongs to x.
 pub fn member(x: u64, s: usize) -> bool

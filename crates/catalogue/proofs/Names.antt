@@ -23,7 +23,7 @@ use Rattle.catalogue_names.proofs.Cut.{short, kept-names, fit-cut}
 use Rattle.catalogue_tally.specs.declared.Outcome.{Outcome}
 use Rattle.catalogue_tally.specs.declared.Outcome.the-variants.{Refused}
 use Rattle.catalogue_tally.specs.declared.Tally.{Tally}
-use Rattle.catalogue_tally.specs.Figures.{Tallied, Within, Roomy, Modest, added, nothing, wonOf, positionsOf}
+use Rattle.catalogue_tally.specs.Figures.{Tallied, Within, Roomy, Modest, added, emptyTally, wonOf, positionsOf}
 use Rattle.catalogue_tally.proofs.Counting.{tallied-add, tallied-roomy, tallied-nothing, within-add, within-nothing}
 use Rattle.catalogue_verdict.specs.Judged.{Judged}
 use Rattle.catalogue_lines.specs.Figures.{figuresPrint, Made}
@@ -69,7 +69,7 @@ pub record Under (l : List ℕ) (at : ℕ) (t : Tally) : Type 0 where
   pub within : Within outcomes t
   pub few : length outcomes + length (names (drop at l)) ≡ length (names l)
 
-pub under-start : (l : List ℕ) {t : Tally} → t ≡ nothing → Under l 0 t
+pub under-start : (l : List ℕ) {t : Tally} → t ≡ emptyTally → Under l 0 t
 under-start l e =
     record {
       outcomes = [];

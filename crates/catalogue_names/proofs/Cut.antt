@@ -9,7 +9,7 @@ use mathlib.Core.Path.{_≡_, refl, sym, _∙_, ap, subst}
 use lib.Dec.{eqb}
 use lib.ListN.{length, take, length-map}
 use lib.Seq.{take-all, take-nil, length-take-le}
-use Rattle.catalogue_names.specs.Names.{push, names, fitName}
+use Rattle.catalogue_names.specs.Names.{pushByte, names, fitName}
 use Rattle.catalogue_names.specs.Keeping.{cut}
 use Rattle.catalogue_names.proofs.Splitting.{unfit-long, decide, names-stop, names-on}
 use Rattle.catalogue_names.proofs.Keeping.{cut-line, cut-on, cut-past}
@@ -24,8 +24,8 @@ behind r b [] = (b ∷ []) ∷ []
 behind r b (n ∷ ns) = (b ∷ take (256 - r) n) ∷ short ns
 
 -- a byte that is kept
-behind-on : (r b c : ℕ) (ns : List (List ℕ)) → r < 256 → push b (behind (suc r) c ns) ≡ behind r b (push c ns)
-unfolding push behind
+behind-on : (r b c : ℕ) (ns : List (List ℕ)) → r < 256 → pushByte b (behind (suc r) c ns) ≡ behind r b (pushByte c ns)
+unfolding pushByte behind
 behind-on r b c [] h = rw one (ap (λ (z : List ℕ). (b ∷ c ∷ z) ∷ []) (sym (take-nil (255 - r))))
   where
     one : 256 - r ≡ suc (255 - r)
@@ -36,8 +36,8 @@ behind-on r b c (n ∷ ns) h = rw one refl
     one = omega arith
 
 -- a byte that is not
-behind-past : (r b c : ℕ) (ns : List (List ℕ)) → 256 ≤ r → behind r b ns ≡ behind r b (push c ns)
-unfolding push behind
+behind-past : (r b c : ℕ) (ns : List (List ℕ)) → 256 ≤ r → behind r b ns ≡ behind r b (pushByte c ns)
+unfolding pushByte behind
 behind-past r b c [] h = rw none refl
   where
     none : 256 - r ≡ 0
@@ -47,12 +47,12 @@ behind-past r b c (n ∷ ns) h = rw none refl
     none : 256 - r ≡ 0
     none = omega arith
 
-first-on : (b : ℕ) (ns : List (List ℕ)) → behind 1 b ns ≡ short (push b ns)
-unfolding push behind
+first-on : (b : ℕ) (ns : List (List ℕ)) → behind 1 b ns ≡ short (pushByte b ns)
+unfolding pushByte behind
 first-on b [] = refl
 first-on b (n ∷ ns) = refl
 
-module _ (c : ℕ) (l : List ℕ) (whole : names (cut 0 l) ≡ short (names l)) (part : (r b : ℕ) → push b (names (cut r l)) ≡ behind r b (names l)) where
+module _ (c : ℕ) (l : List ℕ) (whole : names (cut 0 l) ≡ short (names l)) (part : (r b : ℕ) → pushByte b (names (cut r l)) ≡ behind r b (names l)) where
   whole-line : eqb c 10 ≡ true → names (cut 0 (c ∷ l)) ≡ short (names (c ∷ l))
   whole-line e =
       ap names (cut-line 0 c l e) ∙ names-stop 10 (cut 0 l) refl ∙ ap (λ (ns : List (List ℕ)). [] ∷ ns) whole ∙ sym (ap short (names-stop c l e))
@@ -61,27 +61,27 @@ module _ (c : ℕ) (l : List ℕ) (whole : names (cut 0 l) ≡ short (names l)) 
   whole-on e =
       ap names (cut-on 0 c l e (omega arith)) ∙ names-on c (cut 1 l) e ∙ part 1 c ∙ first-on c (names l) ∙ sym (ap short (names-on c l e))
 
-  part-line : eqb c 10 ≡ true → (r b : ℕ) → push b (names (cut r (c ∷ l))) ≡ behind r b (names (c ∷ l))
-  unfolding push behind
+  part-line : eqb c 10 ≡ true → (r b : ℕ) → pushByte b (names (cut r (c ∷ l))) ≡ behind r b (names (c ∷ l))
+  unfolding pushByte behind
   part-line e r b =
-      ap (push b) (ap names (cut-line r c l e) ∙ names-stop 10 (cut 0 l) refl) ∙ ap (λ (ns : List (List ℕ)). (b ∷ []) ∷ ns) whole
+      ap (pushByte b) (ap names (cut-line r c l e) ∙ names-stop 10 (cut 0 l) refl) ∙ ap (λ (ns : List (List ℕ)). (b ∷ []) ∷ ns) whole
       ∙ ap (λ (z : List ℕ). (b ∷ z) ∷ short (names l)) (sym (take-nil (256 - r))) ∙ sym (ap (behind r b) (names-stop c l e))
 
-  part-on : eqb c 10 ≡ false → (r b : ℕ) → push b (names (cut r (c ∷ l))) ≡ behind r b (names (c ∷ l))
+  part-on : eqb c 10 ≡ false → (r b : ℕ) → pushByte b (names (cut r (c ∷ l))) ≡ behind r b (names (c ∷ l))
   part-on e r b =
       elim (decLe 256 r) [
         | yes h ↦ (
-            ap (λ (x : List ℕ). push b (names x)) (cut-past r c l e h) ∙ part r b ∙ behind-past r b c (names l) h
+            ap (λ (x : List ℕ). pushByte b (names x)) (cut-past r c l e h) ∙ part r b ∙ behind-past r b c (names l) h
             ∙ sym (ap (behind r b) (names-on c l e))
             )
         | no h ↦ (
-            ap (push b) (ap names (cut-on r c l e (omega arith)) ∙ names-on c (cut (suc r) l) e ∙ part (suc r) c)
+            ap (pushByte b) (ap names (cut-on r c l e (omega arith)) ∙ names-on c (cut (suc r) l) e ∙ part (suc r) c)
             ∙ behind-on r b c (names l) (omega arith) ∙ sym (ap (behind r b) (names-on c l e))
             )
       ]
 
-both : (l : List ℕ) → (names (cut 0 l) ≡ short (names l)) × ((r b : ℕ) → push b (names (cut r l)) ≡ behind r b (names l))
-unfolding names push behind cut
+both : (l : List ℕ) → (names (cut 0 l) ≡ short (names l)) × ((r b : ℕ) → pushByte b (names (cut r l)) ≡ behind r b (names l))
+unfolding names pushByte behind cut
 both [] = (refl, λ r b. refl)
 both (c ∷ l) =
     let rest = both l in
@@ -91,13 +91,13 @@ both (c ∷ l) =
     ]
 
 -- a byte more is at most a name more
-push-some : (b : ℕ) (ns : List (List ℕ)) → (length ns ≤ length (push b ns)) × (1 ≤ length (push b ns))
-unfolding push
+push-some : (b : ℕ) (ns : List (List ℕ)) → (length ns ≤ length (pushByte b ns)) × (1 ≤ length (pushByte b ns))
+unfolding pushByte
 push-some b [] = (omega arith, omega arith)
 push-some b (n ∷ ns) = (omega arith, omega arith)
 
-push-more : (b : ℕ) (ns ms : List (List ℕ)) → length ns ≤ length ms → length (push b ns) ≤ length (push b ms)
-unfolding push
+push-more : (b : ℕ) (ns ms : List (List ℕ)) → length ns ≤ length ms → length (pushByte b ns) ≤ length (pushByte b ms)
+unfolding pushByte
 push-more b [] [] h = omega arith
 push-more b [] (m ∷ ms) h = omega arith
 push-more b (n ∷ ns) [] h = absurd (omega arith)

@@ -10,7 +10,7 @@ use lib.Dec.{eqb}
 use lib.ListN.{length, take, drop, getD, length-drop}
 use lib.Seq.{drop-cons, drop-drop}
 use borrow.Author.Tests.{eq-eqb, ne-eqb, le-leb, lt-leb}
-use Rattle.catalogue_names.specs.Names.{push, names, front, hasZero, fitName, NextName}
+use Rattle.catalogue_names.specs.Names.{pushByte, names, front, hasZero, fitName, NextName}
 
 pub past : {A : Type 0} (l : List A) (n : ℕ) → length l ≤ n → drop n l ≡ []
 past [] zero b = refl
@@ -30,7 +30,7 @@ pub names-stop : (b : ℕ) (l : List ℕ) → eqb b 10 ≡ true → names (b ∷
 unfolding names
 names-stop b l h = rw (h, names) refl
 
-pub names-on : (b : ℕ) (l : List ℕ) → eqb b 10 ≡ false → names (b ∷ l) ≡ push b (names l)
+pub names-on : (b : ℕ) (l : List ℕ) → eqb b 10 ≡ false → names (b ∷ l) ≡ pushByte b (names l)
 unfolding names
 names-on b l h = rw (h, names) refl
 
@@ -79,11 +79,11 @@ names-first b l h = names-stop b l h ∙ rw (front-stop b l h) refl
 
 -- a list that has a byte has a name
 pub names-cons : (b : ℕ) (l : List ℕ) → names (b ∷ l) ≡ front (b ∷ l) ∷ names (drop (suc (length (front (b ∷ l)))) (b ∷ l))
-unfolding names push front
+unfolding names pushByte front
 names-cons b [] = elim (decide (eqb b 10)) [ inl h ↦ names-first b [] h | inr h ↦ names-on b [] h ∙ rw (front-on b [] h) refl ]
 names-cons b (d ∷ k) =
     let r = names-cons d k in
-    elim (decide (eqb b 10)) [ inl h ↦ names-first b (d ∷ k) h | inr h ↦ names-on b (d ∷ k) h ∙ ap (push b) r ∙ rw (front-on b (d ∷ k) h) refl ]
+    elim (decide (eqb b 10)) [ inl h ↦ names-first b (d ∷ k) h | inr h ↦ names-on b (d ∷ k) h ∙ ap (pushByte b) r ∙ rw (front-on b (d ∷ k) h) refl ]
 
 names-some : (l : List ℕ) → 0 < length l → names l ≡ front l ∷ names (drop (suc (length (front l))) l)
 names-some [] h = absurd (omega arith)

@@ -1,6 +1,6 @@
 -- The names of a list: "named on standard input, one name a line (bytes after the last byte 10 are a name too)".
 --
---   push b ns      == the names ns with the byte b before the first of them
+--   pushByte b ns  == the names ns with the byte b before the first of them
 --   names l        == the names of the list l
 --   front l        == the bytes before the first byte 10
 --   hasZero n      == n has a byte 0
@@ -14,14 +14,14 @@ use mathlib.Core.Path.{_≡_}
 use lib.Dec.{eqb, leb}
 use lib.ListN.{length, drop}
 
-unfoldable pub push : ℕ → List (List ℕ) → List (List ℕ)
-push b [] = (b ∷ []) ∷ []
-push b (n ∷ ns) = (b ∷ n) ∷ ns
+unfoldable pub pushByte : ℕ → List (List ℕ) → List (List ℕ)
+pushByte b [] = (b ∷ []) ∷ []
+pushByte b (n ∷ ns) = (b ∷ n) ∷ ns
 
 -- an empty line is a name, and a list that ends in byte 10 has no further name
 unfoldable pub names : List ℕ → List (List ℕ)
 names [] = []
-names (b ∷ l) = elim (eqb b 10) [ true ↦ [] ∷ names l | false ↦ push b (names l) ]
+names (b ∷ l) = elim (eqb b 10) [ true ↦ [] ∷ names l | false ↦ pushByte b (names l) ]
 
 unfoldable pub front : List ℕ → List ℕ
 front [] = []

@@ -1,8 +1,8 @@
 -- A tally that is right stays right as one outcome more is counted.
-use Prim.Native.Nat.{ℕ, zero, suc, _+_, _*_, _≤_, _<_}
+use Prim.Native.Nat.{ℕ, zero, suc, _+_, _≤_, _<_}
 use native.Mathlib.Omega.{arith}
 use mathlib.Core.Bool.{Bool, true, false}
-use mathlib.Core.Logic.{_≢_, _⊎_, inl, inr}
+use mathlib.Core.Logic.{_⊎_, inl, inr}
 use mathlib.Core.List.{List, [], _∷_, _++_}
 use mathlib.Core.Path.{_≡_, refl, sym, _∙_, ap}
 use lib.Dec.{eqb}
@@ -23,7 +23,7 @@ use Rattle.catalogue_tally.specs.Figures.{
   sumOf,
   howMany,
   Tallied,
-  nothing,
+  emptyTally,
   added,
   Modest,
   Roomy,
@@ -171,8 +171,8 @@ getD-zeros zero (suc r) = refl
 getD-zeros (suc n) zero = refl
 getD-zeros (suc n) (suc r) = getD-zeros n r
 
-pub tallied-nothing : Tallied [] nothing
-unfolding nothing howMany sumOf
+pub tallied-nothing : Tallied [] emptyTally
+unfolding emptyTally howMany sumOf
 tallied-nothing =
     record {
       system = refl;
@@ -185,8 +185,8 @@ tallied-nothing =
       positions = refl;
     }
 
-pub within-nothing : Within [] nothing
-unfolding nothing
+pub within-nothing : Within [] emptyTally
+unfolding emptyTally
 within-nothing = record { won = omega arith; positions = omega arith }
 
 -- the tally by what the outcome is

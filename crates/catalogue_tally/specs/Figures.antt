@@ -7,7 +7,7 @@
 --   howMany p os       == how many of the outcomes os have p
 --   sumOf f os         == the sum of f over them
 --   Tallied os t       == t holds the figures of the outcomes os
---   nothing            == the tally of no outcomes
+--   emptyTally         == the tally of no outcomes
 --   added t o          == the tally t with the outcome o counted too
 --   Modest o           == o has the positions of at most one game of 64 × 64 states
 --   Within os t        == t has at most as many positions as such games
@@ -72,8 +72,8 @@ pub record Tallied (os : List Outcome) (t : Tally) : Type 0 where
   pub won : t .won ≡ sumOf wonOf os
   pub positions : t .positions ≡ sumOf positionsOf os
 
-unfoldable pub nothing : Tally
-nothing = record { system = 0; environment = 0; refused = 0; numbers = replicate 256 0; won = 0; positions = 0 }
+unfoldable pub emptyTally : Tally
+emptyTally = record { system = 0; environment = 0; refused = 0; numbers = replicate 256 0; won = 0; positions = 0 }
 
 unfoldable pub added : Tally → Outcome → Tally
 added t (System w p) =

@@ -1,7 +1,7 @@
 // The figures of a catalogue, counted outcome by outcome.
 ghost use mathlib.Core.Path.{_≡_};
 ghost use Rattle.catalogue_tally.specs.declared.Outcome.the-variants.{Refused};
-ghost use Rattle.catalogue_tally.specs.Figures.{nothing, added, Modest, Roomy};
+ghost use Rattle.catalogue_tally.specs.Figures.{emptyTally, added, Modest, Roomy};
 
 // What one file comes to: the side that wins, with how many of the game's positions are won and how many there are, or a refusal's number.
 pub enum Outcome {
@@ -23,7 +23,7 @@ pub struct Tally {
 
 // No outcome yet.
 pub fn empty() -> Tally
-    ensures { λ r. ⌜ r ≡ nothing ⌝ }
+    ensures { λ r. ⌜ r ≡ emptyTally ⌝ }
 {
     Tally {
         system: 0,

@@ -103,7 +103,7 @@ use Rattle.text_shape.specs.Text.{
   requirementLines,
   gameText,
 }
-use Rattle.print_lines.specs.Line.{unlessNone, winnerWord, winsLine, startLine, environmentStart as panelStart, rowLine, stepLine}
+use Rattle.print_lines.specs.Line.{unlessNone, winnerWord, winsLine, startLine, environmentStartLine as panelStart, rowLine, stepLine}
 use Rattle.print_tables.specs.Print.{startLines, stepLines, controllerPrint, environmentPrint}
 use Rattle.solver.specs.Promise.{controllerLength, environmentLength, named, tenth, ninth, eighth, verdictAnswer}
 use Rattle.text.specs.Read.{Reads}
@@ -112,12 +112,12 @@ use Rattle.text.proofs.OneText.{one-text-holds}
 use Rattle.waiting.specs.Waiting.{RightToWait}
 use Rattle.waiting.proofs.Waiting.{right-to-wait}
 use Rattle.prints.specs.Prints.{tablePrint, gamePrint, answerPrint, readingPrint}
-use Rattle.check_cases.specs.Bytes.{lineBytes, bytes}
-use Rattle.check_cases.specs.Cases.{Case, padded, graph, ifThen, game, eight, table, Proved}
+use Rattle.check_cases.specs.Bytes.{lineBytes, fileBytes}
+use Rattle.check_cases.specs.Cases.{Case, padded, graph, ifThen, game, case8, table, Proved}
 
 -- the games and bytes of the table, with all that they are made by
 made : Case → Case
-unfolding lineBytes bytes padded setOf wordsOf emptyRequirement graph ifThen game
+unfolding lineBytes fileBytes padded setOf wordsOf emptyRequirement graph ifThen game
 made c = c
 
 text : Game → List ℕ
@@ -293,8 +293,8 @@ waits c m = right-to-wait (c .game) (proved c m .accepted)
 
 -- "Row (0, 0, 1) gives 1, counter 0; (1, 0, 1) gives 0, 1; (0, 1, 1) gives 1, 2; (1, 2, 1) gives 0, 1; (0, 0, 2) gives 2, 0."
 abbrev row : ℕ → ℕ → ℕ → Answer
-row o g j = controllerRow (separatedOf (eight .game)) o g j
+row o g j = controllerRow (separatedOf (case8 .game)) o g j
 
 pub eight-rows : row 0 0 1 ∷ row 1 0 1 ∷ row 0 1 1 ∷ row 1 2 1 ∷ row 0 0 2 ∷ [] ≡ gives 0 1 ∷ gives 1 0 ∷ gives 2 1 ∷ gives 1 0 ∷ gives 0 2 ∷ []
-unfolding made chosen eight
+unfolding made chosen case8
 eight-rows = refl

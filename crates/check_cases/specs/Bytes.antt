@@ -1,7 +1,7 @@
 -- Files and prints written as their lines.
 --
 --   lineBytes l    == the characters of the line l, and byte 10
---   bytes ls       == the lines ls, one after the other
+--   fileBytes ls   == the lines ls, one after the other
 use Prim.Native.Nat.{ℕ}
 use Prim.Native.Char.{code}
 use Prim.Native.String.{String, [] as blank, _∷_ as _then_}
@@ -12,6 +12,6 @@ unfoldable pub lineBytes : String → List ℕ
 lineBytes blank = 10 ∷ []
 lineBytes (c then l) = code c ∷ lineBytes l
 
-unfoldable pub bytes : List String → List ℕ
-bytes [] = []
-bytes (l ∷ ls) = lineBytes l ++ bytes ls
+unfoldable pub fileBytes : List String → List ℕ
+fileBytes [] = []
+fileBytes (l ∷ ls) = lineBytes l ++ fileBytes ls

@@ -6,7 +6,7 @@
 --   graph i rows    == the graph with the set i of initial states and a row of moves for each state
 --   ifThen a b      == the requirement with the input sets a and the output sets b
 --   game a b l      == the game of the input graph a and the output graph b, with the requirements l
---   one .. eight    == the cases
+--   case1 .. case8  == the cases
 --   held..          == games in which a tie goes to the present state
 --   stuck.., drivenOn, latch, keptOff == games with states without a move
 --   table           == all of them
@@ -27,7 +27,7 @@ use Rattle.text.specs.declared.Reading.{Reading}
 use Rattle.text.specs.Read.{Reads}
 use Rattle.text.specs.OneText.{Arrays}
 use Rattle.prints.specs.Prints.{gamePrint, readingPrint}
-use Rattle.check_cases.specs.Bytes.{bytes}
+use Rattle.check_cases.specs.Bytes.{fileBytes}
 
 pub record Case : Type 0 where
   pub name : String
@@ -55,99 +55,99 @@ unfoldable pub game : Graph → Graph → List Requirement → Game
 game a b l = record { input = a; output = b; k = length l; requirements = padded 8 emptyRequirement l }
 
 -- The example of "The file".
-unfoldable pub one : Case
-one = record {
+unfoldable pub case1 : Case
+case1 = record {
   name = "case_1";
   game = game (graph 1 (3 ∷ 3 ∷ [])) (graph 1 (3 ∷ 3 ∷ [])) (ifThen (2 ∷ []) (2 ∷ []) ∷ []);
-  file = bytes (
+  file = fileBytes (
       "(game 2 2 1)" ∷ "(in 0 1 (0 1))" ∷ "(in 1 0 (0 1))" ∷ "(out 0 1 (0 1))" ∷ "(out 1 0 (0 1))" ∷ "(if ((1)) ((1)))" ∷ []);
-  print = bytes (
+  print = fileBytes (
       "(wins system)" ∷ "(start 0 0)" ∷ "(step 0 0 0 1 0)" ∷ "(step 0 0 1 1 0)" ∷ "(step 1 0 0 1 0)" ∷ "(step 1 0 1 1 0)" ∷ []);
 }
 
 -- "One state each, a self-move, k = 0: system; step 0 0 0 0 0."
-unfoldable pub two : Case
-two = record {
+unfoldable pub case2 : Case
+case2 = record {
   name = "case_2";
   game = game (graph 1 (1 ∷ [])) (graph 1 (1 ∷ [])) [];
-  file = bytes (
+  file = fileBytes (
       "(game 1 1 0)" ∷ "(in 0 1 (0))" ∷ "(out 0 1 (0))" ∷ []);
-  print = bytes (
+  print = fileBytes (
       "(wins system)" ∷ "(start 0 0)" ∷ "(step 0 0 0 0 0)" ∷ []);
 }
 
 -- "As 2 with (if ((0)) (())): environment, start 0, step 0 0 0 0 0."
-unfoldable pub three : Case
-three = record {
+unfoldable pub case3 : Case
+case3 = record {
   name = "case_3";
   game = game (graph 1 (1 ∷ [])) (graph 1 (1 ∷ [])) (ifThen (1 ∷ []) (0 ∷ []) ∷ []);
-  file = bytes (
+  file = fileBytes (
       "(game 1 1 1)" ∷ "(in 0 1 (0))" ∷ "(out 0 1 (0))" ∷ "(if ((0)) (()))" ∷ []);
-  print = bytes (
+  print = fileBytes (
       "(wins environment)" ∷ "(start 0)" ∷ "(step 0 0 0 0 0)" ∷ []);
 }
 
 -- "(if () (())): the same print."
-unfoldable pub four : Case
-four = record {
+unfoldable pub case4 : Case
+case4 = record {
   name = "case_4";
   game = game (graph 1 (1 ∷ [])) (graph 1 (1 ∷ [])) (ifThen [] (0 ∷ []) ∷ []);
-  file = bytes (
+  file = fileBytes (
       "(game 1 1 1)" ∷ "(in 0 1 (0))" ∷ "(out 0 1 (0))" ∷ "(if () (()))" ∷ []);
-  print = bytes (
+  print = fileBytes (
       "(wins environment)" ∷ "(start 0)" ∷ "(step 0 0 0 0 0)" ∷ []);
 }
 
 -- "(if (()) (())): system."
-unfoldable pub five : Case
-five = record {
+unfoldable pub case5 : Case
+case5 = record {
   name = "case_5";
   game = game (graph 1 (1 ∷ [])) (graph 1 (1 ∷ [])) (ifThen (0 ∷ []) (0 ∷ []) ∷ []);
-  file = bytes (
+  file = fileBytes (
       "(game 1 1 1)" ∷ "(in 0 1 (0))" ∷ "(out 0 1 (0))" ∷ "(if (()) (()))" ∷ []);
-  print = bytes (
+  print = fileBytes (
       "(wins system)" ∷ "(start 0 0)" ∷ "(step 0 0 0 0 0)" ∷ []);
 }
 
 -- "Inputs 0 to 1; 1 to 2 and 3; 2, 3 to themselves. Outputs 0 to 1 and 2; 1, 2 to themselves. Initial 0, 0. If {2} then {1}; if {3} then {2}:
 -- environment, the output commits too early."
-unfoldable pub six : Case
-six = record {
+unfoldable pub case6 : Case
+case6 = record {
   name = "case_6";
   game = game (graph 1 (2 ∷ 12 ∷ 4 ∷ 8 ∷ [])) (graph 1 (6 ∷ 2 ∷ 4 ∷ [])) (ifThen (4 ∷ []) (2 ∷ []) ∷ ifThen (8 ∷ []) (4 ∷ []) ∷ []);
-  file = bytes (
+  file = fileBytes (
       "(game 4 3 2)" ∷ "(in 0 1 (1))" ∷ "(in 1 0 (2 3))" ∷ "(in 2 0 (2))" ∷ "(in 3 0 (3))" ∷ "(out 0 1 (1 2))" ∷ "(out 1 0 (1))" ∷ "(out 2 0 (2))" ∷
       "(if ((2)) ((1)))" ∷ "(if ((3)) ((2)))" ∷ []);
-  print = bytes (
+  print = fileBytes (
       "(wins environment)" ∷ "(start 0)" ∷ "(step 0 0 0 1 0)" ∷ "(step 0 0 1 1 0)" ∷ "(step 0 0 2 1 0)" ∷ "(step 0 1 0 1 1)" ∷ "(step 0 1 1 1 1)" ∷
       "(step 0 1 2 1 1)" ∷ "(step 1 0 1 3 0)" ∷ "(step 1 0 2 2 0)" ∷ "(step 1 1 1 3 1)" ∷ "(step 1 1 2 2 1)" ∷ "(step 2 0 2 2 1)" ∷
       "(step 2 1 2 2 1)" ∷ "(step 3 0 1 3 0)" ∷ "(step 3 1 1 3 0)" ∷ []);
 }
 
 -- "As 6, output 0 also to 0: system."
-unfoldable pub seven : Case
-seven = record {
+unfoldable pub case7 : Case
+case7 = record {
   name = "case_7";
   game = game (graph 1 (2 ∷ 12 ∷ 4 ∷ 8 ∷ [])) (graph 1 (7 ∷ 2 ∷ 4 ∷ [])) (ifThen (4 ∷ []) (2 ∷ []) ∷ ifThen (8 ∷ []) (4 ∷ []) ∷ []);
-  file = bytes (
+  file = fileBytes (
       "(game 4 3 2)" ∷ "(in 0 1 (1))" ∷ "(in 1 0 (2 3))" ∷ "(in 2 0 (2))" ∷ "(in 3 0 (3))" ∷ "(out 0 1 (0 1 2))" ∷ "(out 1 0 (1))" ∷
       "(out 2 0 (2))" ∷ "(if ((2)) ((1)))" ∷ "(if ((3)) ((2)))" ∷ []);
-  print = bytes (
+  print = fileBytes (
       "(wins system)" ∷ "(start 0 0)" ∷ "(step 0 0 0 0 0)" ∷ "(step 0 0 1 0 0)" ∷ "(step 0 0 2 1 0)" ∷ "(step 0 0 3 2 0)" ∷ "(step 0 1 0 0 1)" ∷
       "(step 0 1 1 0 1)" ∷ "(step 0 1 2 1 1)" ∷ "(step 0 1 3 2 1)" ∷ "(step 1 0 2 1 1)" ∷ "(step 1 1 2 1 1)" ∷ "(step 2 0 3 2 0)" ∷
       "(step 2 1 3 2 0)" ∷ []);
 }
 
 -- "Inputs 0 to 1 and 2; 1, 2 to themselves. Outputs 0 to 1 and 2; 1 to 0; 2 to itself. Initial 0, 0. If {s} then {s}, s = 0, 1, 2: system."
-unfoldable pub eight : Case
-eight = record {
+unfoldable pub case8 : Case
+case8 = record {
   name = "case_8";
   game = game (graph 1 (6 ∷ 2 ∷ 4 ∷ [])) (graph 1 (6 ∷ 1 ∷ 4 ∷ []))
       (ifThen (1 ∷ []) (1 ∷ []) ∷ ifThen (2 ∷ []) (2 ∷ []) ∷ ifThen (4 ∷ []) (4 ∷ []) ∷ []);
-  file = bytes (
+  file = fileBytes (
       "(game 3 3 3)" ∷ "(in 0 1 (1 2))" ∷ "(in 1 0 (1))" ∷ "(in 2 0 (2))" ∷ "(out 0 1 (1 2))" ∷ "(out 1 0 (0))" ∷ "(out 2 0 (2))" ∷
       "(if ((0)) ((0)))" ∷ "(if ((1)) ((1)))" ∷ "(if ((2)) ((2)))" ∷ []);
-  print = bytes (
+  print = fileBytes (
       "(wins system)" ∷ "(start 0 0)" ∷ "(step 0 0 0 1 0)" ∷ "(step 0 0 1 1 0)" ∷ "(step 0 0 2 2 0)" ∷ "(step 0 1 0 1 1)" ∷ "(step 0 1 1 1 2)" ∷
       "(step 0 1 2 2 1)" ∷ "(step 0 2 0 1 2)" ∷ "(step 0 2 1 1 0)" ∷ "(step 0 2 2 2 2)" ∷ "(step 1 0 0 0 0)" ∷ "(step 1 0 1 0 1)" ∷
       "(step 1 0 2 0 0)" ∷ "(step 1 1 0 0 1)" ∷ "(step 1 1 1 0 1)" ∷ "(step 1 1 2 0 1)" ∷ "(step 1 2 0 0 2)" ∷ "(step 1 2 1 0 1)" ∷
@@ -162,9 +162,9 @@ unfoldable pub heldAim : Case
 heldAim = record {
   name = "held_aim";
   game = game (graph 1 (1 ∷ [])) (graph 1 (3 ∷ 3 ∷ [])) (ifThen [] (3 ∷ []) ∷ []);
-  file = bytes (
+  file = fileBytes (
       "(game 1 2 1)" ∷ "(in 0 1 (0))" ∷ "(out 0 1 (0 1))" ∷ "(out 1 0 (0 1))" ∷ "(if () ((0 1)))" ∷ []);
-  print = bytes (
+  print = fileBytes (
       "(wins system)" ∷ "(start 0 0)" ∷ "(step 0 0 0 0 0)" ∷ "(step 1 0 0 1 0)" ∷ []);
 }
 
@@ -173,9 +173,9 @@ unfoldable pub heldFree : Case
 heldFree = record {
   name = "held_free";
   game = game (graph 1 (1 ∷ [])) (graph 1 (3 ∷ 3 ∷ [])) [];
-  file = bytes (
+  file = fileBytes (
       "(game 1 2 0)" ∷ "(in 0 1 (0))" ∷ "(out 0 1 (0 1))" ∷ "(out 1 0 (0 1))" ∷ []);
-  print = bytes (
+  print = fileBytes (
       "(wins system)" ∷ "(start 0 0)" ∷ "(step 0 0 0 0 0)" ∷ "(step 1 0 0 1 0)" ∷ []);
 }
 
@@ -184,9 +184,9 @@ unfoldable pub heldPanelAim : Case
 heldPanelAim = record {
   name = "held_panel_aim";
   game = game (graph 1 (3 ∷ 3 ∷ [])) (graph 1 (1 ∷ [])) (ifThen (3 ∷ []) (0 ∷ []) ∷ []);
-  file = bytes (
+  file = fileBytes (
       "(game 2 1 1)" ∷ "(in 0 1 (0 1))" ∷ "(in 1 0 (0 1))" ∷ "(out 0 1 (0))" ∷ "(if ((0 1)) (()))" ∷ []);
-  print = bytes (
+  print = fileBytes (
       "(wins environment)" ∷ "(start 0)" ∷ "(step 0 0 0 0 0)" ∷ "(step 1 0 0 1 0)" ∷ []);
 }
 
@@ -195,9 +195,9 @@ unfoldable pub heldPanelFree : Case
 heldPanelFree = record {
   name = "held_panel_free";
   game = game (graph 1 (3 ∷ 3 ∷ [])) (graph 1 (1 ∷ [])) (ifThen [] (0 ∷ []) ∷ []);
-  file = bytes (
+  file = fileBytes (
       "(game 2 1 1)" ∷ "(in 0 1 (0 1))" ∷ "(in 1 0 (0 1))" ∷ "(out 0 1 (0))" ∷ "(if () (()))" ∷ []);
-  print = bytes (
+  print = fileBytes (
       "(wins environment)" ∷ "(start 0)" ∷ "(step 0 0 0 0 0)" ∷ "(step 1 0 0 1 0)" ∷ []);
 }
 
@@ -208,9 +208,9 @@ unfoldable pub stuckInput : Case
 stuckInput = record {
   name = "stuck_input";
   game = game (graph 1 (2 ∷ 0 ∷ [])) (graph 1 (2 ∷ 0 ∷ [])) (ifThen [] (0 ∷ []) ∷ []);
-  file = bytes (
+  file = fileBytes (
       "(game 2 2 1)" ∷ "(in 0 1 (1))" ∷ "(in 1 0 ())" ∷ "(out 0 1 (1))" ∷ "(out 1 0 ())" ∷ "(if () (()))" ∷ []);
-  print = bytes (
+  print = fileBytes (
       "(wins system)" ∷ "(start 0 0)" ∷ "(step 0 0 1 1 0)" ∷ []);
 }
 
@@ -220,9 +220,9 @@ unfoldable pub stuckOutput : Case
 stuckOutput = record {
   name = "stuck_output";
   game = game (graph 1 (6 ∷ 3 ∷ 0 ∷ [])) (graph 1 (0 ∷ [])) [];
-  file = bytes (
+  file = fileBytes (
       "(game 3 1 0)" ∷ "(in 0 1 (1 2))" ∷ "(in 1 0 (0 1))" ∷ "(in 2 0 ())" ∷ "(out 0 1 ())" ∷ []);
-  print = bytes (
+  print = fileBytes (
       "(wins environment)" ∷ "(start 0)" ∷ "(step 0 0 0 1 0)" ∷ "(step 1 0 0 0 0)" ∷ []);
 }
 
@@ -231,9 +231,9 @@ unfoldable pub stuckBoth : Case
 stuckBoth = record {
   name = "stuck_both";
   game = game (graph 1 (0 ∷ [])) (graph 1 (0 ∷ [])) (ifThen [] (0 ∷ []) ∷ []);
-  file = bytes (
+  file = fileBytes (
       "(game 1 1 1)" ∷ "(in 0 1 ())" ∷ "(out 0 1 ())" ∷ "(if () (()))" ∷ []);
-  print = bytes (
+  print = fileBytes (
       "(wins system)" ∷ "(start 0 0)" ∷ []);
 }
 
@@ -243,9 +243,9 @@ unfoldable pub drivenOn : Case
 drivenOn = record {
   name = "driven_on";
   game = game (graph 2 (0 ∷ 3 ∷ [])) (graph 1 (2 ∷ 4 ∷ 0 ∷ [])) [];
-  file = bytes (
+  file = fileBytes (
       "(game 2 3 0)" ∷ "(in 0 0 ())" ∷ "(in 1 1 (0 1))" ∷ "(out 0 1 (1))" ∷ "(out 1 0 (2))" ∷ "(out 2 0 ())" ∷ []);
-  print = bytes (
+  print = fileBytes (
       "(wins environment)" ∷ "(start 1)" ∷ "(step 1 0 0 1 0)" ∷ "(step 1 0 1 1 0)" ∷ "(step 1 0 2 0 0)" ∷ []);
 }
 
@@ -254,9 +254,9 @@ unfoldable pub latch : Case
 latch = record {
   name = "latch";
   game = game (graph 1 (3 ∷ 1 ∷ [])) (graph 1 (3 ∷ 4 ∷ 0 ∷ [])) (ifThen (2 ∷ []) (2 ∷ []) ∷ []);
-  file = bytes (
+  file = fileBytes (
       "(game 2 3 1)" ∷ "(in 0 1 (0 1))" ∷ "(in 1 0 (0))" ∷ "(out 0 1 (0 1))" ∷ "(out 1 0 (2))" ∷ "(out 2 0 ())" ∷ "(if ((1)) ((1)))" ∷ []);
-  print = bytes (
+  print = fileBytes (
       "(wins environment)" ∷ "(start 0)" ∷ "(step 0 0 0 1 0)" ∷ "(step 0 0 1 1 0)" ∷ "(step 0 0 2 0 0)" ∷ "(step 1 0 0 0 0)" ∷ "(step 1 0 1 0 0)" ∷
       "(step 1 0 2 0 0)" ∷ []);
 }
@@ -266,18 +266,19 @@ unfoldable pub keptOff : Case
 keptOff = record {
   name = "latch_kept_off";
   game = game (graph 1 (3 ∷ 5 ∷ 0 ∷ [])) (graph 1 (7 ∷ 5 ∷ 0 ∷ [])) (ifThen (2 ∷ []) (2 ∷ []) ∷ []);
-  file = bytes (
+  file = fileBytes (
       "(game 3 3 1)" ∷ "(in 0 1 (0 1))" ∷ "(in 1 0 (0 2))" ∷ "(in 2 0 ())" ∷ "(out 0 1 (0 1 2))" ∷ "(out 1 0 (0 2))" ∷ "(out 2 0 ())" ∷
       "(if ((1)) ((1)))" ∷ []);
-  print = bytes (
+  print = fileBytes (
       "(wins system)" ∷ "(start 0 0)" ∷ "(step 0 0 0 1 0)" ∷ "(step 0 0 1 1 0)" ∷ "(step 0 0 2 0 0)" ∷ "(step 1 0 0 0 0)" ∷ "(step 1 0 1 0 0)" ∷
       "(step 1 0 2 0 0)" ∷ []);
 }
 
 unfoldable pub table : List Case
-unfolding one two three four five six seven eight heldAim heldFree heldPanelAim heldPanelFree stuckInput stuckOutput stuckBoth drivenOn latch keptOff
+unfolding case1 case2 case3 case4 case5 case6 case7 case8 heldAim heldFree heldPanelAim heldPanelFree stuckInput stuckOutput stuckBoth drivenOn latch keptOff
 table =
-    one ∷ two ∷ three ∷ four ∷ five ∷ six ∷ seven ∷ eight ∷ heldAim ∷ heldFree ∷ heldPanelAim ∷ heldPanelFree ∷ stuckInput ∷ stuckOutput ∷ stuckBoth ∷
+    case1 ∷ case2 ∷ case3 ∷ case4 ∷ case5 ∷ case6 ∷ case7 ∷ case8 ∷ heldAim ∷ heldFree ∷ heldPanelAim ∷ heldPanelFree
+    ∷ stuckInput ∷ stuckOutput ∷ stuckBoth ∷
     drivenOn ∷ latch ∷ keptOff ∷ []
 
 pub record Proved (c : Case) : Type 0 where

@@ -78,7 +78,8 @@ fn report(name: &[u8], shape: Shape, n: usize)
     requires { ⌜ n ≤ capacity ⌝ }
 {
     let mut rows = [0u64; sets::ROW_WORDS];
-    let sweeps = graph_closure::close(graph(shape, n), &mut rows);
+    let h = graph(shape, n);
+    let sweeps = graph_closure::close(&h.moves, n, &mut rows);
     io::write_all(STDOUT_FILENO, name);
     io::print_decimal(STDOUT_FILENO, sweeps as u64);
     io::write_all(STDOUT_FILENO, b"\n");
@@ -109,7 +110,8 @@ fn bounded(n: usize, base: u64, code: u64) -> bool
     requires { ⌜ (n ≤ capacity) × (1 ≤ base) ⌝ }
 {
     let mut rows = [0u64; sets::ROW_WORDS];
-    graph_closure::close(coded(n, base, code), &mut rows) <= n
+    let h = coded(n, base, code);
+    graph_closure::close(&h.moves, n, &mut rows) <= n
 }
 
 // How many of the graphs with codes below some number do.

@@ -35,7 +35,7 @@ use Rattle.checker_rows.specs.Rows.{Ready}
 use Rattle.checker_places.proofs.Refute.{refute-start, refute-row, refute-round}
 use Rattle.checker.specs.declared.Checked.{Checked}
 use Rattle.checker.specs.declared.Checked.the-variants.{Accepted, BadStart, BadRow, BadRound, Refused}
-use Rattle.checker.specs.Check.{placesFit, checkTests, numberOf, walkAt, Told, Checks}
+use Rattle.checker.specs.Check.{placesFit, checkTests, checkerNumber, walkAt, Told, Checks}
 use Rattle.checker.specs.Steps.{Found}
 
 -- ---- sizes
@@ -76,7 +76,7 @@ ready g l {n} {m} a e h b c s =
 
 -- ---- a finding refutes that the table wins
 
-exactly : (g : Game) (l w : List ℕ) (r : Checked) → Told g l w r → numberOf r ≡ 0 → (r ≡ Accepted) ↔ ControllerWins (playOf g) (controllerOf g l)
+exactly : (g : Game) (l w : List ℕ) (r : Checked) → Told g l w r → checkerNumber r ≡ 0 → (r ≡ Accepted) ↔ ControllerWins (playOf g) (controllerOf g l)
 unfolding Told
 exactly g l w Accepted t z = (λ e. t, λ v. refl)
 exactly g l w (BadStart i) t z = (

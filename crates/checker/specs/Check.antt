@@ -1,7 +1,7 @@
 -- What the checker promises, for every input (M-104).
 --
 --   checkTests g l n        == the tests under their numbers, in the order in which they are tried, the table being l and the room of n entries
---   numberOf r              == the number of the refusal r, 0 for any other answer
+--   checkerNumber r         == the number of the refusal r, 0 for any other answer
 --   walkLength r            == how many entries the walk of the answer r has
 --   walkAt g w k            == the configuration whose place is entry k of the room w
 --   Told g l w r            == what the answer r says of the table l, with its walk in the room w, is true
@@ -35,12 +35,12 @@ placesFit g = leb (g .input .states * g .output .states * controllerCounters (se
 unfoldable pub checkTests : Game → List ℕ → ℕ → List (ℕ × Bool)
 checkTests g l n = gameTests g ++ (19, fitting g l) ∷ (20, placesFit g) ∷ (8, leb 24576 n) ∷ []
 
-abbrev pub numberOf : Checked → ℕ
-numberOf Accepted = 0
-numberOf (BadStart i) = 0
-numberOf (BadRow n j) = 0
-numberOf (BadRound n b q) = 0
-numberOf (Refused n) = n
+abbrev pub checkerNumber : Checked → ℕ
+checkerNumber Accepted = 0
+checkerNumber (BadStart i) = 0
+checkerNumber (BadRow n j) = 0
+checkerNumber (BadRound n b q) = 0
+checkerNumber (Refused n) = n
 
 abbrev pub walkLength : Checked → ℕ
 walkLength Accepted = 0
@@ -63,13 +63,13 @@ Told g l w (BadRound n b q) = (q < g .k) × finding.BadRound (playOf g) (control
 Told g l w (Refused n) = 0 < n
 
 pub record Checks (g : Game) (l w w′ : List ℕ) (r : Checked) : Type 0 where
-  pub number : numberOf r ≡ firstOf (checkTests g l (length w))
+  pub number : checkerNumber r ≡ firstOf (checkTests g l (length w))
   -- "The checker accepts one exactly when its starts are allowed, every reachable row is a legal reply .., and every reachable round meets all
   -- requirements."
-  pub accepts : numberOf r ≡ 0 → (r ≡ Accepted) ↔ ControllerWins (playOf g) (controllerOf g l)
+  pub accepts : checkerNumber r ≡ 0 → (r ≡ Accepted) ↔ ControllerWins (playOf g) (controllerOf g l)
   pub told : Told g l w′ r
   -- "Every controller of ours in a game of this size is accepted."
-  pub ours : numberOf r ≡ 0 → SystemWins (playOf g) → l ≡ controllerEntries (separatedOf g) → r ≡ Accepted
+  pub ours : checkerNumber r ≡ 0 → SystemWins (playOf g) → l ≡ controllerEntries (separatedOf g) → r ≡ Accepted
   -- the walk lies in the room; "entries past the walk are unchanged", and where there is no walk, all are
   pub fits : walkLength r ≤ length w
   pub long : length w′ ≡ length w

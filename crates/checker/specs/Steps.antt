@@ -10,7 +10,7 @@ use Rattle.game.specs.declared.Game.{Game}
 use Rattle.checker_search.specs.Queues.{at, Copied, Finders}
 use Rattle.checker_reach.specs.Reach.{Stem}
 use Rattle.checker.specs.declared.Checked.{Checked}
-use Rattle.checker.specs.Check.{numberOf, walkLength, Told}
+use Rattle.checker.specs.Check.{checkerNumber, walkLength, Told}
 
 pub record RoundFits (queue from : List ℕ) (n : ℕ) (walk : List ℕ) (c : ℕ) (room : List ℕ) : Type 0 where
   pub few : n ≤ 4096
@@ -31,7 +31,7 @@ pub record RoundWritten (queue from : List ℕ) (n : ℕ) (walk : List ℕ) (c :
   pub round : Copied walk 1 c way m room′
 
 pub record Found (g : Game) (l w w′ : List ℕ) (r : Checked) : Type 0 where
-  pub number : numberOf r ≡ 0
+  pub number : checkerNumber r ≡ 0
   pub told : Told g l w′ r
   pub fits : walkLength r ≤ length w
   pub long : length w′ ≡ length w

@@ -23,7 +23,7 @@ use Rattle.checker_places.proofs.Place.{place-below, lead-cases, named-inside}
 use Rattle.checker_places.proofs.Found.{starting-input}
 use Rattle.checker_places.proofs.Listed.{listed-none}
 use Rattle.checker_search.specs.Turns.{marked}
-use Rattle.checker_search.specs.Queues.{at, InQueue, Queued, Fits, Visited}
+use Rattle.checker_search.specs.Queues.{at, InQueue, Queued, FinderFits, Visited}
 use Rattle.checker_rows.proofs.Leads.{playing, few}
 use Rattle.checker_reach.specs.Reach.{starts, OpenFits, Opens}
 
@@ -100,7 +100,7 @@ module _ (g : Game) (M N : ℕ) (l all mark₀ queue₀ from₀ : List ℕ) (F :
       ];
     }
 
-    pub opening-fits : Fits N 0 mark queue from n
+    pub opening-fits : FinderFits N 0 mark queue from n
     opening-fits = record { queued = O .queued; finder = omega arith }
 
     pub opening-bad : i < g .input .states → {r : Bool} → r ≡ begins (graphOf (g .input)) i → not r ≡ false → (s : ℕ)

@@ -2,8 +2,7 @@
 use game::Game;
 use game::InState;
 ghost use mathlib.Core.Path.{_≡_};
-ghost use Prim.Native.Nat.{_≤_, _<_};
-ghost use lib.ListN.{length};
+ghost use Prim.Native.Nat.{_<_};
 ghost use Rattle.checker_search.specs.Turns.{Grid};
 ghost use Rattle.checker_reach.specs.Reach.{OpenFits, Opens, NoneAfter, ScanFits, Scanned, StemFits, Stem};
 

@@ -27,7 +27,7 @@ use Rattle.bits.proofs.Visit.{small-word, lowest-below, lowest-in, lowest-less}
 use Rattle.sets.specs.Words.{capacity, setsIn}
 use Rattle.checker_places.proofs.Listed.{listed-none, listed-add}
 use Rattle.checker_search.specs.Turns.{marked, enters, Grid}
-use Rattle.checker_search.specs.Queues.{at, InQueue, Sized, Queued, Fits, Grown, Visited, Spread, Exhausted, Unmarked, Reach}
+use Rattle.checker_search.specs.Queues.{at, InQueue, Sized, Queued, FinderFits, Grown, Visited, Spread, Exhausted, Unmarked, Reach}
 use Rattle.checker_search.proofs.Turns.{marked-new, marked-more, marked-old, enters-here, enters-move, enters-row, enters-in}
 
 pub grown-none : (N : ℕ) (mark queue from : List ℕ) (n : ℕ) → Queued N mark queue from n → Grown N mark queue from n mark queue from n
@@ -47,7 +47,7 @@ pub queued-fits : (N : ℕ) (mark queue from : List ℕ) (n : ℕ) → Queued N 
 queued-fits N mark queue from n Q d b h =
     omega (arith, Q .few, count-less N (marked mark) (λ k. true) (λ k l m. refl) d b h refl, count-le N (λ k. true))
 
-module _ (N : ℕ) (X : List ℕ) (f d : ℕ) (mark queue from : List ℕ) (n : ℕ) (F : Fits N f mark queue from n) where
+module _ (N : ℕ) (X : List ℕ) (f d : ℕ) (mark queue from : List ℕ) (n : ℕ) (F : FinderFits N f mark queue from n) where
   pub visited-still : (d < N → marked X d ≡ true → marked mark d ≡ true) → Visited N X f d mark queue from n mark queue from n
   visited-still h = record { grown = grown-none N mark queue from n (F .queued); there = h; listed = λ p r a b L. L }
 
@@ -121,11 +121,11 @@ pub record Spreading (I N : ℕ) (rows to X : List ℕ) (f c : ℕ) (mark queue 
       → InQueue p (enters I rows to X) N mark queue from n → InQueue p (enters I rows to X) N mark′ queue′ from′ n′
 
 module _ (I N : ℕ) (rows to X : List ℕ) (f c : ℕ) (mark queue from : List ℕ) (n : ℕ)
-    (P : Grid I N rows to × Fits N f mark queue from n × (c < N)) where
+    (P : Grid I N rows to × FinderFits N f mark queue from n × (c < N)) where
   G : Grid I N rows to
   G = P .0
 
-  F : Fits N f mark queue from n
+  F : FinderFits N f mark queue from n
   F = P .1
 
   b : c < N
@@ -140,7 +140,7 @@ module _ (I N : ℕ) (rows to X : List ℕ) (f c : ℕ) (mark queue from : List 
   }
 
   module _ (mark′ queue′ from′ : List ℕ) (n′ rest : ℕ) (S : Spreading I N rows to X f c mark queue from n mark′ queue′ from′ n′ rest) where
-    pub spreading-fits : Fits N f mark′ queue′ from′ n′
+    pub spreading-fits : FinderFits N f mark′ queue′ from′ n′
     spreading-fits = record { queued = S .grown .queued; finder = omega (arith, F .finder, S .grown .more) }
 
     module _ (ne : rest ≢ 0) (h : ℕ) (e : h ≡ least capacity (has rest)) where
@@ -223,7 +223,7 @@ module _ (I N : ℕ) (rows to X mark queue from : List ℕ) (n : ℕ) where
     pub exhausting-short : n′ ≤ N
     exhausting-short = omega (arith, E .grown .queued .few, count-le N (marked mark′))
 
-    pub exhausting-fits : a < n′ → Fits N (a + 1) mark′ queue′ from′ n′
+    pub exhausting-fits : a < n′ → FinderFits N (a + 1) mark′ queue′ from′ n′
     exhausting-fits b = record { queued = E .grown .queued; finder = omega (arith, b) }
 
     pub exhausting-next : a < n′ → (c : ℕ) → c ≡ at queue′ a → (mark″ queue″ from″ : List ℕ) (n″ : ℕ)
@@ -244,7 +244,7 @@ module _ (I N : ℕ) (rows to X mark queue from : List ℕ) (n : ℕ) where
     pub exhausting-end : n′ ≤ a → Exhausted I N rows to X mark queue from n mark′ queue′ from′ n′
     exhausting-end l = record { grown = E .grown; on = λ k d b. E .on k d (omega (arith, b, l)); listed = E .listed }
 
-pub reach-fits : (N : ℕ) (old mark queue from : List ℕ) → N ≤ 4096 → Sized old queue from → Unmarked mark → Fits N 0 mark queue from 0
+pub reach-fits : (N : ℕ) (old mark queue from : List ℕ) → N ≤ 4096 → Sized old queue from → Unmarked mark → FinderFits N 0 mark queue from 0
 reach-fits N old mark queue from b S U = record {
   queued = record {
     sized = record { marks = U .long; places = S .places; finders = S .finders };

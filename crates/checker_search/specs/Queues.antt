@@ -1,18 +1,18 @@
 -- A search's queue, finders and marks in lists of 4,096 entries.
 --
---   at l k                         == entry k of l
---   Sized mark queue from          == the three lists have 4,096 entries
---   Queued N mark queue from n     == n places are in the queue, no more than are marked
---   Fits N f mark queue from n     == that, and the finder f fits an entry
---   Grown ..                       == the queue has grown: what it had stays
---   Visited, Spread, Exhausted     == what one visit, the turns of one place, and the whole search do
---   Held mark queue n              == what is marked is in the queue
---   Unmarked mark                  == nothing is marked
---   Reach .. u ..                  == mark is what u reaches by one turn or more inside X, with its queue and finders
---   Finders k from                 == the finders of the first k + 1 come earlier
---   Chained queue from k out i     == out has, from i on, the way to queue place k
---   Copied src a e dst at out      == out is dst with the entries a to e - 1 of src from `at` on
---   FirstIn, FirstAt               == the first queue place with an input in a set, or that is a place
+--   at l k                           == entry k of l
+--   Sized mark queue from            == the three lists have 4,096 entries
+--   Queued N mark queue from n       == n places are in the queue, no more than are marked
+--   FinderFits N f mark queue from n == that, and the finder f fits an entry
+--   Grown ..                         == the queue has grown: what it had stays
+--   Visited, Spread, Exhausted       == what one visit, the turns of one place, and the whole search do
+--   Held mark queue n                == what is marked is in the queue
+--   Unmarked mark                    == nothing is marked
+--   Reach .. u ..                    == mark is what u reaches by one turn or more inside X, with its queue and finders
+--   Finders k from                   == the finders of the first k + 1 come earlier
+--   Chained queue from k out i       == out has, from i on, the way to queue place k
+--   Copied src a e dst at out        == out is dst with the entries a to e - 1 of src from `at` on
+--   FirstIn, FirstAt                 == the first queue place with an input in a set, or that is a place
 use Prim.Native.Nat.{ℕ, suc, _+_, _-_, _%_, _≤_, _<_}
 use mathlib.Core.Path.{_≡_}
 use mathlib.Core.Bool.{Bool, true, false}
@@ -42,7 +42,7 @@ pub record Queued (N : ℕ) (mark queue from : List ℕ) (n : ℕ) : Type 0 wher
   pub few : n ≤ count N (marked mark)
   pub below : (k : ℕ) → k < n → at queue k < N
 
-pub record Fits (N f : ℕ) (mark queue from : List ℕ) (n : ℕ) : Type 0 where
+pub record FinderFits (N f : ℕ) (mark queue from : List ℕ) (n : ℕ) : Type 0 where
   pub queued : Queued N mark queue from n
   pub finder : f ≤ n
 

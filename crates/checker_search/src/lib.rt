@@ -5,7 +5,7 @@ ghost use Prim.Native.Nat.{_+_, _-_, _≤_, _<_};
 ghost use lib.ListN.{length};
 ghost use Rattle.sets.specs.Words.{capacity, bitsOf};
 ghost use Rattle.checker_search.specs.Turns.{Grid};
-ghost use Rattle.checker_search.specs.Queues.{Sized, Queued, Fits, Visited, Spread, Exhausted, Held, Unmarked, Reach};
+ghost use Rattle.checker_search.specs.Queues.{Sized, Queued, FinderFits, Visited, Spread, Exhausted, Held, Unmarked, Reach};
 ghost use Rattle.checker_search.specs.Queues.{Finders, Chained, Copied, FirstIn, FirstAt};
 
 // Puts place d behind the queue's n, with its finder, where it may be entered and is not marked yet.
@@ -19,7 +19,7 @@ pub fn visit(
     finder: usize,
     d: usize,
 ) -> usize
-    requires { ⌜ Fits places finder (now mark) (now queue) (now from) n ⌝ }
+    requires { ⌜ FinderFits places finder (now mark) (now queue) (now from) n ⌝ }
     ensures { λ r. ⌜ Visited places (now (within .entry)) finder d (now (mark .entry)) (now (queue .entry)) (now (from .entry)) n (now (mark .exit))
         (now (queue .exit)) (now (from .exit)) r ⌝ }
 {
@@ -59,7 +59,7 @@ fn spread(
     finder: usize,
     at: usize,
 ) -> usize
-    requires { ⌜ Grid inputs places (now moves) (now to) × Fits places finder (now mark) (now queue) (now from) n × (at < places) ⌝ }
+    requires { ⌜ Grid inputs places (now moves) (now to) × FinderFits places finder (now mark) (now queue) (now from) n × (at < places) ⌝ }
     ensures { λ r. ⌜ Spread inputs places (now (moves .entry)) (now (to .entry)) (now (within .entry)) finder at (now (mark .entry)) (now (queue .entry))
         (now (from .entry)) n (now (mark .exit)) (now (queue .exit)) (now (from .exit)) r ⌝ }
 {

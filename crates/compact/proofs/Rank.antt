@@ -1,5 +1,6 @@
 -- Laws of the ranks. "Components rank from 0 by smallest state."
 --
+--   leads-number, number-leads : the smallest state of a component leads it, and what leads is one
 --   rank-below               : a rank is below the count of components
 --   components-le            : there are no more components than inputs
 --   rank-same, rank-joined   : two inputs have one rank exactly when they are in one component
@@ -14,7 +15,7 @@ use native.Mathlib.Omega.{arith}
 use native.Mathlib.Decide.{decLt}
 use lib.Dec.{eqb}
 use borrow.Author.Tests.{eqb-true, eq-eqb}
-use Rattle.finite.specs.Bounded.{count, one}
+use Rattle.finite.specs.Bounded.{count}
 use Rattle.finite.proofs.Truth.{and-intro, and-left, and-right}
 use Rattle.finite.proofs.Bounded.{least-below, least-member, count-le, count-up, count-past, count-reached}
 use Rattle.graphs.specs.Component.{joined, number}
@@ -25,13 +26,13 @@ use Rattle.compact.specs.Rank.{leads, componentCount, rankOf, leaderOf}
 -- counting up to a bound that rises
 
 module _ (S : Separated) where
-  leads-number : (j : ℕ) → j < S .input .states → leads S (number (S .input) j) ≡ true
+  pub leads-number : (j : ℕ) → j < S .input .states → leads S (number (S .input) j) ≡ true
   unfolding leads
   leads-number j b =
       let s = number (S .input) j in
       eq-eqb (number (S .input) s) s (sym (number-same (S .input) j s (number-joined (S .input) j b)))
 
-  number-leads : (s : ℕ) → leads S s ≡ true → number (S .input) s ≡ s
+  pub number-leads : (s : ℕ) → leads S s ≡ true → number (S .input) s ≡ s
   unfolding leads
   number-leads s h = eqb-true (number (S .input) s) s h
 

@@ -29,7 +29,7 @@ use Rattle.compact.proofs.Rank.{rank-first}
 use Rattle.compact.proofs.Tests.{row-first, rows-fit-first}
 use Rattle.finite.proofs.Lists.{any-default}
 use Rattle.compact_rows.proofs.Copying.{row-last, row-below, last-below}
-use Rattle.compact_checks.specs.Parts.{entryFits, rowFits, rowAt, partFits, Marked}
+use Rattle.compact_checks.specs.Parts.{entryFits, rowAgrees, rowAt, partFits, Marked}
 use Rattle.compact_checks.specs.Firsts.{Named, AsFirst}
 
 module _ (S : Separated) where
@@ -124,7 +124,7 @@ module _ (S : Separated) (T : List ℕ) where
 
     entry-same : partFits T F inputs rows part n ≡ true → (x k : ℕ) → x < rows → k < n
         → getD T (place x (part + k)) 0 ≡ getD T (place x (number (S .input) (part + k))) 0
-    unfolding partFits rowAt rowFits entryFits
+    unfolding partFits rowAt rowAgrees entryFits
     entry-same h x k b l =
         let q = entry-is x k l in
         sym (q .0)
@@ -146,7 +146,7 @@ module _ (S : Separated) (T : List ℕ) where
             (entry-same h x (j - part) b (below j (omega arith) l c e))
 
     pub same-stop : length T ≡ fullLength S → partFits T F inputs rows part n ≡ false → rowsFit S T ≡ false
-    unfolding partFits rowAt rowFits entryFits
+    unfolding partFits rowAt rowAgrees entryFits
     same-stop e h = go (decide (rowsFit S T))
       where
         go : (rowsFit S T ≡ true) ⊎ (rowsFit S T ≡ false) → rowsFit S T ≡ false

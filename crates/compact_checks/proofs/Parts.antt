@@ -9,34 +9,33 @@ use native.Mathlib.Decide.{ℕ-discrete}
 use lib.ListN.{length, getD, set, length-set}
 use lib.Seq.{getD-set-same, getD-set-other}
 use borrow.Author.Tests.{eq-eqb, ne-eqb}
-use Rattle.finite.specs.Bounded.{all}
 use Rattle.finite.proofs.Truth.{clash}
 use Rattle.finite.proofs.Loops.{all-start, all-turn, all-stop, all-end}
 use Rattle.bits.specs.Member.{has}
-use Rattle.compact_checks.specs.Parts.{entryFits, rowFits, rowAt, partFits, Marked}
+use Rattle.compact_checks.specs.Parts.{entryFits, rowAgrees, rowAt, partFits, Marked}
 
 -- one row number
 
 module _ (T F : List ℕ) (row part : ℕ) where
-  pub row-start : rowFits T F row part 0 ≡ true
-  unfolding rowFits
+  pub row-start : rowAgrees T F row part 0 ≡ true
+  unfolding rowAgrees
   row-start = all-start (entryFits T F row part)
 
-  pub row-turn : (k : ℕ) {c : ℕ} → c ≡ getD F k 0 → getD T (row + part + k) 0 ≡ getD T (row + c) 0 → rowFits T F row part k ≡ true
-      → rowFits T F row part (k + 1) ≡ true
-  unfolding rowFits entryFits
+  pub row-turn : (k : ℕ) {c : ℕ} → c ≡ getD F k 0 → getD T (row + part + k) 0 ≡ getD T (row + c) 0 → rowAgrees T F row part k ≡ true
+      → rowAgrees T F row part (k + 1) ≡ true
+  unfolding rowAgrees entryFits
   row-turn k {c} q e h =
       all-turn k (entryFits T F row part) h
       (eq-eqb (getD T (row + part + k) 0) (getD T (row + getD F k 0) 0) (e ∙ ap (λ (x : ℕ). getD T (row + x) 0) q))
 
-  pub row-stop : (n k : ℕ) {c : ℕ} → k < n → c ≡ getD F k 0 → getD T (row + part + k) 0 ≢ getD T (row + c) 0 → false ≡ rowFits T F row part n
-  unfolding rowFits entryFits
+  pub row-stop : (n k : ℕ) {c : ℕ} → k < n → c ≡ getD F k 0 → getD T (row + part + k) 0 ≢ getD T (row + c) 0 → false ≡ rowAgrees T F row part n
+  unfolding rowAgrees entryFits
   row-stop n k {c} b q e =
       all-stop n k (entryFits T F row part) b
       (ne-eqb (getD T (row + part + k) 0) (getD T (row + getD F k 0) 0) (λ z. e (z ∙ ap (λ (x : ℕ). getD T (row + x) 0) (sym q))))
 
-  pub row-end : (n k : ℕ) → k ≤ n → n ≤ k → rowFits T F row part k ≡ true → true ≡ rowFits T F row part n
-  unfolding rowFits
+  pub row-end : (n k : ℕ) → k ≤ n → n ≤ k → rowAgrees T F row part k ≡ true → true ≡ rowAgrees T F row part n
+  unfolding rowAgrees
   row-end n k a b h = all-end n k (entryFits T F row part) a b h
 
 -- all of them
@@ -46,11 +45,11 @@ module _ (T F : List ℕ) (I part n : ℕ) where
   unfolding partFits
   part-start = all-start (rowAt T F I part n)
 
-  pub part-turn : (x : ℕ) → rowFits T F (I + x * I) part n ≡ true → partFits T F I x part n ≡ true → partFits T F I (x + 1) part n ≡ true
+  pub part-turn : (x : ℕ) → rowAgrees T F (I + x * I) part n ≡ true → partFits T F I x part n ≡ true → partFits T F I (x + 1) part n ≡ true
   unfolding partFits rowAt
   part-turn x e h = all-turn x (rowAt T F I part n) h e
 
-  pub part-stop : (R x : ℕ) → x < R → rowFits T F (I + x * I) part n ≡ false → false ≡ partFits T F I R part n
+  pub part-stop : (R x : ℕ) → x < R → rowAgrees T F (I + x * I) part n ≡ false → false ≡ partFits T F I R part n
   unfolding partFits rowAt
   part-stop R x b e = all-stop R x (rowAt T F I part n) b e
 

@@ -1,6 +1,6 @@
 -- A table of the full layout, compared with itself. T is the table, F a list of inputs: number k of it is for the input part + k.
 --
---   rowFits T F row part n        == in the row number that begins at row, the entry of each of n inputs is that of the input which F names
+--   rowAgrees T F row part n      == in the row number that begins at row, the entry of each of n inputs is that of the input which F names
 --   partFits T F I R part n       == the same of all R row numbers, I being the count of inputs
 --   Marked part n c s l m         == from l to m, s was named for those of n inputs that are in c, and nothing else was changed
 use Prim.Native.Nat.{ℕ, _+_, _*_, _≤_, _<_}
@@ -15,11 +15,11 @@ use Rattle.bits.specs.Member.{has}
 unfoldable pub entryFits : (T F : List ℕ) (row part k : ℕ) → Bool
 entryFits T F row part k = eqb (getD T (row + part + k) 0) (getD T (row + getD F k 0) 0)
 
-unfoldable pub rowFits : (T F : List ℕ) (row part n : ℕ) → Bool
-rowFits T F row part n = all n (entryFits T F row part)
+unfoldable pub rowAgrees : (T F : List ℕ) (row part n : ℕ) → Bool
+rowAgrees T F row part n = all n (entryFits T F row part)
 
 unfoldable pub rowAt : (T F : List ℕ) (I part n x : ℕ) → Bool
-rowAt T F I part n x = rowFits T F (I + x * I) part n
+rowAt T F I part n x = rowAgrees T F (I + x * I) part n
 
 unfoldable pub partFits : (T F : List ℕ) (I R part n : ℕ) → Bool
 partFits T F I R part n = all R (rowAt T F I part n)

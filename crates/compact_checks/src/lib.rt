@@ -16,7 +16,7 @@ ghost use Rattle.play.specs.Play.{separatedOf};
 ghost use Rattle.compact.specs.Rank.{leads};
 ghost use Rattle.compact.specs.Compact.{fullLength};
 ghost use Rattle.compact.specs.Moving.{rowsFit};
-ghost use Rattle.compact_checks.specs.Parts.{rowFits, partFits, Marked};
+ghost use Rattle.compact_checks.specs.Parts.{rowAgrees, partFits, Marked};
 ghost use Rattle.compact_checks.specs.Firsts.{Firsts};
 
 fn wide(x: u8) -> usize
@@ -29,7 +29,7 @@ fn wide(x: u8) -> usize
 fn row_fits(table: &[u16], row: usize, part: usize, count: usize, firsts: &[u8; 64]) -> bool
     requires { ⌜ (count ≤ 64) × (row + part + count ≤ length (now table))
         × ((k : ℕ) → k < count → row + getD (now firsts) k 0 < length (now table)) ⌝ }
-    ensures { λ r. ⌜ r ≡ rowFits (now (table .entry)) (now (firsts .entry)) row part count ⌝ }
+    ensures { λ r. ⌜ r ≡ rowAgrees (now (table .entry)) (now (firsts .entry)) row part count ⌝ }
 {
     let mut k: usize = 0;
     while k < count {

@@ -14,7 +14,7 @@ use borrow.Author.Tests.{ne-eqb}
 use Rattle.game.specs.declared.Game.{Game}
 use Rattle.game.specs.declared.Acceptance.{Acceptance}
 use Rattle.game.specs.declared.Acceptance.the-variants.{Accepted, Refused as Faulty}
-use Rattle.game.specs.Acceptance.{acceptance, numberOf as acceptNumber}
+use Rattle.game.specs.Acceptance.{acceptance, acceptanceNumber as acceptNumber}
 use Rattle.game.specs.Numbers.{firstOf, gameTests}
 use Rattle.game.proofs.Numbers.{after, game-after, number-alone}
 use Rattle.arena.specs.Arena.{Separated}
@@ -35,7 +35,7 @@ use Rattle.compact_moves.specs.Promise.{
   backAnswer,
   overTests,
   backTests,
-  numberOf,
+  moveNumber,
   overRoom,
   backRoom,
   MovedOver,
@@ -47,12 +47,12 @@ use Rattle.compact_moves.specs.Promise.{
 
 -- ---- the number
 
-number-as : (k n : ℕ) → numberOf (moveAs k n) ≡ k
+number-as : (k n : ℕ) → moveNumber (moveAs k n) ≡ k
 unfolding moveAs
 number-as zero n = refl
 number-as (suc k) n = refl
 
-accepted-as : (a : Acceptance) (k n : ℕ) → numberOf (elim a as (λ x. Move) [ Accepted ↦ moveAs k n | Faulty m ↦ Refused m ]) ≡ after a k
+accepted-as : (a : Acceptance) (k n : ℕ) → moveNumber (elim a as (λ x. Move) [ Accepted ↦ moveAs k n | Faulty m ↦ Refused m ]) ≡ after a k
 accepted-as Accepted k n = number-as k n
 accepted-as (Faulty m) k n = refl
 
@@ -85,14 +85,14 @@ module _ (g : Game) (l : List ℕ) where
   abbrev S : Separated
   S = separatedOf g
 
-  over-number : (n : ℕ) → numberOf (overAnswer g l n) ≡ firstOf (overTests g l n)
+  over-number : (n : ℕ) → moveNumber (overAnswer g l n) ≡ firstOf (overTests g l n)
   unfolding overAnswer overTests overNumber
   over-number n =
       accepted-as (acceptance g) (overNumber S l n) (compactLength S)
       ∙ ap (after (acceptance g)) (three 23 21 9 (fullFits S l) (rowsFit S l) (leb (compactLength S) n))
       ∙ sym (game-after g ((23, fullFits S l) ∷ (21, rowsFit S l) ∷ (9, leb (compactLength S) n) ∷ []))
 
-  back-number : (n : ℕ) → numberOf (backAnswer g l n) ≡ firstOf (backTests g l n)
+  back-number : (n : ℕ) → moveNumber (backAnswer g l n) ≡ firstOf (backTests g l n)
   unfolding backAnswer backTests backNumber
   back-number n =
       accepted-as (acceptance g) (backNumber S l n) (fullLength S)
@@ -106,7 +106,7 @@ module _ (g : Game) (l : List ℕ) where
     unfolding overRoom
     over-refused k h = record {
       answer = h;
-      number = ap numberOf h ∙ over-number (length w);
+      number = ap moveNumber h ∙ over-number (length w);
       room = refl;
       over-and-back = λ n e. not-moved k n e;
     }
@@ -115,7 +115,7 @@ module _ (g : Game) (l : List ℕ) where
     unfolding backRoom
     back-refused k h = record {
       answer = h;
-      number = ap numberOf h ∙ back-number (length w);
+      number = ap moveNumber h ∙ back-number (length w);
       room = refl;
       back-and-over = λ n e. not-moved k n e;
     }
@@ -159,7 +159,7 @@ module _ (g : Game) (l : List ℕ) where
           unfolding moveAs overRoom
           over-made n {w′} z h e = record {
             answer = made;
-            number = ap numberOf made ∙ over-number (length w);
+            number = ap moveNumber made ∙ over-number (length w);
             room = e ∙ ap (λ (k : ℕ). toCompact S l ++ drop k w) (sym z);
             over-and-back = λ k q. (again, over-and-back S l (full-fits-intro S l long) rows);
           }
@@ -186,7 +186,7 @@ module _ (g : Game) (l : List ℕ) where
           unfolding moveAs backRoom
           back-made n {w′} z h e = record {
             answer = made;
-            number = ap numberOf made ∙ back-number (length w);
+            number = ap moveNumber made ∙ back-number (length w);
             room = e ∙ ap (λ (k : ℕ). fromCompact S l ++ drop k w) (sym z);
             back-and-over = λ k q. (again, back-and-over S l (compact-fits-intro S l long) ranks);
           }

@@ -4,7 +4,7 @@
 --   overAnswer g l n            == the answer to a move over, to the compact layout, the room being of n entries
 --   backAnswer g l n            == the answer to a move back, to the full layout
 --   overTests g l n, backTests g l n    == their tests under their numbers, in the order in which they are tried
---   numberOf r                  == the number of the answer r, 0 for a move that is made
+--   moveNumber r                == the number of the answer r, 0 for a move that is made
 --   MovedOver g l w w′ r        == the move over answers r and leaves the room w as w′
 --   MovedBack g l w w′ r        == the move back answers r and leaves the room w as w′
 --   countAnswer g               == how many components the input graph has, or the refusal
@@ -49,9 +49,9 @@ unfoldable pub backTests : Game → List ℕ → ℕ → List (ℕ × Bool)
 backTests g l n =
     gameTests g ++ (23, compactFits (separatedOf g) l) ∷ (22, ranksFit (separatedOf g) l) ∷ (9, leb (fullLength (separatedOf g)) n) ∷ []
 
-abbrev pub numberOf : Move → ℕ
-numberOf (Moved n) = 0
-numberOf (Refused n) = n
+abbrev pub moveNumber : Move → ℕ
+moveNumber (Moved n) = 0
+moveNumber (Refused n) = n
 
 -- "the rest of that room is unchanged"
 unfoldable pub overRoom : Game → Move → List ℕ → List ℕ → List ℕ
@@ -65,14 +65,14 @@ backRoom g (Refused n) l w = w
 -- `over-and-back`, `back-and-over`: what was written, moved again to a room of the table's length, is not refused and is the table
 pub record MovedOver (g : Game) (l w w′ : List ℕ) (r : Move) : Type 0 where
   pub answer : r ≡ overAnswer g l (length w)
-  pub number : numberOf r ≡ firstOf (overTests g l (length w))
+  pub number : moveNumber r ≡ firstOf (overTests g l (length w))
   pub room : w′ ≡ overRoom g r l w
   pub over-and-back : (n : ℕ) → r ≡ Moved n
       → (backAnswer g (toCompact (separatedOf g) l) (length l) ≡ Moved (length l)) × (fromCompact (separatedOf g) (toCompact (separatedOf g) l) ≡ l)
 
 pub record MovedBack (g : Game) (l w w′ : List ℕ) (r : Move) : Type 0 where
   pub answer : r ≡ backAnswer g l (length w)
-  pub number : numberOf r ≡ firstOf (backTests g l (length w))
+  pub number : moveNumber r ≡ firstOf (backTests g l (length w))
   pub room : w′ ≡ backRoom g r l w
   pub back-and-over : (n : ℕ) → r ≡ Moved n
       → (overAnswer g (fromCompact (separatedOf g) l) (length l) ≡ Moved (length l)) × (toCompact (separatedOf g) (fromCompact (separatedOf g) l) ≡ l)

@@ -1,8 +1,10 @@
 -- The controller's table by component.
 --
 --   components-columns    : there are as many columns as components
---   component-long, ranks-room, component-filled : the table
-use Prim.Native.Nat.{ℕ, zero, suc, _+_, _-_, _≤_, _<_}
+--   ranks-room            : the starts and the ranks come first
+--   component-long, component-products, component-filled : the table
+use Prim.Native.Nat.{ℕ, zero, suc, _+_, _*_, _-_, _≤_, _<_}
+use native.Mathlib.Nat.{mul-le-mul}
 use mathlib.Core.Path.{_≡_, refl, sym, _∙_, ap, ap₂}
 use mathlib.Core.Bool.{Bool, _&&_}
 use mathlib.Core.List.{List, [], _∷_, _++_}
@@ -12,7 +14,7 @@ use lib.Dec.{eqb}
 use lib.ListN.{length, getD, drop, length-drop}
 use lib.Seq.{ext-getD, getD-drop}
 use Rattle.finite.specs.Bounded.{least, count}
-use Rattle.finite.proofs.Bounded.{least-same, count-same}
+use Rattle.finite.proofs.Bounded.{least-same, count-le, count-same}
 use Rattle.bits.specs.Member.{has, pack}
 use Rattle.bits.proofs.Membership.{has-pack-below}
 use Rattle.sets.specs.Words.{bitsOf, setsIn}
@@ -27,13 +29,13 @@ use Rattle.compact.specs.Compact.{compactLength, compactEntries, compactCell}
 use Rattle.compact.proofs.Rank.{first-below}
 use Rattle.compact.proofs.Entries.{compact-entries-length, compact-start, compact-rank, compact-cell}
 use Rattle.graph_ranks.specs.Ranks.{RanksWritten}
+use Rattle.table_sizes.proofs.Lengths.{controller-rows}
 use Rattle.table_layout.specs.Rows.{place}
 use Rattle.controller_rows.specs.declared.Size.{Size}
 use Rattle.controller_rows.specs.Writes.{leading, columnOf, inputOf, layoutOf, lengthOf, Starts}
-use Rattle.controller_rows.proofs.Writes.{long-starts}
-use Rattle.controller_table.specs.Filled.{Sheet, Filled, Every, Sized, Given}
+use Rattle.controller_table.specs.Filled.{Sheet, ControllerFilled, Every, Sized, Given}
 use Rattle.controller_table.proofs.Cells.{place-room}
-use Rattle.controller_table.proofs.Setting.{sizes-of}
+use Rattle.controller_table.proofs.Setting.{fits-of, sizes-of}
 use Rattle.controller_table.proofs.Table.{starts-grown, starts-stand, table-filled}
 use Rattle.controller.specs.Sizes.{ByComponent}
 
@@ -55,6 +57,10 @@ unfolding componentCount separatedOf graphOf
 components-columns g x e =
     count-same (g .input .states) (leads (separatedOf g)) (has x)
     (λ k b. sym (ap (λ (y : ℕ). has y k) e ∙ has-pack-below (g .input .states) (leads (separatedOf g)) k b))
+
+pub ranks-room : (g : Game) → g .input .states + g .input .states ≤ compactLength (separatedOf g)
+unfolding compactLength separatedOf graphOf
+ranks-room g = omega arith
 
 module _ (g : Game) (z : Size) (Z : Sized g z) (C : ByComponent g z) where
   leads-at : (j : ℕ) → j < z .inputs → leading z j ≡ leads (separatedOf g) j
@@ -79,9 +85,12 @@ module _ (g : Game) (z : Size) (Z : Sized g z) (C : ByComponent g z) where
       let e = sizes-of g z Z in
       rw (C .base, C .width, e .inputs, e .outputs, e .counters) (omega arith)
 
-  -- the starts and the ranks come first
-  pub ranks-room : g .input .states + g .input .states ≤ compactLength (separatedOf g)
-  ranks-room = omega (arith, component-long, C .base, Z .inputs)
+  -- no product of the sizes wraps
+  pub component-products : (z .outputs * z .counters ≤ 4096) × (z .outputs * z .counters * z .width ≤ 524288)
+  component-products =
+      let p : z .outputs * z .counters ≤ 4096 = rw (Z .outputs) (controller-rows g (Z .accepted) (z .counters) (Z .counters)) in
+      let w : z .width ≤ 128 = omega (arith, Z .columns, count-le (z .inputs) (leading z), Z .inputs, fits-of g z Z .input .most) in
+      (p, mul-le-mul p w)
 
   list-long : lengthOf z ≡ length (compactEntries (separatedOf g))
   list-long = component-long ∙ sym (compact-entries-length (separatedOf g))
@@ -113,7 +122,7 @@ module _ (g : Game) (z : Size) (Z : Sized g z) (C : ByComponent g z) where
       read-any (compactEntries (separatedOf g)) i 0 65535 (inside i (omega (arith, C .base, sizes-of g z Z .inputs))) ∙ compact-start (separatedOf g) i b
 
   -- the ranks
-  module _ {l m : List ℕ} (long : compactLength (separatedOf g) ≤ length l) (R : RanksWritten g l m) where
+  module _ {l m : List ℕ} (R : RanksWritten g l m) where
     rank-stands : (t : ℕ) → t < z .inputs → Right (compactEntries (separatedOf g)) m (z .inputs + t)
     rank-stands t b =
         let e = sizes-of g z Z .inputs in record {
@@ -124,6 +133,11 @@ module _ (g : Game) (z : Size) (Z : Sized g z) (C : ByComponent g z) where
               ∙ ap (λ (n : ℕ). getD (compactEntries (separatedOf g)) (n + t) 65535) e ∙ compact-rank (separatedOf g) t (omega arith));
         }
 
+    ranks-stand : (k : ℕ) → z .inputs ≤ k → k < z .base → Right (compactEntries (separatedOf g)) m k
+    ranks-stand k a b =
+        let q : k ≡ z .inputs + (k - z .inputs) = omega arith in
+        rw q (rank-stands (k - z .inputs) (omega (arith, C .base)))
+
     ranks-grown : Grows (compactEntries (separatedOf g)) l m
     ranks-grown = record {
       long = R .long;
@@ -133,30 +147,27 @@ module _ (g : Game) (z : Size) (Z : Sized g z) (C : ByComponent g z) where
       where
         go : (k : ℕ) → Right (compactEntries (separatedOf g)) l k → Dec (k < z .inputs) → Dec (k < z .base) → Right (compactEntries (separatedOf g)) m k
         go k r (yes a) d = record { is = R .front k (omega (arith, Z .inputs)) ∙ r .is }
-        go k r (no a) (yes b) =
-            let q : k ≡ z .inputs + (k - z .inputs) = omega arith in
-            rw q (rank-stands (k - z .inputs) (omega (arith, C .base)))
+        go k r (no a) (yes b) = ranks-stand k (omega arith) b
         go k r (no a) (no b) = record { is = R .rest k (omega (arith, C .base, Z .inputs)) ∙ r .is }
 
-    ranks-stand : ((k : ℕ) → k < z .inputs → Right (compactEntries (separatedOf g)) l k) → (k : ℕ) → k < z .base
-        → Right (compactEntries (separatedOf g)) m k
-    ranks-stand f k b = go (decLt k (z .inputs))
-      where
-        go : Dec (k < z .inputs) → Right (compactEntries (separatedOf g)) m k
-        go (yes a) = ranks-grown .kept k (inside k b) (f k a)
-        go (no a) =
-            let q : k ≡ z .inputs + (k - z .inputs) = omega arith in
-            rw q (rank-stands (k - z .inputs) (omega (arith, C .base)))
-
-  -- the starts, the ranks and the rows are the table
-  pub component-filled : {s : List ℕ} {inner : ℕ} {l m n r : List ℕ} → Given g z s inner → compactLength (separatedOf g) ≤ length l
-      → Starts z (setsIn s) inner (bitsOf (g .input .initial)) (bitsOf (g .output .initial)) (z .inputs) l m → RanksWritten g m n
-      → Filled (separatedOf g) z Every n r → r ≡ compactEntries (separatedOf g) ++ drop (compactLength (separatedOf g)) l
+  -- the ranks, the starts and the rows are the table
+  pub component-filled : {s : List ℕ} {inner : ℕ} {l m n r : List ℕ} → Given g z s inner → compactLength (separatedOf g) ≤ length l → RanksWritten g l m
+      → Starts z (setsIn s) inner (bitsOf (g .input .initial)) (bitsOf (g .output .initial)) (z .inputs) m n
+      → ControllerFilled (separatedOf g) z Every n r → r ≡ compactEntries (separatedOf g) ++ drop (compactLength (separatedOf g)) l
   component-filled {s} {inner} {l} {m} {n} {r} G long one two rows =
-      let E = compactEntries (separatedOf g) in
-      let w : lengthOf z ≤ length l = omega (arith, component-long) in
-      let v : compactLength (separatedOf g) ≤ length m = omega (arith, long-starts one) in
-      table-filled g z s inner G E component-sheet starts-at w
-      (grows-more E (starts-grown g z s inner G E component-sheet starts-at w one) (ranks-grown v two))
-      (ranks-stand v two (λ k b. starts-stand g z s inner G E component-sheet starts-at w one k (omega (arith, sizes-of g z Z .inputs)))) rows
+      table-filled g z s inner G E component-sheet starts-at (omega (arith, component-long)) (grows-more E (ranks-grown one) grown)
+      (λ k b. stand k b (decLt k (z .inputs))) rows
       ∙ ap (λ (k : ℕ). E ++ drop k l) (compact-entries-length (separatedOf g))
+    where
+      E : List ℕ
+      E = compactEntries (separatedOf g)
+
+      w : lengthOf z ≤ length m
+      w = omega (arith, component-long, one .long)
+
+      grown : Grows E m n
+      grown = starts-grown g z s inner G E component-sheet starts-at w two
+
+      stand : (k : ℕ) → k < z .base → Dec (k < z .inputs) → Right E n k
+      stand k b (yes a) = starts-stand g z s inner G E component-sheet starts-at w two k (omega (arith, sizes-of g z Z .inputs))
+      stand k b (no a) = grown .kept k (inside k b) (ranks-stand one k (omega arith) b)

@@ -22,7 +22,7 @@ use Rattle.table_layout.specs.Rows.{place}
 use Rattle.controller_rows.specs.declared.Size.{Size}
 use Rattle.controller_rows.specs.Writes.{inputOf, layoutOf, lengthOf, Starts}
 use Rattle.controller_rows.proofs.Columns.{own-column}
-use Rattle.controller_table.specs.Filled.{Sheet, Filled, Every, Sized, Given}
+use Rattle.controller_table.specs.Filled.{Sheet, ControllerFilled, Every, Sized, Given}
 use Rattle.controller_table.proofs.Setting.{sizes-of}
 use Rattle.controller_table.proofs.Table.{starts-grown, starts-stand, table-filled}
 use Rattle.controller.specs.Sizes.{ByInput}
@@ -65,7 +65,7 @@ module _ (g : Game) (z : Size) (Z : Sized g z) (I : ByInput z) where
 
   -- the starts and the rows are the table
   pub input-filled : {s : List ℕ} {inner : ℕ} {l m r : List ℕ} → Given g z s inner → length (controllerEntries (separatedOf g)) ≤ length l
-      → Starts z (setsIn s) inner (bitsOf (g .input .initial)) (bitsOf (g .output .initial)) (z .inputs) l m → Filled (separatedOf g) z Every m r
+      → Starts z (setsIn s) inner (bitsOf (g .input .initial)) (bitsOf (g .output .initial)) (z .inputs) l m → ControllerFilled (separatedOf g) z Every m r
       → r ≡ controllerEntries (separatedOf g) ++ drop (length (controllerEntries (separatedOf g))) l
   input-filled {s} {inner} {l} {m} {r} G long one rows =
       let E = controllerEntries (separatedOf g) in

@@ -18,9 +18,10 @@ ghost use Rattle.game.specs.declared.Acceptance.the-variants.{Accepted};
 ghost use Rattle.play.specs.Play.{separatedOf};
 ghost use Rattle.theory.specs.Entries.{controllerEntries};
 ghost use mathlib.Core.List.{_++_};
+ghost use Rattle.game_sets.specs.Lists.{Lists};
 ghost use Rattle.table_sizes.specs.Outlined.{Outlined};
 ghost use Rattle.controller_rows.specs.Writes.{lengthOf};
-ghost use Rattle.controller_table.specs.Filled.{Filled, Every, At, Below, Sized, Given};
+ghost use Rattle.controller_table.specs.Filled.{ControllerFilled, Every, At, Below, Sized, Given};
 ghost use Rattle.controller.specs.Sizes.{ByInput, ByComponent};
 ghost use Rattle.bits.specs.Member.{pack};
 ghost use Rattle.compact.specs.Rank.{leads};
@@ -31,6 +32,7 @@ ghost use Rattle.compact.specs.Compact.{compactLength, compactEntries};
 fn settle(
     g: Game,
     given: Outline,
+    l: &[u64; sets::ROW_WORDS],
     outs: &[u64; sets::ROW_WORDS],
     s: &[u64],
     room: &mut [u16],
@@ -39,8 +41,8 @@ fn settle(
     d: OutState,
 )
     requires { ⌜ Given g z (now s) (bitsOf (c .0)) × (d .0 < z .outputs) × (lengthOf z ≤ length (now room))
-        × Outlined g given × (now outs ≡ g .output .moves) ⌝ }
-    ensures { λ r. ⌜ Filled (separatedOf g) z (At (separatedOf g) (d .0)) (now (room .entry)) (now (room .exit)) ⌝ }
+        × Outlined g given × (now outs ≡ g .output .moves) × Lists g (now l) ⌝ }
+    ensures { λ r. ⌜ ControllerFilled (separatedOf g) z (At (separatedOf g) (d .0)) (now (room .entry)) (now (room .exit)) ⌝ }
 {
     let inputs = controller_homeward::residents(s, z.inputs, c, d, d);
     if sets::is_empty(inputs.0) {
@@ -53,26 +55,27 @@ fn settle(
         inputs,
     };
     controller_homeward::approach(g, outs, s, room, z, c, w);
-    controller_tour::tour(g, given, outs, room, z, w);
+    controller_tour::tour(g, given, l, outs, room, z, w);
 }
 
 // The rows with a home.
 fn settle_all(
     g: Game,
     given: Outline,
+    l: &[u64; sets::ROW_WORDS],
     outs: &[u64; sets::ROW_WORDS],
     s: &[u64],
     room: &mut [u16],
     z: Size,
     c: InSet,
 )
-    requires { ⌜ Given g z (now s) (bitsOf (c .0)) × (lengthOf z ≤ length (now room)) × Outlined g given × (now outs ≡ g .output .moves) ⌝ }
-    ensures { λ r. ⌜ Filled (separatedOf g) z (Below (separatedOf g) (z .outputs)) (now (room .entry)) (now (room .exit)) ⌝ }
+    requires { ⌜ Given g z (now s) (bitsOf (c .0)) × (lengthOf z ≤ length (now room)) × Outlined g given × (now outs ≡ g .output .moves) × Lists g (now l) ⌝ }
+    ensures { λ r. ⌜ ControllerFilled (separatedOf g) z (Below (separatedOf g) (z .outputs)) (now (room .entry)) (now (room .exit)) ⌝ }
 {
     let m = z.outputs;
     let mut d = 0;
     while d < m {
-        settle(g, given, outs, s, room, z, c, OutState(d));
+        settle(g, given, l, outs, s, room, z, c, OutState(d));
         d += 1;
     }
 }
@@ -81,17 +84,18 @@ fn settle_all(
 fn rows(
     g: Game,
     given: Outline,
+    l: &[u64; sets::ROW_WORDS],
     outs: &[u64; sets::ROW_WORDS],
     s: &[u64],
     room: &mut [u16],
     z: Size,
     c: InSet,
 )
-    requires { ⌜ Given g z (now s) (bitsOf (c .0)) × (lengthOf z ≤ length (now room)) × Outlined g given × (now outs ≡ g .output .moves) ⌝ }
-    ensures { λ r. ⌜ Filled (separatedOf g) z Every (now (room .entry)) (now (room .exit)) ⌝ }
+    requires { ⌜ Given g z (now s) (bitsOf (c .0)) × (lengthOf z ≤ length (now room)) × Outlined g given × (now outs ≡ g .output .moves) × Lists g (now l) ⌝ }
+    ensures { λ r. ⌜ ControllerFilled (separatedOf g) z Every (now (room .entry)) (now (room .exit)) ⌝ }
 {
     unsettled::plains(room, s, z, c, outs);
-    settle_all(g, given, outs, s, room, z, c);
+    settle_all(g, given, l, outs, s, room, z, c);
 }
 
 // The size of the table of an accepted game, with rows by input.
@@ -116,18 +120,19 @@ fn size_of(g: Game, given: Outline) -> Size
 pub fn fill(
     g: Game,
     given: Outline,
+    l: &[u64; sets::ROW_WORDS],
     outs: &[u64; sets::ROW_WORDS],
     s: &[u64],
     c: InSet,
     room: &mut [u16],
 )
     requires { ⌜ (acceptance g ≡ Accepted) × Ready g (now s) (bitsOf (c .0)) × (length (controllerEntries (separatedOf g)) ≤ length (now room))
-        × Outlined g given × (now outs ≡ g .output .moves) ⌝ }
+        × Outlined g given × (now outs ≡ g .output .moves) × Lists g (now l) ⌝ }
     ensures { λ r. ⌜ now (room .exit) ≡ controllerEntries (separatedOf g) ++ drop (length (controllerEntries (separatedOf g))) (now (room .entry)) ⌝ }
 {
     let z = size_of(g, given);
     starts::starts(room, s, z, c, game::in_initial(g), game::out_initial(g));
-    rows(g, given, outs, s, room, z, c);
+    rows(g, given, l, outs, s, room, z, c);
 }
 
 // The size of the table of an accepted game, with rows by component; the leaders are the smallest inputs of the components.
@@ -148,22 +153,24 @@ fn compact_size(g: Game, given: Outline, leaders: InSet) -> Size
     }
 }
 
-// The same table with its rows by component, written directly.
+// The same table with its rows by component, written directly. The answer is how many entries it has.
 pub fn fill_compact(
     g: Game,
     given: Outline,
+    l: &[u64; sets::ROW_WORDS],
     outs: &[u64; sets::ROW_WORDS],
     s: &[u64],
     c: InSet,
-    leaders: InSet,
     room: &mut [u16],
-)
-    requires { ⌜ (acceptance g ≡ Accepted) × Ready g (now s) (bitsOf (c .0)) × (bitsOf (leaders .0) ≡ pack (g .input .states) (leads (separatedOf g)))
-        × (compactLength (separatedOf g) ≤ length (now room)) × Outlined g given × (now outs ≡ g .output .moves) ⌝ }
-    ensures { λ r. ⌜ now (room .exit) ≡ compactEntries (separatedOf g) ++ drop (compactLength (separatedOf g)) (now (room .entry)) ⌝ }
+) -> usize
+    requires { ⌜ (acceptance g ≡ Accepted) × Ready g (now s) (bitsOf (c .0)) × (compactLength (separatedOf g) ≤ length (now room))
+        × Outlined g given × (now outs ≡ g .output .moves) × Lists g (now l) ⌝ }
+    ensures { λ r. ⌜ (now (room .exit) ≡ compactEntries (separatedOf g) ++ drop (compactLength (separatedOf g)) (now (room .entry)))
+        × (r ≡ compactLength (separatedOf g)) ⌝ }
 {
+    let leaders = scratch_ranks::write_ranks(g, s, room);
     let z = compact_size(g, given, leaders);
     starts::starts(room, s, z, c, game::in_initial(g), game::out_initial(g));
-    graph_ranks::write_ranks(g, room);
-    rows(g, given, outs, s, room, z, c);
+    rows(g, given, l, outs, s, room, z, c);
+    z.base + z.outputs * z.counters * z.width
 }

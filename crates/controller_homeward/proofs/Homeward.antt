@@ -16,7 +16,7 @@ use borrow.Author.Tests.{eqb-true, eq-eqb, ltb-true, lt-ltb}
 use Rattle.finite.specs.Bounded.{least, count}
 use Rattle.finite.proofs.Truth.{decide, clash, same-test, false-of, and-intro, and-left, and-right, and-false-right, not-true}
 use Rattle.finite.proofs.Bounded.{least-before, least-unique, count-less}
-use Rattle.bits.specs.Member.{has, pack, within, meets}
+use Rattle.bits.specs.Member.{has, pack, within, setsMeet}
 use Rattle.bits.proofs.Membership.{ext, has-zero, has-within, has-pack-below}
 use Rattle.bits.proofs.Compare.{meets-intro, meets-elim}
 use Rattle.bits.proofs.Visit.{small-word, lowest-in, lowest-below}
@@ -47,7 +47,7 @@ use Rattle.table_walks.specs.Staying.{Approaches}
 use Rattle.controller_rows.specs.declared.Size.{Size}
 use Rattle.controller_rows.specs.declared.Home.{Home}
 use Rattle.controller_rows.specs.Writes.{inputOf, layoutOf}
-use Rattle.controller_table.specs.Filled.{Filled, Resides, Away, Given, HomeOf, Sized}
+use Rattle.controller_table.specs.Filled.{ControllerFilled, Resides, Away, Given, HomeOf, Sized}
 use Rattle.controller_table.proofs.Fills.{filled-none, filled-more, filled-part}
 use Rattle.controller_table.proofs.Laid.{outputs-are, width-is, laid-rows, laid-input, laid-filled}
 use Rattle.controller_table.proofs.Loops.{comp-in}
@@ -83,11 +83,11 @@ pub near-at : (s : List ℕ) (n homes d o x : ℕ) {b : Bool} → x ≡ outReach
 unfolding nearAt
 near-at s n homes d o x e f = f ∙ ap (λ (k : ℕ). reachesFirst k homes d) e
 
-pub first-not : (reach homes d : ℕ) → meets capacity reach homes ≡ true → false ≡ reachesFirst reach homes d
+pub first-not : (reach homes d : ℕ) → setsMeet capacity reach homes ≡ true → false ≡ reachesFirst reach homes d
 unfolding reachesFirst
 first-not reach homes d e = sym (and-false-right (has reach d) (ap not e))
 
-pub first-of : (reach homes d : ℕ) {b : Bool} → meets capacity reach homes ≡ false → b ≡ has reach d → b ≡ reachesFirst reach homes d
+pub first-of : (reach homes d : ℕ) {b : Bool} → setsMeet capacity reach homes ≡ false → b ≡ has reach d → b ≡ reachesFirst reach homes d
 unfolding reachesFirst
 first-of reach homes d {b} e f = f ∙ rw e (and-true (has reach d))
   where
@@ -98,7 +98,7 @@ first-of reach homes d {b} e f = f ∙ rw e (and-true (has reach d))
 -- group after group: x are the inputs that are left
 pub record Homing (g : Game) (z : Size) (w : Home) (x : ℕ) (l m : List ℕ) : Type 0 where
   pub inputs : (j : ℕ) → has x j ≡ true → (j < z .inputs) × (has (bitsOf (w .inputs .0)) j ≡ true)
-  pub filled : Filled (separatedOf g) z (λ o c j. Away (separatedOf g) (w .state .0) o c j × (has x j ≡ false)) l m
+  pub filled : ControllerFilled (separatedOf g) z (λ o c j. Away (separatedOf g) (w .state .0) o c j × (has x j ≡ false)) l m
 
 -- the outputs are counted in the game or in the table's size
 pub near-of : (g : Game) (z : Size) → Sized g z → (inside n : ℕ) (p : ℕ → Bool) → n ≡ g .output .states → inside ≡ pack n p → inside ≡ pack (z .outputs) p
@@ -136,7 +136,7 @@ module _ (g : Game) (z : Size) (s : List ℕ) (inner : ℕ) (G : Given g z s inn
     unfolding nearAt reachesFirst
     near-reached q =
         sym (T .reach o (w .state .0) b)
-        ∙ and-left (has (outReachAt (setsIn s) (z .inputs) o) (w .state .0)) (not (meets capacity (outReachAt (setsIn s) (z .inputs) o) homes)) q
+        ∙ and-left (has (outReachAt (setsIn s) (z .inputs) o) (w .state .0)) (not (setsMeet capacity (outReachAt (setsIn s) (z .inputs) o) homes)) q
 
     near-apart : Near homes o ≡ true → (t : ℕ) → has homes t ≡ true → reaches (separatedOf g .output) o t ≡ true → ⊥
     unfolding nearAt reachesFirst
@@ -144,15 +144,15 @@ module _ (g : Game) (z : Size) (s : List ℕ) (inner : ℕ) (G : Given g z s inn
         clash
         (meets-intro capacity (outReachAt (setsIn s) (z .inputs) o) homes t (omega (arith, reaches-to (separatedOf g .output) o t r, T .few-outputs))
         (T .reach o t b ∙ r) h)
-        (not-true (meets capacity (outReachAt (setsIn s) (z .inputs) o) homes)
-        (and-right (has (outReachAt (setsIn s) (z .inputs) o) (w .state .0)) (not (meets capacity (outReachAt (setsIn s) (z .inputs) o) homes)) q))
+        (not-true (setsMeet capacity (outReachAt (setsIn s) (z .inputs) o) homes)
+        (and-right (has (outReachAt (setsIn s) (z .inputs) o) (w .state .0)) (not (setsMeet capacity (outReachAt (setsIn s) (z .inputs) o) homes)) q))
 
     near-intro : reaches (separatedOf g .output) o (w .state .0) ≡ true
         → ((t : ℕ) → has homes t ≡ true → reaches (separatedOf g .output) o t ≡ true → ⊥) → Near homes o ≡ true
     unfolding nearAt reachesFirst
     near-intro r f =
         and-intro (T .reach o (w .state .0) b ∙ r)
-        (ap not (false-of (meets capacity (outReachAt (setsIn s) (z .inputs) o) homes)
+        (ap not (false-of (setsMeet capacity (outReachAt (setsIn s) (z .inputs) o) homes)
         (λ m. let v = meets-elim capacity (outReachAt (setsIn s) (z .inputs) o) homes m in
         absurd (f (v .0) (v .3) (sym (T .reach o (v .0) b) ∙ v .2)))))
 
@@ -243,7 +243,7 @@ module _ (g : Game) (z : Size) (s : List ℕ) (inner : ℕ) (G : Given g z s inn
         → group ≡ pack (z .inputs) (λ j. has x j && alikeAt (setsIn s) (z .inputs) (w .state .0) homes j)
         → ((b : ℕ) → has over b ≡ (ltb b (z .width) && has group (inputOf z b)))
         → Approaches (setsIn k) y inside (bitsOf (w .component .0)) over l m
-        → Filled (separatedOf g) z (λ o c j. Away (separatedOf g) (w .state .0) o c j × (has group j ≡ true)) l m
+        → ControllerFilled (separatedOf g) z (λ o c j. Away (separatedOf g) (w .state .0) o c j × (has group j ≡ true)) l m
     unfolding alikeAt
     group-filled a group over sub e O A = record {
       long = A .long;
@@ -334,7 +334,7 @@ module _ (g : Game) (z : Size) (s : List ℕ) (inner : ℕ) (G : Given g z s inn
           (lowest-in capacity x j homing-small ne e)
 
     pub homing-next : (group v : ℕ) {r r′ : List ℕ} → ((k : ℕ) → has v k ≡ (has x k && not (has group k)))
-        → Filled (separatedOf g) z (λ o c j. Away (separatedOf g) (w .state .0) o c j × (has group j ≡ true)) m r → r′ ≡ r → Homing g z w v l r′
+        → ControllerFilled (separatedOf g) z (λ o c j. Away (separatedOf g) (w .state .0) o c j × (has group j ≡ true)) m r → r′ ≡ r → Homing g z w v l r′
     homing-next group v d F q = rw q (record {
       inputs = λ j h. I .inputs j (and-left (has x j) (not (has group j)) (sym (d j) ∙ h));
       filled =
@@ -350,6 +350,6 @@ module _ (g : Game) (z : Size) (s : List ℕ) (inner : ℕ) (G : Given g z s inn
         taken : (j : ℕ) → has x j ≡ true → has v j ≡ false → has group j ≡ true
         taken j a h = elim (decide (has group j)) [ inl b ↦ b | inr b ↦ clash (d j ∙ and-intro a (ap not b)) h ]
 
-    pub homing-end : x ≡ 0 → Filled (separatedOf g) z (Away (separatedOf g) (w .state .0)) l m
+    pub homing-end : x ≡ 0 → ControllerFilled (separatedOf g) z (Away (separatedOf g) (w .state .0)) l m
     homing-end e =
         filled-part (separatedOf g) z (λ o c j lo lc lj p. (p, ap (λ (k : ℕ). has k j) e ∙ has-zero j)) (I .filled)

@@ -11,7 +11,7 @@ use mathlib.Core.Bool.{Bool, _&&_, not}
 use mathlib.Core.List.{List}
 use lib.Dec.{eqb}
 use Rattle.finite.specs.Bounded.{least}
-use Rattle.bits.specs.Member.{has, pack, both, meets}
+use Rattle.bits.specs.Member.{has, pack, both, setsMeet}
 use Rattle.sets.specs.Words.{capacity}
 use Rattle.scratch.specs.Stored.{rowAt, outReachAt}
 
@@ -28,7 +28,7 @@ unfoldable pub alikeAt : List ℕ → ℕ → ℕ → ℕ → ℕ → Bool
 alikeAt s n d homes j = eqb (lowerAt s n d j) homes
 
 unfoldable pub reachesFirst : ℕ → ℕ → ℕ → Bool
-reachesFirst reach homes d = has reach d && not (meets capacity reach homes)
+reachesFirst reach homes d = has reach d && not (setsMeet capacity reach homes)
 
 unfoldable pub nearAt : List ℕ → ℕ → ℕ → ℕ → ℕ → Bool
 nearAt s n homes d o = reachesFirst (outReachAt s n o) homes d

@@ -18,7 +18,7 @@ ghost use mathlib.Core.Bool.{true, _&&_};
 ghost use Rattle.bits.specs.Member.{has, pack, within};
 ghost use Rattle.controller_rows.specs.Writes.{lengthOf, residesAt};
 ghost use Rattle.controller_homeward.specs.Homes.{lowestIs, settledAt, lowerAt, alikeAt, reachesFirst, nearAt};
-ghost use Rattle.controller_table.specs.Filled.{Filled, Away as AwayRow, Given, HomeOf};
+ghost use Rattle.controller_table.specs.Filled.{ControllerFilled, Away as AwayRow, Given, HomeOf};
 
 // Whether the lowest home of a row in reach is d.
 fn home_is(row: OutSet, reach: OutSet, d: OutState) -> bool
@@ -115,7 +115,7 @@ pub fn approach(
     w: Home,
 )
     requires { ⌜ Given g z (now s) (bitsOf (c .0)) × HomeOf (separatedOf g) w × (lengthOf z ≤ length (now room)) × (now outs ≡ g .output .moves) ⌝ }
-    ensures { λ r. ⌜ Filled (separatedOf g) z (AwayRow (separatedOf g) (w .state .0)) (now (room .entry)) (now (room .exit)) ⌝ }
+    ensures { λ r. ⌜ ControllerFilled (separatedOf g) z (AwayRow (separatedOf g) (w .state .0)) (now (room .entry)) (now (room .exit)) ⌝ }
 {
     let n = z.inputs;
     let y = rows::layout_of(z);

@@ -2,9 +2,10 @@
 --
 --   column-none, column-hit, column-miss : the column of the next input
 --   column-below                    : a leader's column is one of the table's
---   input-leads, input-column, column-input : leaders and columns answer to one another
+--   input-below, input-leads, input-column, column-input : leaders and columns answer to one another
 --   own-column                      : where there are as many columns as inputs, every input leads and its column is its own number
---   among-none, among-fits, among-hit, among-miss, among-end, among-all : columns found input by input
+--   among-none, among-fits, among-hit, among-miss, among-end : columns found input by input
+--   among-all, among-led            : the columns where every input leads, and where every leader is of the set
 use Prim.Native.Nat.{ℕ, _+_, _≤_, _<_}
 use native.Mathlib.Numerals.{add-one}
 use mathlib.Core.Path.{_≡_, refl, sym, _∙_, ap}
@@ -14,7 +15,7 @@ use native.Mathlib.Omega.{arith}
 use native.Mathlib.Decide.{ℕ-discrete, decLt}
 use lib.Dec.{eqb, ltb}
 use borrow.Author.Tests.{eqb-true, eq-eqb, lt-ltb, le-ltb}
-use Rattle.finite.specs.Bounded.{count, one}
+use Rattle.finite.specs.Bounded.{count}
 use Rattle.finite.proofs.Truth.{decide, and-intro, and-left, and-right}
 use Rattle.finite.proofs.Bounded.{least-below, least-member, count-in, count-out, count-past, count-reached, count-all}
 use Rattle.bits.specs.Member.{has}
@@ -45,7 +46,7 @@ module _ (z : Size) where
     -- the leader of a column
 
     module _ (b : ℕ) (l : b < z .width) where
-      input-below : inputOf z b < z .inputs
+      pub input-below : inputOf z b < z .inputs
       unfolding inputOf columnOf picks
       input-below =
           let w = count-reached (leading z) (z .inputs) b (rw e at l) in
@@ -158,3 +159,12 @@ module _ (z : Size) (e : z .width ≡ count (z .inputs) (leading z)) (x : ℕ) w
       go : Dec (k < z .inputs) → (has x k && ltb k (z .inputs)) ≡ (ltb k (z .width) && has x (inputOf z k))
       go (yes l) = rw (lt-ltb k (z .inputs) l, lt-ltb k (z .width) (rw full l), own-column z e full k l) (swap (has x k))
       go (no l) = rw (le-ltb k (z .inputs) (omega arith), le-ltb k (z .width) (omega arith)) (none (has x k) (has x (inputOf z k)))
+
+  -- where the set has every leader it has every column
+  pub among-led : ((j : ℕ) → j < z .inputs → leading z j ≡ true → has x j ≡ true) → (r : ℕ) → ((k : ℕ) → has r k ≡ ltb k (z .width))
+      → (k : ℕ) → has r k ≡ (ltb k (z .width) && has x (inputOf z k))
+  among-led f r i k = i k ∙ go (decLt k (z .width))
+    where
+      go : Dec (k < z .width) → ltb k (z .width) ≡ (ltb k (z .width) && has x (inputOf z k))
+      go (yes l) = rw (lt-ltb k (z .width) l, f (inputOf z k) (input-below z e k l) (input-leads z e k l)) refl
+      go (no l) = rw (le-ltb k (z .width) (omega arith)) refl

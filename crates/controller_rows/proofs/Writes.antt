@@ -20,7 +20,7 @@ use borrow.Author.Tests.{lt-ltb, le-ltb, ltb-true}
 use Rattle.finite.specs.Bounded.{least}
 use Rattle.finite.proofs.Truth.{decide, and-intro, and-false-left, and-false-right}
 use Rattle.finite.proofs.Bounded.{least-same, count-le}
-use Rattle.bits.specs.Member.{has, pack, both, meets}
+use Rattle.bits.specs.Member.{has, pack, both, setsMeet}
 use Rattle.sets.specs.Words.{capacity}
 use Rattle.arena.specs.Table.{gives}
 use Rattle.theory.specs.Entries.{entry}
@@ -29,7 +29,7 @@ use Rattle.table_counters.specs.Counters.{mostCounters}
 use Rattle.table_entries.specs.Step.{entryStep}
 use Rattle.table_entries.proofs.Packed.{none-entry, entry-small, entry-steps}
 use Rattle.table_layout.specs.declared.Layout.{Layout}
-use Rattle.table_layout.specs.Rows.{Fits, Entries, WroteColumn}
+use Rattle.table_layout.specs.Rows.{LayoutFits, Entries, WroteColumn}
 use Rattle.controller_rows.specs.declared.Size.{Size}
 use Rattle.controller_rows.specs.Writes.{
   first,
@@ -84,7 +84,7 @@ module _ (z : Size) (long : ℕ) (t : Table z long) where
   pub width-few : z .width ≤ capacity
   width-few = omega (arith, t .inputs, t .columns, count-le (z .inputs) (leading z))
 
-  pub rows-fit : {y : Layout} → y ≡ layoutOf z → Fits y long
+  pub rows-fit : {y : Layout} → y ≡ layoutOf z → LayoutFits y long
   unfolding layoutOf
   rows-fit e = rw e
       (record {
@@ -97,7 +97,7 @@ module _ (z : Size) (long : ℕ) (t : Table z long) where
       })
 
   pub row-asks : {y : Layout} {o b p f m : ℕ} → y ≡ layoutOf z → o < z .outputs → b < z .width → Stays p f m
-      → Fits y long × (o < y .states) × (b < y .width) × Entries y (z .all .0) f m
+      → LayoutFits y long × (o < y .states) × (b < y .width) × Entries y (z .all .0) f m
   unfolding layoutOf
   row-asks {o = o} {b = b} {p = p} {f = f} {m = m} e u v s = rw e (
     rows-fit refl,
@@ -174,7 +174,7 @@ unfolding both
 lowest-both x y r h e = e ∙ least-same capacity (has r) (both x y) (λ s b. h s)
 
 module _ (c j row reach : ℕ) where
-  pub settles-in : {r : Bool} → has c j ≡ true → r ≡ meets capacity row reach → r ≡ settlesAt c j row reach
+  pub settles-in : {r : Bool} → has c j ≡ true → r ≡ setsMeet capacity row reach → r ≡ settlesAt c j row reach
   unfolding settlesAt
   settles-in h e = rw h e
 

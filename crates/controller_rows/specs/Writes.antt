@@ -23,7 +23,7 @@ use mathlib.Core.List.{List}
 use lib.Dec.{ltb, eqb}
 use lib.ListN.{getD, set}
 use Rattle.finite.specs.Bounded.{least, count}
-use Rattle.bits.specs.Member.{has, pack, both, meets}
+use Rattle.bits.specs.Member.{has, pack, both, setsMeet}
 use Rattle.sets.specs.Words.{capacity, bitsOf}
 use Rattle.arena.specs.Table.{none, gives}
 use Rattle.theory.specs.Entries.{entry}
@@ -78,7 +78,7 @@ pub record Row (z : Size) (o b p : ℕ) (l m : List ℕ) : Type 0 where
   pub column : WroteColumn (layoutOf z) o b (z .all .0) (first p) (more p) l m
 
 unfoldable pub settlesAt : ℕ → ℕ → ℕ → ℕ → Bool
-settlesAt c j row reach = has c j && meets capacity row reach
+settlesAt c j row reach = has c j && setsMeet capacity row reach
 
 unfoldable pub homeAt : ℕ → ℕ → ℕ → ℕ → ℕ → Bool
 homeAt c j row reach d = has c j && eqb (least capacity (both row reach)) d

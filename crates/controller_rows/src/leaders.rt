@@ -30,13 +30,17 @@ fn among(z: Size, x: InSet) -> Set
     r
 }
 
-// The same. Where every input leads its column is its own number.
+// The same. Where every input leads its column is its own number, and where all leaders belong to x no column is asked for.
 pub fn columns_of(z: Size, x: InSet) -> Set
     requires { ⌜ (z .inputs ≤ capacity) × (z .width ≡ count (z .inputs) (leading z)) ⌝ }
     ensures { λ r. ⌜ ((b : ℕ) → has (bitsOf r) b ≡ (ltb b (z .width) && has (bitsOf (x .0)) (inputOf z b))) ⌝ }
 {
     if z.width == z.inputs {
         return sets::intersection(x.0, sets::below(z.inputs));
+    }
+    let leaders = z.leaders;
+    if sets::is_subset(leaders.0, x.0) {
+        return sets::below(z.width);
     }
     among(z, x)
 }

@@ -26,7 +26,7 @@ use Rattle.controller_rows.specs.declared.Size.{Size}
 use Rattle.controller_rows.specs.Each.{Each, none, hit, miss}
 use Rattle.controller_rows.specs.Writes.{first, more, leading, columnOf, inputOf, layoutOf, lengthOf, Row}
 use Rattle.controller_rows.proofs.Columns.{input-leads, input-column, column-input}
-use Rattle.controller_table.specs.Filled.{Filled}
+use Rattle.controller_table.specs.Filled.{ControllerFilled}
 
 pub record Sizes (S : Separated) (z : Size) : Type 0 where
   pub inputs : z .inputs ≡ S .input .states
@@ -36,11 +36,11 @@ pub record Sizes (S : Separated) (z : Size) : Type 0 where
   pub columns : z .width ≡ count (z .inputs) (leading z)
 
 pub record Fills (S : Separated) (z : Size) (F : List ℕ → List ℕ → Type 0) (P : ℕ → ℕ → ℕ → Type 0) : Type 0 where
-  pub fills : (l m : List ℕ) → F l m → lengthOf z ≤ length l → Filled S z P l m
+  pub fills : (l m : List ℕ) → F l m → lengthOf z ≤ length l → ControllerFilled S z P l m
 
 module _ (S : Separated) (z : Size) where
   pub filled-none : {P : ℕ → ℕ → ℕ → Type 0} (l : List ℕ)
-      → ((o c j : ℕ) → o < S .output .states → c < controllerCounters S → j < S .input .states → P o c j → ⊥) → Filled S z P l l
+      → ((o c j : ℕ) → o < S .output .states → c < controllerCounters S → j < S .input .states → P o c j → ⊥) → ControllerFilled S z P l l
   filled-none l f = record {
     long = refl;
     fills = λ E T.
@@ -49,7 +49,8 @@ module _ (S : Separated) (z : Size) where
   }
 
   -- what one of two writings in a row fills
-  pub filled-more : {P Q : ℕ → ℕ → ℕ → Type 0} {l m r : List ℕ} → Filled S z P l m → Filled S z Q m r → Filled S z (λ o c j. P o c j ⊎ Q o c j) l r
+  pub filled-more : {P Q : ℕ → ℕ → ℕ → Type 0} {l m r : List ℕ} → ControllerFilled S z P l m → ControllerFilled S z Q m r
+      → ControllerFilled S z (λ o c j. P o c j ⊎ Q o c j) l r
   filled-more p q = record {
     long = q .long ∙ p .long;
     fills = λ E T.
@@ -57,7 +58,8 @@ module _ (S : Separated) (z : Size) where
   }
 
   pub filled-part : {P Q : ℕ → ℕ → ℕ → Type 0} {l m : List ℕ}
-      → ((o c j : ℕ) → o < S .output .states → c < controllerCounters S → j < S .input .states → Q o c j → P o c j) → Filled S z P l m → Filled S z Q l m
+      → ((o c j : ℕ) → o < S .output .states → c < controllerCounters S → j < S .input .states → Q o c j → P o c j) → ControllerFilled S z P l m
+      → ControllerFilled S z Q l m
   filled-part f p = record {
     long = p .long;
     fills = λ E T.
@@ -75,7 +77,7 @@ module _ (S : Separated) (z : Size) where
         ]
 
     each-filled : (k : ℕ) {l m : List ℕ} → Each p F k l m → ((i : ℕ) → i < k → p i ≡ true → Fills S z (F i) (P i)) → lengthOf z ≤ length l
-        → Filled S z (λ o c j. (i : ℕ) × (i < k) × (p i ≡ true) × P i o c j) l m
+        → ControllerFilled S z (λ o c j. (i : ℕ) × (i < k) × (p i ≡ true) × P i o c j) l m
     each-filled k (none {l = l}) f long = filled-none l (λ o c j a b d h. omega (arith, h .1))
     each-filled (suc k) (hit {m = m} {r = r} e t s) f long =
         let before = each-filled k e (λ i b h. f i (omega arith) h) long in
@@ -93,7 +95,8 @@ module _ (S : Separated) (z : Size) where
 module _ (S : Separated) (z : Size) (Z : Sizes S z) where
   -- rows have leaders
   pub filled-led : {P Q : ℕ → ℕ → ℕ → Type 0} {l m : List ℕ}
-      → ((o c j : ℕ) → o < S .output .states → j < S .input .states → leading z j ≡ true → Q o c j → P o c j) → Filled S z P l m → Filled S z Q l m
+      → ((o c j : ℕ) → o < S .output .states → j < S .input .states → leading z j ≡ true → Q o c j → P o c j) → ControllerFilled S z P l m
+      → ControllerFilled S z Q l m
   unfolding layoutOf
   filled-led f p = record {
     long = p .long;

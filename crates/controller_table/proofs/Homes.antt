@@ -32,7 +32,7 @@ use Rattle.theory.specs.Choice.{home}
 use Rattle.controller_rows.specs.declared.Size.{Size}
 use Rattle.controller_rows.specs.declared.Home.{Home}
 use Rattle.controller_rows.specs.Writes.{residesAt}
-use Rattle.controller_table.specs.Filled.{Filled, Resides, Away, There, At, Below, Given, HomeOf}
+use Rattle.controller_table.specs.Filled.{ControllerFilled, Resides, Away, There, At, Below, Given, HomeOf}
 use Rattle.controller_table.proofs.Fills.{filled-none, filled-more, filled-part}
 use Rattle.controller_table.proofs.Told.{resides-word, resides-at, resides-there, home-core}
 use Rattle.controller_table.proofs.Setting.{sizes-of, told-of}
@@ -62,7 +62,7 @@ module _ (g : Game) (z : Size) (s : List ℕ) (inner : ℕ) (G : Given g z s inn
           )
 
       -- with no resident at d there is none anywhere
-      pub no-home : bitsOf (i .0) ≡ 0 → (l : List ℕ) → Filled (separatedOf g) z (At (separatedOf g) d) l l
+      pub no-home : bitsOf (i .0) ≡ 0 → (l : List ℕ) → ControllerFilled (separatedOf g) z (At (separatedOf g) d) l l
       no-home none l =
           filled-none (separatedOf g) z l
           (λ o c j x y a h. clash (in-set j a (resides-there (separatedOf g) o d j (h .resides))) (ap (λ (x : ℕ). has x j) none ∙ has-zero j))
@@ -83,7 +83,8 @@ module _ (g : Game) (z : Size) (s : List ℕ) (inner : ℕ) (G : Given g z s inn
           }
 
 -- the rows of one home
-pub settled-here : (S : Separated) (z : Size) (d : ℕ) {l m r : List ℕ} → Filled S z (Away S d) l m → Filled S z (There S d) m r → Filled S z (At S d) l r
+pub settled-here : (S : Separated) (z : Size) (d : ℕ) {l m r : List ℕ} → ControllerFilled S z (Away S d) l m → ControllerFilled S z (There S d) m r
+    → ControllerFilled S z (At S d) l r
 settled-here S z d p q =
     filled-part S z
     (λ o c j x y a h. elim (decide (joined (S .output) d o)) [
@@ -93,10 +94,11 @@ settled-here S z d p q =
     (filled-more S z p q)
 
 -- the loop over the homes
-pub homes-none : (S : Separated) (z : Size) (l : List ℕ) → Filled S z (Below S 0) l l
+pub homes-none : (S : Separated) (z : Size) (l : List ℕ) → ControllerFilled S z (Below S 0) l l
 homes-none S z l = filled-none S z l (λ o c j x y a h. omega (arith, h .below))
 
-pub homes-next : (S : Separated) (z : Size) (d : ℕ) {l m r : List ℕ} → Filled S z (Below S d) l m → Filled S z (At S d) m r → Filled S z (Below S (d + 1)) l r
+pub homes-next : (S : Separated) (z : Size) (d : ℕ) {l m r : List ℕ} → ControllerFilled S z (Below S d) l m → ControllerFilled S z (At S d) m r
+    → ControllerFilled S z (Below S (d + 1)) l r
 homes-next S z d p q =
     filled-part S z
     (λ o c j x y a h. elim (below-suc (home S j o) d (rw add-one at (h .below))) [

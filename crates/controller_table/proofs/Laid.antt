@@ -13,7 +13,7 @@ use Rattle.play.specs.Play.{separatedOf}
 use Rattle.theory.specs.Choice.{controllerRow}
 use Rattle.theory.specs.Entries.{controllerCounters}
 use Rattle.table_layout.specs.declared.Layout.{Layout}
-use Rattle.table_layout.specs.Rows.{Fits, Rows, Filled as FilledIn}
+use Rattle.table_layout.specs.Rows.{LayoutFits, Rows, Filled as FilledIn}
 use Rattle.controller_rows.specs.declared.Size.{Size}
 use Rattle.controller_rows.specs.Writes.{inputOf, layoutOf, lengthOf}
 use Rattle.controller_rows.proofs.Writes.{rows-fit}
@@ -33,7 +33,7 @@ module _ (g : Game) (z : Size) (y : Layout) (Z : Sized g z) (D : y ≡ layoutOf 
   unfolding layoutOf
   width-is = ap (λ (x : Layout). x .width) D
 
-  pub laid-fits : (n : ℕ) → lengthOf z ≤ n → Fits y n
+  pub laid-fits : (n : ℕ) → lengthOf z ≤ n → LayoutFits y n
   laid-fits n long = rows-fit z n (table-of g z Z n long) D
 
   module _ (E : List ℕ) where

@@ -22,7 +22,7 @@ use Rattle.table_goals.specs.Stretches.{metIn}
 use Rattle.table_goals.proofs.Tours.{met-pack, goal-below, goals-from}
 use Rattle.controller_rows.specs.declared.Size.{Size}
 use Rattle.controller_rows.specs.declared.Home.{Home}
-use Rattle.controller_table.specs.Filled.{Sized, HomeOf, Goals}
+use Rattle.controller_table.specs.Filled.{Sized, HomeOf, HomeGoals}
 use Rattle.controller_table.proofs.Loops.{comp-in}
 use Rattle.controller_table.proofs.Setting.{fits-of, few-outputs}
 
@@ -35,7 +35,7 @@ same-moves g s t a b = refl
 module _ (g : Game) (z : Size) (Z : Sized g z) (w : Home) (H : HomeOf (separatedOf g) w) where
   -- ---- the counters of a tour
 
-  module _ (q : ℕ) (Q : Goals (separatedOf g) w q) where
+  module _ (q : ℕ) (Q : HomeGoals (separatedOf g) w q) where
     some-goal : (a : ℕ) → has q a ≡ true → a < length (guarantees (separatedOf g))
     some-goal a h = goal-below (separatedOf g .output) (w .state .0) (guarantees (separatedOf g)) q (Q .is) a h
 
@@ -54,7 +54,7 @@ module _ (g : Game) (z : Size) (Z : Sized g z) (w : Home) (H : HomeOf (separated
 -- ---- the guarantees that meet a component
 
 pub met-goals : (g : Game) (z : Size) → Sized g z → (w : Home) → HomeOf (separatedOf g) w → (q : ℕ)
-    → q ≡ pack (length (guarantees (separatedOf g))) (metIn (guarantees (separatedOf g)) (bitsOf (w .component .0))) → Goals (separatedOf g) w q
+    → q ≡ pack (length (guarantees (separatedOf g))) (metIn (guarantees (separatedOf g)) (bitsOf (w .component .0))) → HomeGoals (separatedOf g) w q
 met-goals g z Z w H q e = record {
   is =
       e ∙ met-pack (separatedOf g .output) (w .state .0) (bitsOf (w .component .0)) (few-outputs g z Z) (comp-in (separatedOf g) w H)

@@ -30,7 +30,7 @@ use Rattle.theory.proofs.ControllerRow.{home-reached}
 use Rattle.controller_rows.specs.declared.Size.{Size}
 use Rattle.controller_rows.specs.Writes.{inputOf, layoutOf, lengthOf, settlesAt, Plains, startOf, Starts}
 use Rattle.table_layout.specs.Rows.{Filled as FilledIn}
-use Rattle.controller_table.specs.Filled.{Sheet, Filled, Every, Below, Given}
+use Rattle.controller_table.specs.Filled.{Sheet, ControllerFilled, Every, Below, Given}
 use Rattle.controller_table.proofs.Cells.{some-counter, cell-of}
 use Rattle.controller_table.proofs.Fills.{filled-more, filled-part}
 use Rattle.controller_table.proofs.Told.{Told, settled, settled-core}
@@ -61,7 +61,7 @@ module _ (g : Game) (z : Size) (s : List ℕ) (inner : ℕ) (G : Given g z s inn
 
   -- the rows with no home in reach, and those with one
   pub rows-filled : {l m r : List ℕ} → lengthOf z ≤ length l → Plains z (setsIn s) inner (setsIn (g .output .moves)) (z .outputs) l m
-      → Filled (separatedOf g) z (Below (separatedOf g) (z .outputs)) m r → Filled (separatedOf g) z Every l r
+      → ControllerFilled (separatedOf g) z (Below (separatedOf g) (z .outputs)) m r → ControllerFilled (separatedOf g) z Every l r
   rows-filled {l} {m} long two three =
       filled-part (separatedOf g) z row
       (filled-more (separatedOf g) z
@@ -111,7 +111,7 @@ module _ (g : Game) (z : Size) (s : List ℕ) (inner : ℕ) (G : Given g z s inn
 
     -- where what comes before the rows stands, and then every row is written, the list stands in the buffer
     pub table-filled : {l m r : List ℕ} → lengthOf z ≤ length l → Grows E l m → ((k : ℕ) → k < z .base → Right E m k)
-        → Filled (separatedOf g) z Every m r → r ≡ E ++ drop (length E) l
+        → ControllerFilled (separatedOf g) z Every m r → r ≡ E ++ drop (length E) l
     unfolding layoutOf
     table-filled {l} {m} {r} long front stand rows =
         grows-done E l r (omega (arith, is-long)) (grows-more E front (filled .grows)) (λ k b. go k b (decLt k (z .base)))

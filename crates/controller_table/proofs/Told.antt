@@ -16,7 +16,7 @@ use borrow.Author.Tests.{eqb-true, eq-eqb}
 use Rattle.finite.specs.Bounded.{least}
 use Rattle.finite.proofs.Truth.{clash, false-of, and-intro, and-left, and-right}
 use Rattle.finite.proofs.Bounded.{least-member, least-before, least-unique}
-use Rattle.bits.specs.Member.{has, meets, both}
+use Rattle.bits.specs.Member.{has, setsMeet, both}
 use Rattle.bits.proofs.Compare.{meets-intro, meets-elim}
 use Rattle.graphs.specs.Graph.{edge}
 use Rattle.graphs.specs.Closure.{reaches}
@@ -55,12 +55,12 @@ module _ (S : Separated) (s : List ℕ) (n inner : ℕ) (rows : List ℕ) (T : T
   module _ (j o : ℕ) (a : j < S .input .states) (b : o < S .output .states) where
     pub settled-core : settlesAt inner j (rowAt s n j) (outReachAt s n o) ≡ true → nontrivial (S .input) j ≡ true
     unfolding settlesAt
-    settled-core h = sym (T .core j a) ∙ and-left (has inner j) (meets capacity (rowAt s n j) (outReachAt s n o)) h
+    settled-core h = sym (T .core j a) ∙ and-left (has inner j) (setsMeet capacity (rowAt s n j) (outReachAt s n o)) h
 
     pub settled : settlesAt inner j (rowAt s n j) (outReachAt s n o) ≡ true → settles S (region S) j o ≡ true
     unfolding settlesAt
     settled h =
-        let v = meets-elim capacity (rowAt s n j) (outReachAt s n o) (and-right (has inner j) (meets capacity (rowAt s n j) (outReachAt s n o)) h) in
+        let v = meets-elim capacity (rowAt s n j) (outReachAt s n o) (and-right (has inner j) (setsMeet capacity (rowAt s n j) (outReachAt s n o)) h) in
         settles-intro S (region S) j o (v .0) (sym (T .reach o (v .0) b) ∙ v .3)
         (sym (T .homes j (v .0) a (settled-core h)) ∙ v .2)
 

@@ -1,17 +1,17 @@
 -- What is filled of the controller's table, of the game S.
 --
---   Sheet S y input E    == the list E ends in rows of the table, in the layout y, column b of them being that of the input b
---   Filled S z P l m     == from l to m entries of any such list of the size z were written, those of the rows with P among them
---   Every o c j          == every row
---   Resides S o d j      == j is in a nontrivial component, and its home at output o is d
---   Away S d o c j       == so it is, and o lies outside the component of d
---   There S d o c j      == so it is, and o lies in the component of d
---   At S d o c j         == so it is, wherever o lies
---   Below S k o c j      == the home of j at o is below k
---   Sized g z            == an accepted game and the size of its table
---   Given g z s inner    == with scratch that is ready, inner being the inputs in nontrivial components
---   HomeOf S w           == w is a home with its component and the inputs that reside there
---   Goals S w q          == q is the set of the numbers of the guarantees that meet its component
+--   Sheet S y input E          == the list E ends in rows of the table, in the layout y, column b of them being that of the input b
+--   ControllerFilled S z P l m == from l to m entries of any such list of the size z were written, those of the rows with P among them
+--   Every o c j                == every row
+--   Resides S o d j            == j is in a nontrivial component, and its home at output o is d
+--   Away S d o c j             == so it is, and o lies outside the component of d
+--   There S d o c j            == so it is, and o lies in the component of d
+--   At S d o c j               == so it is, wherever o lies
+--   Below S k o c j            == the home of j at o is below k
+--   Sized g z                  == an accepted game and the size of its table
+--   Given g z s inner          == with scratch that is ready, inner being the inputs in nontrivial components
+--   HomeOf S w                 == w is a home with its component and the inputs that reside there
+--   HomeGoals S w q            == q is the set of the numbers of the guarantees that meet its component
 use Prim.Native.Nat.{ℕ, _≤_, _<_}
 use mathlib.Core.Path.{_≡_}
 use mathlib.Core.Bool.{true, false}
@@ -45,7 +45,7 @@ pub record Sheet (S : Separated) (y : Layout) (input : ℕ → ℕ) (E : List �
   pub inputs : (b : ℕ) → b < y .width → input b < S .input .states
   pub rows : Rows y (λ o c b. controllerRow S o c (input b)) E
 
-pub record Filled (S : Separated) (z : Size) (P : ℕ → ℕ → ℕ → Type 0) (l m : List ℕ) : Type 0 where
+pub record ControllerFilled (S : Separated) (z : Size) (P : ℕ → ℕ → ℕ → Type 0) (l m : List ℕ) : Type 0 where
   pub long : length m ≡ length l
   pub fills : (E : List ℕ) → Sheet S (layoutOf z) (inputOf z) E → FilledIn (layoutOf z) E (λ o c b. P o c (inputOf z b)) l m
 
@@ -92,5 +92,5 @@ pub record HomeOf (S : Separated) (w : Home) : Type 0 where
   pub resides : (j : ℕ) → j < S .input .states → has (bitsOf (w .inputs .0)) j ≡ true → Resides S (w .state .0) (w .state .0) j
   pub resident : (j : ℕ) → j < S .input .states → Resides S (w .state .0) (w .state .0) j → has (bitsOf (w .inputs .0)) j ≡ true
 
-pub record Goals (S : Separated) (w : Home) (q : ℕ) : Type 0 where
+pub record HomeGoals (S : Separated) (w : Home) (q : ℕ) : Type 0 where
   pub is : q ≡ pack (length (guarantees S)) (λ k. meetsAt (S .output) (w .state .0) (goalAt (guarantees S) k))

@@ -28,7 +28,7 @@ use Rattle.theory.specs.Tour.{goalAt}
 use Rattle.theory.specs.Choice.{guarantees, controllerRow}
 use Rattle.theory.specs.Entries.{entry, controllerCounters}
 use Rattle.table_goals.specs.declared.Stretch.{Stretch}
-use Rattle.table_goals.specs.Stretches.{setOf}
+use Rattle.table_goals.specs.Stretches.{stretchSet}
 use Rattle.table_goals.specs.Goal.{Goals as Counted}
 use Rattle.table_layout.specs.declared.Layout.{Layout}
 use Rattle.table_layout.specs.Rows.{place, Filled as FilledIn}
@@ -39,7 +39,7 @@ use Rattle.table_tours.proofs.Stretches.{headed-none, headed-further, headed-al
 use Rattle.controller_rows.specs.declared.Size.{Size}
 use Rattle.controller_rows.specs.declared.Home.{Home}
 use Rattle.controller_rows.specs.Writes.{inputOf, layoutOf}
-use Rattle.controller_table.specs.Filled.{Sheet, Filled, There, Sized, HomeOf, Goals}
+use Rattle.controller_table.specs.Filled.{Sheet, ControllerFilled, There, Sized, HomeOf, HomeGoals}
 use Rattle.controller_table.proofs.Cells.{place-room}
 use Rattle.controller_table.proofs.Laid.{outputs-are, counters-are, width-is, laid-rows, laid-input, laid-filled}
 use Rattle.controller_table.proofs.Entries.{at-home}
@@ -59,7 +59,7 @@ module _ (g : Game) (y : Layout) (c over q : ℕ) where
 
   -- x are the rows that were read
   pub home-further : {x : List ℕ} → x ≡ g .output .moves → (t : Stretch) (k : ℕ) {l m r r′ : List ℕ} → t .from ≡ k
-      → ((i : ℕ) → i < t .count → has (setOf t i) ≡ goalAt (guarantees (separatedOf g)) (t .from + i))
+      → ((i : ℕ) → i < t .count → has (stretchSet t i) ≡ goalAt (guarantees (separatedOf g)) (t .from + i))
       → Toured g y c over q k l m → Stretched (setsIn x) y c over q t (t .count) m r → r′ ≡ r
       → Toured g y c over q (k + t .count) l r′
   home-further a t k e sets F S d = rw d (record {
@@ -77,7 +77,7 @@ module _ (g : Game) (z : Size) (y : Layout) (Z : Sized g z) (D : y ≡ layoutOf 
         (λ t e. omega (arith, outputs-are g z y Z D, joined-to (separatedOf g .output) (w .state .0) t (sym (comp-in (separatedOf g) w H t) ∙ e)))
 
     -- a course with no column
-    module _ (q : ℕ) (Q : Goals (separatedOf g) w q) where
+    module _ (q : ℕ) (Q : HomeGoals (separatedOf g) w q) where
       size : ℕ
       size = y .base + y .states * y .counters * y .width
 
@@ -119,7 +119,7 @@ module _ (g : Game) (z : Size) (y : Layout) (Z : Sized g z) (D : y ≡ layoutOf 
       of-column b l h = O b ∙ and-intro (lt-ltb b (z .width) (omega (arith, width-is g z y Z D))) h
 
       module _ (E : List ℕ) (T : Sheet (separatedOf g) (layoutOf z) (inputOf z) E) where
-        home-course : (q : ℕ) → Goals (separatedOf g) w q → Course y (setsIn (g .output .moves)) (bitsOf (w .component .0)) over q
+        home-course : (q : ℕ) → HomeGoals (separatedOf g) w q → Course y (setsIn (g .output .moves)) (bitsOf (w .component .0)) over q
         unfolding controllerCounters
         home-course q Q = record {
           graph = separatedOf g .output;
@@ -153,10 +153,10 @@ module _ (g : Game) (z : Size) (y : Layout) (Z : Sized g z) (D : y ≡ layoutOf 
               of-column b lb (input-at (separatedOf g) z (sizes-of g z Z) w H (few-outputs g z Z) o (inputOf z b) a (p .within) (p .resides)),
             )))
 
-      module _ (q : ℕ) (Q : Goals (separatedOf g) w q) where
+      module _ (q : ℕ) (Q : HomeGoals (separatedOf g) w q) where
         -- all sets were passed
         pub home-filled : q ≢ 0 → {l m : List ℕ} (k : ℕ) → k ≡ length (guarantees (separatedOf g))
-            → Toured g y (bitsOf (w .component .0)) over q k l m → Filled (separatedOf g) z (There (separatedOf g) (w .state .0)) l m
+            → Toured g y (bitsOf (w .component .0)) over q k l m → ControllerFilled (separatedOf g) z (There (separatedOf g) (w .state .0)) l m
         unfolding home-course
         home-filled ne k e F = record {
           long = F .long;
@@ -169,7 +169,7 @@ module _ (g : Game) (z : Size) (y : Layout) (Z : Sized g z) (D : y ≡ layoutOf 
 
         -- with no goal
         pub rests-filled : {x : List ℕ} → x ≡ g .output .moves → q ≡ 0 → {l m : List ℕ} → Stayed (setsIn x) y (bitsOf (w .component .0)) over l m
-            → Filled (separatedOf g) z (There (separatedOf g) (w .state .0)) l m
+            → ControllerFilled (separatedOf g) z (There (separatedOf g) (w .state .0)) l m
         unfolding home-course
         rests-filled a e S = record {
           long = S .long;

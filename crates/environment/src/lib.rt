@@ -12,8 +12,9 @@ ghost use Rattle.sets.specs.Words.{bitsOf};
 ghost use Rattle.graphs.specs.Component.{number};
 ghost use Rattle.play.specs.Play.{graphOf, separatedOf};
 ghost use Rattle.theory.specs.Entries.{environmentEntries};
+ghost use Rattle.game_sets.specs.Lists.{Lists};
 ghost use Rattle.table_sizes.specs.Outlined.{Outlined};
-ghost use Rattle.environment_table.specs.Table.{Solved, Known, Roomy, Filled};
+ghost use Rattle.environment_table.specs.Table.{Solved, Known, Roomy, EnvironmentFilled};
 ghost use Rattle.environment_table.specs.Reading.{plain};
 
 // The rows of the component whose number is i, where it is nontrivial and i its number. Here and below the rows of both graphs, `ins` and `outs`, are read
@@ -21,6 +22,7 @@ ghost use Rattle.environment_table.specs.Reading.{plain};
 fn component_rows<'a>(
     g: Game,
     given: Outline,
+    l: &[u64; sets::ROW_WORDS],
     ins: &'a [u64; sets::ROW_WORDS],
     outs: &'a [u64; sets::ROW_WORDS],
     s: &[u64],
@@ -30,8 +32,8 @@ fn component_rows<'a>(
     room: &mut [u16],
 )
     requires { ⌜ Known g (now s) (bitsOf (inner .0)) × Roomy g counters (length (now room)) × (i .0 < g .input .states)
-        × Outlined g given × (now ins ≡ g .input .moves) × (now outs ≡ g .output .moves) ⌝ }
-    ensures { λ r. ⌜ Filled g (λ a h b. (number (graphOf (g .input)) a ≡ i .0) × (plain g a b ≡ false)) (now (room .entry)) (now (room .exit)) ⌝ }
+        × Outlined g given × (now ins ≡ g .input .moves) × (now outs ≡ g .output .moves) × Lists g (now l) ⌝ }
+    ensures { λ r. ⌜ EnvironmentFilled g (λ a h b. (number (graphOf (g .input)) a ≡ i .0) × (plain g a b ≡ false)) (now (room .entry)) (now (room .exit)) ⌝ }
 {
     if !sets::member(inner.0, i.0) {
         return;
@@ -41,13 +43,14 @@ fn component_rows<'a>(
         return;
     }
     let over = environment_escape::escapes(g, ins, outs, s, inner, counters, c, i, room);
-    environment_tour::tours(g, given, ins, counters, c, over, room);
+    environment_tour::tours(g, given, l, ins, counters, c, over, room);
 }
 
 // The rows of all nontrivial components.
 fn walked_rows<'a>(
     g: Game,
     given: Outline,
+    l: &[u64; sets::ROW_WORDS],
     ins: &'a [u64; sets::ROW_WORDS],
     outs: &'a [u64; sets::ROW_WORDS],
     s: &[u64],
@@ -56,13 +59,13 @@ fn walked_rows<'a>(
     room: &mut [u16],
 )
     requires { ⌜ Known g (now s) (bitsOf (inner .0)) × Roomy g counters (length (now room))
-        × Outlined g given × (now ins ≡ g .input .moves) × (now outs ≡ g .output .moves) ⌝ }
-    ensures { λ r. ⌜ Filled g (λ a h b. plain g a b ≡ false) (now (room .entry)) (now (room .exit)) ⌝ }
+        × Outlined g given × (now ins ≡ g .input .moves) × (now outs ≡ g .output .moves) × Lists g (now l) ⌝ }
+    ensures { λ r. ⌜ EnvironmentFilled g (λ a h b. plain g a b ≡ false) (now (room .entry)) (now (room .exit)) ⌝ }
 {
     let n = g.input.states;
     let mut i: usize = 0;
     while i < n {
-        component_rows(g, given, ins, outs, s, inner, counters, InState(i), room);
+        component_rows(g, given, l, ins, outs, s, inner, counters, InState(i), room);
         i += 1;
     }
 }
@@ -71,17 +74,19 @@ fn walked_rows<'a>(
 pub fn fill<'a>(
     g: Game,
     given: Outline,
+    l: &[u64; sets::ROW_WORDS],
     ins: &'a [u64; sets::ROW_WORDS],
     outs: &'a [u64; sets::ROW_WORDS],
     s: &[u64],
     inner: InSet,
     room: &mut [u16],
 )
-    requires { ⌜ Solved g (now s) (bitsOf (inner .0)) (length (now room)) × Outlined g given × (now ins ≡ g .input .moves) × (now outs ≡ g .output .moves) ⌝ }
+    requires { ⌜ Solved g (now s) (bitsOf (inner .0)) (length (now room)) × Outlined g given
+        × (now ins ≡ g .input .moves) × (now outs ≡ g .output .moves) × Lists g (now l) ⌝ }
     ensures { λ r. ⌜ now (room .exit) ≡ environmentEntries (separatedOf g) ++ drop (length (environmentEntries (separatedOf g))) (now (room .entry)) ⌝ }
 {
     let counters = given.environment;
     room[0] = environment_plain::start_entry(g, s, inner);
     environment_plain::plain_rows(g, ins, outs, s, inner, counters, room);
-    walked_rows(g, given, ins, outs, s, inner, counters, room);
+    walked_rows(g, given, l, ins, outs, s, inner, counters, room);
 }

@@ -17,7 +17,7 @@ use lib.ListN.{length, getD}
 use borrow.Author.Tests.{eqb-true, eq-eqb, ne-eqb}
 use Rattle.finite.proofs.Truth.{decide, clash, and-right, or-left, or-right, or-cases}
 use Rattle.finite.specs.Bounded.{least}
-use Rattle.bits.specs.Member.{has, pack, within, both, meets}
+use Rattle.bits.specs.Member.{has, pack, within, both, setsMeet}
 use Rattle.bits.proofs.Membership.{has-zero, has-within}
 use Rattle.sets.specs.Words.{capacity, setsIn, setCount}
 use Rattle.graphs.specs.Graph.{stuck}
@@ -35,9 +35,9 @@ use Rattle.theory.specs.Choice.{gate, environmentRow}
 use Rattle.scratch.specs.Scratch.{scratchSets}
 use Rattle.scratch.specs.Stored.{wonAt}
 use Rattle.table_layout.specs.declared.Layout.{Layout}
-use Rattle.table_layout.specs.Rows.{Fits}
+use Rattle.table_layout.specs.Rows.{LayoutFits}
 use Rattle.table_walks.specs.Staying.{Entering, Enters, Approaches}
-use Rattle.environment_table.specs.Table.{Roomy, EnvironmentLayout, Filled, entriesOf}
+use Rattle.environment_table.specs.Table.{Roomy, EnvironmentLayout, EnvironmentFilled, entriesOf}
 use Rattle.environment_table.specs.Pressing.{Whole, lostIn, exitsAt, leavingAt, touringAt}
 use Rattle.environment_table.proofs.Places.{filled-none, filled-join, filled-same, below-next}
 use Rattle.environment_table.proofs.Laid.{laid-fits, laid-table, laid-filled}
@@ -70,7 +70,7 @@ pub exits-entering : (rows : List ℕ) (n c out gates : ℕ) → gates ≡ pack 
 unfolding exitsAt
 exits-entering rows n c out gates e = record {
   below = λ s i. pack-below n (exitsAt rows c out) s (at s i);
-  move = λ s i. and-right (has c s) (meets capacity (getD rows s 0) out) (pack-holds n (exitsAt rows c out) s (at s i));
+  move = λ s i. and-right (has c s) (setsMeet capacity (getD rows s 0) out) (pack-holds n (exitsAt rows c out) s (at s i));
 }
   where
     at : (s : ℕ) → has gates s ≡ true → has (pack n (exitsAt rows c out)) s ≡ true
@@ -81,7 +81,7 @@ exits-entering rows n c out gates e = record {
 module _ (g : Game) (M n : ℕ) (z : Layout) (R : Roomy g M n) (Z : EnvironmentLayout (g .input .states) M (g .output .states) z) (c k : ℕ)
     (W : Whole g c k) where
   pub way-filled : (gates over : ℕ) {l m : List ℕ} → Gated g k gates over → Approaches (setsIn (g .input .moves)) z c gates over l m
-      → Filled g (λ a h b. (joined (graphOf (g .input)) k a ≡ true) × (has over b ≡ true) × (has gates a ≡ false)) l m
+      → EnvironmentFilled g (λ a h b. (joined (graphOf (g .input)) k a ≡ true) × (has over b ≡ true) × (has gates a ≡ false)) l m
   way-filled gates over G A =
       filled-same g
       (laid-filled g M n z R Z (A .fills (environmentRow (separatedOf g)) (entriesOf g) (laid-table g M n z R Z) (record { row = row })))
@@ -101,7 +101,7 @@ module _ (g : Game) (M n : ℕ) (z : Layout) (R : Roomy g M n) (Z : EnvironmentL
 
   -- x are the rows that were read
   pub way-lent : {x : List ℕ} → x ≡ g .input .moves → (gates over : ℕ) {l m : List ℕ} → Gated g k gates over → Approaches (setsIn x) z c gates over l m
-      → Filled g (λ a h b. (joined (graphOf (g .input)) k a ≡ true) × (has over b ≡ true) × (has gates a ≡ false)) l m
+      → EnvironmentFilled g (λ a h b. (joined (graphOf (g .input)) k a ≡ true) × (has over b ≡ true) × (has gates a ≡ false)) l m
   way-lent q gates over G A = way-filled gates over G (rw q at A)
 
 -- the layout with its own count of counters
@@ -141,7 +141,7 @@ escape-none g k o gates over {l} G never e = record {
     none a b v (inr q) (inr w) = clash w (q .1)
 
 module _ (z : Layout) (rows s : List ℕ) (inner c x k o r n : ℕ) (p : Pressed z rows s inner c x k o r n) where
-  pub pressed-fits : Fits z n
+  pub pressed-fits : LayoutFits z n
   pressed-fits = laid-fits (p .game) (z .counters) n z (p .roomy) (p .layout)
 
   pub pressed-read : (z .states ≤ capacity) × (k < z .states) × (o < capacity) × (scratchSets (z .states) o < setCount s)
@@ -217,7 +217,7 @@ module _ (z : Layout) (rows s : List ℕ) (inner c x k o r n : ℕ) (p : Pressed
       only : (b : ℕ) → has alone b ≡ true → b ≡ o
       only b a = is-o b (ap (λ (v : ℕ). has v b || eqb b o) (sym none) ∙ sym (single b) ∙ a)
 
-      at-gates : Filled (p .game) (λ a h b. (has gates a ≡ true) × (b ≡ o)) l i
+      at-gates : EnvironmentFilled (p .game) (λ a h b. (has gates a ≡ true) × (b ≡ o)) l i
       at-gates =
           filled-same (p .game)
           (laid-filled (p .game) (z .counters) n z (p .roomy) (p .layout)
@@ -303,8 +303,8 @@ abbrev pub Passed : Game → ℕ → ℕ → ℕ → ℕ → ℕ → ℕ → ℕ
 Passed g k o gates over a h b =
     (b < o) × (joined (graphOf (g .input)) k a ≡ true) × (leavingAt g k b ≡ true) × ((has over b ≡ false) ⊎ (has gates a ≡ true))
 
-module _ (g : Game) (k o old over : ℕ) {l m : List ℕ} (F : Filled g (Passed g k o old over) l m) where
-  pub leave-next : (gates more : ℕ) {n : List ℕ} {r : Bool} → Escape g k o old over gates more m n r → Filled g (Passed g k (o + 1) gates more) l n
+module _ (g : Game) (k o old over : ℕ) {l m : List ℕ} (F : EnvironmentFilled g (Passed g k o old over) l m) where
+  pub leave-next : (gates more : ℕ) {n : List ℕ} {r : Bool} → Escape g k o old over gates more m n r → EnvironmentFilled g (Passed g k (o + 1) gates more) l n
   leave-next gates more {n} E =
       filled-join g F (E .filled)
       (λ a h b la lh lb p.
@@ -323,8 +323,8 @@ module _ (g : Game) (k o old over : ℕ) {l m : List ℕ} (F : Filled g (Passed 
       before a b q j v w (inl x) (inr y) = inr (j, v, inr (x, y), w)
 
   pub leave-end : {n : List ℕ} → g .output .states ≤ o
-      → Filled g (λ a h b. (joined (graphOf (g .input)) k a ≡ true) × (has over b ≡ true) × (has old a ≡ false)) m n
-      → Filled g (λ a h b. (joined (graphOf (g .input)) k a ≡ true) × (leavingAt g k b ≡ true)) l n
+      → EnvironmentFilled g (λ a h b. (joined (graphOf (g .input)) k a ≡ true) × (has over b ≡ true) × (has old a ≡ false)) m n
+      → EnvironmentFilled g (λ a h b. (joined (graphOf (g .input)) k a ≡ true) × (leavingAt g k b ≡ true)) l n
   leave-end {n} all G =
       filled-join g F G (λ a h b la lh lb p. last a b (omega arith) (p .0) (p .1) (decide (has over b)) (decide (has old a)))
     where

@@ -22,7 +22,7 @@ use Rattle.play.specs.Play.{graphOf, separatedOf}
 use Rattle.theory.specs.Choice.{gate}
 use Rattle.table_layout.specs.declared.Layout.{Layout}
 use Rattle.table_walks.specs.Staying.{Approaches}
-use Rattle.environment_table.specs.Table.{Known, Roomy, EnvironmentLayout, Filled}
+use Rattle.environment_table.specs.Table.{Known, Roomy, EnvironmentLayout, EnvironmentFilled}
 use Rattle.environment_table.specs.Pressing.{Whole, Leaves, leavingAt, touringAt}
 
 pub record Gated (g : Game) (k gates over : ℕ) : Type 0 where
@@ -49,7 +49,7 @@ pub record Joins (rows : List ℕ) (z : Layout) (c old gates over o more : ℕ) 
 
 pub record Escape (g : Game) (k o old over gates more : ℕ) (l m : List ℕ) (r : Bool) : Type 0 where
   pub filled :
-      Filled g
+      EnvironmentFilled g
       (λ a h b. (joined (graphOf (g .input)) k a ≡ true) × (leavingAt g k b ≡ true) × ((b ≡ o) ⊎ ((has over b ≡ true) × (has old a ≡ false)))
       × ((has more b ≡ false) ⊎ (has gates a ≡ true)))
       l m

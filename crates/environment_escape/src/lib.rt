@@ -13,7 +13,7 @@ ghost use Prim.Native.Nat.{_≤_, _<_};
 ghost use lib.ListN.{length};
 ghost use Rattle.bits.specs.Member.{pack, within};
 ghost use Rattle.sets.specs.Words.{capacity, bitsOf, setsIn};
-ghost use Rattle.table_layout.specs.Rows.{Fits};
+ghost use Rattle.table_layout.specs.Rows.{LayoutFits};
 ghost use Rattle.environment_table.specs.Table.{Known, Roomy};
 ghost use Rattle.environment_table.specs.Pressing.{Whole, Escaped, exitsAt};
 ghost use Rattle.environment_escape.specs.Gates.{Gated, Pressed, Joins, Escape};
@@ -63,7 +63,7 @@ fn join(
     gates: InSet,
     o: OutState,
 ) -> Group
-    requires { ⌜ Fits z (length (now room)) × (within (bitsOf (group .gates .0)) (z .states) ≡ true) × (o .0 < capacity) ⌝ }
+    requires { ⌜ LayoutFits z (length (now room)) × (within (bitsOf (group .gates .0)) (z .states) ≡ true) × (o .0 < capacity) ⌝ }
     ensures { λ r. ⌜ (bitsOf (r .gates .0) ≡ bitsOf (gates .0))
         × Joins (setsIn (now (moves .entry))) z (bitsOf (c .0)) (bitsOf (group .gates .0)) (bitsOf (gates .0)) (bitsOf (group .outputs .0)) (o .0)
         (bitsOf (r .outputs .0)) (now (room .entry)) (now (room .exit)) ⌝ }

@@ -19,7 +19,7 @@ use Rattle.play.specs.Play.{separatedOf}
 use Rattle.theory.specs.Choice.{environmentRow}
 use Rattle.table_layout.specs.declared.Layout.{Layout}
 use Rattle.table_walks.specs.Staying.{Entering, Enters}
-use Rattle.environment_table.specs.Table.{entriesOf, Roomy, EnvironmentLayout, Filled, Pushes}
+use Rattle.environment_table.specs.Table.{entriesOf, Roomy, EnvironmentLayout, EnvironmentFilled, Pushes}
 use Rattle.environment_table.proofs.Places.{filled-same}
 use Rattle.environment_table.proofs.Laid.{laid-table, laid-filled}
 
@@ -30,7 +30,7 @@ module _ (g : Game) (M n : ℕ) (z : Layout) (R : Roomy g M n) (Z : EnvironmentL
   pushes-entering q = rw q (record { below = λ s e. omega (arith, P .below s e, Z .states); move = P .move })
 
   written : (x alone : ℕ) {l m : List ℕ} → x ≡ 0 → ((t : ℕ) → has alone t ≡ (has x t || eqb t o))
-      → Enters (setsIn (g .input .moves)) z which refused alone l m → Filled g (λ a h b. (has which a ≡ true) × (b ≡ o)) l m
+      → Enters (setsIn (g .input .moves)) z which refused alone l m → EnvironmentFilled g (λ a h b. (has which a ≡ true) × (b ≡ o)) l m
   written x alone none single E =
       filled-same g
       (laid-filled g M n z R Z
@@ -46,5 +46,5 @@ module _ (g : Game) (M n : ℕ) (z : Layout) (R : Roomy g M n) (Z : EnvironmentL
           ]
 
   pub pushes-written : {k : List ℕ} → k ≡ g .input .moves → (x alone : ℕ) {l m : List ℕ} → x ≡ 0 → ((t : ℕ) → has alone t ≡ (has x t || eqb t o))
-      → Enters (setsIn k) z which refused alone l m → Filled g (λ a h b. (has which a ≡ true) × (b ≡ o)) l m
+      → Enters (setsIn k) z which refused alone l m → EnvironmentFilled g (λ a h b. (has which a ≡ true) × (b ≡ o)) l m
   pushes-written q x alone none single E = written x alone none single (rw q at E)

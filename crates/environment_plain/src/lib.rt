@@ -17,7 +17,7 @@ ghost use Rattle.play.specs.Play.{separatedOf};
 ghost use Rattle.theory.specs.Region.{region};
 ghost use Rattle.theory.specs.Choice.{environmentStart};
 ghost use Rattle.theory.specs.Entries.{entry};
-ghost use Rattle.environment_table.specs.Table.{Known, Roomy, Filled, Pushes};
+ghost use Rattle.environment_table.specs.Table.{Known, Roomy, EnvironmentFilled, Pushes};
 ghost use Rattle.environment_table.specs.Reading.{Shaped, refusedAt, Lone, unwalked, pushedAt, Pushed, plain};
 
 // What the outputs of the set reach, from scratch for n inputs and m outputs.
@@ -84,7 +84,7 @@ pub fn start_entry(g: Game, s: &[u64], inner: InSet) -> u16
 // The rows of i where the position is won: none.
 fn none_row(g: Game, s: &[u64], inner: InSet, counters: usize, i: InState, room: &mut [u16])
     requires { ⌜ Known g (now s) (bitsOf (inner .0)) × Roomy g counters (length (now room)) × (i .0 < g .input .states) ⌝ }
-    ensures { λ r. ⌜ Filled g (λ a h b. (a ≡ i .0) × (region (separatedOf g) a b ≡ true)) (now (room .entry)) (now (room .exit)) ⌝ }
+    ensures { λ r. ⌜ EnvironmentFilled g (λ a h b. (a ≡ i .0) × (region (separatedOf g) a b ≡ true)) (now (room .entry)) (now (room .exit)) ⌝ }
 {
     let won = scratch::won_outputs(s, g.input.states, g.output.states, inner, i);
     let z = rows::layout_of(g.input.states, counters, g.output.states);
@@ -102,7 +102,7 @@ fn none_row(g: Game, s: &[u64], inner: InSet, counters: usize, i: InState, room:
 // The rows of all won positions.
 fn none_rows(g: Game, s: &[u64], inner: InSet, counters: usize, room: &mut [u16])
     requires { ⌜ Known g (now s) (bitsOf (inner .0)) × Roomy g counters (length (now room)) ⌝ }
-    ensures { λ r. ⌜ Filled g (λ a h b. region (separatedOf g) a b ≡ true) (now (room .entry)) (now (room .exit)) ⌝ }
+    ensures { λ r. ⌜ EnvironmentFilled g (λ a h b. region (separatedOf g) a b ≡ true) (now (room .entry)) (now (room .exit)) ⌝ }
 {
     let n = g.input.states;
     let mut i: usize = 0;
@@ -124,7 +124,7 @@ fn push_rows(
     room: &mut [u16],
 )
     requires { ⌜ Roomy g counters (length (now room)) × Pushes g (bitsOf (which .0)) (o .0) (bitsOf (refused .0)) × (now ins ≡ g .input .moves) ⌝ }
-    ensures { λ r. ⌜ Filled g (λ a h b. (has (bitsOf (which .0)) a ≡ true) × (b ≡ o .0)) (now (room .entry)) (now (room .exit)) ⌝ }
+    ensures { λ r. ⌜ EnvironmentFilled g (λ a h b. (has (bitsOf (which .0)) a ≡ true) × (b ≡ o .0)) (now (room .entry)) (now (room .exit)) ⌝ }
 {
     let z = rows::layout_of(g.input.states, counters, g.output.states);
     let alone = sets::insert(sets::empty(), o.0);
@@ -157,7 +157,8 @@ fn push_column(
 )
     requires { ⌜ Known g (now s) (bitsOf (inner .0)) × Roomy g counters (length (now room)) × Pushed g (bitsOf (x .0)) (o .0) × (o .0 < g .output .states)
         × (now ins ≡ g .input .moves) × (now outs ≡ g .output .moves) ⌝ }
-    ensures { λ r. ⌜ Filled g (λ a h b. (unwalked g a b ≡ true) × (b ≡ o .0) × (region (separatedOf g) a b ≡ false)) (now (room .entry)) (now (room .exit)) ⌝ }
+    ensures { λ r. ⌜ EnvironmentFilled g (λ a h b. (unwalked g a b ≡ true) × (b ≡ o .0) × (region (separatedOf g) a b ≡ false)) (now (room .entry))
+        (now (room .exit)) ⌝ }
 {
     let n = g.input.states;
     let which = environment_rows::lost(s, n, inner, x, o);
@@ -182,7 +183,7 @@ fn push_columns<'a>(
 )
     requires { ⌜ Known g (now s) (bitsOf (inner .0)) × Roomy g counters (length (now room)) × Lone (g .input .states) (bitsOf (inner .0)) (bitsOf (lone .0))
         × (now ins ≡ g .input .moves) × (now outs ≡ g .output .moves) ⌝ }
-    ensures { λ r. ⌜ Filled g (λ a h b. (unwalked g a b ≡ true) × (region (separatedOf g) a b ≡ false)) (now (room .entry)) (now (room .exit)) ⌝ }
+    ensures { λ r. ⌜ EnvironmentFilled g (λ a h b. (unwalked g a b ≡ true) × (region (separatedOf g) a b ≡ false)) (now (room .entry)) (now (room .exit)) ⌝ }
 {
     let m = g.output.states;
     let mut o: usize = 0;
@@ -204,7 +205,7 @@ pub fn plain_rows<'a>(
     room: &mut [u16],
 )
     requires { ⌜ Known g (now s) (bitsOf (inner .0)) × Roomy g counters (length (now room)) × (now ins ≡ g .input .moves) × (now outs ≡ g .output .moves) ⌝ }
-    ensures { λ r. ⌜ Filled g (λ a h b. plain g a b ≡ true) (now (room .entry)) (now (room .exit)) ⌝ }
+    ensures { λ r. ⌜ EnvironmentFilled g (λ a h b. plain g a b ≡ true) (now (room .entry)) (now (room .exit)) ⌝ }
 {
     none_rows(g, s, inner, counters, room);
     let lone = InSet(sets::difference(sets::below(g.input.states), inner.0));

@@ -21,7 +21,7 @@ use Rattle.theory.specs.Entries.{entry, environmentCounters, environmentEntries
 use Rattle.demands.proofs.Sizes.{environment-few}
 use Rattle.table_filling.specs.Grows.{Right, Grows}
 use Rattle.table_filling.proofs.Grows.{grows-set, grows-more, right-set, grows-done}
-use Rattle.environment_table.specs.Table.{entriesOf, place, Solved, Roomy, Filled}
+use Rattle.environment_table.specs.Table.{entriesOf, environmentPlace, Solved, Roomy, EnvironmentFilled}
 use Rattle.environment_table.specs.Reading.{plain}
 use Rattle.environment_table.proofs.Places.{entries-length, some-counter}
 
@@ -57,10 +57,10 @@ module _ (g : Game) (s : List ℕ) (inner n : ℕ) (D : Solved g s inner n) wher
         div-lt-iff-lt-mul (some-counter (separatedOf g)) .1
         (div-lt-iff-lt-mul (accepted-fits g (D .known .accepted) .output .some) .1 b)
 
-    digits : place (environmentCounters (separatedOf g)) (g .output .states) (r / g .output .states / environmentCounters (separatedOf g))
+    digits : environmentPlace (environmentCounters (separatedOf g)) (g .output .states) (r / g .output .states / environmentCounters (separatedOf g))
         (r / g .output .states % environmentCounters (separatedOf g)) (r % g .output .states)
         ≡ suc r
-    unfolding place
+    unfolding environmentPlace
     digits =
         one-add ((r / g .output .states / environmentCounters (separatedOf g) * environmentCounters (separatedOf g) + r / g .output .states %
         environmentCounters (separatedOf g)) * g .output .states + r % g .output .states)
@@ -69,7 +69,7 @@ module _ (g : Game) (s : List ℕ) (inner n : ℕ) (D : Solved g s inner n) wher
         ∙ div-add-mod' r (g .output .states))
 
   module _ (l m k : List ℕ) (e : ℕ) (long : length l ≡ n) (start : e ≡ entry (environmentStart (separatedOf g)))
-      (P : Filled g (λ a h b. plain g a b ≡ true) (set l 0 e) m) (Q : Filled g (λ a h b. plain g a b ≡ false) m k) where
+      (P : EnvironmentFilled g (λ a h b. plain g a b ≡ true) (set l 0 e) m) (Q : EnvironmentFilled g (λ a h b. plain g a b ≡ false) m k) where
     start-at : e ≡ getD (entriesOf g) 0 0
     unfolding entriesOf environmentEntries
     start-at = start
@@ -95,12 +95,12 @@ module _ (g : Game) (s : List ℕ) (inner n : ℕ) (D : Solved g s inner n) wher
 
         go : (plain g (r / g .output .states / environmentCounters (separatedOf g)) (r % g .output .states) ≡ true)
             ⊎ (plain g (r / g .output .states / environmentCounters (separatedOf g)) (r % g .output .states) ≡ false)
-            → Right (entriesOf g) k (place (environmentCounters (separatedOf g)) (g .output .states)
+            → Right (entriesOf g) k (environmentPlace (environmentCounters (separatedOf g)) (g .output .states)
             (r / g .output .states / environmentCounters (separatedOf g))
             (r / g .output .states % environmentCounters (separatedOf g)) (r % g .output .states))
         go (inl t) =
             Q .grows .kept
-            (place (environmentCounters (separatedOf g)) (g .output .states) i h o) (rw (digits r b) (omega (arith, entries-length g)))
+            (environmentPlace (environmentCounters (separatedOf g)) (g .output .states) i h o) (rw (digits r b) (omega (arith, entries-length g)))
             (P .rows i h o (input-in r b) (counter-in r b) (output-in r b) t)
         go (inr t) = Q .rows i h o (input-in r b) (counter-in r b) (output-in r b) t
 

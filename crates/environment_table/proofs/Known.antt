@@ -20,7 +20,7 @@ use borrow.Author.Tests.{lt-ltb, ltb-true, eqb-true, eqb-false, eq-eqb, ne-eqb}
 use Rattle.finite.specs.Bounded.{any, least}
 use Rattle.finite.proofs.Truth.{decide, clash, and-intro, and-left, and-right, and-false-left, or-cases, or-right, or-none, not-true, true-of, false-of}
 use Rattle.finite.proofs.Bounded.{any-same, least-same, least-any, least-found, least-member, least-before, least-unique}
-use Rattle.bits.specs.Member.{has, pack, within, both, meets}
+use Rattle.bits.specs.Member.{has, pack, within, both, setsMeet}
 use Rattle.bits.proofs.Membership.{has-zero, has-pack-below, has-within}
 use Rattle.bits.proofs.Compare.{meets-intro, nonzero-member}
 use Rattle.graph_ways.proofs.Kept.{pack-below}
@@ -42,7 +42,7 @@ use Rattle.theory.specs.Entries.{entry}
 use Rattle.theory.proofs.EnvironmentRow.{unanswered, row-pushed}
 use Rattle.scratch.specs.Stored.{wonAt, someWonAt}
 use Rattle.scratch.proofs.Read.{ready-won}
-use Rattle.environment_table.specs.Table.{Known, Roomy, Filled, EnvironmentLayout, Pushes}
+use Rattle.environment_table.specs.Table.{Known, Roomy, EnvironmentFilled, EnvironmentLayout, Pushes}
 use Rattle.environment_table.specs.Reading.{Shaped, refusedAt, openAt, unansweredAt, lostAt, Lone, unwalked, pushedAt, Pushed, plain}
 use Rattle.environment_table.specs.Pressing.{lostIn}
 use Rattle.table_layout.specs.declared.Layout.{Layout}
@@ -197,7 +197,7 @@ module _ (g : Game) (s : List ℕ) (inner : ℕ) (K : Known g s inner) where
     -- so the won rows of i are written
     pub none-filled : {l m : List ℕ} (M n every first : ℕ) (z : Layout) → first ≡ entry none → Roomy g M n
         → EnvironmentLayout (g .input .states) M (g .output .states) z
-        → ((h : ℕ) → has every h ≡ ltb h M) → Wrote z i won every first 0 l m → Filled g (λ x h o. (x ≡ i) × (region (separatedOf g) x o ≡ true)) l m
+        → ((h : ℕ) → has every h ≡ ltb h M) → Wrote z i won every first 0 l m → EnvironmentFilled g (λ x h o. (x ≡ i) × (region (separatedOf g) x o ≡ true)) l m
     none-filled M n every first z q R Z e W =
         filled-same g
         (laid-block g M n z R Z i won every first 0 e (λ h o lh b y. row-none i o a b first h q (sym (won-has o b) ∙ y)) W)
@@ -293,7 +293,7 @@ module _ (g : Game) (s : List ℕ) (inner : ℕ) (K : Known g s inner) where
             (omega (arith, found, K .ready .fits .input .most)) (least-member (g .input .states) (both (getD (setsIn (g .input .moves)) i 0) v) found)
             (λ k l. least-before (g .input .states) (both (getD (setsIn (g .input .moves)) i 0) v) k l)
 
-        push-move : meets capacity (getD (setsIn (g .input .moves)) i 0) v ≡ true
+        push-move : setsMeet capacity (getD (setsIn (g .input .moves)) i 0) v ≡ true
         unfolding both
         push-move =
             let j = least (g .input .states) (both (getD (setsIn (g .input .moves)) i 0) v) in
@@ -311,19 +311,19 @@ module _ (g : Game) (s : List ℕ) (inner : ℕ) (K : Known g s inner) where
           → x ≡ pack (g .input .states) (refusedAt (setsIn s) (g .input .states) (g .output .states) inner y) → Pushes g which o x
       pushes-of q e = record { output = b; below = which-below; move = λ i d. push-move q e i d; row = λ i h d. push-row q e i d h }
 
-      pub pushes-filled : {l m : List ℕ} → Filled g (λ a h p. (has which a ≡ true) × (p ≡ o)) l m
-          → Filled g (λ a h p. (unwalked g a p ≡ true) × (p ≡ o) × (region (separatedOf g) a p ≡ false)) l m
+      pub pushes-filled : {l m : List ℕ} → EnvironmentFilled g (λ a h p. (has which a ≡ true) × (p ≡ o)) l m
+          → EnvironmentFilled g (λ a h p. (unwalked g a p ≡ true) × (p ≡ o) × (region (separatedOf g) a p ≡ false)) l m
       pushes-filled F = filled-same g F (λ a h p la lh lp q. (at-o a p la (q .1) (q .0) (q .2), q .1))
 
       -- there may be none
-      pub pushes-none : (l : List ℕ) → which ≡ 0 → Filled g (λ a h p. (unwalked g a p ≡ true) × (p ≡ o) × (region (separatedOf g) a p ≡ false)) l l
+      pub pushes-none : (l : List ℕ) → which ≡ 0 → EnvironmentFilled g (λ a h p. (unwalked g a p ≡ true) × (p ≡ o) × (region (separatedOf g) a p ≡ false)) l l
       pushes-none l z =
           filled-same g (filled-none g {P = λ a h p. ⊥} l (λ a h p q. q))
           (λ a h p la lh lp q. clash (at-o a p la (q .1) (q .0) (q .2)) (ap (λ (y : ℕ). has y a) z ∙ has-zero a))
 
 -- the rows of won positions and the pushes are the rows that need no walk
-pub plain-join : (g : Game) {l m k : List ℕ} → Filled g (λ i h o. region (separatedOf g) i o ≡ true) l m
-    → Filled g (λ i h o. (unwalked g i o ≡ true) × (region (separatedOf g) i o ≡ false)) m k → Filled g (λ i h o. plain g i o ≡ true) l k
+pub plain-join : (g : Game) {l m k : List ℕ} → EnvironmentFilled g (λ i h o. region (separatedOf g) i o ≡ true) l m
+    → EnvironmentFilled g (λ i h o. (unwalked g i o ≡ true) × (region (separatedOf g) i o ≡ false)) m k → EnvironmentFilled g (λ i h o. plain g i o ≡ true) l k
 unfolding plain
 plain-join g F G =
     filled-join g F G
@@ -346,7 +346,8 @@ unfolding pushedAt
 pushed-lone y n lone z i = rw (ne-eqb y 0 z, pushedAt) refl
 
 -- the pushes, output after output
-pub pushes-next : (g : Game) (k : ℕ) {l m n : List ℕ} → Filled g (λ a h b. (b < k) × (unwalked g a b ≡ true) × (region (separatedOf g) a b ≡ false)) l m
-    → Filled g (λ a h b. (unwalked g a b ≡ true) × (b ≡ k) × (region (separatedOf g) a b ≡ false)) m n
-    → Filled g (λ a h b. (b < k + 1) × (unwalked g a b ≡ true) × (region (separatedOf g) a b ≡ false)) l n
+pub pushes-next : (g : Game) (k : ℕ) {l m n : List ℕ} → EnvironmentFilled g
+    (λ a h b. (b < k) × (unwalked g a b ≡ true) × (region (separatedOf g) a b ≡ false)) l m
+    → EnvironmentFilled g (λ a h b. (unwalked g a b ≡ true) × (b ≡ k) × (region (separatedOf g) a b ≡ false)) m n
+    → EnvironmentFilled g (λ a h b. (b < k + 1) × (unwalked g a b ≡ true) × (region (separatedOf g) a b ≡ false)) l n
 pushes-next g k F G = filled-join g F G (λ a h b la lh lb p. below-next b k (p .0) (λ q. (q, p .1, p .2)) (λ q. (p .1, q, p .2)))

@@ -18,21 +18,21 @@ use Rattle.play.specs.Play.{separatedOf}
 use Rattle.theory.specs.Choice.{environmentRow}
 use Rattle.theory.specs.Entries.{entry, environmentCounters}
 use Rattle.table_layout.specs.declared.Layout.{Layout}
-use Rattle.table_layout.specs.Rows.{place as placeOf, Fits, Rows, Wrote}
+use Rattle.table_layout.specs.Rows.{place as placeOf, LayoutFits, Rows, Wrote}
 use Rattle.table_layout.specs.Rows.{Filled as FilledIn}
-use Rattle.environment_table.specs.Table.{entriesOf, place, Roomy, EnvironmentLayout, Filled}
+use Rattle.environment_table.specs.Table.{entriesOf, environmentPlace, Roomy, EnvironmentLayout, EnvironmentFilled}
 use Rattle.environment_table.proofs.Places.{entries-length, entry-at, some-counter, filled-same, every-counter}
 
 module _ (g : Game) (M n : ℕ) (z : Layout) (R : Roomy g M n) (Z : EnvironmentLayout (g .input .states) M (g .output .states) z) where
   -- a row's place is the same
-  at : (a h b : ℕ) → placeOf z a h b ≡ place (environmentCounters (separatedOf g)) (g .output .states) a h b
-  unfolding placeOf place
+  at : (a h b : ℕ) → placeOf z a h b ≡ environmentPlace (environmentCounters (separatedOf g)) (g .output .states) a h b
+  unfolding placeOf environmentPlace
   at a h b = rw (Z .base, Z .counters, Z .width, R .counters) refl
 
   size : z .base + z .states * z .counters * z .width ≡ length (entriesOf g)
   size = rw (Z .base, Z .states, Z .counters, Z .width, R .counters, entries-length g) (omega arith)
 
-  pub laid-fits : Fits z n
+  pub laid-fits : LayoutFits z n
   laid-fits = record {
     front = omega (arith, Z .base);
     states = omega (arith, Z .states, R .inputs);
@@ -50,7 +50,7 @@ module _ (g : Game) (M n : ℕ) (z : Layout) (R : Roomy g M n) (Z : EnvironmentL
         ∙ entry-at g a h b (omega (arith, Z .states)) (omega (arith, Z .counters, R .counters)) (omega (arith, Z .width));
   }
 
-  pub laid-filled : {P : ℕ → ℕ → ℕ → Type 0} {l m : List ℕ} → FilledIn z (entriesOf g) P l m → Filled g P l m
+  pub laid-filled : {P : ℕ → ℕ → ℕ → Type 0} {l m : List ℕ} → FilledIn z (entriesOf g) P l m → EnvironmentFilled g P l m
   laid-filled F = record {
     grows = F .grows;
     rows = λ a h b la lh lb p.
@@ -60,7 +60,7 @@ module _ (g : Game) (M n : ℕ) (z : Layout) (R : Roomy g M n) (Z : EnvironmentL
 
   pub laid-block : (i over every first more : ℕ) {l m : List ℕ} → ((h : ℕ) → has every h ≡ ltb h M)
       → ((h o : ℕ) → h < M → o < g .output .states → has over o ≡ true → first + more * h ≡ entry (environmentRow (separatedOf g) i h o))
-      → Wrote z i over every first more l m → Filled g (λ a h o. (a ≡ i) × (has over o ≡ true)) l m
+      → Wrote z i over every first more l m → EnvironmentFilled g (λ a h o. (a ≡ i) × (has over o ≡ true)) l m
   laid-block i over every first more e agrees W =
       filled-same g
       (laid-filled

@@ -18,7 +18,7 @@ use lib.ListN.{getD}
 use Rattle.finite.specs.Bounded.{any, least}
 use Rattle.finite.proofs.Truth.{clash, and-intro, and-left, and-right, and-false-left, and-false-right, not-true, same-test, false-of}
 use Rattle.finite.proofs.Bounded.{any-intro, any-elim, any-none, least-member, least-before, least-found, least-unique}
-use Rattle.bits.specs.Member.{has, pack, within, both, meets}
+use Rattle.bits.specs.Member.{has, pack, within, both, setsMeet}
 use Rattle.bits.proofs.Membership.{has-zero, has-pack-below, has-within}
 use Rattle.bits.proofs.Compare.{meets-intro, meets-elim, nonzero-member}
 use Rattle.sets.specs.Words.{capacity, setsIn}
@@ -57,10 +57,10 @@ pub lost-all : (l : List ℕ) (n inner x o : ℕ) {y : ℕ} → y ≡ pack n (λ
 unfolding lostIn
 lost-all l n inner x o e = e
 
-pub exit-at : (moves : List ℕ) (out k row : ℕ) {b : Bool} → row ≡ getD moves k 0 → b ≡ meets capacity row out → b ≡ meets capacity (getD moves k 0) out
-exit-at moves out k row q e = e ∙ ap (λ (x : ℕ). meets capacity x out) q
+pub exit-at : (moves : List ℕ) (out k row : ℕ) {b : Bool} → row ≡ getD moves k 0 → b ≡ setsMeet capacity row out → b ≡ setsMeet capacity (getD moves k 0) out
+exit-at moves out k row q e = e ∙ ap (λ (x : ℕ). setsMeet capacity x out) q
 
-pub exits-at : (moves : List ℕ) (c out n : ℕ) {y : ℕ} → y ≡ pack n (λ k. has c k && meets capacity (getD moves k 0) out) → y ≡ pack n (exitsAt moves c out)
+pub exits-at : (moves : List ℕ) (c out n : ℕ) {y : ℕ} → y ≡ pack n (λ k. has c k && setsMeet capacity (getD moves k 0) out) → y ≡ pack n (exitsAt moves c out)
 unfolding exitsAt
 exits-at moves c out n e = e
 
@@ -244,17 +244,17 @@ module _ (g : Game) (s : List ℕ) (inner : ℕ) (K : Known g s inner) (c k : �
         and-intro (sym (input-edge g s inner K a t (joined-to (graphOf (g .input)) k a j)) ∙ m)
         (and-intro (ap not (sym (joined-same (graphOf (g .input)) k a t j) ∙ out-apart t e)) (ap not (out-lost t e)))
 
-    way-meets : wayOut (separatedOf g) o a ≡ meets capacity (getD (setsIn (g .input .moves)) a 0) out
+    way-meets : wayOut (separatedOf g) o a ≡ setsMeet capacity (getD (setsIn (g .input .moves)) a 0) out
     unfolding wayOut separatedOf graphOf
-    way-meets = same-test (wayOut (separatedOf g) o a) (meets capacity (getD (setsIn (g .input .moves)) a 0) out) there back
+    way-meets = same-test (wayOut (separatedOf g) o a) (setsMeet capacity (getD (setsIn (g .input .moves)) a 0) out) there back
       where
-        there : wayOut (separatedOf g) o a ≡ true → meets capacity (getD (setsIn (g .input .moves)) a 0) out ≡ true
+        there : wayOut (separatedOf g) o a ≡ true → setsMeet capacity (getD (setsIn (g .input .moves)) a 0) out ≡ true
         there e =
             let v = any-elim (g .input .states) (lost (separatedOf g) o a) e in
             meets-intro capacity (getD (setsIn (g .input .moves)) a 0) out (v .0) (omega (arith, v .1, K .ready .fits .input .most))
             (lost-move (v .0) (v .2)) (lost-out (v .0) (v .2))
 
-        back : meets capacity (getD (setsIn (g .input .moves)) a 0) out ≡ true → wayOut (separatedOf g) o a ≡ true
+        back : setsMeet capacity (getD (setsIn (g .input .moves)) a 0) out ≡ true → wayOut (separatedOf g) o a ≡ true
         back e =
             let v = meets-elim capacity (getD (setsIn (g .input .moves)) a 0) out e in
             any-intro (g .input .states) (lost (separatedOf g) o a) (v .0) (out-below (v .0) (v .3)) (into-lost (v .0) (v .2) (v .3))
@@ -289,11 +289,11 @@ module _ (g : Game) (s : List ℕ) (inner : ℕ) (K : Known g s inner) (c k : �
   gates-to : (t : ℕ) → has gates t ≡ true → gate (separatedOf g) o k t ≡ true
   unfolding exitsAt separatedOf graphOf
   gates-to t e =
-      let both : (has c t && meets capacity (getD (setsIn (g .input .moves)) t 0) out) ≡ true =
+      let both : (has c t && setsMeet capacity (getD (setsIn (g .input .moves)) t 0) out) ≡ true =
       pack-holds (g .input .states) (exitsAt (setsIn (g .input .moves)) c out) t
       (ap (λ (y : ℕ). has y t) (sym (D .gate)) ∙ e) in
-      let j = whole-in g c k W t (and-left (has c t) (meets capacity (getD (setsIn (g .input .moves)) t 0) out) both) in
-      gate-intro (separatedOf g) o k t j (way-meets t j ∙ and-right (has c t) (meets capacity (getD (setsIn (g .input .moves)) t 0) out) both)
+      let j = whole-in g c k W t (and-left (has c t) (setsMeet capacity (getD (setsIn (g .input .moves)) t 0) out) both) in
+      gate-intro (separatedOf g) o k t j (way-meets t j ∙ and-right (has c t) (setsMeet capacity (getD (setsIn (g .input .moves)) t 0) out) both)
 
   gates-of : (t : ℕ) → gate (separatedOf g) o k t ≡ true → has gates t ≡ true
   unfolding exitsAt separatedOf graphOf

@@ -32,7 +32,7 @@ use Rattle.theory.proofs.EnvironmentRow.{pushed}
 use Rattle.table_filling.specs.Grows.{Right}
 use Rattle.table_filling.proofs.Grows.{grows-none, grows-more}
 use Rattle.table_entries.proofs.Packed.{gives-state}
-use Rattle.environment_table.specs.Table.{entriesOf, place, Roomy, Filled}
+use Rattle.environment_table.specs.Table.{entriesOf, environmentPlace, Roomy, EnvironmentFilled}
 
 -- the length of the list, and what stands at the place of a row
 
@@ -41,12 +41,13 @@ unfolding entriesOf separatedOf graphOf
 entries-length g = environment-long (separatedOf g) ∙ one-add (g .input .states * environmentCounters (separatedOf g) * g .output .states)
 
 module _ (g : Game) (i h o : ℕ) (li : i < g .input .states) (lh : h < environmentCounters (separatedOf g)) (lo : o < g .output .states) where
-  place-in : place (environmentCounters (separatedOf g)) (g .output .states) i h o < length (entriesOf g)
-  unfolding place
+  place-in : environmentPlace (environmentCounters (separatedOf g)) (g .output .states) i h o < length (entriesOf g)
+  unfolding environmentPlace
   place-in = omega (arith, entries-length g, place-below (g .input .states) (environmentCounters (separatedOf g)) (g .output .states) i h o li lh lo)
 
-  pub entry-at : getD (entriesOf g) (place (environmentCounters (separatedOf g)) (g .output .states) i h o) 0 ≡ entry (environmentRow (separatedOf g) i h o)
-  unfolding place entriesOf separatedOf graphOf
+  pub entry-at : getD (entriesOf g) (environmentPlace (environmentCounters (separatedOf g)) (g .output .states) i h o) 0
+      ≡ entry (environmentRow (separatedOf g) i h o)
+  unfolding environmentPlace entriesOf separatedOf graphOf
   entry-at = environment-row-at (separatedOf g) 0 i h o li lh lo
 
   -- the state of a row that is not won
@@ -64,27 +65,28 @@ below-next a k b f g = elim (ℕ-discrete a k) [ yes q ↦ inr (g q) | no q ↦ 
 -- rows written in any order
 
 module _ (g : Game) where
-  pub filled-none : {P : ℕ → ℕ → ℕ → Type 0} (l : List ℕ) → ((i h o : ℕ) → P i h o → ⊥) → Filled g P l l
+  pub filled-none : {P : ℕ → ℕ → ℕ → Type 0} (l : List ℕ) → ((i h o : ℕ) → P i h o → ⊥) → EnvironmentFilled g P l l
   filled-none l f = record { grows = grows-none (entriesOf g) l; rows = λ i h o a b c p. absurd (f i h o p) }
 
-  pub filled-join : {P Q R : ℕ → ℕ → ℕ → Type 0} {l m n : List ℕ} → Filled g P l m → Filled g Q m n
-      → ((i h o : ℕ) → i < g .input .states → h < environmentCounters (separatedOf g) → o < g .output .states → R i h o → P i h o ⊎ Q i h o) → Filled g R l n
+  pub filled-join : {P Q R : ℕ → ℕ → ℕ → Type 0} {l m n : List ℕ} → EnvironmentFilled g P l m → EnvironmentFilled g Q m n
+      → ((i h o : ℕ) → i < g .input .states → h < environmentCounters (separatedOf g) → o < g .output .states → R i h o → P i h o ⊎ Q i h o)
+      → EnvironmentFilled g R l n
   filled-join {P} {Q} {R} {l} {m} {n} p q f = record {
     grows = grows-more (entriesOf g) (p .grows) (q .grows);
     rows = λ i h o a b c r. go i h o a b c (f i h o a b c r);
   }
     where
       go : (i h o : ℕ) → i < g .input .states → h < environmentCounters (separatedOf g) → o < g .output .states → P i h o ⊎ Q i h o
-          → Right (entriesOf g) n (place (environmentCounters (separatedOf g)) (g .output .states) i h o)
+          → Right (entriesOf g) n (environmentPlace (environmentCounters (separatedOf g)) (g .output .states) i h o)
       go i h o a b c (inl x) =
-          q .grows .kept (place (environmentCounters (separatedOf g)) (g .output .states) i h o) (place-in g i h o a b c) (p .rows i h o a b c x)
+          q .grows .kept (environmentPlace (environmentCounters (separatedOf g)) (g .output .states) i h o) (place-in g i h o a b c) (p .rows i h o a b c x)
       go i h o a b c (inr x) = q .rows i h o a b c x
 
-  pub filled-same : {P R : ℕ → ℕ → ℕ → Type 0} {l m : List ℕ} → Filled g P l m
-      → ((i h o : ℕ) → i < g .input .states → h < environmentCounters (separatedOf g) → o < g .output .states → R i h o → P i h o) → Filled g R l m
+  pub filled-same : {P R : ℕ → ℕ → ℕ → Type 0} {l m : List ℕ} → EnvironmentFilled g P l m
+      → ((i h o : ℕ) → i < g .input .states → h < environmentCounters (separatedOf g) → o < g .output .states → R i h o → P i h o) → EnvironmentFilled g R l m
   filled-same p f = record { grows = p .grows; rows = λ i h o a b c r. p .rows i h o a b c (f i h o a b c r) }
 
-  pub roomy-more : {P : ℕ → ℕ → ℕ → Type 0} {l m : List ℕ} {M : ℕ} → Roomy g M (length l) → Filled g P l m → Roomy g M (length m)
+  pub roomy-more : {P : ℕ → ℕ → ℕ → Type 0} {l m : List ℕ} {M : ℕ} → Roomy g M (length l) → EnvironmentFilled g P l m → Roomy g M (length m)
   roomy-more R p = record {
     accepted = R .accepted;
     counters = R .counters;

@@ -30,7 +30,7 @@ use Rattle.theory.specs.Choice.{escapes}
 use Rattle.theory.proofs.Delay.{region-same}
 use Rattle.scratch.proofs.Areas.{in-closes}
 use Rattle.table_goals.proofs.Tours.{comp-has}
-use Rattle.environment_table.specs.Table.{Known, Filled}
+use Rattle.environment_table.specs.Table.{Known, EnvironmentFilled}
 use Rattle.environment_table.specs.Reading.{unwalked, plain}
 use Rattle.environment_table.specs.Pressing.{Whole, Escaped, pressedAt, leavingAt, touringAt}
 use Rattle.environment_table.specs.Touring.{Left}
@@ -78,7 +78,7 @@ module _ (g : Game) (a i : ℕ) (b : a < g .input .states) (e : number (graphOf 
   number-core n = nontrivial-same (graphOf (g .input)) i a number-in ∙ n
 
 module _ (g : Game) (s : List ℕ) (inner : ℕ) (K : Known g s inner) (i : ℕ) (li : i < g .input .states) where
-  pub skip-trivial : (l : List ℕ) → has inner i ≡ false → Filled g (λ a h b. (number (graphOf (g .input)) a ≡ i) × (plain g a b ≡ false)) l l
+  pub skip-trivial : (l : List ℕ) → has inner i ≡ false → EnvironmentFilled g (λ a h b. (number (graphOf (g .input)) a ≡ i) × (plain g a b ≡ false)) l l
   unfolding separatedOf
   skip-trivial l e =
       filled-none g l
@@ -100,7 +100,7 @@ module _ (g : Game) (s : List ℕ) (inner : ℕ) (K : Known g s inner) (i : ℕ)
         below = number-below (graphOf (g .input)) i li
 
     pub skip-other : (l : List ℕ) {k : ℕ} → k ≡ least capacity (has c) → k ≢ i
-        → Filled g (λ a h b. (number (graphOf (g .input)) a ≡ i) × (plain g a b ≡ false)) l l
+        → EnvironmentFilled g (λ a h b. (number (graphOf (g .input)) a ≡ i) × (plain g a b ≡ false)) l l
     skip-other l e n =
         filled-none g l (λ a h b p. n (e ∙ lowest-number ∙ number-own g a i (core-below g a (plain-core g a b (p .1))) (p .0)))
 
@@ -114,8 +114,9 @@ module _ (g : Game) (s : List ℕ) (inner : ℕ) (K : Known g s inner) (i : ℕ)
     }
 
     -- ways out and tours
-    pub walked-join : {l m n : List ℕ} {over : ℕ} → Whole g c i → Escaped g i l m over → Filled g (λ a h b. (has c a ≡ true) × (has over b ≡ true)) m n
-        → Filled g (λ a h b. (number (graphOf (g .input)) a ≡ i) × (plain g a b ≡ false)) l n
+    pub walked-join : {l m n : List ℕ} {over : ℕ} → Whole g c i → Escaped g i l m over
+        → EnvironmentFilled g (λ a h b. (has c a ≡ true) × (has over b ≡ true)) m n
+        → EnvironmentFilled g (λ a h b. (number (graphOf (g .input)) a ≡ i) × (plain g a b ≡ false)) l n
     unfolding leavingAt touringAt pressedAt separatedOf graphOf
     walked-join {over = over} W E T =
         filled-join g (E .filled) T (λ a h b x y z p. go a b z (number-in g a i x (p .0)) (plain-lost g a b (p .1)) (plain-free g a b (p .1))

@@ -13,7 +13,7 @@ use mathlib.Core.Path.{_≡_}
 use mathlib.Core.Bool.{Bool, true, _&&_, not}
 use mathlib.Core.List.{List}
 use lib.ListN.{getD}
-use Rattle.bits.specs.Member.{has, pack, meets}
+use Rattle.bits.specs.Member.{has, pack, setsMeet}
 use Rattle.sets.specs.Words.{capacity, setsIn}
 use Rattle.graphs.specs.Graph.{stuck}
 use Rattle.graphs.specs.Component.{joined, number, nontrivial}
@@ -22,7 +22,7 @@ use Rattle.play.specs.Play.{graphOf, separatedOf}
 use Rattle.theory.specs.Region.{region}
 use Rattle.theory.specs.Choice.{escapes}
 use Rattle.graph_components.specs.Component.{enters}
-use Rattle.environment_table.specs.Table.{Filled}
+use Rattle.environment_table.specs.Table.{EnvironmentFilled}
 use Rattle.environment_table.specs.Reading.{lostAt}
 
 pub record Whole (g : Game) (c k : ℕ) : Type 0 where
@@ -39,7 +39,7 @@ unfoldable pub lostIn : List ℕ → ℕ → ℕ → ℕ → ℕ → ℕ → Boo
 lostIn l n inner x o j = has x j && lostAt l n inner o j
 
 unfoldable pub exitsAt : List ℕ → ℕ → ℕ → ℕ → Bool
-exitsAt moves c out k = has c k && meets capacity (getD moves k 0) out
+exitsAt moves c out k = has c k && setsMeet capacity (getD moves k 0) out
 
 -- A row of an output without a move needs no walk.
 unfoldable pub pressedAt : Game → ℕ → ℕ → Bool
@@ -53,5 +53,5 @@ unfoldable pub touringAt : Game → ℕ → ℕ → Bool
 touringAt g k o = pressedAt g k o && not (escapes (separatedOf g) k o)
 
 pub record Escaped (g : Game) (k : ℕ) (l m : List ℕ) (r : ℕ) : Type 0 where
-  pub filled : Filled g (λ a h b. (joined (graphOf (g .input)) k a ≡ true) × (leavingAt g k b ≡ true)) l m
+  pub filled : EnvironmentFilled g (λ a h b. (joined (graphOf (g .input)) k a ≡ true) × (leavingAt g k b ≡ true)) l m
   pub tours : r ≡ pack (g .output .states) (touringAt g k)

@@ -19,13 +19,13 @@ use Rattle.theory.specs.Choice.{assumptions, environmentRow}
 use Rattle.theory.specs.Entries.{environmentCounters}
 use Rattle.table_goals.specs.declared.Stretch.{Stretch}
 use Rattle.table_goals.specs.Goal.{Goals}
-use Rattle.table_goals.specs.Stretches.{metIn, setOf}
+use Rattle.table_goals.specs.Stretches.{metIn, stretchSet}
 use Rattle.table_layout.specs.declared.Layout.{Layout}
 use Rattle.table_layout.specs.Rows.{Filled as FilledIn}
 use Rattle.table_tours.specs.Course.{Course, Moving, Stayed, Headed, Stretched}
 use Rattle.table_tours.proofs.Courses.{course-members, course-moving}
 use Rattle.table_tours.proofs.Stretches.{headed-none, headed-further, headed-all}
-use Rattle.environment_table.specs.Table.{entriesOf, Roomy, EnvironmentLayout, Filled}
+use Rattle.environment_table.specs.Table.{entriesOf, Roomy, EnvironmentLayout, EnvironmentFilled}
 use Rattle.environment_table.specs.Pressing.{touringAt}
 use Rattle.environment_table.specs.Touring.{Left, Aims}
 use Rattle.environment_table.proofs.Laid.{laid-table, laid-filled}
@@ -66,7 +66,7 @@ module _ (g : Game) (M n : ℕ) (z : Layout) (R : Roomy g M n) (Z : EnvironmentL
 
     -- all sets were passed
     pub aims-filled : {l m : List ℕ} (k : ℕ) → k ≡ length (assumptions (separatedOf g)) → FilledIn z (entriesOf g) (Headed z c over q 0 k) l m
-        → Filled g (λ a h b. (has c a ≡ true) × (has over b ≡ true)) l m
+        → EnvironmentFilled g (λ a h b. (has c a ≡ true) × (has over b ≡ true)) l m
     unfolding aims-course tour-course
     aims-filled k e F =
         laid-filled g M n z R Z (headed-all z (setsIn (g .input .moves)) c over q aims-course aims-counted k (omega (arith, Z .counters, A .count .all)) F)
@@ -77,7 +77,7 @@ module _ (g : Game) (M n : ℕ) (z : Layout) (R : Roomy g M n) (Z : EnvironmentL
 
     -- x are the rows that were read, here and below
     pub aims-further : {x : List ℕ} → x ≡ g .input .moves → (t : Stretch) (k : ℕ) {l m r r′ : List ℕ} → t .from ≡ k
-        → ((i : ℕ) → i < t .count → has (setOf t i) ≡ goalAt (assumptions (separatedOf g)) (t .from + i))
+        → ((i : ℕ) → i < t .count → has (stretchSet t i) ≡ goalAt (assumptions (separatedOf g)) (t .from + i))
         → FilledIn z (entriesOf g) (Headed z c over q 0 k) l m → Stretched (setsIn x) z c over q t (t .count) m r → r′ ≡ r
         → FilledIn z (entriesOf g) (Headed z c over q 0 (k + t .count)) l r′
     unfolding aims-course tour-course
@@ -92,6 +92,6 @@ module _ (g : Game) (M n : ℕ) (z : Layout) (R : Roomy g M n) (Z : EnvironmentL
     rests-moving a = rw a (course-moving z (setsIn (g .input .moves)) c over 0 rests)
 
     pub rests-filled : {x : List ℕ} → x ≡ g .input .moves → {l m : List ℕ} → Stayed (setsIn x) z c over l m
-        → Filled g (λ a h b. (has c a ≡ true) × (has over b ≡ true)) l m
+        → EnvironmentFilled g (λ a h b. (has c a ≡ true) × (has over b ≡ true)) l m
     unfolding rests tour-course
     rests-filled a S = laid-filled g M n z R Z ((rw a at S) .fills rests)

@@ -10,8 +10,9 @@ ghost use mathlib.Core.Bool.{true};
 ghost use lib.ListN.{length};
 ghost use Rattle.bits.specs.Member.{has};
 ghost use Rattle.sets.specs.Words.{bitsOf};
+ghost use Rattle.game_sets.specs.Lists.{Lists};
 ghost use Rattle.table_sizes.specs.Outlined.{Outlined};
-ghost use Rattle.environment_table.specs.Table.{Roomy, Filled};
+ghost use Rattle.environment_table.specs.Table.{Roomy, EnvironmentFilled};
 ghost use Rattle.environment_table.specs.Touring.{Left, Aims};
 
 // The rows towards all goals, one requirement after the other. Of the game, which goes by value, only counts are read: its input graph's rows are lent, as
@@ -19,6 +20,7 @@ ghost use Rattle.environment_table.specs.Touring.{Left, Aims};
 fn aims(
     g: Game,
     given: Outline,
+    l: &[u64; sets::ROW_WORDS],
     ins: &[u64; sets::ROW_WORDS],
     counters: usize,
     c: InSet,
@@ -27,14 +29,15 @@ fn aims(
     room: &mut [u16],
 )
     requires { ⌜ Roomy g counters (length (now room)) × Aims g (bitsOf (c .0)) (q .0) (bitsOf (over .0)) counters
-        × Outlined g given × (now ins ≡ g .input .moves) ⌝ }
-    ensures { λ r. ⌜ Filled g (λ k h b. (has (bitsOf (c .0)) k ≡ true) × (has (bitsOf (over .0)) b ≡ true)) (now (room .entry)) (now (room .exit)) ⌝ }
+        × Outlined g given × (now ins ≡ g .input .moves) × Lists g (now l) ⌝ }
+    ensures { λ r. ⌜ EnvironmentFilled g (λ k h b. (has (bitsOf (c .0)) k ≡ true) × (has (bitsOf (over .0)) b ≡ true)) (now (room .entry))
+        (now (room .exit)) ⌝ }
 {
     let z = rows::layout_of(g.input.states, counters, g.output.states);
     let mut n: usize = 0;
     let mut r: usize = 0;
     while r < g.k {
-        let t = table_sizes::assumptions_of(given.requirements[r], n);
+        let t = table_sizes::assumptions_of(g, given, l, r, n);
         table_tours::aim_some(ins, room, z, c.0, over.0, q, t);
         n += t.count;
         r += 1;
@@ -45,20 +48,23 @@ fn aims(
 pub fn tours(
     g: Game,
     given: Outline,
+    l: &[u64; sets::ROW_WORDS],
     ins: &[u64; sets::ROW_WORDS],
     counters: usize,
     c: InSet,
     over: OutSet,
     room: &mut [u16],
 )
-    requires { ⌜ Roomy g counters (length (now room)) × Left g (bitsOf (c .0)) (bitsOf (over .0)) × Outlined g given × (now ins ≡ g .input .moves) ⌝ }
-    ensures { λ r. ⌜ Filled g (λ k h b. (has (bitsOf (c .0)) k ≡ true) × (has (bitsOf (over .0)) b ≡ true)) (now (room .entry)) (now (room .exit)) ⌝ }
+    requires { ⌜ Roomy g counters (length (now room)) × Left g (bitsOf (c .0)) (bitsOf (over .0)) × Outlined g given
+        × (now ins ≡ g .input .moves) × Lists g (now l) ⌝ }
+    ensures { λ r. ⌜ EnvironmentFilled g (λ k h b. (has (bitsOf (c .0)) k ≡ true) × (has (bitsOf (over .0)) b ≡ true)) (now (room .entry))
+        (now (room .exit)) ⌝ }
 {
-    let q = table_sizes::assumptions_met(g, given, c);
+    let q = table_sizes::assumptions_met(g, given, l, c);
     if table_counters::is_empty(q) {
         let z = rows::layout_of(g.input.states, counters, g.output.states);
         table_tours::stay(ins, room, z, c.0, over.0);
         return;
     }
-    aims(g, given, ins, counters, c, q, over, room);
+    aims(g, given, l, ins, counters, c, q, over, room);
 }

@@ -44,13 +44,13 @@ use Rattle.explain.specs.Explain.{
   explainPosition,
   explainAnswer,
   explainTests,
-  numberOf,
+  explainNumber,
   scratchAfter,
   Explained,
 }
 
 -- a ground is no refusal
-told-number : (x : Ground) → numberOf (told x) ≡ 0
+told-number : (x : Ground) → explainNumber (told x) ≡ 0
 unfolding told
 told-number inputStuck = refl
 told-number byReplies = refl
@@ -61,25 +61,25 @@ told-number (byWayOut j) = refl
 told-number (unserved k n) = refl
 told-number pushedOn = refl
 
-explain-number : (g : Game) (s : ℕ) (i : InState) (o : OutState) → numberOf (explainAnswer g s i o) ≡ firstOf (explainTests g s i o)
+explain-number : (g : Game) (s : ℕ) (i : InState) (o : OutState) → explainNumber (explainAnswer g s i o) ≡ firstOf (explainTests g s i o)
 unfolding explainTests explainAnswer explainPosition explainRoom firstOf
 explain-number g s i o = go (acceptance g) ∙ sym (game-after g ((25, inGame g i o) ∷ (8, leb (scratchLength g) s) ∷ []))
   where
     x : Ground
     x = ground (separatedOf g) (i .0) (o .0)
 
-    room : (b : Bool) → numberOf (elim b as (λ z. Explanation) [ true ↦ told x | false ↦ Refused 8 ]) ≡ firstOf ((8, b) ∷ [])
+    room : (b : Bool) → explainNumber (elim b as (λ z. Explanation) [ true ↦ told x | false ↦ Refused 8 ]) ≡ firstOf ((8, b) ∷ [])
     room true = told-number x
     room false = refl
 
     here : (b : Bool)
-        → numberOf (elim b as (λ z. Explanation) [ true ↦ explainRoom g s i o | false ↦ Refused 25 ])
+        → explainNumber (elim b as (λ z. Explanation) [ true ↦ explainRoom g s i o | false ↦ Refused 25 ])
         ≡ firstOf ((25, b) ∷ (8, leb (scratchLength g) s) ∷ [])
     here true = room (leb (scratchLength g) s)
     here false = refl
 
     go : (a : Acceptance)
-        → numberOf (elim a as (λ z. Explanation) [ Accepted ↦ explainPosition g s i o | Faulty n ↦ Refused n ])
+        → explainNumber (elim a as (λ z. Explanation) [ Accepted ↦ explainPosition g s i o | Faulty n ↦ Refused n ])
         ≡ after a (firstOf ((25, inGame g i o) ∷ (8, leb (scratchLength g) s) ∷ []))
     go Accepted = here (inGame g i o)
     go (Faulty n) = refl
@@ -102,7 +102,7 @@ module _ (g : Game) (s : List ℕ) (i : InState) (o : OutState) where
   refused : (n : ℕ) → 1 ≤ n → Refused n ≡ explainAnswer g (length s) i o → Explained g s s i o (Refused n)
   refused n b e = record {
     answer = e;
-    number = ap numberOf e ∙ explain-number g (length s) i o;
+    number = ap explainNumber e ∙ explain-number g (length s) i o;
     scratch = kept g n s b;
     grounded = λ z. absurd (omega (arith, z));
   }
@@ -140,8 +140,8 @@ module _ (g : Game) (s : List ℕ) (i : InState) (o : OutState) where
       unfolding explainAnswer explainPosition explainRoom scratchAfter separatedOf graphOf
       explained {s′} {r} b e h = record {
         answer = answer;
-        number = ap numberOf answer ∙ explain-number g (length s) i o;
-        scratch = e ∙ ap (λ (n : ℕ). scratchAfter g n s) (sym (ap numberOf h ∙ told-number (ground (separatedOf g) (i .0) (o .0))));
+        number = ap explainNumber answer ∙ explain-number g (length s) i o;
+        scratch = e ∙ ap (λ (n : ℕ). scratchAfter g n s) (sym (ap explainNumber h ∙ told-number (ground (separatedOf g) (i .0) (o .0))));
         grounded = λ z. record { ground = ground (separatedOf g) (i .0) (o .0); tells = h; explains = ground-explains (separatedOf g) (i .0) (o .0) bi bo };
       }
         where

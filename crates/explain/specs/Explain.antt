@@ -3,7 +3,7 @@
 --   inGame g i o                == (i, o) is a position of the game
 --   explainAnswer g s i o       == the answer, scratch being of s words
 --   explainTests g s i o        == its tests under their numbers
---   numberOf r                  == the number of the refusal r, 0 for a ground
+--   explainNumber r             == the number of the refusal r, 0 for a ground
 --   scratchAfter g n s          == scratch s after an answer with the number n
 --   Grounded g i o r            == r tells a ground that explains (i, o)
 --   Explained g s s′ i o r      == the call answers r and leaves scratch s as s′
@@ -55,16 +55,16 @@ explainAnswer g s i o = elim (acceptance g) [ Accepted ↦ explainPosition g s i
 unfoldable pub explainTests : Game → ℕ → InState → OutState → List (ℕ × Bool)
 explainTests g s i o = gameTests g ++ (25, inGame g i o) ∷ (8, leb (scratchLength g) s) ∷ []
 
-abbrev pub numberOf : Explanation → ℕ
-numberOf InputStuck = 0
-numberOf ByReplies = 0
-numberOf (AtHome d) = 0
-numberOf OutputStuck = 0
-numberOf (Unanswered j) = 0
-numberOf (ByWayOut j) = 0
-numberOf (Unserved k n) = 0
-numberOf PushedOn = 0
-numberOf (Refused n) = n
+abbrev pub explainNumber : Explanation → ℕ
+explainNumber InputStuck = 0
+explainNumber ByReplies = 0
+explainNumber (AtHome d) = 0
+explainNumber OutputStuck = 0
+explainNumber (Unanswered j) = 0
+explainNumber (ByWayOut j) = 0
+explainNumber (Unserved k n) = 0
+explainNumber PushedOn = 0
+explainNumber (Refused n) = n
 
 -- "after an answer the first that many words are zero and the rest unchanged" (M-103); "Each returns its number only .. and changes no lent memory"
 unfoldable pub scratchAfter : Game → ℕ → List ℕ → List ℕ
@@ -79,6 +79,6 @@ pub record Grounded (g : Game) (i : InState) (o : OutState) (r : Explanation) : 
 
 pub record Explained (g : Game) (s s′ : List ℕ) (i : InState) (o : OutState) (r : Explanation) : Type 0 where
   pub answer : r ≡ explainAnswer g (length s) i o
-  pub number : numberOf r ≡ firstOf (explainTests g (length s) i o)
-  pub scratch : s′ ≡ scratchAfter g (numberOf r) s
-  pub grounded : numberOf r ≡ 0 → Grounded g i o r
+  pub number : explainNumber r ≡ firstOf (explainTests g (length s) i o)
+  pub scratch : s′ ≡ scratchAfter g (explainNumber r) s
+  pub grounded : explainNumber r ≡ 0 → Grounded g i o r

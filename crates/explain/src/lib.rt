@@ -23,7 +23,16 @@ fn explain_position(g: Game, scratch: &mut [u64], i: InState, o: OutState) -> Ex
     ensures { λ r. ⌜ (now (scratch .exit) ≡ cleared (scratchLength g) (now (scratch .entry)))
         × (r ≡ told (ground (separatedOf g) (i .0) (o .0))) ⌝ }
 {
-    let x = region::prepare(g, scratch);
+    let l = game_sets::list_of(g);
+    let x = region::prepare(
+        g,
+        &g.input.moves,
+        &g.output.moves,
+        &l.sets,
+        &l.assumed,
+        &l.guaranteed,
+        scratch,
+    );
     let r = ground_search::find(g, scratch, x.inputs, i, o);
     scratch_clearing::clear(scratch, scratch::length(g));
     r

@@ -8,7 +8,7 @@ use mathlib.Core.Path.{_≡_, refl, sym, _∙_, ap}
 use Rattle.game.specs.declared.Game.{Game}
 use Rattle.game.specs.declared.Acceptance.{Acceptance}
 use Rattle.game.specs.declared.Acceptance.the-variants.{Accepted, Refused}
-use Rattle.game.specs.Acceptance.{tests, firstFailing, acceptance, numberOf}
+use Rattle.game.specs.Acceptance.{tests, firstFailing, acceptance, acceptanceNumber}
 use Rattle.game.specs.Numbers.{numbered, firstOf, gameTests, Accepts}
 
 abbrev pub after : Acceptance → ℕ → ℕ
@@ -27,10 +27,10 @@ game-after g rest = first-after 1 (tests g) rest
 
 -- with nothing to try afterwards
 pub number-alone : (a : Acceptance) (ts : List (ℕ × Bool)) → ((rest : List (ℕ × Bool)) → firstOf (ts ++ rest) ≡ after a (firstOf rest))
-    → numberOf a ≡ firstOf ts
+    → acceptanceNumber a ≡ firstOf ts
 unfolding firstOf
 number-alone Accepted ts h = sym (sym (ap firstOf (append-nil ts)) ∙ h [])
 number-alone (Refused n) ts h = sym (sym (ap firstOf (append-nil ts)) ∙ h [])
 
 pub accepts : (g : Game) {a : Acceptance} → a ≡ acceptance g → Accepts g a
-accepts g h = record { answer = h; number = ap numberOf h ∙ number-alone (acceptance g) (gameTests g) (game-after g) }
+accepts g h = record { answer = h; number = ap acceptanceNumber h ∙ number-alone (acceptance g) (gameTests g) (game-after g) }

@@ -22,7 +22,7 @@
 --   tests g                == the seven in order, in the place of 4 one that holds of every game
 --   firstFailing n ts      == refused with n where the first of ts fails, with n + 1 where the next does, ..; accepted where none does
 --   acceptance g           == the answer to g
---   numberOf a             == document 01's number of the answer a: a refusal's code, 0 for accepted
+--   acceptanceNumber a     == document 01's number of the answer a: a refusal's code, 0 for accepted
 use Prim.Native.Nat.{ℕ, suc}
 use mathlib.Core.Bool.{Bool, true, false, not, _&&_, _||_}
 use mathlib.Core.List.{List, [], _∷_}
@@ -117,6 +117,6 @@ firstFailing n (false ∷ ts) = Refused n
 unfoldable pub acceptance : Game → Acceptance
 acceptance g = firstFailing 1 (tests g)
 
-abbrev pub numberOf : Acceptance → ℕ
-numberOf Accepted = 0
-numberOf (Refused n) = n
+abbrev pub acceptanceNumber : Acceptance → ℕ
+acceptanceNumber Accepted = 0
+acceptanceNumber (Refused n) = n

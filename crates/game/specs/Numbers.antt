@@ -10,7 +10,7 @@ use mathlib.Core.List.{List, [], _∷_}
 use mathlib.Core.Path.{_≡_}
 use Rattle.game.specs.declared.Game.{Game}
 use Rattle.game.specs.declared.Acceptance.{Acceptance}
-use Rattle.game.specs.Acceptance.{tests, acceptance, numberOf}
+use Rattle.game.specs.Acceptance.{tests, acceptance, acceptanceNumber}
 
 unfoldable pub numbered : ℕ → List Bool → List (ℕ × Bool)
 numbered n [] = []
@@ -27,4 +27,4 @@ gameTests g = numbered 1 (tests g)
 
 pub record Accepts (g : Game) (a : Acceptance) : Type 0 where
   pub answer : a ≡ acceptance g
-  pub number : numberOf a ≡ firstOf (gameTests g)
+  pub number : acceptanceNumber a ≡ firstOf (gameTests g)

@@ -14,10 +14,17 @@ use Rattle.graphs.specs.Rows.{rowsOf}
 use Rattle.graphs.specs.Closure.{reaches}
 use Rattle.game.specs.declared.Graph.{Graph}
 use Rattle.play.specs.Play.{graphOf}
-use Rattle.graph_closure.specs.Sweep.{swept, adds, sweptTimes, firstRows, settled, sweepsOf, Ran, Closed}
+use Rattle.graph_closure.specs.Sweep.{swept, adds, sweptTimes, Given, firstRows, sweepSettled, sweepsOf, Ran, Closed}
 use Rattle.graph_closure.proofs.Sweeps.{swept-length}
 use Rattle.graph_closure.proofs.FirstRows.{first-length, first-rest, first-again}
 use Rattle.graph_closure.proofs.Stages.{Stage, stage-start, stage-next, stage-end, stage-few, stage-lone}
+
+-- some graph has n states and the rows l
+pub graph-given : (n : ℕ) (l : List ℕ) → (h : Graph) × Given h n l
+graph-given n l = (record { states = n; initial = record { low = 0; high = 0 }; moves = l }, record { states = refl; moves = refl })
+
+pub ran-given : {h : Graph} {n : ℕ} {l m x : List ℕ} {b : Bool} {j k : ℕ} → Given h n l → Ran n m x b j k → Ran (h .states) m x b j k
+ran-given G w = rw (G .states) w
 
 -- m is l after k sweeps, all of which added a state; one sweep more is not too many
 pub record Counted (h : Graph) (l m : List ℕ) (k : ℕ) : Type 0 where
@@ -68,14 +75,14 @@ module _ {h : Graph} {l m : List ℕ} {k : ℕ} {x : List ℕ} {b : Bool} {k′ 
   })
 
   counted-settled : (o : List ℕ) → l ≡ firstRows h o → b ≡ false → k′ ≡ sweepsOf h o
-  unfolding sweepsOf settled
+  unfolding sweepsOf sweepSettled
   counted-settled o s e =
-      let at : (j : ℕ) → settled h o j ≡ not (adds (h .states) (sweptTimes (h .states) l j) (h .states)) =
+      let at : (j : ℕ) → sweepSettled h o j ≡ not (adds (h .states) (sweptTimes (h .states) l j) (h .states)) =
       λ j. ap (λ (r : List ℕ). not (adds (h .states) (sweptTimes (h .states) r j) (h .states))) (sym s) in
       next-is
       ∙ ap suc
       (sym
-      (least-unique (suc (h .states)) (settled h o) k (omega (arith, c .few))
+      (least-unique (suc (h .states)) (sweepSettled h o) k (omega (arith, c .few))
       (at k ∙ ap not (now-adds ∙ e)) (λ j d. at j ∙ ap not (c .busy j d))))
 
   -- where each state moves only to itself, the first sweep adds nothing

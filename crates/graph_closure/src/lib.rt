@@ -1,22 +1,22 @@
 // The reach of every state of a graph, by sweeps over all states.
-use game::Graph;
 use sets::Set;
 ghost use mathlib.Core.Path.{_≡_};
 ghost use mathlib.Core.List.{List};
 ghost use Prim.Native.Nat.{ℕ, _≤_};
 ghost use Rattle.sets.specs.Words.{capacity, lowStates, bitsOf, setsIn, setCount};
-ghost use Rattle.graph_closure.specs.Sweep.{grown, firstRows, Fixed, Ran, Closed};
+ghost use Rattle.game.specs.declared.Graph.{Graph};
+ghost use Rattle.graph_closure.specs.Sweep.{grown, firstRows, Given, Fixed, Ran, Closed};
 
 // Row s becomes s and its moves. A move past the count is none.
-fn start(h: Graph, rows: &mut [u64])
-    requires { ⌜ (h .states ≤ capacity) × (h .states ≤ setCount (now rows)) ⌝ }
-    ensures { λ r. ⌜ setsIn (now (rows .exit)) ≡ firstRows h (setsIn (now (rows .entry))) ⌝ }
+fn start(moves: &[u64; sets::ROW_WORDS], n: usize, rows: &mut [u64])
+    requires { ⌜ (n ≤ capacity) × (n ≤ setCount (now rows)) ⌝ }
+    ensures { λ r. ⌜ ((h : Graph) → Given h n (now (moves .entry)) → setsIn (now (rows .exit)) ≡ firstRows h (setsIn (now (rows .entry)))) ⌝ }
 {
-    let states = sets::below(h.states);
+    let states = sets::below(n);
     let mut s = 0;
-    while s < h.states {
-        let moves = sets::row_of(&h.moves, s);
-        sets::put(rows, s, sets::insert(sets::intersection(moves, states), s));
+    while s < n {
+        let next = sets::row_of(moves, s);
+        sets::put(rows, s, sets::insert(sets::intersection(next, states), s));
         s += 1;
     }
 }
@@ -108,13 +108,14 @@ fn sweep(rows: &mut [u64], n: usize, sweeps: &mut usize) -> bool
     added
 }
 
-// Row s becomes the set of the states that s reaches; later sets stay. Sweeps end at the first that adds no state; their number is the answer.
-pub fn close(h: Graph, rows: &mut [u64]) -> usize
-    requires { ⌜ (h .states ≤ capacity) × (h .states ≤ setCount (now rows)) ⌝ }
-    ensures { λ r. ⌜ Closed h (setsIn (now (rows .entry))) (setsIn (now (rows .exit))) r ⌝ }
+// Row s becomes the set of the states that s reaches, of n states with the rows `moves`; later sets stay. Sweeps end at the first that adds no state; their
+// number is the answer. The graph is not passed itself, as it would be copied.
+pub fn close(moves: &[u64; sets::ROW_WORDS], n: usize, rows: &mut [u64]) -> usize
+    requires { ⌜ (n ≤ capacity) × (n ≤ setCount (now rows)) ⌝ }
+    ensures { λ r. ⌜ ((h : Graph) → Given h n (now (moves .entry)) → Closed h (setsIn (now (rows .entry))) (setsIn (now (rows .exit))) r) ⌝ }
 {
-    start(h, rows);
+    start(moves, n, rows);
     let mut sweeps = 0;
-    while sweep(rows, h.states, &mut sweeps) {}
+    while sweep(rows, n, &mut sweeps) {}
     sweeps
 }

@@ -11,7 +11,7 @@ use native.Mathlib.Omega.{arith}
 use lib.ListN.{getD}
 use Rattle.finite.proofs.Truth.{same-test}
 use Rattle.finite.proofs.Bounded.{any-same}
-use Rattle.bits.specs.Member.{has, pack, meets}
+use Rattle.bits.specs.Member.{has, pack, setsMeet}
 use Rattle.bits.proofs.Membership.{has-pack-below, pack-ext, pack-lt, has-lt}
 use Rattle.bits.proofs.Compare.{meets-intro, meets-elim}
 use Rattle.sets.specs.Words.{capacity, setsIn}
@@ -51,20 +51,20 @@ module _ (h : Record) (l : List ℕ) (C : Closes h l) where
   nontrivial-at-closed : h .states ≤ capacity → (s : ℕ) → s < h .states → nontrivialAt (setsIn (h .moves)) l (h .states) s ≡ nontrivial (graphOf h) s
   unfolding nontrivialAt graphOf
   nontrivial-at-closed n s a =
-      ap (λ (x : ℕ). meets capacity (getD (setsIn (h .moves)) s 0) x) (component-closed s a)
-      ∙ same-test (meets capacity (getD (setsIn (h .moves)) s 0) comp) (nontrivial (graphOf h) s) there back
+      ap (λ (x : ℕ). setsMeet capacity (getD (setsIn (h .moves)) s 0) x) (component-closed s a)
+      ∙ same-test (setsMeet capacity (getD (setsIn (h .moves)) s 0) comp) (nontrivial (graphOf h) s) there back
     where
       comp : ℕ
       comp = pack (h .states) (joined (graphOf h) s)
 
-      there : meets capacity (getD (setsIn (h .moves)) s 0) comp ≡ true → nontrivial (graphOf h) s ≡ true
+      there : setsMeet capacity (getD (setsIn (h .moves)) s 0) comp ≡ true → nontrivial (graphOf h) s ≡ true
       there e =
           let v = meets-elim capacity (getD (setsIn (h .moves)) s 0) comp e in
           let b = has-lt (h .states) comp (v .0) (pack-lt (h .states) (joined (graphOf h) s)) (v .3) in
           let j = sym (has-pack-below (h .states) (joined (graphOf h) s) (v .0) b) ∙ v .3 in
           nontrivial-intro (graphOf h) s (v .0) (edge-moved h s (v .0) a b (v .2)) (joined-back (graphOf h) s (v .0) j)
 
-      back : nontrivial (graphOf h) s ≡ true → meets capacity (getD (setsIn (h .moves)) s 0) comp ≡ true
+      back : nontrivial (graphOf h) s ≡ true → setsMeet capacity (getD (setsIn (h .moves)) s 0) comp ≡ true
       back e =
           let v = nontrivial-move (graphOf h) s e in
           let b = below (v .0) (v .1) in

@@ -11,7 +11,7 @@ use native.Mathlib.Omega.{arith}
 use borrow.Author.Tests.{ltb-true}
 use Rattle.finite.specs.Bounded.{any, least, count}
 use Rattle.finite.proofs.Bounded.{any-intro, any-elim}
-use Rattle.bits.specs.Member.{has, pack, meets}
+use Rattle.bits.specs.Member.{has, pack, setsMeet}
 use Rattle.finite.proofs.Truth.{clash, false-of, not-true, same-test, and-intro, and-left, and-right, or-left, or-right, or-cases}
 use Rattle.bits.proofs.Membership.{has-zero, has-pack, has-pack-below}
 use Rattle.bits.proofs.Compare.{meets-intro, meets-elim}
@@ -32,10 +32,10 @@ pub together-at : (rows : List ℕ) (s t : ℕ) {r : Bool} → r ≡ (has (getD 
 unfolding together rel
 together-at rows s t e = e
 
-pub nontrivial-at : (moves rows : List ℕ) (n s y : ℕ) {r : Bool} → y ≡ getD moves s 0 → r ≡ meets capacity y (pack n (together rows s))
+pub nontrivial-at : (moves rows : List ℕ) (n s y : ℕ) {r : Bool} → y ≡ getD moves s 0 → r ≡ setsMeet capacity y (pack n (together rows s))
     → r ≡ nontrivialAt moves rows n s
 unfolding nontrivialAt
-nontrivial-at moves rows n s y f h = h ∙ ap (λ (u : ℕ). meets capacity u (pack n (together rows s))) f
+nontrivial-at moves rows n s y f h = h ∙ ap (λ (u : ℕ). setsMeet capacity u (pack n (together rows s))) f
 
 unfoldable pub apart : List ℕ → ℕ → ℕ → Bool
 apart rows s t = not (together rows s t)
@@ -49,14 +49,14 @@ module _ (rows : List ℕ) (n s x b y : ℕ) (f : (t : ℕ) → has b t ≡ ltb 
   pub back-below : (t : ℕ) → has y t ≡ true → t < n
   back-below t h = cut-in x b y n f i t h .0
 
-  pub back-found : n ≤ capacity → (t : ℕ) → has y t ≡ true → together rows s t ≡ true → true ≡ meets capacity x (pack n (together rows s))
+  pub back-found : n ≤ capacity → (t : ℕ) → has y t ≡ true → together rows s t ≡ true → true ≡ setsMeet capacity x (pack n (together rows s))
   back-found l t h m =
       let c = cut-in x b y n f i t h in
       sym (meets-intro capacity x (pack n (together rows s)) t (omega (arith, c .0)) (c .1) (has-pack-below n (together rows s) t (c .0) ∙ m))
 
-  pub back-none : (rest : ℕ) → Passing capacity y capacity (apart rows s) rest → rest ≡ 0 → false ≡ meets capacity x (pack n (together rows s))
+  pub back-none : (rest : ℕ) → Passing capacity y capacity (apart rows s) rest → rest ≡ 0 → false ≡ setsMeet capacity x (pack n (together rows s))
   unfolding apart
-  back-none rest P z = sym (false-of (meets capacity x (pack n (together rows s))) (λ e. none (meets-elim capacity x (pack n (together rows s)) e)))
+  back-none rest P z = sym (false-of (setsMeet capacity x (pack n (together rows s))) (λ e. none (meets-elim capacity x (pack n (together rows s)) e)))
     where
       none : (t : ℕ) × (t < capacity) × (has x t ≡ true) × (has (pack n (together rows s)) t ≡ true) → ⊥
       none v =

@@ -8,7 +8,7 @@ use mathlib.Core.Bool.{Bool, _&&_}
 use mathlib.Core.List.{List}
 use lib.ListN.{getD}
 use Rattle.finite.specs.Bounded.{any}
-use Rattle.bits.specs.Member.{has, pack, meets}
+use Rattle.bits.specs.Member.{has, pack, setsMeet}
 use Rattle.sets.specs.Words.{capacity}
 use Rattle.graphs.specs.Rows.{rel}
 
@@ -16,7 +16,7 @@ unfoldable pub together : List ℕ → ℕ → ℕ → Bool
 together rows s t = rel rows s t && rel rows t s
 
 unfoldable pub nontrivialAt : List ℕ → List ℕ → ℕ → ℕ → Bool
-nontrivialAt moves rows n s = meets capacity (getD moves s 0) (pack n (together rows s))
+nontrivialAt moves rows n s = setsMeet capacity (getD moves s 0) (pack n (together rows s))
 
 unfoldable pub enters : List ℕ → ℕ → ℕ → ℕ → Bool
 enters moves c n t = any n (λ k. has c k && has (getD moves k 0) t)

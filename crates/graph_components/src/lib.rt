@@ -2,7 +2,7 @@
 ghost use mathlib.Core.Path.{_≡_};
 ghost use mathlib.Core.Bool.{_&&_, not};
 ghost use Prim.Native.Nat.{ℕ, _≤_, _<_};
-ghost use Rattle.bits.specs.Member.{has, pack, meets};
+ghost use Rattle.bits.specs.Member.{has, pack, setsMeet};
 ghost use Rattle.sets.specs.Words.{capacity, lowStates, bitsOf, setsIn, setCount};
 ghost use Rattle.graph_components.specs.Component.{together, nontrivialAt, enters};
 use game::Graph;
@@ -66,7 +66,7 @@ pub fn component(rows: &[u64], n: usize, s: usize) -> Set
 // Whether a state of x reaches s and is reached by it. The component is not worked out for that: most sets of moves are small.
 fn comes_back(rows: &[u64], n: usize, s: usize, x: Set) -> bool
     requires { ⌜ (n ≤ capacity) × (s < n) × (n ≤ setCount (now rows)) ⌝ }
-    ensures { λ r. ⌜ r ≡ meets capacity (bitsOf x) (pack n (together (setsIn (now (rows .entry))) s)) ⌝ }
+    ensures { λ r. ⌜ r ≡ setsMeet capacity (bitsOf x) (pack n (together (setsIn (now (rows .entry))) s)) ⌝ }
 {
     let row = sets::row(rows, s);
     let mut rest = sets::intersection(x, sets::below(n));

@@ -20,7 +20,7 @@ use borrow.Author.Tests.{eqb-true, eq-eqb, ltb-true, ltb-false, lt-ltb, le-ltb}
 use Rattle.finite.specs.Bounded.{least, count, any}
 use Rattle.finite.proofs.Truth.{decide, clash, false-of, and-intro, and-left, and-right, or-left, or-right, or-cases, or-false-left, or-false-right, not-true}
 use Rattle.finite.proofs.Bounded.{count-less, least-at-most, any-elim, any-false}
-use Rattle.bits.specs.Member.{has, meets}
+use Rattle.bits.specs.Member.{has, setsMeet}
 use Rattle.bits.proofs.Membership.{has-zero, ext}
 use Rattle.bits.proofs.Compare.{meets-intro, meets-elim}
 use Rattle.bits.proofs.Remove.{less-in, less-out, less-falls}
@@ -231,7 +231,7 @@ module _ (rows : List ℕ) (left found : ℕ) where
       pub sweeping-falls : count capacity (has v) < count capacity (has rest)
       sweeping-falls = less-falls rest h v (others rest h v rest-small some e dv) capacity sweeping-below sweeping-in
 
-      module _ (N : Narrow rows) (row : ℕ) (ok : Bool) (r : row ≡ getD rows h 0) (q : ok ≡ meets capacity row more) (m′ : ℕ)
+      module _ (N : Narrow rows) (row : ℕ) (ok : Bool) (r : row ≡ getD rows h 0) (q : ok ≡ setsMeet capacity row more) (m′ : ℕ)
           (d : (t : ℕ) → has m′ t ≡ (has more t || (ok && eqb t h))) where
         grown : (t : ℕ) → has more t ≡ true → has m′ t ≡ true
         grown t m = d t ∙ or-left (ok && eqb t h) m
@@ -347,7 +347,7 @@ module _ (rows : List ℕ) (inside s : ℕ) where
 module _ (rows : List ℕ) (inside s : ℕ) where
   -- a state with no move to another state inside
   module _ (row x from : ℕ) (small : Small inside) (r : row ≡ getD rows s 0) (d : (t : ℕ) → has x t ≡ (has 0 t || eqb t s))
-      (f : (t : ℕ) → has from t ≡ (has inside t && not (has x t))) (e : meets capacity row from ≡ false) where
+      (f : (t : ℕ) → has from t ≡ (has inside t && not (has x t))) (e : setsMeet capacity row from ≡ false) where
     own-move : (u : ℕ) → has (getD rows s 0) u ≡ true → has inside u ≡ true → u ≡ s
     own-move u m i =
         elim (decide (has x u)) [

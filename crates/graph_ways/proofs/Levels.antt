@@ -24,7 +24,7 @@ use Rattle.sets.specs.Words.{capacity}
 use Rattle.graphs.specs.Way.{layer, near, approach, shortest, prefer, toward}
 use Rattle.graphs.proofs.Way.{Leads, prefer-same, prefer-wider, near-below, near-more, near-step, near-cases, toward-move, toward-near}
 use Rattle.graph_ways.specs.Kept.{kept}
-use Rattle.graph_ways.specs.Search.{choices, settles}
+use Rattle.graph_ways.specs.Search.{choices, movesInto}
 use Rattle.graph_ways.proofs.Kept.{kept-from, pack-below}
 use Rattle.graph_ways.proofs.Round.{has-choices, settles-intro, settles-nonzero, settles-left, settles-move}
 
@@ -85,14 +85,14 @@ levels-within rows n c target l left h =
     (λ t e. near-below n (kept rows c) (has target) (h .rounds) t (near-at n (kept rows c) (has target) (h .rounds) l t (h .reached) ∙ e))
 
 -- a round from a state of the search
-module _ (rows : List ℕ) (n c target l left z : ℕ) (fits : n ≤ capacity) (h : Levels rows n c target l left) (d : z ≡ pack n (settles rows c left l)) where
-  settled-has : (s : ℕ) → s < n → has z s ≡ settles rows c left l s
-  settled-has s b = ap (λ (k : ℕ). has k s) d ∙ has-pack-below n (settles rows c left l) s b
+module _ (rows : List ℕ) (n c target l left z : ℕ) (fits : n ≤ capacity) (h : Levels rows n c target l left) (d : z ≡ pack n (movesInto rows c left l)) where
+  settled-has : (s : ℕ) → s < n → has z s ≡ movesInto rows c left l s
+  settled-has s b = ap (λ (k : ℕ). has k s) d ∙ has-pack-below n (movesInto rows c left l) s b
 
   settled-below : (s : ℕ) → has z s ≡ true → s < n
-  settled-below s e = pack-below n (settles rows c left l) s (ap (λ (k : ℕ). has k s) (sym d) ∙ e)
+  settled-below s e = pack-below n (movesInto rows c left l) s (ap (λ (k : ℕ). has k s) (sym d) ∙ e)
 
-  pub settled-settles : (s : ℕ) → has z s ≡ true → settles rows c left l s ≡ true
+  pub settled-settles : (s : ℕ) → has z s ≡ true → movesInto rows c left l s ≡ true
   settled-settles s e = sym (settled-has s (settled-below s e)) ∙ e
 
   now-at : (t : ℕ) → near n (kept rows c) (has target) (h .rounds) t ≡ has l t
@@ -124,14 +124,14 @@ module _ (rows : List ℕ) (n c target l left z : ℕ) (fits : n ≤ capacity) (
   -- ---- a round that settles some
 
   -- a state settles in the round of its shortest way
-  settles-approach : (s : ℕ) → s < n → settles rows c left l s ≡ true → approach n (kept rows c) (has target) s ≡ h .rounds
+  settles-approach : (s : ℕ) → s < n → movesInto rows c left l s ≡ true → approach n (kept rows c) (has target) s ≡ h .rounds
   settles-approach s b e =
       let a = settles-left rows c left l s e in
       let w = settles-move rows c left l s (h .inside s a) e in
       approach-first n (kept rows c) (has target) s (w .0) (h .rounds) (w .1) (now-at (w .0) ∙ w .2) (λ u j k m. h .waits s u j b a k m)
 
   -- what it chooses from is its shortest moves
-  chooses : (s : ℕ) → s < n → settles rows c left l s ≡ true → (t : ℕ) → has (choices rows c left l s) t ≡ shortest n (kept rows c) (has target) s t
+  chooses : (s : ℕ) → s < n → movesInto rows c left l s ≡ true → (t : ℕ) → has (choices rows c left l s) t ≡ shortest n (kept rows c) (has target) s t
   unfolding shortest
   chooses s b e t =
       let a = settles-left rows c left l s e in
@@ -139,7 +139,7 @@ module _ (rows : List ℕ) (n c target l left z : ℕ) (fits : n ≤ capacity) (
       ∙ ap (λ (k : Bool). kept rows c s t && k)
       (sym (now-at t) ∙ ap (λ (k : ℕ). near n (kept rows c) (has target) k t) (sym (settles-approach s b e)))
 
-  pub levels-chosen : (s : ℕ) → s < n → settles rows c left l s ≡ true
+  pub levels-chosen : (s : ℕ) → s < n → movesInto rows c left l s ≡ true
       → prefer capacity s (has (choices rows c left l s)) ≡ toward n (kept rows c) (has target) s
   unfolding toward
   levels-chosen s b e =
@@ -152,7 +152,7 @@ module _ (rows : List ℕ) (n c target l left z : ℕ) (fits : n ≤ capacity) (
       (m .1)
       ∙ prefer-same n s (has (choices rows c left l s)) (shortest n (kept rows c) (has target) s) (λ t k. chooses s b e t)
 
-  pub levels-leads : (s : ℕ) → settles rows c left l s ≡ true → Leads n (kept rows c) (has target) s
+  pub levels-leads : (s : ℕ) → movesInto rows c left l s ≡ true → Leads n (kept rows c) (has target) s
   levels-leads s e =
       let w = settles-move rows c left l s (h .inside s (settles-left rows c left l s e)) e in
       record { next = w .0; moves = h .rounds; move = w .1; way = now-at (w .0) ∙ w .2 }

@@ -17,7 +17,7 @@ use Rattle.bits.specs.Member.{has}
 use Rattle.bits.proofs.Membership.{ext, has-zero, has-and}
 use Rattle.bits.proofs.Compare.{member-nonzero, nonzero-member}
 use Rattle.graph_ways.specs.Kept.{kept}
-use Rattle.graph_ways.specs.Search.{choices, settles}
+use Rattle.graph_ways.specs.Search.{choices, movesInto}
 use Rattle.graph_ways.proofs.Kept.{kept-from}
 
 module _ (rows : List ℕ) (c left l : ℕ) where
@@ -63,32 +63,32 @@ module _ (rows : List ℕ) (c left l : ℕ) where
       swap false true z e = rw e
       swap false false z e = rw e
 
-  pub settles-intro : (s t : ℕ) → has left s ≡ true → kept rows c s t ≡ true → has l t ≡ true → settles rows c left l s ≡ true
-  unfolding settles
+  pub settles-intro : (s t : ℕ) → has left s ≡ true → kept rows c s t ≡ true → has l t ≡ true → movesInto rows c left l s ≡ true
+  unfolding movesInto
   settles-intro s t a m h =
       ap not
       (ne-eqb (choices rows c left l s) 0
       (member-nonzero (choices rows c left l s) t (has-choices s t a (kept-from rows c s t m) ∙ and-intro m h)))
 
-  pub settles-nonzero : (s : ℕ) → settles rows c left l s ≡ true → choices rows c left l s ≢ 0
-  unfolding settles
+  pub settles-nonzero : (s : ℕ) → movesInto rows c left l s ≡ true → choices rows c left l s ≢ 0
+  unfolding movesInto
   settles-nonzero s h = eqb-false (choices rows c left l s) 0 (not-true (eqb (choices rows c left l s) 0) h)
 
-  pub settles-left : (s : ℕ) → settles rows c left l s ≡ true → has left s ≡ true
+  pub settles-left : (s : ℕ) → movesInto rows c left l s ≡ true → has left s ≡ true
   settles-left s h =
       let m = nonzero-member (choices rows c left l s) (settles-nonzero s h) in
       choices-left s (m .0) (m .1)
 
-  pub settles-move : (s : ℕ) → has c s ≡ true → settles rows c left l s ≡ true → (t : ℕ) × (kept rows c s t ≡ true) × (has l t ≡ true)
+  pub settles-move : (s : ℕ) → has c s ≡ true → movesInto rows c left l s ≡ true → (t : ℕ) × (kept rows c s t ≡ true) × (has l t ≡ true)
   settles-move s b h =
       let m = nonzero-member (choices rows c left l s) (settles-nonzero s h) in
       let both : (kept rows c s (m .0) && has l (m .0)) ≡ true = sym (has-choices s (m .0) (settles-left s h) b) ∙ m .1 in
       (m .0, and-left (kept rows c s (m .0)) (has l (m .0)) both, and-right (kept rows c s (m .0)) (has l (m .0)) both)
 
-  pub settles-of : (s : ℕ) → choices rows c left l s ≢ 0 → settles rows c left l s ≡ true
-  unfolding settles
+  pub settles-of : (s : ℕ) → choices rows c left l s ≢ 0 → movesInto rows c left l s ≡ true
+  unfolding movesInto
   settles-of s ne = ap not (ne-eqb (choices rows c left l s) 0 ne)
 
-  pub settles-not : (s : ℕ) → choices rows c left l s ≡ 0 → settles rows c left l s ≡ false
-  unfolding settles
+  pub settles-not : (s : ℕ) → choices rows c left l s ≡ 0 → movesInto rows c left l s ≡ false
+  unfolding movesInto
   settles-not s e = ap not (eq-eqb (choices rows c left l s) 0 e)

@@ -2,7 +2,7 @@
 -- the states that have no move yet.
 --
 --   choices rows c left l s        == the moves of s inside c that land in l; none where s is not one of left
---   settles rows c left l s        == s has such a move
+--   movesInto rows c left l s      == s has such a move
 use Prim.Native.Nat.{ℕ}
 use mathlib.Core.Bool.{Bool, true, false, not}
 use mathlib.Core.List.{List}
@@ -14,5 +14,5 @@ use Rattle.bits.specs.Member.{has}
 unfoldable pub choices : List ℕ → ℕ → ℕ → ℕ → ℕ → ℕ
 choices rows c left l s = elim (has left s) [ true ↦ bitAnd (bitAnd (getD rows s 0) c) l | false ↦ 0 ]
 
-unfoldable pub settles : List ℕ → ℕ → ℕ → ℕ → ℕ → Bool
-settles rows c left l s = not (eqb (choices rows c left l s) 0)
+unfoldable pub movesInto : List ℕ → ℕ → ℕ → ℕ → ℕ → Bool
+movesInto rows c left l s = not (eqb (choices rows c left l s) 0)

@@ -19,7 +19,7 @@ use Rattle.finite.specs.Bounded.{any, least}
 use Rattle.finite.proofs.Truth.{clash, true-of, same-test, and-intro, and-left, and-right}
 use Rattle.finite.proofs.Bounded.{any-intro, any-elim, any-same, least-member, least-before, least-below, least-unique}
 use Rattle.finite.proofs.Loops.{and-next, and-stop}
-use Rattle.bits.specs.Member.{has, pack, meets}
+use Rattle.bits.specs.Member.{has, pack, setsMeet}
 use Rattle.bits.proofs.Membership.{has-zero, has-pack-below, has-lt, pack-lt}
 use Rattle.bits.proofs.Compare.{meets-intro, meets-elim, nonzero-member}
 use Rattle.sets.specs.Words.{capacity, bitsOf, setsIn, setAt}
@@ -48,11 +48,11 @@ use Rattle.scratch.specs.Stored.{rowAt, outReachAt, outArea, wonAt}
 use Rattle.scratch.proofs.Areas.{in-closes, area-closes}
 use Rattle.scratch.proofs.Read.{stored-nontrivial, ready-won, ready-row}
 use Rattle.grounds.specs.Ground.{unreplied, lostExit}
-use Rattle.ground_search.specs.Asked.{Asked, Exits}
+use Rattle.ground_search.specs.Asked.{PositionAsked, Exits}
 
-pub meets-pack : (n x : ℕ) (p : ℕ → Bool) → n ≤ capacity → meets capacity x (pack n p) ≡ any n (λ t. has x t && p t)
+pub meets-pack : (n x : ℕ) (p : ℕ → Bool) → n ≤ capacity → setsMeet capacity x (pack n p) ≡ any n (λ t. has x t && p t)
 meets-pack n x p b =
-    same-test (meets capacity x (pack n p)) (any n (λ t. has x t && p t))
+    same-test (setsMeet capacity x (pack n p)) (any n (λ t. has x t && p t))
     (λ e.
     let v = meets-elim capacity x (pack n p) e in
     let l = has-lt n (pack n p) (v .0) (pack-lt n p) (v .3) in
@@ -85,7 +85,7 @@ module _ (h : Graph) (F : GraphFits h) (s : ℕ) (a : s < h .states) where
 
 -- ---- a position
 
-module _ {g : Game} {s : List ℕ} {c : InSet} {i : InState} {o : OutState} (A : Asked g s c i o) where
+module _ {g : Game} {s : List ℕ} {c : InSet} {i : InState} {o : OutState} (A : PositionAsked g s c i o) where
   abbrev S : Separated
   S = separatedOf g
 
@@ -100,11 +100,11 @@ module _ {g : Game} {s : List ℕ} {c : InSet} {i : InState} {o : OutState} (A :
       ap (λ (x : ℕ). has x (i .0)) (A .ready .inner) ∙ has-pack-below n (nontrivial (graphOf (g .input))) (i .0) (A .input)
 
   pub answered-means : {x : OutSet} {y : ℕ} {r : Bool} → x ≡ outMoves g o → y ≡ pack m (wonAt (setsIn s) n (bitsOf (c .0)) (i .0))
-      → r ≡ meets capacity (bitsOf (x .0)) y → r ≡ answers S (region S) (i .0) (o .0)
+      → r ≡ setsMeet capacity (bitsOf (x .0)) y → r ≡ answers S (region S) (i .0) (o .0)
   unfolding answers separatedOf graphOf
   answered-means e f h =
       h
-      ∙ ap₂ (λ (u v : ℕ). meets capacity u v) (ap (λ (u : OutSet). bitsOf (u .0)) e) (f ∙ ready-row (A .ready) (i .0) (A .input))
+      ∙ ap₂ (λ (u v : ℕ). setsMeet capacity u v) (ap (λ (u : OutSet). bitsOf (u .0)) e) (f ∙ ready-row (A .ready) (i .0) (A .input))
       ∙ meets-pack m row (region (separatedOf g) (i .0)) (A .ready .fits .output .most)
       ∙ any-same m (λ p. has row p && region (separatedOf g) (i .0) p) (λ p. edge (graphOf (g .output)) (o .0) p && region (separatedOf g) (i .0) p)
       (λ p b. ap (λ (t : Bool). t && region (separatedOf g) (i .0) p) (row-edge (g .output) (A .ready .fits .output) (o .0) (A .output) p))
@@ -144,11 +144,11 @@ module _ {g : Game} {s : List ℕ} {c : InSet} {i : InState} {o : OutState} (A :
 
   -- a move of o stays in its component
   pub output-means : {x : OutSet} {y : ℕ} {r : Bool} → x ≡ outMoves g o → y ≡ pack m (together (outArea (setsIn s) n) (o .0))
-      → r ≡ meets capacity (bitsOf (x .0)) y → r ≡ nontrivial (graphOf (g .output)) (o .0)
+      → r ≡ setsMeet capacity (bitsOf (x .0)) y → r ≡ nontrivial (graphOf (g .output)) (o .0)
   unfolding nontrivialAt
   output-means e f h =
       h
-      ∙ ap₂ (λ (u v : ℕ). meets capacity u v) (ap (λ (u : OutSet). bitsOf (u .0)) e ∙ set-bits (g .output .moves) (o .0)) f
+      ∙ ap₂ (λ (u v : ℕ). setsMeet capacity u v) (ap (λ (u : OutSet). bitsOf (u .0)) e ∙ set-bits (g .output .moves) (o .0)) f
       ∙ sym (has-pack-below m (nontrivialAt (setsIn (g .output .moves)) (outArea (setsIn s) n) m) (o .0) (A .output))
       ∙ ap (λ (u : ℕ). has u (o .0)) (nontrivial-closed (g .output) _ (area-closes (A .ready .laid)) (A .ready .fits .output .most))
       ∙ has-pack-below m (nontrivial (graphOf (g .output))) (o .0) (A .output)

@@ -15,7 +15,7 @@ use Rattle.finite.proofs.Truth.{clash, true-of, same-test, not-true, not-false}
 use Rattle.finite.proofs.Bounded.{all-same, all-elim, all-false, least-member, least-below, least-same}
 use Rattle.finite.proofs.Loops.{and-next, and-stop}
 use Rattle.finite.proofs.Tabulate.{length-tabulate, getD-tabulate, allOf-tabulate}
-use Rattle.bits.specs.Member.{has, pack, meets}
+use Rattle.bits.specs.Member.{has, pack, setsMeet}
 use Rattle.sets.specs.Words.{capacity, bitsOf, setsIn}
 use Rattle.graphs.specs.Component.{joined, meetsAt}
 use Rattle.arena.specs.Arena.{Requirement}
@@ -34,11 +34,11 @@ use Rattle.scratch.specs.Stored.{outArea}
 use Rattle.scratch.proofs.Areas.{in-closes, area-closes}
 use Rattle.region_dues.specs.Dues.{inMeets, inMeetsAt, outMeets, outMeetsAt, dueIn, servedIn}
 use Rattle.grounds.specs.Ground.{nthRequirement, owed, missed, firstOwed, firstMissed}
-use Rattle.ground_search.specs.Asked.{Asked, missedIn, owedIn}
+use Rattle.ground_search.specs.Asked.{PositionAsked, missedIn, owedIn}
 use Rattle.ground_search.proofs.Meaning.{meets-pack}
 
 component-meets : (h : Graph) (s x : ℕ) → h .states ≤ capacity
-    → meets capacity x (pack (h .states) (joined (graphOf h) s)) ≡ meetsAt (graphOf h) s (has x)
+    → setsMeet capacity x (pack (h .states) (joined (graphOf h) s)) ≡ meetsAt (graphOf h) s (has x)
 unfolding meetsAt graphOf
 component-meets h s x b = meets-pack (h .states) x (joined (graphOf h) s) b
 
@@ -91,7 +91,7 @@ module _ (g : Game) (i o r : ℕ) (p : g .input .states ≤ capacity) (q : g .ou
 
 -- ---- where scratch is ready
 
-module _ {g : Game} {s : List ℕ} {c : InSet} {i : InState} {o : OutState} (A : Asked g s c i o) {x y : ℕ}
+module _ {g : Game} {s : List ℕ} {c : InSet} {i : InState} {o : OutState} (A : PositionAsked g s c i o) {x y : ℕ}
     (e : x ≡ pack (g .input .states) (together (setsIn s) (i .0)))
     (f : y ≡ pack (g .output .states) (together (outArea (setsIn s) (g .input .states)) (o .0))) where
   in-component : x ≡ pack (g .input .states) (joined (graphOf (g .input)) (i .0))

@@ -53,11 +53,11 @@ use Rattle.ground_search.specs.declared.Explanation.the-variants.{
   Unserved,
   PushedOn,
 }
-use Rattle.ground_search.specs.Asked.{Asked, Staying}
+use Rattle.ground_search.specs.Asked.{PositionAsked, Staying}
 use Rattle.ground_search.specs.Told.{told}
 use Rattle.ground_search.proofs.Meaning.{row-stuck, inside-means}
 
-module _ {g : Game} {s : List ℕ} {c : InSet} {i : InState} {o : OutState} (A : Asked g s c i o) where
+module _ {g : Game} {s : List ℕ} {c : InSet} {i : InState} {o : OutState} (A : PositionAsked g s c i o) where
   abbrev answer : Explanation
   answer = told (ground (separatedOf g) (i .0) (o .0))
 

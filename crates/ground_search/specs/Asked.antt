@@ -1,10 +1,10 @@
 -- What is asked, and requirements told of sets of states.
 --
---   Asked g s c i o    == scratch s holds the winning region of g, c are the inputs in nontrivial components, and (i, o) is a position of g
---   Staying g i o      == (i, o) is lost, o is not stuck, and i is in a nontrivial component
---   Exits g i x        == x are the states that moves out of the component of i enter
---   missedIn g b r j   == output set j of requirement r misses the set b
---   owedIn g a b r     == requirement r is due in the set a of inputs, and one of its output sets misses b
+--   PositionAsked g s c i o == scratch s holds the winning region of g, c are the inputs in nontrivial components, and (i, o) is a position of g
+--   Staying g i o           == (i, o) is lost, o is not stuck, and i is in a nontrivial component
+--   Exits g i x             == x are the states that moves out of the component of i enter
+--   missedIn g b r j        == output set j of requirement r misses the set b
+--   owedIn g a b r          == requirement r is due in the set a of inputs, and one of its output sets misses b
 use Prim.Native.Nat.{ℕ, _<_}
 use mathlib.Core.Path.{_≡_}
 use mathlib.Core.Bool.{Bool, true, false, _&&_, not}
@@ -23,7 +23,7 @@ use Rattle.theory.specs.Region.{region}
 use Rattle.scratch.specs.Stored.{Ready}
 use Rattle.region_dues.specs.Dues.{outMeetsAt, dueIn, servedIn}
 
-pub record Asked (g : Game) (s : List ℕ) (c : InSet) (i : InState) (o : OutState) : Type 0 where
+pub record PositionAsked (g : Game) (s : List ℕ) (c : InSet) (i : InState) (o : OutState) : Type 0 where
   pub ready : Ready g s (bitsOf (c .0))
   pub input : i .0 < g .input .states
   pub output : o .0 < g .output .states

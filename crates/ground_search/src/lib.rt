@@ -11,7 +11,7 @@ ghost use Rattle.game.specs.Access.{requirementAt};
 ghost use Rattle.play.specs.Play.{graphOf, separatedOf};
 ghost use Rattle.region_dues.specs.Dues.{Few, dueIn};
 ghost use Rattle.grounds.specs.Ground.{unreplied as unrepliedAt, lostExit, ground};
-ghost use Rattle.ground_search.specs.Asked.{Asked, Staying, Exits, missedIn, owedIn};
+ghost use Rattle.ground_search.specs.Asked.{PositionAsked, Staying, Exits, missedIn, owedIn};
 ghost use Rattle.ground_search.specs.Told.{told};
 use game::Game;
 use game::InSet;
@@ -34,7 +34,7 @@ pub enum Explanation {
 
 // The home of a won position with its input in a nontrivial component.
 fn home(g: Game, s: &[u64], c: InSet, i: InState, o: OutState) -> OutState
-    requires { ⌜ Asked g (now s) c i o × (nontrivial (graphOf (g .input)) (i .0) ≡ true) × (region (separatedOf g) (i .0) (o .0) ≡ true) ⌝ }
+    requires { ⌜ PositionAsked g (now s) c i o × (nontrivial (graphOf (g .input)) (i .0) ≡ true) × (region (separatedOf g) (i .0) (o .0) ≡ true) ⌝ }
     ensures { λ r. ⌜ r .0 ≡ homeOf (separatedOf g) (i .0) (o .0) ⌝ }
 {
     let n = g.input.states;
@@ -46,7 +46,7 @@ fn home(g: Game, s: &[u64], c: InSet, i: InState, o: OutState) -> OutState
 
 // Whether some output move of o makes a won position with j.
 fn answered(g: Game, s: &[u64], c: InSet, j: InState, o: OutState) -> bool
-    requires { ⌜ Asked g (now s) c j o ⌝ }
+    requires { ⌜ PositionAsked g (now s) c j o ⌝ }
     ensures { λ r. ⌜ r ≡ answers (separatedOf g) (region (separatedOf g)) (j .0) (o .0) ⌝ }
 {
     let n = g.input.states;
@@ -58,7 +58,7 @@ fn answered(g: Game, s: &[u64], c: InSet, j: InState, o: OutState) -> bool
 
 // Whether i moves to j, and no output move of o makes a won position with j.
 fn unreplied(g: Game, s: &[u64], c: InSet, i: InState, o: OutState, j: InState) -> bool
-    requires { ⌜ Asked g (now s) c i o × (j .0 < g .input .states) ⌝ }
+    requires { ⌜ PositionAsked g (now s) c i o × (j .0 < g .input .states) ⌝ }
     ensures { λ r. ⌜ r ≡ unrepliedAt (separatedOf g) (i .0) (o .0) (j .0) ⌝ }
 {
     let moves = game::in_moves(g, i);
@@ -70,7 +70,7 @@ fn unreplied(g: Game, s: &[u64], c: InSet, i: InState, o: OutState, j: InState) 
 
 // The lowest next input that no output move of o answers; the number of inputs where there is none.
 fn first_unreplied(g: Game, s: &[u64], c: InSet, i: InState, o: OutState) -> InState
-    requires { ⌜ Asked g (now s) c i o ⌝ }
+    requires { ⌜ PositionAsked g (now s) c i o ⌝ }
     ensures { λ r. ⌜ r .0 ≡ least (g .input .states) (unrepliedAt (separatedOf g) (i .0) (o .0)) ⌝ }
 {
     let n = g.input.states;
@@ -86,7 +86,7 @@ fn first_unreplied(g: Game, s: &[u64], c: InSet, i: InState, o: OutState) -> InS
 
 // The states that moves out of the component of i enter.
 fn exits(g: Game, s: &[u64], c: InSet, i: InState, o: OutState) -> InSet
-    requires { ⌜ Asked g (now s) c i o ⌝ }
+    requires { ⌜ PositionAsked g (now s) c i o ⌝ }
     ensures { λ r. ⌜ Exits g (i .0) (bitsOf (r .0)) ⌝ }
 {
     let h = g.input;
@@ -97,7 +97,7 @@ fn exits(g: Game, s: &[u64], c: InSet, i: InState, o: OutState) -> InSet
 
 // Whether j is one of the states x, and lost with o.
 fn exit_lost(g: Game, s: &[u64], c: InSet, x: InSet, i: InState, o: OutState, j: InState) -> bool
-    requires { ⌜ Asked g (now s) c i o × Exits g (i .0) (bitsOf (x .0)) × (j .0 < g .input .states) ⌝ }
+    requires { ⌜ PositionAsked g (now s) c i o × Exits g (i .0) (bitsOf (x .0)) × (j .0 < g .input .states) ⌝ }
     ensures { λ r. ⌜ r ≡ lostExit (separatedOf g) (i .0) (o .0) (j .0) ⌝ }
 {
     if sets::member(x.0, j.0) {
@@ -108,7 +108,7 @@ fn exit_lost(g: Game, s: &[u64], c: InSet, x: InSet, i: InState, o: OutState, j:
 
 // The lowest state that a move out of the component of i enters and that is lost with o; the number of inputs where there is none.
 fn first_lost_exit(g: Game, s: &[u64], c: InSet, i: InState, o: OutState) -> InState
-    requires { ⌜ Asked g (now s) c i o ⌝ }
+    requires { ⌜ PositionAsked g (now s) c i o ⌝ }
     ensures { λ r. ⌜ r .0 ≡ least (g .input .states) (lostExit (separatedOf g) (i .0) (o .0)) ⌝ }
 {
     let n = g.input.states;
@@ -189,7 +189,7 @@ fn first_owed(g: Game, a: InSet, b: OutSet) -> usize
 
 // The ground of a won position.
 fn won_ground(g: Game, s: &[u64], c: InSet, i: InState, o: OutState) -> Explanation
-    requires { ⌜ Asked g (now s) c i o × (region (separatedOf g) (i .0) (o .0) ≡ true) ⌝ }
+    requires { ⌜ PositionAsked g (now s) c i o × (region (separatedOf g) (i .0) (o .0) ≡ true) ⌝ }
     ensures { λ r. ⌜ r ≡ told (ground (separatedOf g) (i .0) (o .0)) ⌝ }
 {
     let moves = game::in_moves(g, i);
@@ -204,7 +204,7 @@ fn won_ground(g: Game, s: &[u64], c: InSet, i: InState, o: OutState) -> Explanat
 
 // The ground of a lost position with the input in a nontrivial component and no way out lost.
 fn output_ground(g: Game, s: &[u64], c: InSet, i: InState, o: OutState) -> Explanation
-    requires { ⌜ Asked g (now s) c i o × Staying g (i .0) (o .0) × (any (g .input .states) (lostExit (separatedOf g) (i .0) (o .0)) ≡ false) ⌝ }
+    requires { ⌜ PositionAsked g (now s) c i o × Staying g (i .0) (o .0) × (any (g .input .states) (lostExit (separatedOf g) (i .0) (o .0)) ≡ false) ⌝ }
     ensures { λ r. ⌜ r ≡ told (ground (separatedOf g) (i .0) (o .0)) ⌝ }
 {
     let n = g.input.states;
@@ -220,7 +220,7 @@ fn output_ground(g: Game, s: &[u64], c: InSet, i: InState, o: OutState) -> Expla
 
 // The ground of a lost position with the input in a nontrivial component.
 fn nontrivial_ground(g: Game, s: &[u64], c: InSet, i: InState, o: OutState) -> Explanation
-    requires { ⌜ Asked g (now s) c i o × Staying g (i .0) (o .0) ⌝ }
+    requires { ⌜ PositionAsked g (now s) c i o × Staying g (i .0) (o .0) ⌝ }
     ensures { λ r. ⌜ r ≡ told (ground (separatedOf g) (i .0) (o .0)) ⌝ }
 {
     let j = first_lost_exit(g, s, c, i, o);
@@ -232,7 +232,7 @@ fn nontrivial_ground(g: Game, s: &[u64], c: InSet, i: InState, o: OutState) -> E
 
 // The ground of a lost position.
 fn lost_ground(g: Game, s: &[u64], c: InSet, i: InState, o: OutState) -> Explanation
-    requires { ⌜ Asked g (now s) c i o × (region (separatedOf g) (i .0) (o .0) ≡ false) ⌝ }
+    requires { ⌜ PositionAsked g (now s) c i o × (region (separatedOf g) (i .0) (o .0) ≡ false) ⌝ }
     ensures { λ r. ⌜ r ≡ told (ground (separatedOf g) (i .0) (o .0)) ⌝ }
 {
     let moves = game::out_moves(g, o);
@@ -247,7 +247,7 @@ fn lost_ground(g: Game, s: &[u64], c: InSet, i: InState, o: OutState) -> Explana
 
 // The ground of the position, c being the inputs in nontrivial components.
 pub fn find(g: Game, s: &[u64], c: InSet, i: InState, o: OutState) -> Explanation
-    requires { ⌜ Asked g (now s) c i o ⌝ }
+    requires { ⌜ PositionAsked g (now s) c i o ⌝ }
     ensures { λ r. ⌜ r ≡ told (ground (separatedOf g) (i .0) (o .0)) ⌝ }
 {
     if scratch::won(s, g.input.states, c, i, o) {

@@ -16,7 +16,7 @@ use Rattle.theory.specs.Entries.{controllerEntries, environmentEntries}
 use Rattle.demands.specs.Demands.{playOf, controllerOf, environmentOf}
 use Rattle.solver.specs.declared.Verdict.{Verdict}
 use Rattle.solver.specs.declared.Verdict.the-variants.{System, Environment, Refused as NotSolved}
-use Rattle.solver.specs.Promise.{numberOf, verdictScratch}
+use Rattle.solver.specs.Promise.{verdictNumber, verdictScratch}
 
 -- whether the system wins; a refusal leaves what was there
 unfoldable pub side : Verdict → Bool → Bool
@@ -45,7 +45,7 @@ Beaten g (NotSolved n) t = Unit {0}
 -- the answer v, handed over as the part t of the buffer p, with the refusal's number n and the side b
 pub record Handed (g : Game) (v : Verdict) (s s′ : List ℕ) (n : ℕ) (b b′ : Bool) (c e p : ℕ × ℕ) (t : List ℕ) : Type 0 where
   pub scratch : s′ ≡ verdictScratch g v s
-  pub refusal : n ≡ numberOf v
+  pub refusal : n ≡ verdictNumber v
   pub system : b′ ≡ side v b
   pub buffer : p ≡ chosen v c e
   pub part : t ≡ front g v

@@ -36,7 +36,7 @@ use Rattle.map_marks.specs.Marks.{MapFilled}
 use Rattle.map.specs.declared.Mapped.{Mapped}
 use Rattle.map.specs.declared.Mapped.the-variants.{Done, Refused as NotMapped}
 use Rattle.map.specs.Map.{
-  numberOf as mapNumber,
+  mapNumber as mapNumber,
   mapAnswer as plainAnswer,
   mapRoom as plainRoom,
   mapFits as plainFits,
@@ -51,17 +51,17 @@ use Rattle.interlock.specs.Interlock.{
   barsFit,
   barTests,
   roomTests,
-  mapTests,
+  barredMapTests,
   mapped,
-  mapAnswer,
-  MapAfter,
-  mapScratch,
+  barredMapAnswer,
+  BarredMapAfter,
+  barredMapScratch,
   BarredMap,
   verdictTests,
-  judged,
-  verdictAnswer,
-  numberOf,
-  verdictScratch,
+  barredJudged,
+  barredVerdictAnswer,
+  barredNumber,
+  barredVerdictScratch,
   BarredJudged,
 }
 use Rattle.interlock.proofs.Bars.{marks-won, filled-unbarred, wins-none, system-wins}
@@ -151,8 +151,8 @@ module _ (g : Game) (b : List ℕ) (s : ℕ) where
 -- ---- the map
 
 module _ (g : Game) (b s m : List ℕ) where
-  map-number : mapNumber (mapAnswer g b (length s) (length m)) ≡ firstOf (mapTests g b (length s) (length m))
-  unfolding mapTests mapAnswer mapped
+  map-number : mapNumber (barredMapAnswer g b (length s) (length m)) ≡ firstOf (barredMapTests g b (length s) (length m))
+  unfolding barredMapTests barredMapAnswer mapped
   map-number = go (acceptance g) ∙ sym (game-after g (roomTests g b (length s) (length m)))
     where
       told : (n : ℕ) → mapNumber (mapped n) ≡ n
@@ -165,8 +165,8 @@ module _ (g : Game) (b s m : List ℕ) where
       go Accepted = told (firstOf (roomTests g b (length s) (length m)))
       go (Faulty n) = refl
 
-  refused : (n : ℕ) → NotMapped n ≡ mapAnswer g b (length s) (length m) → BarredMap g b s s m m (NotMapped n)
-  unfolding MapAfter mapScratch
+  refused : (n : ℕ) → NotMapped n ≡ barredMapAnswer g b (length s) (length m) → BarredMap g b s s m m (NotMapped n)
+  unfolding BarredMapAfter barredMapScratch
   refused n e = record {
     answer = e;
     number = ap mapNumber e ∙ map-number;
@@ -180,13 +180,13 @@ module _ (g : Game) (b s m : List ℕ) where
       not-done q = let z : _≡_ {A = ℕ} 0 1 = cc in absurd (omega arith)
 
   pub map-faulty : (n : ℕ) → acceptance g ≡ Faulty n → BarredMap g b s s m m (NotMapped n)
-  unfolding mapAnswer
-  map-faulty n e = refused n (rw (e, mapAnswer) refl)
+  unfolding barredMapAnswer
+  map-faulty n e = refused n (rw (e, barredMapAnswer) refl)
 
   -- the tests of the room come after those of bars and scratch
   pub map-fault : (n : ℕ) → acceptance g ≡ Accepted → n ≡ firstOf (barTests g b (length s)) → n ≢ 0 → BarredMap g b s s m m (NotMapped n)
-  unfolding mapAnswer roomTests barTests firstOf mapped
-  map-fault n a e ne = refused n (rw (a, mapAnswer) (go (barsInside g b) (oneRequirement g b) (barsFit g (length b) (length s)) e))
+  unfolding barredMapAnswer roomTests barTests firstOf mapped
+  map-fault n a e ne = refused n (rw (a, barredMapAnswer) (go (barsInside g b) (oneRequirement g b) (barsFit g (length b) (length s)) e))
     where
       go : (p q u : Bool) → n ≡ firstOf ((29, p) ∷ (28, q) ∷ (8, u) ∷ [])
           → NotMapped n ≡ mapped (firstOf ((29, p) ∷ (28, q) ∷ (8, u) ∷ (8, leb (wordsFor (g .input .states)) (length m)) ∷ []))
@@ -197,9 +197,9 @@ module _ (g : Game) (b s m : List ℕ) where
 
   module _ (a : acceptance g ≡ Accepted) (z : firstOf (barTests g b (length s)) ≡ 0) where
     room : (v : Bool) → leb (wordsFor (g .input .states)) (length m) ≡ v → (r : Mapped)
-        → r ≡ mapped (firstOf ((8, v) ∷ [])) → r ≡ mapAnswer g b (length s) (length m)
-    unfolding mapAnswer roomTests barTests firstOf mapped
-    room v e r h = rw (a, mapAnswer) (go (barsInside g b) (oneRequirement g b) (barsFit g (length b) (length s)) z)
+        → r ≡ mapped (firstOf ((8, v) ∷ [])) → r ≡ barredMapAnswer g b (length s) (length m)
+    unfolding barredMapAnswer roomTests barTests firstOf mapped
+    room v e r h = rw (a, barredMapAnswer) (go (barsInside g b) (oneRequirement g b) (barsFit g (length b) (length s)) z)
       where
         go : (p q u : Bool) → firstOf ((29, p) ∷ (28, q) ∷ (8, u) ∷ []) ≡ 0
             → r ≡ mapped (firstOf ((29, p) ∷ (28, q) ∷ (8, u) ∷ (8, leb (wordsFor (g .input .states)) (length m)) ∷ []))
@@ -213,7 +213,7 @@ module _ (g : Game) (b s m : List ℕ) where
     map-short h = refused 8 (room false (lt-leb (wordsFor (g .input .states)) (length m) h) (NotMapped 8) refl)
 
     pub map-done : (s′ m′ : List ℕ) → wordsFor (g .input .states) ≤ length m → s′ ≡ cleared 4096 s → BarredFilled g b m m′ → BarredMap g b s s′ m m′ Done
-    unfolding MapAfter mapScratch firstOf mapped
+    unfolding BarredMapAfter barredMapScratch firstOf mapped
     map-done s′ m′ h e R = record {
       answer = done;
       number = ap mapNumber done ∙ map-number;
@@ -223,32 +223,32 @@ module _ (g : Game) (b s m : List ℕ) where
       unbarred = λ q k. filled-unbarred g b m m′ k R;
     }
       where
-        done : Done ≡ mapAnswer g b (length s) (length m)
+        done : Done ≡ barredMapAnswer g b (length s) (length m)
         done = room true (le-leb (wordsFor (g .input .states)) (length m) h) Done refl
 
 -- ---- the verdict
 
 module _ (g : Game) (b s : List ℕ) where
-  verdict-number : (w : Bool) → numberOf (verdictAnswer g b (length s) w) ≡ firstOf (verdictTests g b (length s))
-  unfolding verdictTests verdictAnswer judged
+  verdict-number : (w : Bool) → barredNumber (barredVerdictAnswer g b (length s) w) ≡ firstOf (verdictTests g b (length s))
+  unfolding verdictTests barredVerdictAnswer barredJudged
   verdict-number w = go (acceptance g) ∙ sym (game-after g (barTests g b (length s)))
     where
-      told : (n : ℕ) (w : Bool) → numberOf (judged n w) ≡ n
+      told : (n : ℕ) (w : Bool) → barredNumber (barredJudged n w) ≡ n
       told zero true = refl
       told zero false = refl
       told (suc n) w = refl
 
       go : (a : Acceptance)
-          → numberOf (elim a as (λ x. Judged) [ Accepted ↦ judged (firstOf (barTests g b (length s))) w | Faulty n ↦ NotJudged n ])
+          → barredNumber (elim a as (λ x. Judged) [ Accepted ↦ barredJudged (firstOf (barTests g b (length s))) w | Faulty n ↦ NotJudged n ])
           ≡ after a (firstOf (barTests g b (length s)))
       go Accepted = told (firstOf (barTests g b (length s))) w
       go (Faulty n) = refl
 
-  turned-down : (n : ℕ) → ((w : Bool) → NotJudged n ≡ verdictAnswer g b (length s) w) → BarredJudged g b s s (NotJudged n)
-  unfolding verdictScratch
+  turned-down : (n : ℕ) → ((w : Bool) → NotJudged n ≡ barredVerdictAnswer g b (length s) w) → BarredJudged g b s s (NotJudged n)
+  unfolding barredVerdictScratch
   turned-down n e = record {
     answer = e (systemWins g b);
-    number = ap numberOf (e true) ∙ verdict-number true;
+    number = ap barredNumber (e true) ∙ verdict-number true;
     scratch = refl;
     system = λ q. not-won q;
     environment = λ q. not-lost q;
@@ -262,48 +262,48 @@ module _ (g : Game) (b s : List ℕ) where
       not-lost q = let z : _≡_ {A = ℕ} 0 1 = cc in absurd (omega arith)
 
   pub judged-faulty : (n : ℕ) → acceptance g ≡ Faulty n → BarredJudged g b s s (NotJudged n)
-  unfolding verdictAnswer
-  judged-faulty n e = turned-down n (λ w. rw (e, verdictAnswer) refl)
+  unfolding barredVerdictAnswer
+  judged-faulty n e = turned-down n (λ w. rw (e, barredVerdictAnswer) refl)
 
   pub judged-fault : (n : ℕ) → acceptance g ≡ Accepted → n ≡ firstOf (barTests g b (length s)) → n ≢ 0 → BarredJudged g b s s (NotJudged n)
-  unfolding verdictAnswer judged
-  judged-fault n a e ne = turned-down n (λ w. rw (a, verdictAnswer) (rw (sym e) (go n ne w)))
+  unfolding barredVerdictAnswer barredJudged
+  judged-fault n a e ne = turned-down n (λ w. rw (a, barredVerdictAnswer) (rw (sym e) (go n ne w)))
     where
-      go : (k : ℕ) → k ≢ 0 → (w : Bool) → NotJudged k ≡ judged k w
+      go : (k : ℕ) → k ≢ 0 → (w : Bool) → NotJudged k ≡ barredJudged k w
       go zero f w = absurd (f refl)
       go (suc k) f w = refl
 
   module _ (a : acceptance g ≡ Accepted) (z : firstOf (barTests g b (length s)) ≡ 0) (s′ : List ℕ) (c : s′ ≡ cleared 4096 s) where
     pub judged-system : systemWins g b ≡ true → BarredJudged g b s s′ System
-    unfolding verdictAnswer judged verdictScratch
+    unfolding barredVerdictAnswer barredJudged barredVerdictScratch
     judged-system w = record {
-      answer = rw (a, verdictAnswer) (rw (z, w) refl);
+      answer = rw (a, barredVerdictAnswer) (rw (z, w) refl);
       number = sym (z′);
       scratch = c;
       system = λ q. system-wins g b (none-tests g b (length s) z .0) .0 w;
       environment = λ q. not-both q;
-      unbarred = λ k. rw (a, verdictAnswer) (rw (z, wins-none g b k, w) refl);
+      unbarred = λ k. rw (a, barredVerdictAnswer) (rw (z, wins-none g b k, w) refl);
     }
       where
         z′ : firstOf (verdictTests g b (length s)) ≡ 0
-        z′ = sym (verdict-number true) ∙ rw (a, verdictAnswer) (rw z refl)
+        z′ = sym (verdict-number true) ∙ rw (a, barredVerdictAnswer) (rw z refl)
 
         not-both : {A : Type 0} → System ≡ Environment → A
         not-both q = let z : _≡_ {A = ℕ} 0 1 = cc in absurd (omega arith)
 
     pub judged-environment : systemWins g b ≡ false → BarredJudged g b s s′ Environment
-    unfolding verdictAnswer judged verdictScratch
+    unfolding barredVerdictAnswer barredJudged barredVerdictScratch
     judged-environment w = record {
-      answer = rw (a, verdictAnswer) (rw (z, w) refl);
+      answer = rw (a, barredVerdictAnswer) (rw (z, w) refl);
       number = sym (z′);
       scratch = c;
       system = λ q. not-both q;
       environment = λ q k. clash (system-wins g b (none-tests g b (length s) z .0) .1 k) w;
-      unbarred = λ k. rw (a, verdictAnswer) (rw (z, wins-none g b k, w) refl);
+      unbarred = λ k. rw (a, barredVerdictAnswer) (rw (z, wins-none g b k, w) refl);
     }
       where
         z′ : firstOf (verdictTests g b (length s)) ≡ 0
-        z′ = sym (verdict-number true) ∙ rw (a, verdictAnswer) (rw z refl)
+        z′ = sym (verdict-number true) ∙ rw (a, barredVerdictAnswer) (rw z refl)
 
         not-both : {A : Type 0} → Environment ≡ System → A
         not-both q = let z : _≡_ {A = ℕ} 0 1 = cc in absurd (omega arith)

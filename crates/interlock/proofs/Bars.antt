@@ -22,7 +22,7 @@ use Rattle.finite.proofs.Truth.{decide, not-false, and-intro, and-left, and-rig
 use Rattle.finite.proofs.Bounded.{all-same, any-false, any-intro, any-elim}
 use Rattle.finite.proofs.Tabulate.{same-tabulate}
 use Rattle.finite.proofs.Front.{front-at}
-use Rattle.bits.specs.Member.{has, pack, meets}
+use Rattle.bits.specs.Member.{has, pack, setsMeet}
 use Rattle.bits.proofs.Membership.{has-zero, has-pack-below}
 use Rattle.bits.proofs.Compare.{meets-intro, meets-elim}
 use Rattle.sets.specs.Words.{capacity, bitsOf, setsIn}
@@ -150,7 +150,7 @@ module _ (g : Game) (F : Fits g) where
   opens-region b l f = all-same (g .input .states) _ _ (λ i h. row i h)
     where
       row : (i : ℕ) → i < g .input .states
-          → (not (has (bitsOf (g .input .initial)) i) || meets capacity (bitsOf (g .output .initial)) (getD l i 0))
+          → (not (has (bitsOf (g .input .initial)) i) || setsMeet capacity (bitsOf (g .output .initial)) (getD l i 0))
           ≡ (not (begins (graphOf (g .input)) i) || any (g .output .states)
           (λ o. begins (graphOf (g .output)) o && barredRegion (separatedOf g) (bars b) (only g) i o))
       row i h = same-or first opened
@@ -163,10 +163,10 @@ module _ (g : Game) (F : Fits g) where
               same-test (has (bitsOf (g .input .initial)) i) (begins (graphOf (g .input)) i) (λ e. begins-intro (graphOf (g .input)) i h e)
               (λ e. begins-initial (graphOf (g .input)) i e)
 
-          opened : meets capacity (bitsOf (g .output .initial)) (getD l i 0)
+          opened : setsMeet capacity (bitsOf (g .output .initial)) (getD l i 0)
               ≡ any (g .output .states) (λ o. begins (graphOf (g .output)) o && barredRegion (separatedOf g) (bars b) (only g) i o)
           opened =
-              same-test (meets capacity (bitsOf (g .output .initial)) (getD l i 0))
+              same-test (setsMeet capacity (bitsOf (g .output .initial)) (getD l i 0))
               (any (g .output .states) (λ o. begins (graphOf (g .output)) o && barredRegion (separatedOf g) (bars b) (only g) i o))
               (λ e. let w = meets-elim capacity (bitsOf (g .output .initial)) (getD l i 0) e in
               let k = F .output .initial-below (w .0) (w .2) in

@@ -20,7 +20,7 @@ use lib.Dec.{eqb, ltb}
 use lib.ListN.{length, getD, drop}
 use Rattle.finite.specs.Bounded.{all, any}
 use Rattle.finite.specs.Tabulate.{tabulate}
-use Rattle.bits.specs.Member.{has, within, meets, pack}
+use Rattle.bits.specs.Member.{has, within, setsMeet, pack}
 use Rattle.sets.specs.Words.{capacity, bitsOf, setsIn, wordsFor}
 use Rattle.theory.specs.Region.{region, verdict}
 use Rattle.game.specs.declared.Game.{Game}
@@ -58,7 +58,7 @@ unfoldable pub barredRow : Game → List ℕ → ℕ → ℕ
 barredRow g b i = pack (g .output .states) (marked g b i)
 
 unfoldable pub opensRow : Game → ℕ → ℕ → Bool
-opensRow g x i = not (has (bitsOf (g .input .initial)) i) || meets capacity (bitsOf (g .output .initial)) x
+opensRow g x i = not (has (bitsOf (g .input .initial)) i) || setsMeet capacity (bitsOf (g .output .initial)) x
 
 pub record RegionFilled (g : Game) (l m m′ : List ℕ) : Type 0 where
   pub sets : setsIn m′ ≡ tabulate (g .input .states) (λ i. getD l i 0) ++ drop (g .input .states) (setsIn m)

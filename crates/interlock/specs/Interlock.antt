@@ -1,15 +1,15 @@
 -- What the two entries promise, for every input: b are the words of the bars, scratch is s before and s′ after, the map m before and m′ after.
 --
---   barTests g b s                    == the tests of bars and scratch under their numbers, scratch being of s words
---   roomTests g b s m                 == those of the map's call, the map being of m words
---   mapTests g b s m                  == all tests of the map's call
---   mapped n, mapAnswer g b s m       == its answer where n is the first of them that fails in an accepted game, 0 for none; its answer
---   numberOf r                        == document 01's number of the answer r, 0 for a map or a verdict
---   MapAfter g b r m m′               == on answer r the map m is left as m′
---   BarredMap g b s s′ m m′ r         == the map's call answers r and leaves scratch s as s′ and the map m as m′
---   verdictTests g b s                == all tests of the verdict's call
---   judged n w, verdictAnswer g b s w == its answer where n is that number, w telling whether the system wins; its answer
---   BarredJudged g b s s′ r           == the verdict's call answers r and leaves scratch s as s′
+--   barTests g b s                                == the tests of bars and scratch under their numbers, scratch being of s words
+--   roomTests g b s m                             == those of the map's call, the map being of m words
+--   barredMapTests g b s m                        == all tests of the map's call
+--   mapped n, barredMapAnswer g b s m             == its answer where n is the first of them that fails in an accepted game, 0 for none; its answer
+--   barredNumber r                                == document 01's number of the answer r, 0 for a map or a verdict
+--   BarredMapAfter g b r m m′                     == on answer r the map m is left as m′
+--   BarredMap g b s s′ m m′ r                     == the map's call answers r and leaves scratch s as s′ and the map m as m′
+--   verdictTests g b s                            == all tests of the verdict's call
+--   barredJudged n w, barredVerdictAnswer g b s w == its answer where n is that number, w telling whether the system wins; its answer
+--   BarredJudged g b s s′ r                       == the verdict's call answers r and leaves scratch s as s′
 use Prim.Native.Nat.{ℕ, zero, suc, _<_}
 use mathlib.Core.Path.{_≡_}
 use mathlib.Core.Bool.{Bool, true, false, _&&_}
@@ -30,7 +30,7 @@ use Rattle.scratch_clearing.specs.Clearing.{cleared}
 use Rattle.map_marks.specs.Marks.{MapFilled}
 use Rattle.map.specs.declared.Mapped.{Mapped}
 use Rattle.map.specs.declared.Mapped.the-variants.{Done, Refused as NotMapped}
-use Rattle.map.specs.Map.{numberOf as mapNumber}
+use Rattle.map.specs.Map.{mapNumber}
 use Rattle.barred.specs.Arena.{barredArena}
 use Rattle.interlock.specs.declared.Judged.{Judged}
 use Rattle.interlock.specs.declared.Judged.the-variants.{System, Environment, Refused as NotJudged}
@@ -49,30 +49,30 @@ barTests g b s = (29, barsInside g b) ∷ (28, oneRequirement g b) ∷ (8, barsF
 unfoldable pub roomTests : Game → List ℕ → ℕ → ℕ → List (ℕ × Bool)
 roomTests g b s m = (29, barsInside g b) ∷ (28, oneRequirement g b) ∷ (8, barsFit g (length b) s) ∷ (8, leb (wordsFor (g .input .states)) m) ∷ []
 
-unfoldable pub mapTests : Game → List ℕ → ℕ → ℕ → List (ℕ × Bool)
-mapTests g b s m = gameTests g ++ roomTests g b s m
+unfoldable pub barredMapTests : Game → List ℕ → ℕ → ℕ → List (ℕ × Bool)
+barredMapTests g b s m = gameTests g ++ roomTests g b s m
 
 unfoldable pub mapped : ℕ → Mapped
 mapped zero = Done
 mapped (suc n) = NotMapped (suc n)
 
-unfoldable pub mapAnswer : Game → List ℕ → ℕ → ℕ → Mapped
-mapAnswer g b s m = elim (acceptance g) [ Accepted ↦ mapped (firstOf (roomTests g b s m)) | Faulty n ↦ NotMapped n ]
+unfoldable pub barredMapAnswer : Game → List ℕ → ℕ → ℕ → Mapped
+barredMapAnswer g b s m = elim (acceptance g) [ Accepted ↦ mapped (firstOf (roomTests g b s m)) | Faulty n ↦ NotMapped n ]
 
 -- "later words unchanged"; "changes no lent memory"
-unfoldable pub MapAfter : Game → List ℕ → Mapped → List ℕ → List ℕ → Type 0
-MapAfter g b Done m m′ = BarredFilled g b m m′
-MapAfter g b (NotMapped n) m m′ = m′ ≡ m
+unfoldable pub BarredMapAfter : Game → List ℕ → Mapped → List ℕ → List ℕ → Type 0
+BarredMapAfter g b Done m m′ = BarredFilled g b m m′
+BarredMapAfter g b (NotMapped n) m m′ = m′ ≡ m
 
-unfoldable pub mapScratch : Mapped → List ℕ → List ℕ
-mapScratch Done s = cleared 4096 s
-mapScratch (NotMapped n) s = s
+unfoldable pub barredMapScratch : Mapped → List ℕ → List ℕ
+barredMapScratch Done s = cleared 4096 s
+barredMapScratch (NotMapped n) s = s
 
 pub record BarredMap (g : Game) (b s s′ m m′ : List ℕ) (r : Mapped) : Type 0 where
-  pub answer : r ≡ mapAnswer g b (length s) (length m)
-  pub number : mapNumber r ≡ firstOf (mapTests g b (length s) (length m))
-  pub map : MapAfter g b r m m′
-  pub scratch : s′ ≡ mapScratch r s
+  pub answer : r ≡ barredMapAnswer g b (length s) (length m)
+  pub number : mapNumber r ≡ firstOf (barredMapTests g b (length s) (length m))
+  pub map : BarredMapAfter g b r m m′
+  pub scratch : s′ ≡ barredMapScratch r s
   -- "a barred pair is never marked won", and a pair that is not barred is marked exactly when it is won
   pub won : r ≡ Done → (i o : ℕ) → i < g .input .states → o < g .output .states
       → (has (getD (setsIn m′) i 0) o ≡ true) ↔ ((bars b i o ≡ false) × Won (barredArena (separatedOf g) (bars b)) i o)
@@ -84,28 +84,28 @@ pub record BarredMap (g : Game) (b s s′ m m′ : List ℕ) (r : Mapped) : Type
 unfoldable pub verdictTests : Game → List ℕ → ℕ → List (ℕ × Bool)
 verdictTests g b s = gameTests g ++ barTests g b s
 
-unfoldable pub judged : ℕ → Bool → Judged
-judged zero w = elim w [ true ↦ System | false ↦ Environment ]
-judged (suc n) w = NotJudged (suc n)
+unfoldable pub barredJudged : ℕ → Bool → Judged
+barredJudged zero w = elim w [ true ↦ System | false ↦ Environment ]
+barredJudged (suc n) w = NotJudged (suc n)
 
-unfoldable pub verdictAnswer : Game → List ℕ → ℕ → Bool → Judged
-verdictAnswer g b s w = elim (acceptance g) [ Accepted ↦ judged (firstOf (barTests g b s)) w | Faulty n ↦ NotJudged n ]
+unfoldable pub barredVerdictAnswer : Game → List ℕ → ℕ → Bool → Judged
+barredVerdictAnswer g b s w = elim (acceptance g) [ Accepted ↦ barredJudged (firstOf (barTests g b s)) w | Faulty n ↦ NotJudged n ]
 
-abbrev pub numberOf : Judged → ℕ
-numberOf System = 0
-numberOf Environment = 0
-numberOf (NotJudged n) = n
+abbrev pub barredNumber : Judged → ℕ
+barredNumber System = 0
+barredNumber Environment = 0
+barredNumber (NotJudged n) = n
 
-unfoldable pub verdictScratch : Judged → List ℕ → List ℕ
-verdictScratch System s = cleared 4096 s
-verdictScratch Environment s = cleared 4096 s
-verdictScratch (NotJudged n) s = s
+unfoldable pub barredVerdictScratch : Judged → List ℕ → List ℕ
+barredVerdictScratch System s = cleared 4096 s
+barredVerdictScratch Environment s = cleared 4096 s
+barredVerdictScratch (NotJudged n) s = s
 
 pub record BarredJudged (g : Game) (b s s′ : List ℕ) (r : Judged) : Type 0 where
-  pub answer : r ≡ verdictAnswer g b (length s) (systemWins g b)
-  pub number : numberOf r ≡ firstOf (verdictTests g b (length s))
-  pub scratch : s′ ≡ verdictScratch r s
+  pub answer : r ≡ barredVerdictAnswer g b (length s) (systemWins g b)
+  pub number : barredNumber r ≡ firstOf (verdictTests g b (length s))
+  pub scratch : s′ ≡ barredVerdictScratch r s
   pub system : r ≡ System → SystemWins (barredArena (separatedOf g) (bars b))
   pub environment : r ≡ Environment → SystemWins (barredArena (separatedOf g) (bars b)) → ⊥
   -- without barred pairs it is the verdict that we have
-  pub unbarred : someBarred b ≡ false → r ≡ verdictAnswer g b (length s) (verdict (separatedOf g))
+  pub unbarred : someBarred b ≡ false → r ≡ barredVerdictAnswer g b (length s) (verdict (separatedOf g))

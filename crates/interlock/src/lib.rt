@@ -222,7 +222,16 @@ fn wins_unbarred(g: Game, scratch: &mut [u64]) -> bool
     requires { ⌜ (acceptance g ≡ Accepted) × (4096 ≤ length (now scratch)) ⌝ }
     ensures { λ r. ⌜ (r ≡ verdict (separatedOf g)) × (now (scratch .exit) ≡ cleared 4096 (now (scratch .entry))) ⌝ }
 {
-    let x = region::prepare(g, scratch);
+    let l = game_sets::list_of(g);
+    let x = region::prepare(
+        g,
+        &g.input.moves,
+        &g.output.moves,
+        &l.sets,
+        &l.assumed,
+        &l.guaranteed,
+        scratch,
+    );
     let r = region_verdict::system_wins(g, scratch, x.inputs);
     scratch_clearing::clear(scratch, 4096);
     r

@@ -27,7 +27,7 @@ use Rattle.joined.specs.Joined.{
   joinedSize,
   joinedAnswer,
   joinedTests,
-  numberOf,
+  joinedNumber,
   JoinedAfter,
   joinedScratch,
   JoinedMade,
@@ -35,25 +35,25 @@ use Rattle.joined.specs.Joined.{
 
 -- ---- numbers
 
-joined-number : (g : Game) (s m : ℕ) → numberOf (joinedAnswer g s m) ≡ firstOf (joinedTests g s m)
+joined-number : (g : Game) (s m : ℕ) → joinedNumber (joinedAnswer g s m) ≡ firstOf (joinedTests g s m)
 unfolding joinedTests joinedAnswer joinedSize joinedRoom firstOf
 joined-number g s m = go (acceptance g) ∙ sym (game-after g ((24, countsSmall g) ∷ (8, joinedFits g s m) ∷ []))
   where
     room : (a b : Bool)
-        → numberOf (elim a as (λ x. Mapped) [ true ↦ elim b as (λ x. Mapped) [ true ↦ Done | false ↦ NotMapped 8 ] | false ↦ NotMapped 24 ])
+        → joinedNumber (elim a as (λ x. Mapped) [ true ↦ elim b as (λ x. Mapped) [ true ↦ Done | false ↦ NotMapped 8 ] | false ↦ NotMapped 24 ])
         ≡ firstOf ((24, a) ∷ (8, b) ∷ [])
     room true true = refl
     room true false = refl
     room false b = refl
 
     go : (a : Acceptance)
-        → numberOf (elim a as (λ x. Mapped) [ Accepted ↦ joinedSize g s m | Faulty n ↦ NotMapped n ])
+        → joinedNumber (elim a as (λ x. Mapped) [ Accepted ↦ joinedSize g s m | Faulty n ↦ NotMapped n ])
         ≡ after a (firstOf ((24, countsSmall g) ∷ (8, joinedFits g s m) ∷ []))
     go Accepted = room (countsSmall g) (joinedFits g s m)
     go (Faulty n) = refl
 
-told : (g : Game) (s m : List ℕ) {r : Mapped} → r ≡ joinedAnswer g (length s) (length m) → numberOf r ≡ firstOf (joinedTests g (length s) (length m))
-told g s m e = ap numberOf e ∙ joined-number g (length s) (length m)
+told : (g : Game) (s m : List ℕ) {r : Mapped} → r ≡ joinedAnswer g (length s) (length m) → joinedNumber r ≡ firstOf (joinedTests g (length s) (length m))
+told g s m e = ap joinedNumber e ∙ joined-number g (length s) (length m)
 
 -- ---- refusals
 

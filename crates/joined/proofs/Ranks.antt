@@ -31,7 +31,7 @@ use Rattle.joined_reach.specs.Words.{belongs, Small}
 use Rattle.joined_reach.specs.Reach.{Counted}
 use Rattle.joined_reach.proofs.Words.{belongs-has, belongs-below, belongs-in, kept-cleared, cleared-zero}
 use Rattle.joined_component.specs.Component.{won, known}
-use Rattle.joined.specs.Order.{Backward, Advanced, Passed, Solved}
+use Rattle.joined.specs.Order.{Backward, SettledWith, Passed, JoinedSolved}
 
 -- ---- positions by number
 
@@ -44,7 +44,7 @@ module _ (g : Game) (n : ℕ) (l : List ℕ) where
     pub passed-rank : getD m (1024 + c) 0 ≡ n → rankAt (separatedOf g) (c / g .output .states) (c % g .output .states) ≡ n
     passed-rank e = sym (P .backward .ranked .ahead c b) ∙ e
 
-    pub passed-more : (m′ : List ℕ) → Advanced g n (c / g .output .states) (c % g .output .states) m m′ → Passed g n (c + 1) l m′
+    pub passed-more : (m′ : List ℕ) → SettledWith g n (c / g .output .states) (c % g .output .states) m m′ → Passed g n (c + 1) l m′
     passed-more m′ A = record {
       kept = but-then (P .kept) (A .kept);
       backward = A .backward;
@@ -108,7 +108,7 @@ module _ (g : Game) (S : Small g) (l : List ℕ) where
           let r = digits-mod i b in
           sym (ap₂ (known g m) q r) ∙ P .done (i * g .output .states + o) (digits-lt a b) (ap₂ (rankAt (separatedOf g)) q r ∙ e)
 
-  pub solved : (n : ℕ) → g .input .states * g .output .states < n → Backward g n l → Solved g l
+  pub solved : (n : ℕ) → g .input .states * g .output .states < n → Backward g n l → JoinedSolved g l
   unfolding separatedOf graphOf mapRow
   solved n h B = record { rows = λ i a. ext (getD l (64 + i) 0) (mapRow g i) (λ o. bit i a o (decLt o (g .output .states))) }
     where

@@ -25,8 +25,8 @@ use Rattle.joined_reach.specs.Words.{belongs, Small, Ranked}
 use Rattle.joined_reach.specs.Reach.{Reached}
 use Rattle.joined_reach.proofs.Words.{belongs-has, belongs-below, belongs-same, found-has}
 use Rattle.joined_component.specs.Component.{won, known, component, rankedIn, Drawn, Joined}
-use Rattle.joined_settle.specs.Settle.{Unsettled, Settled}
-use Rattle.joined.specs.Order.{Backward, Advanced}
+use Rattle.joined_settle.specs.Settle.{Unsettled, ComponentSettled}
+use Rattle.joined.specs.Order.{Backward, SettledWith}
 
 -- a set whose words are not changed
 pub set-same : (n a : ℕ) (l m : List ℕ) → ((i : ℕ) → i < n → getD m (a + i) 0 ≡ getD l (a + i) 0) → belongs n a m ≡ belongs n a l
@@ -88,7 +88,7 @@ module _ (g : Game) (S : Small g) (n i o : ℕ) (l : List ℕ) (B : Backward g n
     within = λ j p h. B .within j p (sym (at-once won-same j p) ∙ h);
   }
 
-  module _ (l₃ : List ℕ) (T : Settled g l₂ l₃) (l₄ : List ℕ) (J : Joined g 96 l₃ l₄) where
+  module _ (l₃ : List ℕ) (T : ComponentSettled g l₂ l₃) (l₄ : List ℕ) (J : Joined g 96 l₃ l₄) where
     marks-same : won g l₄ ≡ won g l₃
     marks-same = set-same (g .input .states) 64 l₃ l₄ (λ j h. J .kept .low (64 + j) (omega (arith, S .inputs)))
 
@@ -104,7 +104,7 @@ module _ (g : Game) (S : Small g) (n i o : ℕ) (l : List ℕ) (B : Backward g n
         ∙ ap₂ _||_ (sym (belongs-has (g .input .states) 96 l₃ j p c) ∙ at-once known-then j p ∙ at-once known-same j p)
         (sym (belongs-has (g .input .states) 128 l₃ j p c) ∙ at-once component-then j p)
 
-    pub advanced : Advanced g n i o l l₄
+    pub advanced : SettledWith g n i o l l₄
     unfolding separatedOf graphOf
     advanced = record {
       kept = but-then (but-wider 0 2048 (omega arith) (omega arith) (R .kept))
@@ -125,5 +125,5 @@ module _ (g : Game) (S : Small g) (n i o : ℕ) (l : List ℕ) (B : Backward g n
       here = both i o a ∙ or-right (known g l i o) root;
     }
 
-pub advanced-not : (g : Game) (n i o : ℕ) (l : List ℕ) → Backward g n l → known g l i o ≡ true → Advanced g n i o l l
+pub advanced-not : (g : Game) (n i o : ℕ) (l : List ℕ) → Backward g n l → known g l i o ≡ true → SettledWith g n i o l l
 advanced-not g n i o l B h = record { kept = but-self 0 2048 l; backward = B; more = λ j p k. k; here = h }

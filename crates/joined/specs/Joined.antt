@@ -2,7 +2,7 @@
 --
 --   joinedAnswer g s m        == the answer of the call, scratch being of s words and the map of m
 --   joinedTests g s m         == its tests under their numbers
---   numberOf r                == document 01's number of the answer r, 0 for a map that is made
+--   joinedNumber r            == document 01's number of the answer r, 0 for a map that is made
 --   JoinedAfter g r m m′      == on answer r the map m is left as m′
 --   JoinedMade g s s′ m m′ r  == the call answers r and leaves scratch s as s′ and the map m as m′
 use Prim.Native.Nat.{ℕ, _<_}
@@ -45,9 +45,9 @@ joinedAnswer g s m = elim (acceptance g) [ Accepted ↦ joinedSize g s m | Fault
 unfoldable pub joinedTests : Game → ℕ → ℕ → List (ℕ × Bool)
 joinedTests g s m = gameTests g ++ (24, countsSmall g) ∷ (8, joinedFits g s m) ∷ []
 
-abbrev pub numberOf : Mapped → ℕ
-numberOf Done = 0
-numberOf (NotMapped n) = n
+abbrev pub joinedNumber : Mapped → ℕ
+joinedNumber Done = 0
+joinedNumber (NotMapped n) = n
 
 -- "Its won map equals ours on every game both accept, dead ends included.": the rows are those of the won map, later words stay; "changes no lent memory"
 unfoldable pub JoinedAfter : Game → Mapped → List ℕ → List ℕ → Type 0
@@ -61,7 +61,7 @@ joinedScratch (NotMapped n) s = s
 
 pub record JoinedMade (g : Game) (s s′ m m′ : List ℕ) (r : Mapped) : Type 0 where
   pub answer : r ≡ joinedAnswer g (length s) (length m)
-  pub number : numberOf r ≡ firstOf (joinedTests g (length s) (length m))
+  pub number : joinedNumber r ≡ firstOf (joinedTests g (length s) (length m))
   pub map : JoinedAfter g r m m′
   pub scratch : s′ ≡ joinedScratch r s
   pub won : r ≡ Done → (i o : ℕ) → i < g .input .states → o < g .output .states → (has (getD (setsIn m′) i 0) o ≡ true) ↔ Won (playOf g) i o

@@ -13,7 +13,7 @@ ghost use Rattle.scratch_clearing.specs.Clearing.{cleared};
 ghost use Rattle.map_marks.specs.Marks.{MapFilled};
 ghost use Rattle.joined_reach.specs.Words.{Small};
 ghost use Rattle.joined_component.specs.Component.{known};
-ghost use Rattle.joined.specs.Order.{Backward, Advanced, Passed, Solved};
+ghost use Rattle.joined.specs.Order.{Backward, SettledWith, Passed, JoinedSolved};
 ghost use Rattle.joined.specs.Joined.{JoinedMade};
 use game::Acceptance;
 use game::Game;
@@ -37,7 +37,7 @@ fn settle_component(
     requires { ⌜ Small g × (4096 ≤ length (now s)) × Backward g n (now s) × (i .0 < g .input .states) × (o .0 < g .output .states)
         × (rankAt (separatedOf g) (i .0) (o .0) ≡ n) × (known g (now s) (i .0) (o .0) ≡ false) × (now ins ≡ g .input .moves)
         × (now outs ≡ g .output .moves) ⌝ }
-    ensures { λ _. ⌜ Advanced g n (i .0) (o .0) (now (s .entry)) (now (s .exit)) ⌝ }
+    ensures { λ _. ⌜ SettledWith g n (i .0) (o .0) (now (s .entry)) (now (s .exit)) ⌝ }
 {
     joined_reach::close(g, ins, outs, s, i, o);
     joined_component::draw_component(g, s, n);
@@ -57,7 +57,7 @@ fn settle_position(
 )
     requires { ⌜ Small g × (4096 ≤ length (now s)) × Backward g n (now s) × (i .0 < g .input .states) × (o .0 < g .output .states)
         × (rankAt (separatedOf g) (i .0) (o .0) ≡ n) × (now ins ≡ g .input .moves) × (now outs ≡ g .output .moves) ⌝ }
-    ensures { λ _. ⌜ Advanced g n (i .0) (o .0) (now (s .entry)) (now (s .exit)) ⌝ }
+    ensures { λ _. ⌜ SettledWith g n (i .0) (o .0) (now (s .entry)) (now (s .exit)) ⌝ }
 {
     let row = i.0;
     if !bits::member(s[KNOWN + row], o.0) {
@@ -86,7 +86,7 @@ fn settle_rank(g: Game, ins: &[u64; ROW_WORDS], outs: &[u64; ROW_WORDS], s: &mut
 // Marks the won positions. The last components have the fewest positions ahead, so they are settled first.
 fn solve<'a>(g: Game, ins: &'a [u64; ROW_WORDS], outs: &'a [u64; ROW_WORDS], s: &mut [u64])
     requires { ⌜ Small g × (4096 ≤ length (now s)) × (now ins ≡ g .input .moves) × (now outs ≡ g .output .moves) ⌝ }
-    ensures { λ _. ⌜ ButFor 0 2048 (now (s .entry)) (now (s .exit)) × Solved g (now (s .exit)) ⌝ }
+    ensures { λ _. ⌜ ButFor 0 2048 (now (s .entry)) (now (s .exit)) × JoinedSolved g (now (s .exit)) ⌝ }
 {
     joined_reach::count_ahead(g, ins, outs, s);
     scratch_clearing::clear(s, 160);
@@ -100,7 +100,7 @@ fn solve<'a>(g: Game, ins: &'a [u64; ROW_WORDS], outs: &'a [u64; ROW_WORDS], s: 
 
 // Writes the marks to the map.
 fn write_map(g: Game, s: &[u64], map: &mut [u64])
-    requires { ⌜ Small g × (4096 ≤ length (now s)) × Solved g (now s) × (g .input .states ≤ setCount (now map)) ⌝ }
+    requires { ⌜ Small g × (4096 ≤ length (now s)) × JoinedSolved g (now s) × (g .input .states ≤ setCount (now map)) ⌝ }
     ensures { λ _. ⌜ MapFilled g (now (map .entry)) (now (map .exit)) ⌝ }
 {
     let mut i: usize = 0;

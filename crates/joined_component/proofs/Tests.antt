@@ -21,7 +21,7 @@ use Rattle.finite.specs.Bounded.{any}
 use Rattle.finite.proofs.Truth.{clash, false-of, and-intro, and-left, and-right, same-test, not-true}
 use Rattle.finite.proofs.Bounded.{all-same, any-intro, any-elim, any-none}
 use Rattle.finite.proofs.Tabulate.{allOf-tabulate}
-use Rattle.bits.specs.Member.{has, pack, meets}
+use Rattle.bits.specs.Member.{has, pack, setsMeet}
 use Rattle.sets.specs.Words.{capacity, bitsOf}
 use Rattle.bits.proofs.Membership.{ext, has-zero, has-pack-below, has-pack-past, has-lt, pack-lt}
 use Rattle.bits.proofs.Compare.{member-nonzero, nonzero-member, meets-intro, meets-elim}
@@ -82,9 +82,9 @@ outputs-end g l i c a b h o = let e : i ≡ g .input .states = omega arith in h 
 -- ---- requirements
 
 -- a set meets another
-meets-pack : (w n x : ℕ) (p : ℕ → Bool) → n ≤ w → meets w x (pack n p) ≡ any n (λ t. has x t && p t)
+meets-pack : (w n x : ℕ) (p : ℕ → Bool) → n ≤ w → setsMeet w x (pack n p) ≡ any n (λ t. has x t && p t)
 meets-pack w n x p b =
-    same-test (meets w x (pack n p)) (any n (λ t. has x t && p t))
+    same-test (setsMeet w x (pack n p)) (any n (λ t. has x t && p t))
     (λ e.
     let v = meets-elim w x (pack n p) e in
     let l = has-lt n (pack n p) (v .0) (pack-lt n p) (v .3) in
@@ -153,10 +153,10 @@ met-free g r x y e h = rw (sym e ∙ h) refl
 
 -- an output move that enters row j of the set at word a
 pub answered : (g : Game) (a : ℕ) (l : List ℕ) (j o y : ℕ) → Small g → j < g .input .states → ((p : ℕ) → has y p ≡ edge (graphOf (g .output)) o p)
-    → meets 64 (getD l (a + j) 0) y ≡ answers (separatedOf g) (belongs (g .input .states) a l) j o
+    → setsMeet 64 (getD l (a + j) 0) y ≡ answers (separatedOf g) (belongs (g .input .states) a l) j o
 unfolding separatedOf graphOf
 answered g a l j o y S b e =
-    same-test (meets 64 (getD l (a + j) 0) y) (answers (separatedOf g) (belongs (g .input .states) a l) j o)
+    same-test (setsMeet 64 (getD l (a + j) 0) y) (answers (separatedOf g) (belongs (g .input .states) a l) j o)
     (λ h. let v = meets-elim 64 (getD l (a + j) 0) y h in
     answers-intro (separatedOf g) (belongs (g .input .states) a l) j o (v .0) (sym (e (v .0)) ∙ v .3)
     (belongs-has (g .input .states) a l j (v .0) b ∙ v .2))
@@ -166,16 +166,16 @@ answered g a l j o y S b e =
 
 -- whether row j of the set at word a has one of the outputs y
 unfoldable pub enters : List ℕ → ℕ → ℕ → ℕ → Bool
-enters l a y j = meets 64 (getD l (a + j) 0) y
+enters l a y j = setsMeet 64 (getD l (a + j) 0) y
 
 unfoldable pub misses : List ℕ → ℕ → ℕ → ℕ → Bool
 misses l a y j = not (enters l a y j)
 
-pub entered-row : (l : List ℕ) (a y j : ℕ) {t : Bool} → t ≡ meets 64 (getD l (a + j) 0) y → t ≡ true → enters l a y j ≡ true
+pub entered-row : (l : List ℕ) (a y j : ℕ) {t : Bool} → t ≡ setsMeet 64 (getD l (a + j) 0) y → t ≡ true → enters l a y j ≡ true
 unfolding enters
 entered-row l a y j e h = sym e ∙ h
 
-pub missed-row : (l : List ℕ) (a y j : ℕ) {t : Bool} → t ≡ meets 64 (getD l (a + j) 0) y → t ≡ false → misses l a y j ≡ true
+pub missed-row : (l : List ℕ) (a y j : ℕ) {t : Bool} → t ≡ setsMeet 64 (getD l (a + j) 0) y → t ≡ false → misses l a y j ≡ true
 unfolding misses enters
 missed-row l a y j e h = ap not (sym e ∙ h)
 

@@ -16,7 +16,7 @@ use lib.Dec.{eqb}
 use lib.ListN.{getD}
 use Rattle.finite.specs.Bounded.{all}
 use Rattle.finite.specs.But.{ButFor}
-use Rattle.bits.specs.Member.{has, meets}
+use Rattle.bits.specs.Member.{has, setsMeet}
 use Rattle.sets.specs.Words.{capacity, bitsOf}
 use Rattle.game.specs.declared.Game.{Game}
 use Rattle.game.specs.declared.Requirement.{Requirement}
@@ -42,13 +42,13 @@ pub record Drawn (g : Game) (n : ℕ) (l m : List ℕ) : Type 0 where
 
 -- "each SCC in its game graph is either an accepting SCC or a non-accepting SCC" (source document 000, section 6.1), the requirement told of sets
 unfoldable pub dueAt : Requirement → ℕ → ℕ → Bool
-dueAt q x j = meets capacity (bitsOf (getD (q .assumptions) j noInput .0)) x
+dueAt q x j = setsMeet capacity (bitsOf (getD (q .assumptions) j noInput .0)) x
 
 unfoldable pub dueOn : Game → ℕ → ℕ → Bool
 dueOn g x r = all (requirementAt g r .assumed) (dueAt (requirementAt g r) x)
 
 unfoldable pub servedAt : Requirement → ℕ → ℕ → Bool
-servedAt q y j = meets capacity (bitsOf (getD (q .guarantees) j noOutput .0)) y
+servedAt q y j = setsMeet capacity (bitsOf (getD (q .guarantees) j noOutput .0)) y
 
 unfoldable pub servedOn : Game → ℕ → ℕ → Bool
 servedOn g y r = all (requirementAt g r .guaranteed) (servedAt (requirementAt g r) y)

@@ -12,7 +12,7 @@ use native.Mathlib.Decide.{ℕ-discrete}
 use lib.Arith.{digits-div, digits-mod}
 use lib.ListN.{length, getD, set}
 use lib.Seq.{getD-set-same, getD-set-other}
-use Rattle.finite.specs.Bounded.{count, one}
+use Rattle.finite.specs.Bounded.{count}
 use Rattle.finite.proofs.Truth.{false-of}
 use Rattle.finite.proofs.Bounded.{count-same, count-wide}
 use Rattle.finite.specs.But.{ButFor}

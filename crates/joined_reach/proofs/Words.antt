@@ -24,7 +24,6 @@ use borrow.Author.Tests.{lt-ltb, ltb-true}
 use Rattle.finite.proofs.Truth.{decide, same-test, and-left, and-right, and-intro}
 use Rattle.finite.proofs.Front.{front-length, front-rest, front-at}
 use Rattle.finite.specs.But.{ButFor}
-use Rattle.finite.proofs.But.{but-then, but-wider}
 use Rattle.bits.specs.Member.{has}
 use Rattle.bits.proofs.Membership.{has-zero, has-past, ext}
 use Rattle.sets.specs.declared.Set.{Set}

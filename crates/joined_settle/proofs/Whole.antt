@@ -20,7 +20,7 @@ use Rattle.play.specs.Play.{graphOf, separatedOf}
 use Rattle.joined_reach.specs.Words.{Small}
 use Rattle.joined_reach.proofs.Words.{belongs-has, belongs-below}
 use Rattle.joined_component.specs.Component.{won, component, Rows, Joined}
-use Rattle.joined_settle.specs.Settle.{Growing, Shrinking, Swept, Unsettled, Settled}
+use Rattle.joined_settle.specs.Settle.{Growing, Shrinking, Swept, Unsettled, ComponentSettled}
 use Rattle.joined_settle.proofs.Replies.{component-same}
 
 pub swept-self : (g : Game) (l : List ℕ) → Swept g l l
@@ -91,7 +91,7 @@ module _ (g : Game) (S : Small g) (i o : ℕ) (l : List ℕ) (U : Unsettled g i 
     after = component-same g S (W .kept)
 
     pub settled-by-force : recurring (separatedOf g) (component g l) i o ≡ false → Growing g m
-        → Forced (separatedOf g) (component g m) (won g m) → Settled g l m
+        → Forced (separatedOf g) (component g m) (won g m) → ComponentSettled g l m
     settled-by-force r G F = record {
       swept = W;
       right = λ j p h. settled-forced (separatedOf g) (component g l) (won g m) (U .whole)
@@ -102,7 +102,7 @@ module _ (g : Game) (S : Small g) (i o : ℕ) (l : List ℕ) (U : Unsettled g i 
     }
 
     pub settled-safely : recurring (separatedOf g) (component g l) i o ≡ true → Shrinking g m
-        → Safe (separatedOf g) (component g m) (won g m) → Settled g l m
+        → Safe (separatedOf g) (component g m) (won g m) → ComponentSettled g l m
     settled-safely r G F = record {
       swept = W;
       right = λ j p h. settled-safe (separatedOf g) (component g l) (won g m) (U .whole)

@@ -1,14 +1,14 @@
 -- Settling a component: its positions that are won.
 --
---   Growing g l        == the component's positions that are marked won are won, and the rest ahead of it is right
---   Shrinking g l      == the component's won positions are marked, and the rest ahead of it is right
---   missing g l        == how many positions of the component are not marked
---   marked g l         == how many positions of the component are marked
---   Grew g l m b       == a sweep has marked positions that force what is marked; b tells whether there were any
---   Shrank g l m b     == a sweep has taken out positions that do not force what is marked; b tells whether there were any
---   Forced, Safe       == of crate joint: where such sweeps end
---   Unsettled g i o l  == the component is that of (i, o), none of it is marked, and the rest ahead of it is right
---   Settled g l m      == the component's positions are marked where they are won, and no other position has changed
+--   Growing g l            == the component's positions that are marked won are won, and the rest ahead of it is right
+--   Shrinking g l          == the component's won positions are marked, and the rest ahead of it is right
+--   missing g l            == how many positions of the component are not marked
+--   marked g l             == how many positions of the component are marked
+--   Grew g l m b           == a sweep has marked positions that force what is marked; b tells whether there were any
+--   Shrank g l m b         == a sweep has taken out positions that do not force what is marked; b tells whether there were any
+--   Forced, Safe           == of crate joint: where such sweeps end
+--   Unsettled g i o l      == the component is that of (i, o), none of it is marked, and the rest ahead of it is right
+--   ComponentSettled g l m == the component's positions are marked where they are won, and no other position has changed
 use Prim.Native.Nat.{ℕ, _*_, _/_, _%_, _<_}
 use mathlib.Core.Path.{_≡_}
 use mathlib.Core.Bool.{Bool, true, false, not, _&&_}
@@ -67,7 +67,7 @@ pub record Unsettled (g : Game) (i o : ℕ) (l : List ℕ) : Type 0 where
   pub apart : (j p : ℕ) → component g l j p ≡ true → won g l j p ≡ false
   pub within : (j p : ℕ) → won g l j p ≡ true → p < g .output .states
 
-pub record Settled (g : Game) (l m : List ℕ) : Type 0 where
+pub record ComponentSettled (g : Game) (l m : List ℕ) : Type 0 where
   pub swept : Swept g l m
   pub right : (j p : ℕ) → component g l j p ≡ true → won g m j p ≡ region (separatedOf g) j p
   pub within : (j p : ℕ) → won g m j p ≡ true → p < g .output .states

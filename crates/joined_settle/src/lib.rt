@@ -9,7 +9,7 @@ ghost use Rattle.joint.specs.Solver.{Forced, Safe};
 ghost use Rattle.play.specs.Play.{separatedOf};
 ghost use Rattle.joined_reach.specs.Words.{Small};
 ghost use Rattle.joined_component.specs.Component.{won, component};
-ghost use Rattle.joined_settle.specs.Settle.{Growing, Shrinking, Swept, Grew, Shrank, Unsettled, Settled};
+ghost use Rattle.joined_settle.specs.Settle.{Growing, Shrinking, Swept, Grew, Shrank, Unsettled, ComponentSettled};
 use game::Game;
 use game::InState;
 use game::OutState;
@@ -136,7 +136,7 @@ pub fn settle(
     o: OutState,
 )
     requires { ⌜ Small g × (4096 ≤ length (now s)) × Unsettled g (i .0) (o .0) (now s) × (now ins ≡ g .input .moves) × (now outs ≡ g .output .moves) ⌝ }
-    ensures { λ _. ⌜ Settled g (now (s .entry)) (now (s .exit)) ⌝ }
+    ensures { λ _. ⌜ ComponentSettled g (now (s .entry)) (now (s .exit)) ⌝ }
 {
     if joined_component::accepting(g, ins, outs, s, i, o) {
         joined_component::join(g, s, WON);

@@ -38,7 +38,7 @@ use Rattle.solver.specs.Promise.{
   ninth,
   eighth,
   verdictAnswer,
-  numberOf,
+  verdictNumber,
   controllerAfter,
   environmentAfter,
   verdictScratch,
@@ -55,7 +55,7 @@ use Rattle.kit_runs.specs.Exchange.{Exchanged}
 use Rattle.kit_runs.proofs.Turns.{kit-reads}
 use Rattle.kit_runs.proofs.Exchange.{kit-exchanged}
 use Rattle.kit.proofs.Lengths.{controller-long}
-use Rattle.kit.specs.Promise.{kitNamed, kitTenth, kitNinth, kitEighth, kitAnswer, solveKitTests, solverAnswer, kitAfter, Kept, KitSolved}
+use Rattle.kit.specs.Promise.{kitNamed, kitTenth, kitNinth, kitEighth, kitAnswer, solveKitTests, solverAnswer, kitAfter, KitKept, KitSolved}
 
 -- what an answer of the solver is for the kit
 unfoldable lifted : Kit → Verdict → Verdict
@@ -87,17 +87,22 @@ cleared-again m n s a b =
 -- ---- the number
 
 module _ (k : Kit) (s c e t : ℕ) where
-  named-number : (b : Bool) → numberOf (elim b as (λ x. Verdict) [ true ↦ System (kitLength k) | false ↦ Environment (environmentLength (gameFrom k)) ]) ≡ 0
+  named-number : (b : Bool) → verdictNumber (elim b as (λ x. Verdict) [
+    | true ↦ System (kitLength k)
+    | false ↦ Environment
+        (environmentLength (gameFrom k))
+  ]) ≡ 0
   named-number true = refl
   named-number false = refl
 
-  tenth-number : (b : Bool) → numberOf (elim b as (λ x. Verdict) [ true ↦ kitNamed k | false ↦ Refused 10 ]) ≡ firstOf ((10, b) ∷ [])
+  tenth-number : (b : Bool) → verdictNumber (elim b as (λ x. Verdict) [ true ↦ kitNamed k | false ↦ Refused 10 ]) ≡ firstOf ((10, b) ∷ [])
   unfolding kitNamed firstOf
   tenth-number true = named-number (verdict (separatedOf (gameFrom k)))
   tenth-number false = refl
 
   ninth-number : (b : Bool)
-      → numberOf (elim b as (λ x. Verdict) [ true ↦ kitTenth k e | false ↦ Refused 9 ]) ≡ firstOf ((9, b) ∷ (10, leb (environmentLength (gameFrom k)) e) ∷ [])
+      → verdictNumber (elim b as (λ x. Verdict) [ true ↦ kitTenth k e | false ↦ Refused 9 ])
+      ≡ firstOf ((9, b) ∷ (10, leb (environmentLength (gameFrom k)) e) ∷ [])
   unfolding kitTenth firstOf
   ninth-number true = tenth-number (leb (environmentLength (gameFrom k)) e)
   ninth-number false = refl
@@ -108,29 +113,29 @@ module _ (k : Kit) (s c e t : ℕ) where
   abbrev rooms : Bool → List (ℕ × Bool)
   rooms b = (8, b) ∷ (9, enough) ∷ (10, leb (environmentLength (gameFrom k)) e) ∷ []
 
-  eighth-number : (b : Bool) → numberOf (elim b as (λ x. Verdict) [ true ↦ kitNinth k c e t | false ↦ Refused 8 ]) ≡ firstOf (rooms b)
+  eighth-number : (b : Bool) → verdictNumber (elim b as (λ x. Verdict) [ true ↦ kitNinth k c e t | false ↦ Refused 8 ]) ≡ firstOf (rooms b)
   unfolding kitNinth firstOf
   eighth-number true = ninth-number enough
   eighth-number false = refl
 
   acceptance-number : (a : Acceptance)
-      → numberOf (elim a as (λ x. Verdict) [ Accepted ↦ kitEighth k s c e t | Faulty n ↦ Refused n ])
+      → verdictNumber (elim a as (λ x. Verdict) [ Accepted ↦ kitEighth k s c e t | Faulty n ↦ Refused n ])
       ≡ after a (firstOf (rooms (leb (scratchLength (gameFrom k)) s)))
   unfolding kitEighth
   acceptance-number Accepted = eighth-number (leb (scratchLength (gameFrom k)) s)
   acceptance-number (Faulty n) = refl
 
-  kit-number : numberOf (kitAnswer k s c e t) ≡ firstOf (solveKitTests k s c e t)
+  kit-number : verdictNumber (kitAnswer k s c e t) ≡ firstOf (solveKitTests k s c e t)
   unfolding kitAnswer solveKitTests
   kit-number = acceptance-number (kitAcceptance k) ∙ sym (kit-after k (rooms (leb (scratchLength (gameFrom k)) s)))
 
 module _ (k : Kit) (s c e t : List ℕ) where
   told : {r : Verdict} → r ≡ kitAnswer k (length s) (length c) (length e) (length t)
-      → numberOf r ≡ firstOf (solveKitTests k (length s) (length c) (length e) (length t))
-  told h = ap numberOf h ∙ kit-number k (length s) (length c) (length e) (length t)
+      → verdictNumber r ≡ firstOf (solveKitTests k (length s) (length c) (length e) (length t))
+  told h = ap verdictNumber h ∙ kit-number k (length s) (length c) (length e) (length t)
 
   refused : (n : ℕ) → Refused n ≡ kitAnswer k (length s) (length c) (length e) (length t) → KitSolved k s s c c e e t t (Refused n)
-  unfolding verdictScratch controllerAfter environmentAfter solverAnswer kitAfter Kept Decided
+  unfolding verdictScratch controllerAfter environmentAfter solverAnswer kitAfter KitKept Decided
   refused n a = record { answer = a; number = told a; scratch = refl; controller = refl; environment = refl; kit = refl; demand = tt; kept = tt }
 
   pub kit-faulty : (n : ℕ) → kitAcceptance k ≡ Faulty n → KitSolved k s s c c e e t t (Refused n)
@@ -230,7 +235,7 @@ module _ (k : Kit) (s c e t : List ℕ) where
 
       pub kit-system : (n : ℕ) (s′ s″ c′ e′ t′ : List ℕ) → Solved (gameFrom k) s s′ c c′ e e′ (System n) → s″ ≡ cleared (k .old .modes) s′
           → t′ ≡ kitEntries k (take n c′) ++ drop (kitLength k) t → KitSolved k s s″ c c′ e e′ t t′ (System (kitLength k))
-      unfolding lifted verdictScratch controllerAfter environmentAfter solverAnswer kitAfter Kept Decided
+      unfolding lifted verdictScratch controllerAfter environmentAfter solverAnswer kitAfter KitKept Decided
       kit-system n s′ s″ c′ e′ t′ S w q = record {
         answer = answer-lifted (System n) (S .answer);
         number = told (answer-lifted (System n) (S .answer));
@@ -260,7 +265,7 @@ module _ (k : Kit) (s c e t : List ℕ) where
           exchanged = kit-exchanged k (kit-fitting k a) E (kitEntries k E) (kit-reads k E (modes-in k)) wins
 
       pub kit-environment : (n : ℕ) (s′ c′ e′ : List ℕ) → Solved (gameFrom k) s s′ c c′ e e′ (Environment n) → KitSolved k s s′ c c′ e e′ t t (Environment n)
-      unfolding lifted verdictScratch controllerAfter environmentAfter solverAnswer kitAfter Kept Decided
+      unfolding lifted verdictScratch controllerAfter environmentAfter solverAnswer kitAfter KitKept Decided
       kit-environment n s′ c′ e′ S = record {
         answer = answer-lifted (Environment n) (S .answer);
         number = told (answer-lifted (Environment n) (S .answer));
@@ -273,7 +278,7 @@ module _ (k : Kit) (s c e t : List ℕ) where
       }
 
       pub kit-refused : (n : ℕ) (s′ c′ e′ : List ℕ) → Solved (gameFrom k) s s′ c c′ e e′ (Refused n) → KitSolved k s s′ c c′ e e′ t t (Refused n)
-      unfolding lifted verdictScratch controllerAfter environmentAfter solverAnswer kitAfter Kept Decided
+      unfolding lifted verdictScratch controllerAfter environmentAfter solverAnswer kitAfter KitKept Decided
       kit-refused n s′ c′ e′ S = record {
         answer = answer-lifted (Refused n) (S .answer);
         number = told (answer-lifted (Refused n) (S .answer));

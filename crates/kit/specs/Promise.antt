@@ -4,7 +4,7 @@
 --   solveKitTests k s c e t    == its tests under their numbers
 --   solverAnswer k r           == the solver's answer to the kit's game, where the kit's is r
 --   kitAfter k r t             == the kit's room, t before
---   Kept k r t                 == what the kit's table is for, read from the front of the room t
+--   KitKept k r t              == what the kit's table is for, read from the front of the room t
 --   KitSolved k s s′ c c′ e e′ t t′ r    == it answers r and leaves scratch s as s′, the controller's room c as c′, the panel's e as e′, the kit's t as t′
 use Prim.Native.Nat.{ℕ}
 use mathlib.Core.Path.{_≡_}
@@ -20,7 +20,7 @@ use Rattle.theory.specs.Entries.{controllerEntries}
 use Rattle.scratch.specs.Scratch.{scratchLength}
 use Rattle.solver.specs.declared.Verdict.{Verdict}
 use Rattle.solver.specs.declared.Verdict.the-variants.{System, Environment, Refused}
-use Rattle.solver.specs.Promise.{controllerLength, environmentLength, numberOf, controllerAfter, environmentAfter, verdictScratch, Decided}
+use Rattle.solver.specs.Promise.{controllerLength, environmentLength, verdictNumber, controllerAfter, environmentAfter, verdictScratch, Decided}
 use Rattle.kit_drives.specs.declared.Kit.{Kit}
 use Rattle.kit_drives.specs.Drive.{gameFrom}
 use Rattle.kit_drives.specs.Acceptance.{kitAcceptance, kitTests}
@@ -63,17 +63,17 @@ kitAfter k (System n) t = kitEntries k (controllerEntries (separatedOf (gameFrom
 kitAfter k (Environment n) t = t
 kitAfter k (Refused n) t = t
 
-unfoldable pub Kept : Kit → Verdict → List ℕ → Type 0
-Kept k (System n) t = Exchanged k (take n t)
-Kept k (Environment n) t = Unit {0}
-Kept k (Refused n) t = Unit {0}
+unfoldable pub KitKept : Kit → Verdict → List ℕ → Type 0
+KitKept k (System n) t = Exchanged k (take n t)
+KitKept k (Environment n) t = Unit {0}
+KitKept k (Refused n) t = Unit {0}
 
 pub record KitSolved (k : Kit) (s s′ c c′ e e′ t t′ : List ℕ) (r : Verdict) : Type 0 where
   pub answer : r ≡ kitAnswer k (length s) (length c) (length e) (length t)
-  pub number : numberOf r ≡ firstOf (solveKitTests k (length s) (length c) (length e) (length t))
+  pub number : verdictNumber r ≡ firstOf (solveKitTests k (length s) (length c) (length e) (length t))
   pub scratch : s′ ≡ verdictScratch (gameFrom k) r s
   pub controller : c′ ≡ controllerAfter (gameFrom k) (solverAnswer k r) c
   pub environment : e′ ≡ environmentAfter (gameFrom k) r e
   pub kit : t′ ≡ kitAfter k r t
   pub demand : Decided (gameFrom k) (solverAnswer k r) c′ e′
-  pub kept : Kept k r t′
+  pub kept : KitKept k r t′

@@ -8,7 +8,7 @@ ghost use Prim.Native.Nat.{_<_};
 ghost use lib.Dec.{leb};
 ghost use Rattle.sets.specs.Words.{capacity};
 ghost use Rattle.finite.specs.Bounded.{all};
-ghost use Rattle.kit_drives.specs.Acceptance.{modesFit, commandsFit, entryFits, entriesFit, both, KitAccepts};
+ghost use Rattle.kit_drives.specs.Acceptance.{modesFit, commandsFit, entryFits, entriesFit, bothDrives, KitAccepts};
 
 // Whether a count is 1 to most.
 fn count_fits(n: usize, most: usize) -> bool
@@ -21,7 +21,7 @@ fn count_fits(n: usize, most: usize) -> bool
 }
 
 fn modes_fit(k: Kit) -> bool
-    ensures { λ r. ⌜ r ≡ both modesFit k ⌝ }
+    ensures { λ r. ⌜ r ≡ bothDrives modesFit k ⌝ }
 {
     if !count_fits(k.old.modes, sets::CAPACITY) {
         return false;
@@ -30,7 +30,7 @@ fn modes_fit(k: Kit) -> bool
 }
 
 fn commands_fit(k: Kit) -> bool
-    ensures { λ r. ⌜ r ≡ both commandsFit k ⌝ }
+    ensures { λ r. ⌜ r ≡ bothDrives commandsFit k ⌝ }
 {
     if !count_fits(k.old.commands, 16) {
         return false;
@@ -85,7 +85,7 @@ fn drive_fits(d: Drive) -> bool
 }
 
 fn entries_fit(k: Kit) -> bool
-    ensures { λ r. ⌜ r ≡ both entriesFit k ⌝ }
+    ensures { λ r. ⌜ r ≡ bothDrives entriesFit k ⌝ }
 {
     if !drive_fits(k.old) {
         return false;

@@ -20,13 +20,13 @@ use Rattle.finite.proofs.Loops.{and-stop, and-next}
 use Rattle.sets.specs.Words.{capacity}
 use Rattle.game.specs.declared.Acceptance.{Acceptance}
 use Rattle.game.specs.declared.Acceptance.the-variants.{Accepted, Refused}
-use Rattle.game.specs.Acceptance.{acceptance, numberOf}
+use Rattle.game.specs.Acceptance.{acceptance, acceptanceNumber}
 use Rattle.game.specs.Numbers.{firstOf, gameTests}
 use Rattle.game.proofs.Numbers.{after, game-after, number-alone}
 use Rattle.kit_drives.specs.declared.Drive.{Drive}
 use Rattle.kit_drives.specs.declared.Kit.{Kit}
 use Rattle.kit_drives.specs.Drive.{nextIn, nextMode, gameFrom, Small}
-use Rattle.kit_drives.specs.Acceptance.{modesFit, commandsFit, entryFits, entriesFit, both, inOrder, kitAcceptance, kitTests, KitAccepts}
+use Rattle.kit_drives.specs.Acceptance.{modesFit, commandsFit, entryFits, entriesFit, bothDrives, inOrder, kitAcceptance, kitTests, KitAccepts}
 
 refused-at-1 : (b c e : Bool) (a : Acceptance) → b ≡ false → Refused 1 ≡ inOrder b c e a
 unfolding inOrder
@@ -45,21 +45,21 @@ unfolding inOrder
 past b c e a p q r = rw (p, q, r) refl
 
 module _ (k : Kit) where
-  pub refused-1 : both modesFit k ≡ false → Refused 1 ≡ kitAcceptance k
+  pub refused-1 : bothDrives modesFit k ≡ false → Refused 1 ≡ kitAcceptance k
   unfolding kitAcceptance
-  refused-1 = refused-at-1 (both modesFit k) (both commandsFit k) (both entriesFit k) (acceptance (gameFrom k))
+  refused-1 = refused-at-1 (bothDrives modesFit k) (bothDrives commandsFit k) (bothDrives entriesFit k) (acceptance (gameFrom k))
 
-  pub refused-17 : both modesFit k ≡ true → both commandsFit k ≡ false → Refused 17 ≡ kitAcceptance k
+  pub refused-17 : bothDrives modesFit k ≡ true → bothDrives commandsFit k ≡ false → Refused 17 ≡ kitAcceptance k
   unfolding kitAcceptance
-  refused-17 = refused-at-17 (both modesFit k) (both commandsFit k) (both entriesFit k) (acceptance (gameFrom k))
+  refused-17 = refused-at-17 (bothDrives modesFit k) (bothDrives commandsFit k) (bothDrives entriesFit k) (acceptance (gameFrom k))
 
-  pub refused-18 : both modesFit k ≡ true → both commandsFit k ≡ true → both entriesFit k ≡ false → Refused 18 ≡ kitAcceptance k
+  pub refused-18 : bothDrives modesFit k ≡ true → bothDrives commandsFit k ≡ true → bothDrives entriesFit k ≡ false → Refused 18 ≡ kitAcceptance k
   unfolding kitAcceptance
-  refused-18 = refused-at-18 (both modesFit k) (both commandsFit k) (both entriesFit k) (acceptance (gameFrom k))
+  refused-18 = refused-at-18 (bothDrives modesFit k) (bothDrives commandsFit k) (bothDrives entriesFit k) (acceptance (gameFrom k))
 
-  pub kit-game : both modesFit k ≡ true → both commandsFit k ≡ true → both entriesFit k ≡ true → acceptance (gameFrom k) ≡ kitAcceptance k
+  pub kit-game : bothDrives modesFit k ≡ true → bothDrives commandsFit k ≡ true → bothDrives entriesFit k ≡ true → acceptance (gameFrom k) ≡ kitAcceptance k
   unfolding kitAcceptance
-  kit-game = past (both modesFit k) (both commandsFit k) (both entriesFit k) (acceptance (gameFrom k))
+  kit-game = past (bothDrives modesFit k) (bothDrives commandsFit k) (bothDrives entriesFit k) (acceptance (gameFrom k))
 
 small : (d : Drive) → modesFit d ≡ true → commandsFit d ≡ true → Small d
 unfolding modesFit commandsFit
@@ -68,7 +68,7 @@ small d a b = record {
   commands = leb-true (d .commands) 16 (and-right (leb 1 (d .commands)) (leb (d .commands) 16) b);
 }
 
-pub kit-small : (k : Kit) → both modesFit k ≡ true → both commandsFit k ≡ true → Small (k .old) × Small (k .new)
+pub kit-small : (k : Kit) → bothDrives modesFit k ≡ true → bothDrives commandsFit k ≡ true → Small (k .old) × Small (k .new)
 kit-small k a b = (
   small (k .old) (and-left (modesFit (k .old)) (modesFit (k .new)) a) (and-left (commandsFit (k .old)) (commandsFit (k .new)) b),
   small (k .new) (and-right (modesFit (k .old)) (modesFit (k .new)) a) (and-right (commandsFit (k .old)) (commandsFit (k .new)) b),
@@ -108,9 +108,9 @@ drive-named d S e m u a b n =
 
 -- what an accepted kit has
 pub record Fitting (k : Kit) : Type 0 where
-  pub modes : both modesFit k ≡ true
-  pub commands : both commandsFit k ≡ true
-  pub entries : both entriesFit k ≡ true
+  pub modes : bothDrives modesFit k ≡ true
+  pub commands : bothDrives commandsFit k ≡ true
+  pub entries : bothDrives entriesFit k ≡ true
   pub game : acceptance (gameFrom k) ≡ Accepted
 
 passes : (b c e : Bool) (a : Acceptance) → inOrder b c e a ≡ Accepted → (b ≡ true) × (c ≡ true) × (e ≡ true) × (a ≡ Accepted)
@@ -123,7 +123,7 @@ passes false c e a h = absurd (let z : _≡_ {A = ℕ} 0 1 = cc in omega arith)
 pub kit-fitting : (k : Kit) → kitAcceptance k ≡ Accepted → Fitting k
 unfolding kitAcceptance
 kit-fitting k h =
-    let v = passes (both modesFit k) (both commandsFit k) (both entriesFit k) (acceptance (gameFrom k)) h in
+    let v = passes (bothDrives modesFit k) (bothDrives commandsFit k) (bothDrives entriesFit k) (acceptance (gameFrom k)) h in
     record { modes = v .0; commands = v .1; entries = v .2; game = v .3 }
 
 in-order-after : (b c e : Bool) (a : Acceptance) (ts rest : List (ℕ × Bool)) → firstOf (ts ++ rest) ≡ after a (firstOf rest)
@@ -137,8 +137,8 @@ in-order-after true true true a ts rest h = h
 pub kit-after : (k : Kit) (rest : List (ℕ × Bool)) → firstOf (kitTests k ++ rest) ≡ after (kitAcceptance k) (firstOf rest)
 unfolding kitTests kitAcceptance
 kit-after k rest =
-    in-order-after (both modesFit k) (both commandsFit k) (both entriesFit k) (acceptance (gameFrom k)) (gameTests (gameFrom k)) rest
+    in-order-after (bothDrives modesFit k) (bothDrives commandsFit k) (bothDrives entriesFit k) (acceptance (gameFrom k)) (gameTests (gameFrom k)) rest
     (game-after (gameFrom k) rest)
 
 pub kit-accepts : (k : Kit) {a : Acceptance} → a ≡ kitAcceptance k → KitAccepts k a
-kit-accepts k h = record { answer = h; number = ap numberOf h ∙ number-alone (kitAcceptance k) (kitTests k) (kit-after k) }
+kit-accepts k h = record { answer = h; number = ap acceptanceNumber h ∙ number-alone (kitAcceptance k) (kitTests k) (kit-after k) }

@@ -6,7 +6,7 @@
 --   entryFits n M C m u == the place of mode m and command u in the table n is barred, or within the counts M and C and names a mode
 --   entriesFit d        == every place fits
 --
---   both p k            == p holds of both drives of the kit
+--   bothDrives p k      == p holds of both drives of the kit
 --   inOrder m c e a     == refused where one of the three tests failed, else the answer a
 --   kitAcceptance k     == the answer to the kit
 --   kitTests k          == the tests of a kit under their numbers, in the order in which they are tried
@@ -20,7 +20,7 @@ use Rattle.sets.specs.Words.{capacity}
 use Rattle.finite.specs.Bounded.{all}
 use Rattle.game.specs.declared.Acceptance.{Acceptance}
 use Rattle.game.specs.declared.Acceptance.the-variants.{Refused}
-use Rattle.game.specs.Acceptance.{acceptance, numberOf}
+use Rattle.game.specs.Acceptance.{acceptance, acceptanceNumber}
 use Rattle.game.specs.Numbers.{firstOf, gameTests}
 use Rattle.kit_drives.specs.declared.Drive.{Drive}
 use Rattle.kit_drives.specs.declared.Kit.{Kit}
@@ -41,8 +41,8 @@ entryFits n M C m u = eqb (nextIn n m u) 255 || (ltb m M && (ltb u C && ltb (nex
 unfoldable pub entriesFit : Drive → Bool
 entriesFit d = all capacity (λ m. all 16 (entryFits (d .next) (d .modes) (d .commands) m))
 
-abbrev pub both : (Drive → Bool) → Kit → Bool
-both p k = p (k .old) && p (k .new)
+abbrev pub bothDrives : (Drive → Bool) → Kit → Bool
+bothDrives p k = p (k .old) && p (k .new)
 
 -- "17 ..; 18 ..; both after 1 and before 2"
 unfoldable pub inOrder : (modes commands entries : Bool) → Acceptance → Acceptance
@@ -52,11 +52,11 @@ inOrder true true false a = Refused 18
 inOrder true true true a = a
 
 unfoldable pub kitAcceptance : Kit → Acceptance
-kitAcceptance k = inOrder (both modesFit k) (both commandsFit k) (both entriesFit k) (acceptance (gameFrom k))
+kitAcceptance k = inOrder (bothDrives modesFit k) (bothDrives commandsFit k) (bothDrives entriesFit k) (acceptance (gameFrom k))
 
 unfoldable pub kitTests : Kit → List (ℕ × Bool)
-kitTests k = (1, both modesFit k) ∷ (17, both commandsFit k) ∷ (18, both entriesFit k) ∷ gameTests (gameFrom k)
+kitTests k = (1, bothDrives modesFit k) ∷ (17, bothDrives commandsFit k) ∷ (18, bothDrives entriesFit k) ∷ gameTests (gameFrom k)
 
 pub record KitAccepts (k : Kit) (a : Acceptance) : Type 0 where
   pub answer : a ≡ kitAcceptance k
-  pub number : numberOf a ≡ firstOf (kitTests k)
+  pub number : acceptanceNumber a ≡ firstOf (kitTests k)

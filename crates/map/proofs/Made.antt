@@ -21,25 +21,25 @@ use Rattle.map_marks.specs.Marks.{MapFilled}
 use Rattle.map_marks.proofs.Marks.{marks}
 use Rattle.map.specs.declared.Mapped.{Mapped}
 use Rattle.map.specs.declared.Mapped.the-variants.{Done, Refused as NotMapped}
-use Rattle.map.specs.Map.{mapFits, mapRoom, mapAnswer, mapTests, numberOf, MapAfter, mapScratch, MapMade}
+use Rattle.map.specs.Map.{mapFits, mapRoom, mapAnswer, mapTests, mapNumber, MapAfter, mapScratch, MapMade}
 
 -- ---- the map
 
-map-number : (g : Game) (s m : ℕ) → numberOf (mapAnswer g s m) ≡ firstOf (mapTests g s m)
+map-number : (g : Game) (s m : ℕ) → mapNumber (mapAnswer g s m) ≡ firstOf (mapTests g s m)
 unfolding mapTests mapAnswer mapRoom firstOf
 map-number g s m = go (acceptance g) ∙ sym (game-after g ((8, mapFits g s m) ∷ []))
   where
-    room : (b : Bool) → numberOf (elim b as (λ x. Mapped) [ true ↦ Done | false ↦ NotMapped 8 ]) ≡ firstOf ((8, b) ∷ [])
+    room : (b : Bool) → mapNumber (elim b as (λ x. Mapped) [ true ↦ Done | false ↦ NotMapped 8 ]) ≡ firstOf ((8, b) ∷ [])
     room true = refl
     room false = refl
 
     go : (a : Acceptance)
-        → numberOf (elim a as (λ x. Mapped) [ Accepted ↦ mapRoom g s m | Faulty n ↦ NotMapped n ]) ≡ after a (firstOf ((8, mapFits g s m) ∷ []))
+        → mapNumber (elim a as (λ x. Mapped) [ Accepted ↦ mapRoom g s m | Faulty n ↦ NotMapped n ]) ≡ after a (firstOf ((8, mapFits g s m) ∷ []))
     go Accepted = room (mapFits g s m)
     go (Faulty n) = refl
 
-told : (g : Game) (s m : List ℕ) {r : Mapped} → r ≡ mapAnswer g (length s) (length m) → numberOf r ≡ firstOf (mapTests g (length s) (length m))
-told g s m e = ap numberOf e ∙ map-number g (length s) (length m)
+told : (g : Game) (s m : List ℕ) {r : Mapped} → r ≡ mapAnswer g (length s) (length m) → mapNumber r ≡ firstOf (mapTests g (length s) (length m))
+told g s m e = ap mapNumber e ∙ map-number g (length s) (length m)
 
 not-done : {n : ℕ} {A : Type 0} → NotMapped n ≡ Done → A
 not-done q = let z : _≡_ {A = ℕ} 0 1 = cc in absurd (omega arith)

@@ -2,7 +2,7 @@
 --
 --   mapAnswer g s m           == the answer of the map's call, scratch being of s words and the map of m
 --   mapTests g s m            == its tests under their numbers
---   numberOf r                == document 01's number of the answer r, 0 for a map that is made
+--   mapNumber r               == document 01's number of the answer r, 0 for a map that is made
 --   MapAfter g r m m′         == on answer r the map m is left as m′
 --   MapMade g s s′ m m′ r     == the map's call answers r and leaves scratch s as s′ and the map m as m′
 use Prim.Native.Nat.{ℕ, _<_}
@@ -40,9 +40,9 @@ mapAnswer g s m = elim (acceptance g) [ Accepted ↦ mapRoom g s m | Faulty n �
 unfoldable pub mapTests : Game → ℕ → ℕ → List (ℕ × Bool)
 mapTests g s m = gameTests g ++ (8, mapFits g s m) ∷ []
 
-abbrev pub numberOf : Mapped → ℕ
-numberOf Done = 0
-numberOf (NotMapped n) = n
+abbrev pub mapNumber : Mapped → ℕ
+mapNumber Done = 0
+mapNumber (NotMapped n) = n
 
 -- "The won map writes one 64-bit set of outputs for each input", of two words by M-105; "later words of its room stay unchanged"; "changes no lent memory"
 unfoldable pub MapAfter : Game → Mapped → List ℕ → List ℕ → Type 0
@@ -56,7 +56,7 @@ mapScratch g (NotMapped n) s = s
 
 pub record MapMade (g : Game) (s s′ m m′ : List ℕ) (r : Mapped) : Type 0 where
   pub answer : r ≡ mapAnswer g (length s) (length m)
-  pub number : numberOf r ≡ firstOf (mapTests g (length s) (length m))
+  pub number : mapNumber r ≡ firstOf (mapTests g (length s) (length m))
   pub map : MapAfter g r m m′
   pub scratch : s′ ≡ mapScratch g r s
   pub won : r ≡ Done → (i o : ℕ) → i < g .input .states → o < g .output .states → (has (getD (setsIn m′) i 0) o ≡ true) ↔ Won (playOf g) i o

@@ -42,12 +42,20 @@ fn fill_map(g: Game, s: &[u64], c: InSet, map: &mut [u64])
     }
 }
 
-// Writes the map of an accepted game and clears scratch.
-fn make_map(g: Game, scratch: &mut [u64], map: &mut [u64])
-    requires { ⌜ Fits g × (scratchLength g ≤ length (now scratch)) × (g .input .states ≤ setCount (now map)) ⌝ }
+// Writes the map of an accepted game and clears scratch. Here and below `ins` and `outs` are the rows of the graphs, read where they stand.
+fn make_map<'a>(
+    g: Game,
+    ins: &'a [u64; sets::ROW_WORDS],
+    outs: &'a [u64; sets::ROW_WORDS],
+    scratch: &mut [u64],
+    map: &mut [u64],
+)
+    requires { ⌜ Fits g × (scratchLength g ≤ length (now scratch)) × (g .input .states ≤ setCount (now map)) × (now ins ≡ g .input .moves)
+        × (now outs ≡ g .output .moves) ⌝ }
     ensures { λ _. ⌜ (now (scratch .exit) ≡ cleared (scratchLength g) (now (scratch .entry))) × MapFilled g (now (map .entry)) (now (map .exit)) ⌝ }
 {
-    let x = region::prepare(g, scratch);
+    let l = game_sets::list_of(g);
+    let x = region::prepare(g, ins, outs, &l.sets, &l.assumed, &l.guaranteed, scratch);
     fill_map(g, scratch, x.inputs, map);
     scratch_clearing::clear(scratch, scratch::length(g));
 }
@@ -59,8 +67,14 @@ pub enum Mapped {
 }
 
 // The map of an accepted game, where the buffers are long enough.
-fn map_accepted(g: Game, scratch: &mut [u64], map: &mut [u64]) -> Mapped
-    requires { ⌜ acceptance g ≡ Accepted ⌝ }
+fn map_accepted<'a>(
+    g: Game,
+    ins: &'a [u64; sets::ROW_WORDS],
+    outs: &'a [u64; sets::ROW_WORDS],
+    scratch: &mut [u64],
+    map: &mut [u64],
+) -> Mapped
+    requires { ⌜ (acceptance g ≡ Accepted) × (now ins ≡ g .input .moves) × (now outs ≡ g .output .moves) ⌝ }
     ensures { λ r. ⌜ MapMade g (now (scratch .entry)) (now (scratch .exit)) (now (map .entry)) (now (map .exit)) r ⌝ }
 {
     if scratch.len() < scratch::length(g) {
@@ -69,7 +83,7 @@ fn map_accepted(g: Game, scratch: &mut [u64], map: &mut [u64]) -> Mapped
     if map.len() < sets::words(g.input.states) {
         return Mapped::Refused(8);
     }
-    make_map(g, scratch, map);
+    make_map(g, ins, outs, scratch, map);
     Mapped::Done
 }
 
@@ -77,9 +91,9 @@ fn map_accepted(g: Game, scratch: &mut [u64], map: &mut [u64]) -> Mapped
 pub fn won_map(g: Game, scratch: &mut [u64], map: &mut [u64]) -> Mapped
     ensures { λ r. ⌜ MapMade g (now (scratch .entry)) (now (scratch .exit)) (now (map .entry)) (now (map .exit)) r ⌝ }
 {
-    let accepted = acceptance::accept(g);
+    let accepted = acceptance::accept_lent(g, &g.input.moves, &g.output.moves);
     match accepted {
         Acceptance::Refused(n) => Mapped::Refused(n),
-        Acceptance::Accepted => map_accepted(g, scratch, map),
+        Acceptance::Accepted => map_accepted(g, &g.input.moves, &g.output.moves, scratch, map),
     }
 }

@@ -7,11 +7,11 @@ use Rattle.game.specs.declared.InState.{InState}
 use Rattle.game.specs.declared.OutState.{OutState}
 use Rattle.map.specs.declared.Mapped.{Mapped}
 use Rattle.joined.specs.declared.Mapped.{Mapped as JoinedMapped}
-use Rattle.joined.specs.Joined.{numberOf as joinedNumber, JoinedMade}
+use Rattle.joined.specs.Joined.{joinedNumber as joinedNumber, JoinedMade}
 use Rattle.interlock.specs.declared.Judged.{Judged}
 use Rattle.interlock.specs.Interlock.{BarredMap, BarredJudged}
 use Rattle.solver.specs.declared.Verdict.{Verdict}
-use Rattle.map.specs.Map.{numberOf, MapMade}
+use Rattle.map.specs.Map.{mapNumber, MapMade}
 use Rattle.ground_search.specs.declared.Explanation.{Explanation}
 use Rattle.explain.specs.Explain.{Explained}
 use Rattle.solver.specs.Promise.{Solved}
@@ -33,13 +33,13 @@ use Rattle.nanpuwiq_results.specs.Results.{solveResult, writeResult, explainRes
 use Rattle.nanpuwiq.specs.Calls.{MapCalled, JoinedCalled, BarredCalled, JudgeCalled, SolveCalled, KitCalled, WriteCalled, ExplainCalled}
 use Rattle.nanpuwiq.specs.Calls.{CompactCalled, OverCalled, BackCalled, CountCalled}
 
-pub map-called : {g : Game} {s s′ m m′ : List ℕ} {a : Mapped} {r : ℕ} → MapMade g s s′ m m′ a → r ≡ numberOf a → MapCalled g s s′ m m′ r
+pub map-called : {g : Game} {s s′ m m′ : List ℕ} {a : Mapped} {r : ℕ} → MapMade g s s′ m m′ a → r ≡ mapNumber a → MapCalled g s s′ m m′ r
 map-called {g} {s} {s′} {m} {m′} f e = record { answer = e ∙ f .number; made = subst (MapMade g s s′ m m′) (f .answer) f }
 
 pub joined-called : {g : Game} {s s′ m m′ : List ℕ} {a : JoinedMapped} {r : ℕ} → JoinedMade g s s′ m m′ a → r ≡ joinedNumber a → JoinedCalled g s s′ m m′ r
 joined-called {g} {s} {s′} {m} {m′} f e = record { answer = e ∙ f .number; made = subst (JoinedMade g s s′ m m′) (f .answer) f }
 
-pub barred-called : {g : Game} {b s s′ m m′ : List ℕ} {a : Mapped} {r : ℕ} → BarredMap g b s s′ m m′ a → r ≡ numberOf a → BarredCalled g b s s′ m m′ r
+pub barred-called : {g : Game} {b s s′ m m′ : List ℕ} {a : Mapped} {r : ℕ} → BarredMap g b s s′ m m′ a → r ≡ mapNumber a → BarredCalled g b s s′ m m′ r
 barred-called {g} {b} {s} {s′} {m} {m′} f e = record { answer = e ∙ f .number; made = subst (BarredMap g b s s′ m m′) (f .answer) f }
 
 pub judge-called : {g : Game} {b s s′ : List ℕ} {a : Judged} {r : JudgeResult} → BarredJudged g b s s′ a → r ≡ judgeResult a → JudgeCalled g b s s′ r

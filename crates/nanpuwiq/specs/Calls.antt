@@ -25,7 +25,13 @@ use Rattle.game.specs.Numbers.{firstOf}
 use Rattle.map.specs.Map.{mapAnswer, mapTests, MapMade}
 use Rattle.joined.specs.Joined.{joinedAnswer, joinedTests, JoinedMade}
 use Rattle.interlock.specs.Bars.{systemWins}
-use Rattle.interlock.specs.Interlock.{mapAnswer as barredAnswer, mapTests as barredTests, BarredMap, verdictAnswer as judgedAnswer, BarredJudged}
+use Rattle.interlock.specs.Interlock.{
+  barredMapAnswer as barredAnswer,
+  barredMapTests as barredTests,
+  BarredMap,
+  barredVerdictAnswer as judgedAnswer,
+  BarredJudged,
+}
 use Rattle.explain.specs.Explain.{explainAnswer, Explained}
 use Rattle.checker.specs.declared.Checked.{Checked}
 use Rattle.checker.specs.Check.{Checks}

@@ -5,7 +5,7 @@ ghost use Rattle.game.specs.Numbers.{firstOf, gameTests};
 ghost use Rattle.player.specs.Player.{movedOf, beginning, stepping, Advanced};
 ghost use Rattle.recorder.specs.Recorded.{compared};
 ghost use Rattle.panel_player.specs.Panel.{panelFirst, panelBegin, panelNext, panelStep};
-ghost use Rattle.nanpuwiq_results.specs.Results.{compareResult, panelMoved, nowhere};
+ghost use Rattle.nanpuwiq_results.specs.Results.{compareResult, panelMoved, zeroPosition};
 ghost use Rattle.kit_drives.specs.Acceptance.{kitTests};
 ghost use Rattle.compact_view.specs.Rows.{Looked};
 ghost use Rattle.nanpuwiq.specs.Calls.{MapCalled, JoinedCalled, SolveCalled, CompactCalled, KitCalled, ReadCalled, WriteCalled};
@@ -212,7 +212,7 @@ pub extern "C" fn nanpuwiq_write(g: Game, buffer: &mut [u8]) -> WriteResult
 // The first position: `first` with the output and the counter that the table's start gives. On a refusal the position is all zero.
 #[no_mangle]
 pub extern "C" fn nanpuwiq_begin(g: Game, table: &[u16], first: InState) -> Moved
-    ensures { λ r. ⌜ r ≡ movedOf nowhere (beginning g (now (table .entry)) first) ⌝ }
+    ensures { λ r. ⌜ r ≡ movedOf zeroPosition (beginning g (now (table .entry)) first) ⌝ }
 {
     nanpuwiq_results::first_move(player::begin(g, table, first))
 }
@@ -244,7 +244,7 @@ pub extern "C" fn nanpuwiq_panel_first(g: Game, table: &[u16]) -> PanelMoved
 // The first position against a panel's table: the input and the counter of its start with the output `first`. On a refusal the position is all zero.
 #[no_mangle]
 pub extern "C" fn nanpuwiq_panel_begin(g: Game, table: &[u16], first: OutState) -> Moved
-    ensures { λ r. ⌜ r ≡ movedOf nowhere (panelBegin g (now (table .entry)) first) ⌝ }
+    ensures { λ r. ⌜ r ≡ movedOf zeroPosition (panelBegin g (now (table .entry)) first) ⌝ }
 {
     nanpuwiq_results::first_move(panel_player::begin(g, table, first))
 }

@@ -11,7 +11,7 @@
 --   countResult a      == how many components there are: code, the count
 --   compareResult c    == the recorder's answer: code, whether the recordings agree, whether one has ended, the step
 --   panelMoved a       == the panel's move: input and counter, both 0 beside a refusal, and the code
---   nowhere            == the position of zeros, which stands beside a refusal to begin
+--   zeroPosition       == the position of zeros, which stands beside a refusal to begin
 use Prim.Native.Nat.{ℕ}
 use mathlib.Core.Bool.{Bool, true, false}
 use Rattle.solver.specs.declared.Verdict.{Verdict}
@@ -112,5 +112,5 @@ unfoldable pub panelMoved : Picked → PanelMoved
 panelMoved (picked·.To m) = record { input = m .input; counter = m .counter; code = 0 }
 panelMoved (picked·.Refused n) = record { input = record { 0 = 0 }; counter = 0; code = n }
 
-unfoldable pub nowhere : Position
-nowhere = record { input = record { 0 = 0 }; output = record { 0 = 0 }; counter = 0 }
+unfoldable pub zeroPosition : Position
+zeroPosition = record { input = record { 0 = 0 }; output = record { 0 = 0 }; counter = 0 }

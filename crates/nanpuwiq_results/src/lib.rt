@@ -1,12 +1,12 @@
 // The answers of the public entries as records for callers in other languages. A code is document 01's number of a refusal, 0 for none.
 ghost use mathlib.Core.Path.{_≡_};
 ghost use Rattle.player.specs.Player.{movedOf};
-ghost use Rattle.game.specs.Acceptance.{numberOf as acceptNumber};
-ghost use Rattle.map.specs.Map.{numberOf as mapNumber};
-ghost use Rattle.nanpuwiq_results.specs.Results.{solveResult, readResult, writeResult, compareResult, panelMoved, nowhere};
+ghost use Rattle.game.specs.Acceptance.{acceptanceNumber as acceptNumber};
+ghost use Rattle.map.specs.Map.{mapNumber as mapNumber};
+ghost use Rattle.nanpuwiq_results.specs.Results.{solveResult, readResult, writeResult, compareResult, panelMoved, zeroPosition};
 ghost use Rattle.nanpuwiq_results.specs.Results.{explainResult, checkResult, judgedAs, judgeResult};
 ghost use Rattle.nanpuwiq_results.specs.Results.{moveResult, countResult};
-ghost use Rattle.joined.specs.Joined.{numberOf as joinedNumber};
+ghost use Rattle.joined.specs.Joined.{joinedNumber as joinedNumber};
 use checker::Checked;
 use compact_moves::Count;
 use compact_moves::Move;
@@ -380,7 +380,7 @@ pub fn compare_result(a: Compared) -> CompareResult
 }
 
 pub fn first_move(a: Played) -> Moved
-    ensures { λ r. ⌜ r ≡ movedOf nowhere a ⌝ }
+    ensures { λ r. ⌜ r ≡ movedOf zeroPosition a ⌝ }
 {
     match a {
         Played::At(p) => Moved { at: p, code: 0 },

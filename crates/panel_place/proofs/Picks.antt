@@ -18,7 +18,7 @@ use Rattle.player_place.specs.declared.Played.the-variants.{At}
 use Rattle.panel_place.specs.declared.PanelMove.{PanelMove}
 use Rattle.panel_place.specs.declared.Picked.{Picked}
 use Rattle.panel_place.specs.declared.Picked.the-variants.{To, Refused}
-use Rattle.panel_place.specs.Picks.{granted, picks, joined}
+use Rattle.panel_place.specs.Picks.{granted, picks, positionWith}
 
 -- ---- one test after the other
 
@@ -101,8 +101,8 @@ pub record Joined (o : OutState) (a : Picked) (p : Position) : Type 0 where
 unfoldable place : OutState → PanelMove → Position
 place o m = record { input = m .input; output = o; counter = m .counter }
 
-pub joined-from : (o : OutState) (a : Picked) (p : Position) → joined o a ≡ At p → Joined o a p
-unfolding joined place
+pub joined-from : (o : OutState) (a : Picked) (p : Position) → positionWith o a ≡ At p → Joined o a p
+unfolding positionWith place
 joined-from o (To m) p e =
     let q : place o m ≡ p = cc in
     subst (Joined o (To m)) q (record { move = refl; output = refl })

@@ -1,10 +1,10 @@
 -- The panel's move by its table: "its step gives memory and input move from memory, input and output".
 --
 --   granted b n a     == a where b holds; else the refusal n
---   named e           == the input that the entry e names, if it is not none
+--   namedInput e      == the input that the entry e names, if it is not none
 --   picks M ok a      == the move that the answer a names, if it names one of M counters and an input that is allowed
---   joined o a        == the position that the move a makes with the output o
---   numberOf a        == document 01's number of the answer a, 0 for a move
+--   positionWith o a  == the position that the move a makes with the output o
+--   panelNumber a     == document 01's number of the answer a, 0 for a move
 use Prim.Native.Nat.{ℕ, _%_}
 use mathlib.Core.Bool.{Bool, true, false, _&&_}
 use lib.Dec.{ltb}
@@ -21,8 +21,8 @@ granted true n a = a
 granted false n a = Refused n
 
 -- "Entries are 16 bits: next state + 128 × next counter"
-abbrev pub named : ℕ → InState
-named e = record { 0 = e % 128 }
+abbrev pub namedInput : ℕ → InState
+namedInput e = record { 0 = e % 128 }
 
 -- as for a controller's table: "15 the row is none, or names a counter out of range or an output that is no move (at the start, not initial)"
 unfoldable pub picks : ℕ → (ℕ → Bool) → Answer → Picked
@@ -31,10 +31,10 @@ picks M ok none = Refused 15
 picks M ok (gives c s) = granted (ltb c M && ok s) 15 (To (record { input = record { 0 = s }; counter = c }))
 
 -- "A position is an input and an output after the system's pick."
-unfoldable pub joined : OutState → Picked → Played
-joined o (To m) = played·.At (record { input = m .input; output = o; counter = m .counter })
-joined o (Refused n) = played·.Refused n
+unfoldable pub positionWith : OutState → Picked → Played
+positionWith o (To m) = played·.At (record { input = m .input; output = o; counter = m .counter })
+positionWith o (Refused n) = played·.Refused n
 
-abbrev pub numberOf : Picked → ℕ
-numberOf (To m) = 0
-numberOf (Refused n) = n
+abbrev pub panelNumber : Picked → ℕ
+panelNumber (To m) = 0
+panelNumber (Refused n) = n

@@ -12,7 +12,7 @@ ghost use Rattle.game.specs.Acceptance.{acceptance};
 ghost use Rattle.game.specs.declared.Acceptance.the-variants.{Accepted};
 ghost use Rattle.play.specs.Play.{graphOf};
 ghost use Rattle.theory.specs.Entries.{answer};
-ghost use Rattle.panel_place.specs.Picks.{named as namedInput, picks, joined};
+ghost use Rattle.panel_place.specs.Picks.{namedInput, picks, positionWith};
 
 // The panel's move: the next input and the next counter.
 pub struct PanelMove {
@@ -74,7 +74,7 @@ pub fn pick(counters: usize, entry: u16, allowed: bool) -> Picked
 
 // The position that the panel's move makes with an output.
 pub fn join(output: OutState, a: Picked) -> Played
-    ensures { λ r. ⌜ r ≡ joined output a ⌝ }
+    ensures { λ r. ⌜ r ≡ positionWith output a ⌝ }
 {
     match a {
         Picked::To(m) => {

@@ -23,11 +23,11 @@ use Rattle.player_place.specs.declared.Played.the-variants.{At}
 use Rattle.player_place.specs.Place.{provided, hasPosition}
 use Rattle.player.specs.Runs.{configuration}
 use Rattle.player.proofs.Inverse.{provided-from, accepted-from}
-use Rattle.panel_place.specs.Picks.{joined}
+use Rattle.panel_place.specs.Picks.{positionWith}
 use Rattle.panel_place.specs.declared.Picked.the-variants.{To}
 use Rattle.panel_place.proofs.Picks.{picked, picks-some, Joined, joined-from}
 use Rattle.panel_player.specs.Panel.{
-  fitting,
+  panelFitting,
   startMove,
   rowMove,
   firstMove,
@@ -45,7 +45,7 @@ use Rattle.panel_player.proofs.Answers.{first-at, begin-at, next-at, st
 module _ (g : Game) (l : List ℕ) where
   pub record Began (o : OutState) (p : Position) : Type 0 where
     pub accepted : acceptance g ≡ Accepted
-    pub fits : fitting g l ≡ true
+    pub fits : panelFitting g l ≡ true
     pub opens : begins (graphOf (g .output)) (o .0) ≡ true
     pub joined : Joined o (startMove g l) p
 
@@ -53,23 +53,23 @@ module _ (g : Game) (l : List ℕ) where
   unfolding panelBegin firstPlace
   began o p e =
       let a = accepted-from (acceptance g) (firstPlace g l o) p e in
-      let start = joined o (startMove g l) in
-      let f = provided-from (fitting g l) 16 (provided (begins (graphOf (g .output)) (o .0)) 14 start) p (a .1) in
+      let start = positionWith o (startMove g l) in
+      let f = provided-from (panelFitting g l) 16 (provided (begins (graphOf (g .output)) (o .0)) 14 start) p (a .1) in
       let b = provided-from (begins (graphOf (g .output)) (o .0)) 14 start p (f .1) in
       record { accepted = a .0; fits = f .0; opens = b .0; joined = joined-from o (startMove g l) p (b .1) }
 
   pub record Turned (p : Position) (q : OutState) (r : Position) : Type 0 where
     pub accepted : acceptance g ≡ Accepted
-    pub there : (fitting g l && hasPosition g (environmentCounters (separatedOf g)) p) ≡ true
+    pub there : (panelFitting g l && hasPosition g (environmentCounters (separatedOf g)) p) ≡ true
     pub move : edge (graphOf (g .output)) (p .output .0) (q .0) ≡ true
     pub joined : Joined q (rowMove g l p) r
 
   pub turned : (p : Position) (q : OutState) (r : Position) → panelStep g l p q ≡ At r → Turned p q r
   unfolding panelStep nextPlace
   turned p q r e =
-      let there = fitting g l && hasPosition g (environmentCounters (separatedOf g)) p in
+      let there = panelFitting g l && hasPosition g (environmentCounters (separatedOf g)) p in
       let a = accepted-from (acceptance g) (nextPlace g l p q) r e in
-      let row = joined q (rowMove g l p) in
+      let row = positionWith q (rowMove g l p) in
       let f = provided-from there 16 (provided (edge (graphOf (g .output)) (p .output .0) (q .0)) 14 row) r (a .1) in
       let b = provided-from (edge (graphOf (g .output)) (p .output .0) (q .0)) 14 row r (f .1) in
       record { accepted = a .0; there = f .0; move = b .0; joined = joined-from q (rowMove g l p) r (b .1) }
@@ -111,14 +111,14 @@ module _ (g : Game) (l : List ℕ) where
   faithful = record { begins = first-of; turns = turn-of; toldFirst = told-first; told = told-next }
 
   -- the other way round
-  module _ (a : acceptance g ≡ Accepted) (f : fitting g l ≡ true) where
+  module _ (a : acceptance g ≡ Accepted) (f : panelFitting g l ≡ true) where
     start-of : (p : Position) → EnvironmentFirst (playOf g) (environmentOf g l) (configuration p) → startMove g l ≡ To (moveTo p)
     unfolding playOf arenaOf separatedOf environmentOf environmentTable configuration startMove moveTo
     start-of p E =
         picks-some (environmentCounters (separatedOf g)) (begins (graphOf (g .input))) (environmentOf g l .start) (p .counter) (p .input .0) (E .start)
 
     begin-of : (p : Position) → EnvironmentFirst (playOf g) (environmentOf g l) (configuration p) → panelBegin g l (p .output) ≡ At p
-    unfolding playOf arenaOf separatedOf configuration panelBegin moveTo joined
+    unfolding playOf arenaOf separatedOf configuration panelBegin moveTo positionWith
     begin-of p E =
         sym
         (begin-at g l (p .output) f (E .opening) (To (moveTo p)) (At p) (sym (start-of p E)) refl
@@ -132,7 +132,7 @@ module _ (g : Game) (l : List ℕ) where
 
     step-of : (p r : Position) → hasPosition g (environmentCounters (separatedOf g)) p ≡ true
         → EnvironmentTurn (playOf g) (environmentOf g l) (configuration p) (configuration r) → panelStep g l p (r .output) ≡ At r
-    unfolding playOf arenaOf separatedOf configuration panelStep moveTo joined
+    unfolding playOf arenaOf separatedOf configuration panelStep moveTo positionWith
     step-of p r h E =
         sym
         (step-at g l p (r .output) (and-intro f h) (E .reply) (To (moveTo r)) (At r) (sym (row-of p r E)) refl

@@ -1,16 +1,16 @@
 -- Plays against a panel's table: begun once and stepped with one output after the other.
 --
---   moveTo p           == the panel's move to the input and the counter of position p
---   Faithful g l       == what is played is what the table does: first configurations and turns of it, by the moves that are told
---   Playable g l       == and whatever the table does can be played
---   along g o qs       == the outputs qs are moves, the first from output o
---   next g l a q       == the answer to output q after the answer a: a refusal ends the play
---   playOn g l qs a    == the last answer, from the answer a on, over the outputs qs
---   trailOn g l qs a   == the positions that it passes
---   play g l o qs      == the last answer of a play begun with output o and stepped with qs
---   trail g l o qs     == the positions that it passes
---   Reached g l p      == the position is a reachable configuration of the table
---   Ran g l o qs       == the play is never refused, and its positions are a walk of the table from a first configuration
+--   moveTo p            == the panel's move to the input and the counter of position p
+--   Faithful g l        == what is played is what the table does: first configurations and turns of it, by the moves that are told
+--   Playable g l        == and whatever the table does can be played
+--   alongOutputs g o qs == the outputs qs are moves, the first from output o
+--   answerAfter g l a q == the answer to output q after the answer a: a refusal ends the play
+--   playOn g l qs a     == the last answer, from the answer a on, over the outputs qs
+--   trailOn g l qs a    == the positions that it passes
+--   play g l o qs       == the last answer of a play begun with output o and stepped with qs
+--   panelTrail g l o qs == the positions that it passes
+--   PanelReached g l p  == the position is a reachable configuration of the table
+--   PanelRan g l o qs   == the play is never refused, and its positions are a walk of the table from a first configuration
 use Prim.Native.Nat.{ℕ}
 use mathlib.Core.Path.{_≡_}
 use mathlib.Core.Bool.{Bool, true, _&&_}
@@ -58,36 +58,36 @@ pub record Playable (g : Game) (l : List ℕ) : Type 0 where
   pub turns : (p r : Position) → hasPosition g (environmentCounters (separatedOf g)) p ≡ true
       → EnvironmentTurn (playOf g) (environmentOf g l) (configuration p) (configuration r) → panelStep g l p (r .output) ≡ At r
 
-unfoldable pub along : Game → ℕ → List OutState → Bool
-along g o [] = true
-along g o (q ∷ qs) = edge (graphOf (g .output)) o (q .0) && along g (q .0) qs
+unfoldable pub alongOutputs : Game → ℕ → List OutState → Bool
+alongOutputs g o [] = true
+alongOutputs g o (q ∷ qs) = edge (graphOf (g .output)) o (q .0) && alongOutputs g (q .0) qs
 
-unfoldable pub next : Game → List ℕ → Played → OutState → Played
-next g l (At p) q = panelStep g l p q
-next g l (Refused n) q = Refused n
+unfoldable pub answerAfter : Game → List ℕ → Played → OutState → Played
+answerAfter g l (At p) q = panelStep g l p q
+answerAfter g l (Refused n) q = Refused n
 
 unfoldable pub playOn : Game → List ℕ → List OutState → Played → Played
 playOn g l [] a = a
-playOn g l (q ∷ qs) a = playOn g l qs (next g l a q)
+playOn g l (q ∷ qs) a = playOn g l qs (answerAfter g l a q)
 
 unfoldable pub trailOn : Game → List ℕ → List OutState → Played → List Position
 trailOn g l [] a = positionOf a
-trailOn g l (q ∷ qs) a = positionOf a ++ trailOn g l qs (next g l a q)
+trailOn g l (q ∷ qs) a = positionOf a ++ trailOn g l qs (answerAfter g l a q)
 
 unfoldable pub play : Game → List ℕ → OutState → List OutState → Played
 play g l o qs = playOn g l qs (panelBegin g l o)
 
-unfoldable pub trail : Game → List ℕ → OutState → List OutState → List Position
-trail g l o qs = trailOn g l qs (panelBegin g l o)
+unfoldable pub panelTrail : Game → List ℕ → OutState → List OutState → List Position
+panelTrail g l o qs = trailOn g l qs (panelBegin g l o)
 
 -- "A configuration is reachable when a walk from a first one ends in it"
-abbrev pub Reached : Game → List ℕ → Position → Type 0
-Reached g l p = Reachable (EnvironmentFirst (playOf g) (environmentOf g l)) (EnvironmentTurn (playOf g) (environmentOf g l)) (configuration p)
+abbrev pub PanelReached : Game → List ℕ → Position → Type 0
+PanelReached g l p = Reachable (EnvironmentFirst (playOf g) (environmentOf g l)) (EnvironmentTurn (playOf g) (environmentOf g l)) (configuration p)
 
-pub record Ran (g : Game) (l : List ℕ) (o : OutState) (qs : List OutState) : Type 0 where
+pub record PanelRan (g : Game) (l : List ℕ) (o : OutState) (qs : List OutState) : Type 0 where
   pub first : Position
   pub last : Position
   pub starts : EnvironmentFirst (playOf g) (environmentOf g l) (configuration first)
   pub ends : play g l o qs ≡ At last
   pub walk : Walk (EnvironmentTurn (playOf g) (environmentOf g l)) (configuration first) (configuration last)
-  pub passes : passed walk ≡ map configuration (trail g l o qs)
+  pub passes : passed walk ≡ map configuration (panelTrail g l o qs)

@@ -16,7 +16,7 @@ ghost use Rattle.player_place.specs.Place.{hasPosition};
 ghost use Rattle.player.specs.Player.{Plays, movedOf};
 ghost use Rattle.panel_player.specs.Panel.{
   startMove,
-  rowEntry,
+  panelRowEntry,
   rowMove,
   firstMove,
   firstPlace,
@@ -26,10 +26,10 @@ ghost use Rattle.panel_player.specs.Panel.{
   panelBegin,
   panelNext,
   panelStep,
-  firstTests,
-  beginTests,
-  nextTests,
-  stepTests,
+  panelFirstTests,
+  panelBeginTests,
+  panelNextTests,
+  panelStepTests,
   Picks,
 };
 
@@ -46,7 +46,7 @@ fn start_move(g: Game, table: &[u16]) -> Picked
 // The entry of the row at a position that the game has.
 fn row_entry(g: Game, table: &[u16], counters: usize, at: Position) -> u16
     requires { ⌜ (acceptance g ≡ Accepted) × (counters ≡ environmentCounters (separatedOf g)) × (hasPosition g counters at ≡ true) ⌝ }
-    ensures { λ r. ⌜ r ≡ rowEntry g (now (table .entry)) at ⌝ }
+    ensures { λ r. ⌜ r ≡ panelRowEntry g (now (table .entry)) at ⌝ }
 {
     let outputs = g.output.states;
     let i = at.input.0;
@@ -124,7 +124,7 @@ fn step_accepted(g: Game, table: &[u16], at: Position, next: OutState) -> Played
 
 // The panel's first input and counter, by the table's start.
 pub fn first(g: Game, table: &[u16]) -> Picked
-    ensures { λ r. ⌜ Picks (firstTests g (now (table .entry))) (panelFirst g (now (table .entry))) r ⌝ }
+    ensures { λ r. ⌜ Picks (panelFirstTests g (now (table .entry))) (panelFirst g (now (table .entry))) r ⌝ }
 {
     match acceptance::accept(g) {
         Acceptance::Refused(n) => Picked::Refused(n),
@@ -134,7 +134,7 @@ pub fn first(g: Game, table: &[u16]) -> Picked
 
 // The first position: the input and the counter of the table's start with the output `first`.
 pub fn begin(g: Game, table: &[u16], first: OutState) -> Played
-    ensures { λ r. ⌜ Plays (beginTests g (now (table .entry)) first) (panelBegin g (now (table .entry)) first) r ⌝ }
+    ensures { λ r. ⌜ Plays (panelBeginTests g (now (table .entry)) first) (panelBegin g (now (table .entry)) first) r ⌝ }
 {
     match acceptance::accept(g) {
         Acceptance::Refused(n) => Played::Refused(n),
@@ -144,7 +144,7 @@ pub fn begin(g: Game, table: &[u16], first: OutState) -> Played
 
 // The panel's next input and counter at a position, by the table's row.
 pub fn next(g: Game, table: &[u16], at: Position) -> Picked
-    ensures { λ r. ⌜ Picks (nextTests g (now (table .entry)) at) (panelNext g (now (table .entry)) at) r ⌝ }
+    ensures { λ r. ⌜ Picks (panelNextTests g (now (table .entry)) at) (panelNext g (now (table .entry)) at) r ⌝ }
 {
     match acceptance::accept(g) {
         Acceptance::Refused(n) => Picked::Refused(n),
@@ -154,7 +154,7 @@ pub fn next(g: Game, table: &[u16], at: Position) -> Picked
 
 // The position after that move, with the output `next`.
 pub fn step(g: Game, table: &[u16], at: Position, next: OutState) -> Played
-    ensures { λ r. ⌜ Plays (stepTests g (now (table .entry)) at next) (panelStep g (now (table .entry)) at next) r ⌝ }
+    ensures { λ r. ⌜ Plays (panelStepTests g (now (table .entry)) at next) (panelStep g (now (table .entry)) at next) r ⌝ }
 {
     match acceptance::accept(g) {
         Acceptance::Refused(n) => Played::Refused(n),

@@ -31,7 +31,7 @@ use Rattle.view.specs.declared.RowIndex.{RowIndex}
 use Rattle.player_place.specs.declared.Played.{Played}
 use Rattle.player_place.specs.declared.Played.the-variants.{At, Refused}
 use Rattle.view.specs.Rows.{rowEntry}
-use Rattle.player_place.specs.Place.{provided, arrives, names, numberOf, hasPosition}
+use Rattle.player_place.specs.Place.{provided, arrives, names, playerNumber, hasPosition}
 use Rattle.player.specs.Player.{fitting, begun, stepped, afterAcceptance, beginning, stepping, beginTests, stepTests, Plays}
 use Rattle.view.proofs.Range.{in-range, row-read}
 use Rattle.player_place.proofs.Tests.{held, refused, position-in}
@@ -154,22 +154,23 @@ module _ (g : Game) (l : List ℕ) where
 
 -- ---- the numbers
 
-arrives-number : (M : ℕ) (ok : ℕ → Bool) (i : InState) (a : Answer) → numberOf (arrives M ok i a) ≡ firstOf ((15, names M ok a) ∷ [])
+arrives-number : (M : ℕ) (ok : ℕ → Bool) (i : InState) (a : Answer) → playerNumber (arrives M ok i a) ≡ firstOf ((15, names M ok a) ∷ [])
 unfolding arrives names provided firstOf
 arrives-number M ok i none = refl
 arrives-number M ok i (gives c s) = go (ltb c M && ok s)
   where
-    go : (b : Bool) → numberOf (provided b 15 (At (record { input = i; output = record { 0 = s }; counter = c }))) ≡ firstOf ((15, b) ∷ [])
+    go : (b : Bool) → playerNumber (provided b 15 (At (record { input = i; output = record { 0 = s }; counter = c }))) ≡ firstOf ((15, b) ∷ [])
     go true = refl
     go false = refl
 
 -- a test before others
-pub provided-number : (b : Bool) (n : ℕ) (p : Played) (ts : List (ℕ × Bool)) → numberOf p ≡ firstOf ts → numberOf (provided b n p) ≡ firstOf ((n, b) ∷ ts)
+pub provided-number : (b : Bool) (n : ℕ) (p : Played) (ts : List (ℕ × Bool)) → playerNumber p ≡ firstOf ts
+    → playerNumber (provided b n p) ≡ firstOf ((n, b) ∷ ts)
 unfolding provided firstOf
 provided-number true n p ts h = h
 provided-number false n p ts h = refl
 
-pub after-number : (a : Acceptance) (p : Played) (n : ℕ) → numberOf p ≡ n → numberOf (afterAcceptance a p) ≡ after a n
+pub after-number : (a : Acceptance) (p : Played) (n : ℕ) → playerNumber p ≡ n → playerNumber (afterAcceptance a p) ≡ after a n
 unfolding afterAcceptance
 after-number acceptance·.Accepted p n h = h
 after-number (acceptance·.Refused m) p n h = refl
@@ -179,7 +180,7 @@ unfolding beginTests beginning begun
 plays-begin g l i h = record {
   answer = h;
   number =
-      ap numberOf h
+      ap playerNumber h
       ∙ after-number (acceptance g) (begun g l i) _
       (provided-number (fitting g l) 16 _ _
       (provided-number (begins (graphOf (g .input)) (i .0)) 14 _ _
@@ -192,7 +193,7 @@ unfolding stepTests stepping stepped
 plays-step g l p j h = record {
   answer = h;
   number =
-      ap numberOf h
+      ap playerNumber h
       ∙ after-number (acceptance g) (stepped g l p j) _
       (provided-number (fitting g l && hasPosition g (controllerCounters (separatedOf g)) p) 16 _ _
       (provided-number (edge (graphOf (g .input)) (p .input .0) (j .0)) 14 _ _

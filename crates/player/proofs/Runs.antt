@@ -36,7 +36,7 @@ use Rattle.player_place.specs.declared.Played.{Played}
 use Rattle.player_place.specs.declared.Played.the-variants.{At, Refused}
 use Rattle.player_place.specs.Place.{provided, arrives, hasPosition}
 use Rattle.player.specs.Player.{fitting, begun, stepped, beginning, stepping}
-use Rattle.player.specs.Runs.{configuration, along, next, runOf, positionOf, trailOf, run, trail, Reached, Ran}
+use Rattle.player.specs.Runs.{configuration, along, next, runOf, positionOf, trailOf, run, trail, PlayerReached, Ran}
 use Rattle.player_place.proofs.Tests.{held, counter-last}
 use Rattle.player.proofs.Answers.{beginning-accepted, stepping-accepted}
 use Rattle.player.proofs.Inverse.{arrives-some, began, turned}
@@ -108,12 +108,12 @@ module _ (g : Game) (l : List ℕ) where
       go (Refused n) d f = absurd (let z : _≡_ {A = ℕ} 0 1 = cc (ended g l js n) in omega arith)
 
   -- what a player comes to is reachable
-  pub reached : (i : InState) (js : List InState) (q : Position) → run g l i js ≡ At q → Reached g l q
+  pub reached : (i : InState) (js : List InState) (q : Position) → run g l i js ≡ At q → PlayerReached g l q
   unfolding run
   reached i js q e =
       let v = ran i js q e in
       let h : v .last ≡ q = cc (v .ends, e) in
-      subst (Reached g l) h (record { origin = configuration (v .first); first = v .starts; walk = v .walk })
+      subst (PlayerReached g l) h (record { origin = configuration (v .first); first = v .starts; walk = v .walk })
 
   module _ (a : acceptance g ≡ Accepted) (f : fitting g l ≡ true) (W : ControllerWins (playOf g) (controllerOf g l)) where
     wins-begin : (i : InState) → begins (graphOf (g .input)) (i .0) ≡ true → (p : Position) × (beginning g l i ≡ At p)
@@ -125,7 +125,7 @@ module _ (g : Game) (l : List ℕ) where
         (v .0, sym (beginning-accepted g l i (At (v .0)) a (sym (v .1) ∙ held 14 start b ∙ held 16 (provided (begins (graphOf (g .input)) (i .0)) 14 start) f)))
 
     -- a reachable position is one that the game has
-    in-game : (p : Position) → Reached g l p
+    in-game : (p : Position) → PlayerReached g l p
         → hasPosition g (controllerCounters (separatedOf g)) p ≡ true
     unfolding playOf arenaOf separatedOf graphOf controllerOf controllerTable configuration
     in-game p r =
@@ -134,7 +134,7 @@ module _ (g : Game) (l : List ℕ) where
         (b .memory)
 
     wins-step : (p : Position) (j : InState)
-        → Reached g l p
+        → PlayerReached g l p
         → edge (graphOf (g .input)) (p .input .0) (j .0) ≡ true → (q : Position) × (stepping g l p j ≡ At q)
     unfolding playOf arenaOf separatedOf controllerOf controllerTable configuration stepped
     wins-step p j r m =
@@ -150,12 +150,12 @@ module _ (g : Game) (l : List ℕ) where
 
     -- one position more is reachable too
     onward : (p : Position) (j : InState) (q : Position)
-        → Reached g l p
-        → stepping g l p j ≡ At q → Reached g l q
+        → PlayerReached g l p
+        → stepping g l p j ≡ At q → PlayerReached g l q
     onward p j q r e = record { origin = r .origin; first = r .first; walk = extend (r .walk) (turn-of p j q e) }
 
     wins-on : (js : List InState) (p : Position)
-        → Reached g l p
+        → PlayerReached g l p
         → along g (p .input .0) js ≡ true → (q : Position) × (runOf g l js (At p) ≡ At q)
     unfolding runOf next along
     wins-on [] p r h = (p, refl)

@@ -27,7 +27,7 @@ use Rattle.play.specs.Play.{graphOf, separatedOf}
 use Rattle.theory.specs.Entries.{controllerCounters, controllerEntries}
 use Rattle.demands.specs.Demands.{controllerOf}
 use Rattle.player_place.specs.declared.Position.{Position}
-use Rattle.player_place.specs.Place.{provided, arrives, names, numberOf, hasPosition}
+use Rattle.player_place.specs.Place.{provided, arrives, names, playerNumber, hasPosition}
 use Rattle.player.specs.declared.Moved.{Moved}
 use Rattle.player_place.specs.declared.Played.{Played}
 use Rattle.player_place.specs.declared.Played.the-variants.{At, Refused}
@@ -83,7 +83,7 @@ stepTests g l p j =
 
 pub record Plays (ts : List (ℕ × Bool)) (a r : Played) : Type 0 where
   pub answer : r ≡ a
-  pub number : numberOf r ≡ firstOf ts
+  pub number : playerNumber r ≡ firstOf ts
 
 -- "Each returns its number only .. and changes no lent memory or player's place."
 unfoldable pub movedOf : Position → Played → Moved

@@ -1,15 +1,15 @@
 -- Runs of a player: begun once and stepped with one input after the other.
 --
---   configuration p    == the position as a configuration of the play
---   along g i js       == the inputs js are moves, the first from input i
---   next g l a j       == the answer to input j after the answer a: a refusal ends the run
---   runOf g l js a     == the player's last answer, from the answer a on, over the inputs js
---   positionOf a       == the position that the answer a gives, if it gives one
---   trailOf g l js a   == the positions that it passes
---   run g l i js       == the last answer of a player begun with input i and stepped with js
---   trail g l i js     == the positions that it passes
---   Reached g l p      == the position is a reachable configuration of the table
---   Ran g l i js       == the run is never refused, and its positions are a walk of the table from a first configuration
+--   configuration p     == the position as a configuration of the play
+--   along g i js        == the inputs js are moves, the first from input i
+--   next g l a j        == the answer to input j after the answer a: a refusal ends the run
+--   runOf g l js a      == the player's last answer, from the answer a on, over the inputs js
+--   positionOf a        == the position that the answer a gives, if it gives one
+--   trailOf g l js a    == the positions that it passes
+--   run g l i js        == the last answer of a player begun with input i and stepped with js
+--   trail g l i js      == the positions that it passes
+--   PlayerReached g l p == the position is a reachable configuration of the table
+--   Ran g l i js        == the run is never refused, and its positions are a walk of the table from a first configuration
 use Prim.Native.Nat.{ℕ}
 use mathlib.Core.Path.{_≡_}
 use mathlib.Core.Bool.{Bool, true, _&&_}
@@ -59,8 +59,8 @@ unfoldable pub trail : Game → List ℕ → InState → List InState → List P
 trail g l i js = trailOf g l js (beginning g l i)
 
 -- "A configuration is reachable when a walk from a first one ends in it"
-abbrev pub Reached : Game → List ℕ → Position → Type 0
-Reached g l p = Reachable (ControllerFirst (playOf g) (controllerOf g l)) (ControllerTurn (playOf g) (controllerOf g l)) (configuration p)
+abbrev pub PlayerReached : Game → List ℕ → Position → Type 0
+PlayerReached g l p = Reachable (ControllerFirst (playOf g) (controllerOf g l)) (ControllerTurn (playOf g) (controllerOf g l)) (configuration p)
 
 pub record Ran (g : Game) (l : List ℕ) (i : InState) (js : List InState) : Type 0 where
   pub first : Position

@@ -3,7 +3,7 @@
 --   provided b n p            == p where b holds; else the refusal n
 --   arrives M ok i a          == the position that the answer a gives after input i, if it names one of M counters and an output that is allowed
 --   names M ok a              == the answer a names one of M counters and an output that is allowed
---   numberOf a                == document 01's number of the player's answer a, 0 for a position
+--   playerNumber a            == document 01's number of the player's answer a, 0 for a position
 --   hasPosition g M p         == the game has the position p, there being M counters
 use Prim.Native.Nat.{ℕ}
 use mathlib.Core.Bool.{Bool, true, false, _&&_}
@@ -29,9 +29,9 @@ unfoldable pub names : ℕ → (ℕ → Bool) → Answer → Bool
 names M ok none = false
 names M ok (gives c s) = ltb c M && ok s
 
-abbrev pub numberOf : Played → ℕ
-numberOf (At p) = 0
-numberOf (Refused n) = n
+abbrev pub playerNumber : Played → ℕ
+playerNumber (At p) = 0
+playerNumber (Refused n) = n
 
 -- "or a place the game lacks"
 unfoldable pub hasPosition : Game → ℕ → Position → Bool

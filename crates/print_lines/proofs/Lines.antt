@@ -17,7 +17,7 @@ use Rattle.text_shape.proofs.Opening.{opening-length}
 use Rattle.text_shape.proofs.WordTable.{word-short}
 use Rattle.text_put.specs.Put.{overlay, Puts}
 use Rattle.text_put.proofs.Buffer.{puts-as}
-use Rattle.print_lines.specs.Line.{unlessNone, winnerWord, winsLine, startLine, environmentStart, rowLine, stepLine, refusedLine, misshapenLine}
+use Rattle.print_lines.specs.Line.{unlessNone, winnerWord, winsLine, startLine, environmentStartLine, rowLine, stepLine, refusedLine, misshapenLine}
 
 -- a number of 64 bits has at most 20 digits
 tens : ℕ → ℕ
@@ -93,8 +93,8 @@ pub environment-text : (e : ℕ) → opening 5 ++ ((decimal (e % 128) ++ 41 ∷ 
 unfolding line bracket items gapText opening
 environment-text e = simp (append-assoc, append-nil)
 
-pub environment-pieces : (e : ℕ) → (e ≡ 65535 → ⊥) → opening 5 ++ ((decimal (e % 128) ++ 41 ∷ []) ++ 10 ∷ []) ≡ environmentStart e
-unfolding environmentStart
+pub environment-pieces : (e : ℕ) → (e ≡ 65535 → ⊥) → opening 5 ++ ((decimal (e % 128) ++ 41 ∷ []) ++ 10 ∷ []) ≡ environmentStartLine e
+unfolding environmentStartLine
 environment-pieces e h = environment-text e ∙ some-line e _ h
 
 pub row-pieces : (a g b e : ℕ)
@@ -156,8 +156,8 @@ start-short i e h =
     let all = then-short (opened 5) (then-short (number i 32 h) (then-short (number (e % 128) 41 (omega arith)) ended)) .size in
     unless-short e 160 _ (omega (arith, all, ap length (start-text i e)))
 
-pub environment-short : (e : ℕ) → length (environmentStart e) ≤ 160
-unfolding environmentStart
+pub environment-short : (e : ℕ) → length (environmentStartLine e) ≤ 160
+unfolding environmentStartLine
 environment-short e =
     let all = then-short (opened 5) (then-short (number (e % 128) 41 (omega arith)) ended) .size in
     unless-short e 160 _ (omega (arith, all, ap length (environment-text e)))

@@ -4,7 +4,7 @@
 --   winnerWord b                  == the word system where b holds, else environment
 --   winsLine b                    == (wins system), (wins environment)
 --   startLine i e                 == the controller's (start input output), for the entry e
---   environmentStart e            == the environment's (start input)
+--   environmentStartLine e        == the environment's (start input)
 --   rowLine a g b e               == (step a g b next-state next-counter)
 --   stepLine c n r e              == the line of row r: rows run by state, counter, other state, the last fastest;
 --                                    c counts the sets that the counter runs over, n the other states
@@ -35,8 +35,8 @@ winsLine b = line (word 4 ∷ word (winnerWord b) ∷ [])
 unfoldable pub startLine : ℕ → ℕ → List ℕ
 startLine i e = unlessNone e (line (word 5 ∷ decimal i ∷ decimal (e % 128) ∷ []))
 
-unfoldable pub environmentStart : ℕ → List ℕ
-environmentStart e = unlessNone e (line (word 5 ∷ decimal (e % 128) ∷ []))
+unfoldable pub environmentStartLine : ℕ → List ℕ
+environmentStartLine e = unlessNone e (line (word 5 ∷ decimal (e % 128) ∷ []))
 
 unfoldable pub rowLine : ℕ → ℕ → ℕ → ℕ → List ℕ
 rowLine a g b e = line (word 6 ∷ decimal a ∷ decimal g ∷ decimal b ∷ decimal (e % 128) ∷ decimal (e / 128) ∷ [])

@@ -6,7 +6,7 @@ ghost use Prim.Native.Nat.{_+_, _<_, _≤_, _^_, max};
 ghost use lib.ListN.{length};
 ghost use Rattle.text_shape.specs.Text.{word};
 ghost use Rattle.text_put.specs.Put.{Puts};
-ghost use Rattle.print_lines.specs.Line.{winnerWord, winsLine, startLine, environmentStart, rowLine, stepLine, refusedLine, misshapenLine};
+ghost use Rattle.print_lines.specs.Line.{winnerWord, winsLine, startLine, environmentStartLine, rowLine, stepLine, refusedLine, misshapenLine};
 
 // The entry of a row of none.
 const NONE: u16 = 65535;
@@ -65,7 +65,7 @@ pub fn put_start(buffer: &mut [u8], at: usize, input: usize, entry: u16) -> usiz
 // The environment's start; no byte where the entry is none.
 pub fn put_environment_start(buffer: &mut [u8], at: usize, entry: u16) -> usize
     requires { ⌜ at + 160 ≤ 2 ^ 32 ⌝ }
-    ensures { λ r. ⌜ Puts (now (buffer .entry)) at (environmentStart entry) r (now (buffer .exit)) ⌝ }
+    ensures { λ r. ⌜ Puts (now (buffer .entry)) at (environmentStartLine entry) r (now (buffer .exit)) ⌝ }
 {
     if entry == NONE {
         return at;

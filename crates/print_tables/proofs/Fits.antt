@@ -13,7 +13,7 @@ use Rattle.finite.proofs.Loops.{and-stop, and-next}
 use Rattle.finite.proofs.Lists.{any-default}
 use Rattle.text_put.specs.Put.{Puts}
 use Rattle.text_put.proofs.Buffer.{puts-then, puts-as}
-use Rattle.print_lines.specs.Line.{none, winsLine, environmentStart}
+use Rattle.print_lines.specs.Line.{none, winsLine, environmentStartLine}
 use Rattle.print_tables.specs.Print.{
   startLines,
   stepLines,
@@ -117,7 +117,7 @@ module _ {d : List ℕ} (i o c : ℕ) (es : List ℕ) where
       (puts-then P (puts-then Q (puts-as (ap (λ (n : ℕ). stepLines n 0 c i i es) rows) R)))
 
   pub environment-whole : {m : ℕ} {f : List ℕ} {k : ℕ} {g : List ℕ} {r : ℕ} {e : List ℕ} → environmentFits i o c (length es) ≡ true
-      → Puts d 0 (winsLine false) m f → Puts f m (environmentStart (getD es 0 0)) k g → Puts g k (stepLines (length es - 1) 0 c o 1 es) r e
+      → Puts d 0 (winsLine false) m f → Puts f m (environmentStartLine (getD es 0 0)) k g → Puts g k (stepLines (length es - 1) 0 c o 1 es) r e
       → Puts d 0 (environmentAnswer i o c es) r e
   unfolding environmentAnswer onlyIf environmentPrint
   environment-whole h P Q R =
@@ -125,4 +125,4 @@ module _ {d : List ℕ} (i o c : ℕ) (es : List ℕ) where
       let rows : length es - 1 ≡ i * max 1 c * o = omega (arith, l) in
       let first : 0 < length es = omega (arith, l) in
       puts-as (sym (ap (λ (b : Bool). onlyIf b (environmentPrint i o c es)) h))
-      (puts-then P (puts-then (puts-as (ap environmentStart (any-default es 0 0 none first)) Q) (puts-as (ap (λ (n : ℕ). stepLines n 0 c o 1 es) rows) R)))
+      (puts-then P (puts-then (puts-as (ap environmentStartLine (any-default es 0 0 none first)) Q) (puts-as (ap (λ (n : ℕ). stepLines n 0 c o 1 es) rows) R)))

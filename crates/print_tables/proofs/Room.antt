@@ -13,7 +13,7 @@ use Rattle.text_grammar.proofs.Format.{by-cases}
 use Rattle.finite.proofs.Lists.{any-default}
 use Rattle.text_shape.specs.Text.{words, word}
 use Rattle.text_shape.specs.Shape.{opening}
-use Rattle.print_lines.specs.Line.{none, winsLine, startLine, environmentStart, rowLine, stepLine, refusedLine, misshapenLine}
+use Rattle.print_lines.specs.Line.{none, winsLine, startLine, environmentStartLine, rowLine, stepLine, refusedLine, misshapenLine}
 use Rattle.print_tables.specs.Print.{
   startLines,
   stepLines,
@@ -62,8 +62,8 @@ start-room i e h =
     (then-short (number (e % 128) 41 3 (three-digits (e % 128) (omega arith))) ended)) .size in
     unless-short e 29 _ (omega (arith, all, ap length (start-text i e)))
 
-environment-start-room : (e : ℕ) → length (environmentStart e) ≤ 29
-unfolding environmentStart
+environment-start-room : (e : ℕ) → length (environmentStartLine e) ≤ 29
+unfolding environmentStartLine
 environment-start-room e =
     let all = then-short start-opening (then-short (number (e % 128) 41 3 (three-digits (e % 128) (omega arith))) ended) .size in
     unless-short e 29 _ (omega (arith, all, ap length (environment-text e)))
@@ -144,8 +144,8 @@ module _ (es : List ℕ) (entries : (j : ℕ) → getD es j none < 65536) where
         arith,
         ap length whole,
         l .0,
-        length-append (winsLine false) (environmentStart (getD es 0 none) ++ stepLines (i * max 1 c * o) 0 c o 1 es),
-        length-append (environmentStart (getD es 0 none)) (stepLines (i * max 1 c * o) 0 c o 1 es),
+        length-append (winsLine false) (environmentStartLine (getD es 0 none) ++ stepLines (i * max 1 c * o) 0 c o 1 es),
+        length-append (environmentStartLine (getD es 0 none)) (stepLines (i * max 1 c * o) 0 c o 1 es),
         wins-short false,
         environment-start-room (getD es 0 none),
         steps-room c o 1 (i * max 1 c * o) 0 (s .1) (s .0) (omega (arith, l)),

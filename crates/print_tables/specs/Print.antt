@@ -13,7 +13,7 @@ use mathlib.Core.Bool.{Bool, true, false, _&&_}
 use mathlib.Core.List.{List, [], _++_}
 use lib.Dec.{eqb, leb}
 use lib.ListN.{getD, length}
-use Rattle.print_lines.specs.Line.{none, winsLine, startLine, environmentStart, stepLine}
+use Rattle.print_lines.specs.Line.{none, winsLine, startLine, environmentStartLine, stepLine}
 
 unfoldable pub startLines : ℕ → ℕ → List ℕ → List ℕ
 startLines zero i es = []
@@ -27,7 +27,7 @@ unfoldable pub controllerPrint : ℕ → ℕ → ℕ → List ℕ → List ℕ
 controllerPrint i o c es = winsLine true ++ (startLines i 0 es ++ stepLines (o * max 1 c * i) 0 c i i es)
 
 unfoldable pub environmentPrint : ℕ → ℕ → ℕ → List ℕ → List ℕ
-environmentPrint i o c es = winsLine false ++ (environmentStart (getD es 0 none) ++ stepLines (i * max 1 c * o) 0 c o 1 es)
+environmentPrint i o c es = winsLine false ++ (environmentStartLine (getD es 0 none) ++ stepLines (i * max 1 c * o) 0 c o 1 es)
 
 -- "1 to 128 states each"; "k requirements, 0 to 8. Each has 0 to 4 input sets and 0 to 4 output sets."
 unfoldable pub inRange : ℕ → ℕ → ℕ → Bool

@@ -32,7 +32,7 @@ use Rattle.player_place.specs.declared.Played.the-variants.{At, Refused as Stop
 use Rattle.player.specs.Player.{fitting, begun, stepped, afterAcceptance, beginning, stepping}
 use Rattle.recorder.specs.declared.Compared.{Compared}
 use Rattle.recorder.specs.declared.Compared.the-variants.{Agree, Differ, Ended, Fault, Refused}
-use Rattle.recorder.specs.Recorded.{inputOf, nowhere, judged, ended, answerAt, recorded, compared, faultBy, faultNumber, numberOf, Compares}
+use Rattle.recorder.specs.Recorded.{inputOf, nowhere, stepJudged, ended, answerAt, recorded, compared, faultBy, faultNumber, recorderNumber, Compares}
 
 module _ (g : Game) (l : List ℕ) (p : Position) (i : InState) where
   pub answer-start : (n : ℕ) {a : Played} → n ≡ 0 → a ≡ beginning g l i → a ≡ answerAt g l n p i
@@ -77,29 +77,29 @@ module _ (g : Game) (l is os : List ℕ) (n : ℕ) (p : Position) where
 
   -- k is the input of step n, and a the player's answer to it
   module _ (b : n < length is) (k : ℕ) (h : k ≡ getD is n 0) (a : Played) (e : a ≡ answerAt g l n p (inputOf k)) where
-    shows : recorded g l (drop n is) (drop n os) n p ≡ judged a (drop n os) n (recorded g l (drop (suc n) is) (drop 1 (drop n os)) (suc n))
+    shows : recorded g l (drop n is) (drop n os) n p ≡ stepJudged a (drop n os) n (recorded g l (drop (suc n) is) (drop 1 (drop n os)) (suc n))
     unfolding recorded
     shows =
         ap (λ (x : List ℕ). recorded g l x (drop n os) n p) (drop-cons is n 0 b)
-        ∙ ap (λ (x : Played). judged x (drop n os) n (recorded g l (drop (suc n) is) (drop 1 (drop n os)) (suc n)))
+        ∙ ap (λ (x : Played). stepJudged x (drop n os) n (recorded g l (drop (suc n) is) (drop 1 (drop n os)) (suc n)))
         (sym (e ∙ ap (λ (i : ℕ). answerAt g l n p (inputOf i)) h))
 
     pub step-fault : (c : ℕ) → a ≡ Stopped c → Fault n c ≡ recorded g l (drop n is) (drop n os) n p
-    unfolding judged
-    step-fault c q = sym (shows ∙ ap (λ (x : Played). judged x (drop n os) n (recorded g l (drop (suc n) is) (drop 1 (drop n os)) (suc n))) q)
+    unfolding stepJudged
+    step-fault c q = sym (shows ∙ ap (λ (x : Played). stepJudged x (drop n os) n (recorded g l (drop (suc n) is) (drop 1 (drop n os)) (suc n))) q)
 
     module _ (r : Position) (q : a ≡ At r) where
-      went : recorded g l (drop n is) (drop n os) n p ≡ judged (At r) (drop n os) n (recorded g l (drop (suc n) is) (drop 1 (drop n os)) (suc n))
-      went = shows ∙ ap (λ (x : Played). judged x (drop n os) n (recorded g l (drop (suc n) is) (drop 1 (drop n os)) (suc n))) q
+      went : recorded g l (drop n is) (drop n os) n p ≡ stepJudged (At r) (drop n os) n (recorded g l (drop (suc n) is) (drop 1 (drop n os)) (suc n))
+      went = shows ∙ ap (λ (x : Played). stepJudged x (drop n os) n (recorded g l (drop (suc n) is) (drop 1 (drop n os)) (suc n))) q
 
       pub step-ended : length os ≤ n → Ended n ≡ recorded g l (drop n is) (drop n os) n p
-      unfolding judged
-      step-ended d = sym (went ∙ ap (λ (x : List ℕ). judged (At r) x n (recorded g l (drop (suc n) is) (drop 1 (drop n os)) (suc n))) (past os n d))
+      unfolding stepJudged
+      step-ended d = sym (went ∙ ap (λ (x : List ℕ). stepJudged (At r) x n (recorded g l (drop (suc n) is) (drop 1 (drop n os)) (suc n))) (past os n d))
 
-      looked : n < length os → judged (At r) (drop n os) n (recorded g l (drop (suc n) is) (drop 1 (drop n os)) (suc n))
+      looked : n < length os → stepJudged (At r) (drop n os) n (recorded g l (drop (suc n) is) (drop 1 (drop n os)) (suc n))
           ≡ elim (eqb (r .output .0) (getD os n 0)) [ true ↦ recorded g l (drop (suc n) is) (drop 1 (drop n os)) (suc n) r | false ↦ Differ n ]
-      unfolding judged
-      looked d = ap (λ (x : List ℕ). judged (At r) x n (recorded g l (drop (suc n) is) (drop 1 (drop n os)) (suc n))) (drop-cons os n 0 d)
+      unfolding stepJudged
+      looked d = ap (λ (x : List ℕ). stepJudged (At r) x n (recorded g l (drop (suc n) is) (drop 1 (drop n os)) (suc n))) (drop-cons os n 0 d)
 
       pub step-differs : n < length os → (o : ℕ) → o ≡ getD os n 0 → r .output .0 ≢ o → Differ n ≡ recorded g l (drop n is) (drop n os) n p
       step-differs d o i f = sym (went ∙ looked d ∙ rw (ne-eqb (r .output .0) (getD os n 0) (λ z. f (z ∙ sym i))) refl)
@@ -127,23 +127,23 @@ module _ (g : Game) (l is os : List ℕ) where
 
 -- ---- the number
 
-judged-number : (a : Played) (os : List ℕ) (n : ℕ) (k : Position → Compared) (f : Position → ℕ) → ((p : Position) → numberOf (k p) ≡ f p)
-    → numberOf (judged a os n k) ≡ faultBy a os f
-unfolding judged faultBy
+judged-number : (a : Played) (os : List ℕ) (n : ℕ) (k : Position → Compared) (f : Position → ℕ) → ((p : Position) → recorderNumber (k p) ≡ f p)
+    → recorderNumber (stepJudged a os n k) ≡ faultBy a os f
+unfolding stepJudged faultBy
 judged-number (Stopped c) os n k f h = refl
 judged-number (At p) [] n k f h = refl
 judged-number (At p) (o ∷ os) n k f h = go (eqb (p .output .0) o)
   where
-    go : (b : Bool) → numberOf (elim b as (λ x. Compared) [ true ↦ k p | false ↦ Differ n ]) ≡ elim b as (λ x. ℕ) [ true ↦ f p | false ↦ 0 ]
+    go : (b : Bool) → recorderNumber (elim b as (λ x. Compared) [ true ↦ k p | false ↦ Differ n ]) ≡ elim b as (λ x. ℕ) [ true ↦ f p | false ↦ 0 ]
     go true = h p
     go false = refl
 
-ended-number : (os : List ℕ) (n : ℕ) → numberOf (ended os n) ≡ 0
+ended-number : (os : List ℕ) (n : ℕ) → recorderNumber (ended os n) ≡ 0
 unfolding ended
 ended-number [] n = refl
 ended-number (o ∷ os) n = refl
 
-recorded-number : (g : Game) (l is os : List ℕ) (n : ℕ) (p : Position) → numberOf (recorded g l is os n p) ≡ faultNumber g l is os n p
+recorded-number : (g : Game) (l is os : List ℕ) (n : ℕ) (p : Position) → recorderNumber (recorded g l is os n p) ≡ faultNumber g l is os n p
 unfolding recorded faultNumber
 recorded-number g l [] os n p = ended-number os n
 recorded-number g l (i ∷ is) os n p =
@@ -154,13 +154,13 @@ module _ (g : Game) (l is os : List ℕ) where
   abbrev rest : Bool → List (ℕ × Bool)
   rest b = (16, b) ∷ (faultNumber g l is os 0 nowhere, false) ∷ []
 
-  fitting-number : (b : Bool) → numberOf (elim b as (λ x. Compared) [ true ↦ recorded g l is os 0 nowhere | false ↦ Refused 16 ]) ≡ firstOf (rest b)
+  fitting-number : (b : Bool) → recorderNumber (elim b as (λ x. Compared) [ true ↦ recorded g l is os 0 nowhere | false ↦ Refused 16 ]) ≡ firstOf (rest b)
   unfolding firstOf
   fitting-number true = recorded-number g l is os 0 nowhere
   fitting-number false = refl
 
   compared-number : (a : Acceptance)
-      → numberOf (elim a as (λ x. Compared) [
+      → recorderNumber (elim a as (λ x. Compared) [
         | Accepted ↦ elim (fitting g l) [ true ↦ recorded g l is os 0 nowhere | false ↦ Refused 16 ]
         | Faulty n ↦ Refused n
       ]) ≡ after a (firstOf (rest (fitting g l)))
@@ -169,4 +169,4 @@ module _ (g : Game) (l is os : List ℕ) where
 
   pub compares : {r : Compared} → r ≡ compared g l is os → Compares g l is os r
   unfolding compared
-  compares h = record { answer = h; number = ap numberOf h ∙ compared-number (acceptance g) ∙ sym (game-after g (rest (fitting g l))) }
+  compares h = record { answer = h; number = ap recorderNumber h ∙ compared-number (acceptance g) ∙ sym (game-after g (rest (fitting g l))) }

@@ -1,13 +1,13 @@
 -- Two recordings of one run against a controller's table.
 --
---   judged a os n k      == what step n shows: the player's answer a there beside the recorded outputs os from that step on; where they are the same
+--   stepJudged a os n k  == what step n shows: the player's answer a there beside the recorded outputs os from that step on; where they are the same
 --                           k tells of what follows, from the position come to
 --   ended os n           == what step n shows where the inputs have ended
 --   answerAt g l n p i   == the player's answer to input i at step n, being at p
 --   recorded g l is os n p    == the reply from step n on, the player being at p: is and os are what is left of the recordings
 --   compared g l is os   == the reply
 --   faultNumber g l is os n p    == the player's number where the reply from step n on is a fault, 0 otherwise
---   numberOf r           == the number of the reply r, 0 for none
+--   recorderNumber r     == the number of the reply r, 0 for none
 --   Compares g l is os r == r is the reply, and its number the first of 1 to 7 and 16, or else the player's
 use Prim.Native.Nat.{ℕ, zero, suc}
 use mathlib.Core.Bool.{true, false}
@@ -36,10 +36,10 @@ inputOf i = record { 0 = i }
 
 -- "the first step where the outputs differ, or the first step where one recording has ended and the other has not"; "A fault goes before a difference or
 -- an ending at its step."
-unfoldable pub judged : Played → List ℕ → ℕ → (Position → Compared) → Compared
-judged (Stopped c) os n k = Fault n c
-judged (At p) [] n k = Ended n
-judged (At p) (o ∷ os) n k = elim (eqb (p .output .0) o) [ true ↦ k p | false ↦ Differ n ]
+unfoldable pub stepJudged : Played → List ℕ → ℕ → (Position → Compared) → Compared
+stepJudged (Stopped c) os n k = Fault n c
+stepJudged (At p) [] n k = Ended n
+stepJudged (At p) (o ∷ os) n k = elim (eqb (p .output .0) o) [ true ↦ k p | false ↦ Differ n ]
 
 -- where the inputs have ended at step n, os being what is left of the outputs
 unfoldable pub ended : List ℕ → ℕ → Compared
@@ -53,7 +53,7 @@ answerAt g l (suc n) p i = stepping g l p i
 
 unfoldable pub recorded : Game → List ℕ → List ℕ → List ℕ → ℕ → Position → Compared
 recorded g l [] os n p = ended os n
-recorded g l (i ∷ is) os n p = judged (answerAt g l n p (inputOf i)) os n (recorded g l is (drop 1 os) (suc n))
+recorded g l (i ∷ is) os n p = stepJudged (answerAt g l n p (inputOf i)) os n (recorded g l is (drop 1 os) (suc n))
 
 -- "1 to 7 and 16 are tried before"
 unfoldable pub compared : Game → List ℕ → List ℕ → List ℕ → Compared
@@ -73,14 +73,14 @@ unfoldable pub faultNumber : Game → List ℕ → List ℕ → List ℕ → ℕ
 faultNumber g l [] os n p = 0
 faultNumber g l (i ∷ is) os n p = faultBy (answerAt g l n p (inputOf i)) os (faultNumber g l is (drop 1 os) (suc n))
 
-abbrev pub numberOf : Compared → ℕ
-numberOf Agree = 0
-numberOf (Differ n) = 0
-numberOf (Ended n) = 0
-numberOf (Fault n c) = c
-numberOf (Refused c) = c
+abbrev pub recorderNumber : Compared → ℕ
+recorderNumber Agree = 0
+recorderNumber (Differ n) = 0
+recorderNumber (Ended n) = 0
+recorderNumber (Fault n c) = c
+recorderNumber (Refused c) = c
 
 -- a fault comes after the tests that are tried before
 pub record Compares (g : Game) (l is os : List ℕ) (r : Compared) : Type 0 where
   pub answer : r ≡ compared g l is os
-  pub number : numberOf r ≡ firstOf (gameTests g ++ (16, fitting g l) ∷ (faultNumber g l is os 0 nowhere, false) ∷ [])
+  pub number : recorderNumber r ≡ firstOf (gameTests g ++ (16, fitting g l) ∷ (faultNumber g l is os 0 nowhere, false) ∷ [])

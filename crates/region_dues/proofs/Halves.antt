@@ -1,116 +1,186 @@
--- The list of sets in its two halves.
+-- The sets in their two halves, and the sets of the list as those of the game.
 --
---   server-first, server-second  : a set that is read
---   servers-long, servers-at     : the list has eight, each the one of its requirement
---   put-first, put-second        : a set that is put
---   servers-none                 : the list whose sets are all one
---   marked-put, accepted-by      : what is told of the list, from a set that was read
+--   server-first, server-second  : the set of a requirement is in the half that has it
+--   servers-none                 : the sets of empty words
+--   half-room                    : four sets in each half
+--   assumed-few, guaranteed-few  : few enough sets for some requirements
+--   due-listed, served-listed    : a requirement of the list is due or served where that of the game is
+--   first-below                  : the first requirements are requirements
+--   marked-both, accepted-both   : what is told of each half, told of all requirements
 use Prim.Native.Nat.{ℕ, _+_, _-_, _≤_, _<_}
-use mathlib.Core.Path.{_≡_, refl, sym, _∙_, ap, subst}
-use mathlib.Core.Bool.{Bool, not, _&&_, _||_}
+use mathlib.Core.Path.{_≡_, refl, sym, _∙_, ap, ap₂}
+use mathlib.Core.Bool.{Bool, true, false, not, _&&_, _||_}
+use mathlib.Core.List.{List}
 use native.Mathlib.Omega.{arith}
-use native.Mathlib.Decide.{ℕ-discrete, decLt}
-use lib.ListN.{length, getD, set, replicate, length-set}
-use lib.Seq.{getD-set-same, getD-set-other, ext-getD}
+use native.Mathlib.Decide.{decLt}
+use lib.ListN.{length, getD, replicate, take, getD-replicate}
 use borrow.Author.Tests.{lt-ltb, le-ltb}
 use Rattle.finite.specs.Bounded.{all}
-use Rattle.finite.specs.Tabulate.{tabulate, tabulateFrom}
-use Rattle.finite.proofs.Tabulate.{length-tabulate, getD-tabulate}
-use Rattle.bits.specs.Member.{has}
-use Rattle.sets.specs.Words.{bitsOf}
+use Rattle.finite.proofs.Truth.{same-test, and-intro, and-left, and-right}
+use Rattle.finite.proofs.Bounded.{all-intro, all-elim, all-same}
+use Rattle.bits.specs.Member.{has, setsMeet}
+use Rattle.sets.specs.Words.{capacity, rowWords, setsIn, setCount, wordsFor}
+use Rattle.sets.proofs.Rows.{words-held, words-none, sets-words, sets-take}
 use Rattle.game.specs.declared.Game.{Game}
-use Rattle.game.specs.declared.OutSet.{OutSet}
-use Rattle.game.specs.Access.{noOutput}
-use Rattle.region_dues.specs.declared.Servers.{Servers}
-use Rattle.region_dues.specs.Dues.{dueIn, servedIn, serverOf, serverList, Whole, serversAt, Marked, admits}
-use Rattle.region_dues.proofs.Steps.{marked-next, accepted-next}
+use Rattle.game.specs.Access.{requirementAt}
+use Rattle.game_sets.specs.Lists.{Lists, AssumedCounts, GuaranteedCounts}
+use Rattle.region_dues.specs.Dues.{
+  inMeetsAt,
+  inMeets,
+  outMeetsAt,
+  outMeets,
+  dueIn,
+  servedIn,
+  inMeetsBy,
+  dueBy,
+  outMeetsBy,
+  servedBy,
+  Few,
+  FewSets,
+  FirstFour,
+  serversAt,
+  Marked,
+  admitsBy,
+  admits,
+}
 
-module _ (t : Servers) where
-  pub server-first : (r : ℕ) → r < 4 → getD (t .first) r noOutput ≡ serverOf t r
-  unfolding serverOf
-  server-first r b = rw (lt-ltb r 4 b, serverOf) refl
+module _ (f s : List ℕ) where
+  pub server-first : (r : ℕ) → r < 4 → getD (setsIn f) r 0 ≡ serversAt f s r
+  unfolding serversAt
+  server-first r b = rw (lt-ltb r 4 b, serversAt) refl
 
-  pub server-second : (r : ℕ) → 4 ≤ r → getD (t .second) (r - 4) noOutput ≡ serverOf t r
-  unfolding serverOf
-  server-second r b = rw (le-ltb r 4 b, serverOf) refl
+  pub server-second : (r : ℕ) → 4 ≤ r → getD (setsIn s) (r - 4) 0 ≡ serversAt f s r
+  unfolding serversAt
+  server-second r b = rw (le-ltb r 4 b, serversAt) refl
 
-  pub servers-long : length (serverList t) ≡ 8
-  unfolding serverList
-  servers-long = length-tabulate (serverOf t) 8
+-- four empty sets, as the first of the rows of a graph without moves
+none-in : setsIn (replicate (wordsFor 4) 0) ≡ replicate 4 0
+none-in =
+    sets-take (replicate rowWords 0) 4 (words-held (replicate rowWords 0) 4 (omega arith))
+    ∙ ap (λ (l : List ℕ). take 4 l) (ap setsIn words-none ∙ sets-words (replicate capacity 0))
 
-  pub servers-at : (r : ℕ) → r < 8 → getD (serverList t) r noOutput ≡ serverOf t r
-  unfolding serverList
-  servers-at r b = getD-tabulate (serverOf t) 8 r noOutput b
-
--- two lists of which the one has the sets of the other, but for requirement r
-told : (t u : Servers) (r : ℕ) (x : OutSet) → r < 8 → serverOf u r ≡ x → ((q : ℕ) → q < 8 → (q ≡ r → ⊥) → serverOf u q ≡ serverOf t q)
-    → serverList u ≡ set (serverList t) r x
-told t u r x b here other =
-    ext-getD noOutput (serverList u) (set (serverList t) r x) (servers-long u ∙ sym (length-set (serverList t) r x ∙ servers-long t))
-    (λ q l. servers-at u q (omega (arith, servers-long u)) ∙ at q (omega (arith, servers-long u)) (ℕ-discrete q r))
+pub servers-none : (r : ℕ) → r < 8 → serversAt (replicate (wordsFor 4) 0) (replicate (wordsFor 4) 0) r ≡ 0
+servers-none r b = go (decLt r 4)
   where
-    at : (q : ℕ) → q < 8 → Dec (q ≡ r) → serverOf u q ≡ getD (set (serverList t) r x) q noOutput
-    at q l (yes z) = rw z (here ∙ sym (getD-set-same (serverList t) r x noOutput (omega (arith, servers-long t))))
-    at q l (no z) = other q l z ∙ sym (getD-set-other (serverList t) r q x noOutput z ∙ servers-at t q l)
+    none : List ℕ
+    none = replicate (wordsFor 4) 0
 
-module _ (t : Servers) (W : Whole t) (r : ℕ) (x : OutSet) where
-  pub put-first : r < 4 → let u : Servers = record { first = set (t .first) r x; second = t .second } in
-      Whole u × (serverList u ≡ set (serverList t) r x)
-  put-first b = (
-    record { first = length-set (t .first) r x ∙ W .first; second = W .second },
-    told t u r x (omega arith) (sym (server-first u r b) ∙ getD-set-same (t .first) r x noOutput (omega (arith, W .first))) other,
-  )
+    empty : (q : ℕ) → q < 4 → getD (setsIn none) q 0 ≡ 0
+    empty q l = ap (λ (x : List ℕ). getD x q 0) none-in ∙ getD-replicate 4 q 0 0 l
+
+    go : Dec (r < 4) → serversAt none none r ≡ 0
+    go (yes c) = sym (server-first none none r c) ∙ empty r c
+    go (no c) = sym (server-second none none r (omega arith)) ∙ empty (r - 4) (omega arith)
+
+pub half-room : (l : List ℕ) (n : ℕ) → length l ≡ wordsFor 4 → n ≤ 4 → n ≤ setCount l
+half-room l n e b = omega (arith, words-held l 4 (omega (arith, e)))
+
+-- ---- the requirements of the list
+
+module _ {g : Game} (F : Few g) where
+  module _ {n : List ℕ} (C : AssumedCounts g n) where
+    few-assumed : (r : ℕ) → r < g .k → getD n r 0 ≤ 4
+    few-assumed r b = omega (arith, C .at r b, F .assumed r (omega (arith, F .requirements)))
+
+    pub assumed-few : (i k : ℕ) → ((q : ℕ) → q < k → i + q < g .k) → FewSets n i k
+    assumed-few i k h = record { at = λ q b. few-assumed (i + q) (h q b) }
+
+    pub due-listed : {l : List ℕ} → Lists g l → (a r : ℕ) → r < g .k → dueBy l n a r ≡ dueIn g a r
+    unfolding dueBy dueIn inMeets inMeetsBy inMeetsAt
+    due-listed {l} L a r b =
+        all-same (getD n r 0) (inMeetsBy l a r) (inMeetsAt (requirementAt g r) a)
+        (λ j c. ap (λ (x : ℕ). setsMeet capacity x a) (L .assumed r j b (omega (arith, few-assumed r b))))
+        ∙ ap (λ (x : ℕ). all x (inMeetsAt (requirementAt g r) a)) (C .at r b)
+
+  module _ {n : List ℕ} (C : GuaranteedCounts g n) where
+    few-guaranteed : (r : ℕ) → r < g .k → getD n r 0 ≤ 4
+    few-guaranteed r b = omega (arith, C .at r b, F .guaranteed r (omega (arith, F .requirements)))
+
+    pub guaranteed-few : (i k : ℕ) → ((q : ℕ) → q < k → i + q < g .k) → FewSets n i k
+    guaranteed-few i k h = record { at = λ q b. few-guaranteed (i + q) (h q b) }
+
+    pub served-listed : {l : List ℕ} → Lists g l → (c r : ℕ) → r < g .k → servedBy l n c r ≡ servedIn g c r
+    unfolding servedBy servedIn outMeets outMeetsBy outMeetsAt
+    served-listed {l} L c r b =
+        all-same (getD n r 0) (outMeetsBy l c r) (outMeetsAt (requirementAt g r) c)
+        (λ j d. ap (λ (x : ℕ). setsMeet capacity x c) (L .guaranteed r j b (omega (arith, few-guaranteed r b))))
+        ∙ ap (λ (x : ℕ). all x (outMeetsAt (requirementAt g r) c)) (C .at r b)
+
+-- ---- both halves
+
+pub first-below : {k n : ℕ} → FirstFour k n → (q : ℕ) → q < n → 0 + q < k
+first-below H q b = omega (arith, H .within)
+
+module _ {g : Game} (F : Few g) {l n : List ℕ} (L : Lists g l) {m : ℕ} (H : FirstFour (g .k) m) where
+  pub marked-both : GuaranteedCounts g n → (c : ℕ) (x y v w : List ℕ) → Marked l n 0 m c (setsIn x) (setsIn v) → Marked l n 4 (g .k - m) c (setsIn y) (setsIn w)
+      → (r : ℕ) → r < g .k → (t : ℕ) → has (serversAt v w r) t ≡ (has (serversAt x y r) t || (servedIn g c r && has c t))
+  marked-both C c x y v w M N r b t = go (decLt r 4)
     where
-      u : Servers
-      u = record { first = set (t .first) r x; second = t .second }
+      at : (i : ℕ) → i ≡ r → servedBy l n c i ≡ servedIn g c r
+      at i e = ap (servedBy l n c) e ∙ served-listed F C L c r b
 
-      other : (q : ℕ) → q < 8 → (q ≡ r → ⊥) → serverOf u q ≡ serverOf t q
-      other q l z = go (decLt q 4)
-        where
-          go : Dec (q < 4) → serverOf u q ≡ serverOf t q
-          go (yes c) = sym (server-first u q c) ∙ getD-set-other (t .first) r q x noOutput z ∙ server-first t q c
-          go (no c) = sym (server-second u q (omega arith)) ∙ server-second t q (omega arith)
+      told : (p q : ℕ) (o : Bool) → p ≡ serversAt x y r → q ≡ serversAt v w r → o ≡ servedIn g c r → has q t ≡ (has p t || (o && has c t))
+          → has (serversAt v w r) t ≡ (has (serversAt x y r) t || (servedIn g c r && has c t))
+      told p q o e f k h =
+          ap (λ (z : ℕ). has z t) (sym f) ∙ h ∙ ap₂ (λ (z : ℕ) (u : Bool). has z t || (u && has c t)) e k
 
-  pub put-second : 4 ≤ r → r < 8 → let u : Servers = record { first = t .first; second = set (t .second) (r - 4) x } in
-      Whole u × (serverList u ≡ set (serverList t) r x)
-  put-second b l = (
-    record { first = W .first; second = length-set (t .second) (r - 4) x ∙ W .second },
-    told t u r x l (sym (server-second u r b) ∙ getD-set-same (t .second) (r - 4) x noOutput (omega (arith, W .second))) other,
-  )
+      go : Dec (r < 4) → has (serversAt v w r) t ≡ (has (serversAt x y r) t || (servedIn g c r && has c t))
+      go (yes d) = told _ _ _ (server-first x y r d) (server-first v w r d) (at (0 + r) (omega arith)) (M .done r (H .first r b d) t)
+      go (no d) =
+          told _ _ _ (server-second x y r (omega arith)) (server-second v w r (omega arith)) (at (4 + (r - 4)) (omega arith))
+          (N .done (r - 4) (omega (arith, H .most)) t)
+
+  module _ (C : AssumedCounts g n) (a : ℕ) (x y : List ℕ) (d : ℕ) where
+    first-at : (r : ℕ) → r < g .k → r < 4 → admitsBy l n 0 a (setsIn x) d r ≡ admits g a x y d r
+    unfolding admitsBy admits
+    first-at r b c = ap₂ (λ (u : Bool) (z : ℕ). not u || has z d) (ap (dueBy l n a) same ∙ due-listed F C L a r b) (server-first x y r c)
+      where
+        same : 0 + r ≡ r
+        same = omega arith
+
+    second-at : (q : ℕ) → 4 + q < g .k → admitsBy l n 4 a (setsIn y) d q ≡ admits g a x y d (4 + q)
+    unfolding admitsBy admits
+    second-at q b =
+        ap₂ (λ (u : Bool) (z : ℕ). not u || has z d) (due-listed F C L a (4 + q) b)
+        (ap (λ (j : ℕ). getD (setsIn y) j 0) same ∙ server-second x y (4 + q) (omega arith))
+      where
+        same : q ≡ 4 + q - 4
+        same = omega arith
+
+    both : (all m (admitsBy l n 0 a (setsIn x) d) && all (g .k - m) (admitsBy l n 4 a (setsIn y) d)) ≡ all (g .k) (admits g a x y d)
+    both =
+        same-test (all m p && all (g .k - m) q) (all (g .k) (admits g a x y d))
+        (λ h. all-intro (g .k) (admits g a x y d) (λ r b. to h r b (decLt r 4)))
+        (λ h. and-intro
+        (all-intro m p (λ r b. first-at r (omega (arith, H .within)) (omega (arith, H .most))
+        ∙ all-elim (g .k) (admits g a x y d) h r (omega (arith, H .within))))
+        (all-intro (g .k - m) q (λ r b. second-at r (H .second r b) ∙ all-elim (g .k) (admits g a x y d) h (4 + r) (H .second r b))))
+      where
+        p : ℕ → Bool
+        p = admitsBy l n 0 a (setsIn x) d
+
+        q : ℕ → Bool
+        q = admitsBy l n 4 a (setsIn y) d
+
+        to : (all m p && all (g .k - m) q) ≡ true → (r : ℕ) → r < g .k → Dec (r < 4) → admits g a x y d r ≡ true
+        to h r b (yes c) = sym (first-at r b c) ∙ all-elim m p (and-left (all m p) (all (g .k - m) q) h) r (H .first r b c)
+        to h r b (no c) =
+            ap (admits g a x y d) back
+            ∙ sym (second-at (r - 4) (omega arith))
+            ∙ all-elim (g .k - m) q (and-right (all m p) (all (g .k - m) q) h) (r - 4) (omega (arith, H .most))
+          where
+            back : r ≡ 4 + (r - 4)
+            back = omega arith
+
+  pub accepted-both : AssumedCounts g n → (a : ℕ) (x y : List ℕ) (u v w : ℕ)
+      → ((d : ℕ) → has v d ≡ (has u d && all m (admitsBy l n 0 a (setsIn x) d)))
+      → ((d : ℕ) → has w d ≡ (has v d && all (g .k - m) (admitsBy l n 4 a (setsIn y) d)))
+      → (d : ℕ) → has w d ≡ (has u d && all (g .k) (admits g a x y d))
+  accepted-both C a x y u v w h k d =
+      k d ∙ ap (λ (b : Bool). b && all (g .k - m) (admitsBy l n 4 a (setsIn y) d)) (h d)
+      ∙ assoc (has u d) (all m (admitsBy l n 0 a (setsIn x) d)) (all (g .k - m) (admitsBy l n 4 a (setsIn y) d))
+      ∙ ap (λ (b : Bool). has u d && b) (both C a x y d)
     where
-      u : Servers
-      u = record { first = t .first; second = set (t .second) (r - 4) x }
-
-      other : (q : ℕ) → q < 8 → (q ≡ r → ⊥) → serverOf u q ≡ serverOf t q
-      other q k z = go (decLt q 4)
-        where
-          go : Dec (q < 4) → serverOf u q ≡ serverOf t q
-          go (yes c) = sym (server-first u q c) ∙ server-first t q c
-          go (no c) =
-              sym (server-second u q (omega arith)) ∙ getD-set-other (t .second) (r - 4) (q - 4) x noOutput (λ e. z (omega arith))
-              ∙ server-second t q (omega arith)
-
-pub servers-none : (x : OutSet) → let t : Servers = record { first = replicate 4 x; second = replicate 4 x } in
-    Whole t × (serverList t ≡ replicate 8 x)
-unfolding serverList serverOf tabulate tabulateFrom
-servers-none x = (record { first = refl; second = refl }, refl)
-
--- the set that was read is the list's
-read-at : (u : Servers) (r : ℕ) (x : OutSet) → r < 8 → x ≡ serverOf u r → bitsOf (x .0) ≡ serversAt (serverList u) r
-unfolding serversAt
-read-at u r x b e = ap (λ (y : OutSet). bitsOf (y .0)) (e ∙ sym (servers-at u r b))
-
-pub marked-put : (g : Game) (c : ℕ) (t u w : Servers) (r : ℕ) (x v : OutSet) (ok : Bool) → r < 8 → Marked g c r (serverList t) (serverList u)
-    → x ≡ serverOf u r → ok ≡ servedIn g c r → ((s : ℕ) → has (bitsOf (v .0)) s ≡ (has (bitsOf (x .0)) s || (ok && has c s)))
-    → serverList w ≡ set (serverList u) r v → Marked g c (r + 1) (serverList t) (serverList w)
-marked-put g c t u w r x v ok b M e o h p =
-    subst (Marked g c (r + 1) (serverList t)) (sym p)
-    (marked-next g c (serverList t) r (serverList u) v ok (omega (arith, servers-long t)) M o
-    (λ s. h s ∙ ap (λ (n : ℕ). has n s || (ok && has c s)) (read-at u r x b e)))
-
-pub accepted-by : (g : Game) (a x : ℕ) (t : Servers) (r y z : ℕ) (v : OutSet) → r < 8 → v ≡ serverOf t r
-    → ((d : ℕ) → has y d ≡ (has x d && all r (admits g a (serverList t) d)))
-    → ((d : ℕ) → has z d ≡ (has y d && (not (dueIn g a r) || has (bitsOf (v .0)) d)))
-    → (d : ℕ) → has z d ≡ (has x d && all (r + 1) (admits g a (serverList t) d))
-accepted-by g a x t r y z v b e h k =
-    accepted-next g a x (serverList t) r y z h (λ d. k d ∙ ap (λ (n : ℕ). has y d && (not (dueIn g a r) || has n d)) (read-at t r v b e))
+      assoc : (b c e : Bool) → ((b && c) && e) ≡ (b && (c && e))
+      assoc true c e = refl
+      assoc false c e = refl

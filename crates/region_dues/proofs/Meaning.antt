@@ -11,22 +11,21 @@ use mathlib.Core.Logic.{_⊎_, inl, inr, _≢_}
 use native.Mathlib.Omega.{arith}
 use native.Mathlib.Decide.{decLt}
 use lib.Dec.{ltb}
-use lib.ListN.{getD, replicate, getD-replicate}
+use lib.ListN.{getD, replicate}
 use borrow.Author.Tests.{lt-ltb, ltb-true}
 use Rattle.finite.specs.Bounded.{all, any, least, count}
 use Rattle.finite.proofs.Truth.{decide, clash, false-of, same-test, and-intro, and-left, and-right, and-false-right, or-false, not-true}
 use Rattle.finite.proofs.Tabulate.{allOf-tabulate}
 use Rattle.finite.proofs.Bounded.{all-same, any-intro, any-elim, count-less}
-use Rattle.bits.specs.Member.{has, pack, meets}
+use Rattle.bits.specs.Member.{has, pack, setsMeet}
 use Rattle.bits.proofs.Membership.{ext, has-zero, has-pack-below, has-pack-past, has-lt, pack-lt, pack-ext}
 use Rattle.bits.proofs.Compare.{meets-intro, meets-elim}
 use Rattle.bits.proofs.Visit.{small-word, lowest-in}
-use Rattle.sets.specs.Words.{capacity, bitsOf}
+use Rattle.sets.specs.Words.{capacity, bitsOf, wordsFor}
 use Rattle.graphs.specs.Component.{joined, meetsAt}
 use Rattle.graphs.proofs.Component.{joined-self, joined-same}
 use Rattle.game.specs.declared.Requirement.{Requirement as RequirementRecord}
 use Rattle.game.specs.declared.Game.{Game}
-use Rattle.game.specs.declared.OutSet.{OutSet}
 use Rattle.game.specs.Access.{noInput, noOutput, requirementAt}
 use Rattle.game.proofs.Laws.{Fits}
 use Rattle.play.specs.Play.{graphOf, requirementOf, requirementsOf, separatedOf}
@@ -34,7 +33,8 @@ use Rattle.graph_components.specs.Component.{together}
 use Rattle.graph_components.specs.Closes.{Closes}
 use Rattle.graph_components.proofs.Closed.{component-closed}
 use Rattle.theory.specs.Region.{due, served, accepting}
-use Rattle.region_dues.specs.Dues.{inMeetsAt, inMeets, outMeetsAt, outMeets, dueIn, servedIn, Few, serversAt, Marked, serves, Serving, admits}
+use Rattle.region_dues.specs.Dues.{inMeetsAt, inMeets, outMeetsAt, outMeets, dueIn, servedIn, Few, Whole, serversAt, serves, Serving, admits}
+use Rattle.region_dues.proofs.Halves.{servers-none}
 
 pub fits-few : (g : Game) → Fits g → Few g
 fits-few g F = record {
@@ -44,9 +44,9 @@ fits-few g F = record {
 }
 
 -- a set meets a component
-meets-component : (n x : ℕ) (p : ℕ → Bool) → n ≤ capacity → meets capacity x (pack n p) ≡ any n (λ t. has x t && p t)
+meets-component : (n x : ℕ) (p : ℕ → Bool) → n ≤ capacity → setsMeet capacity x (pack n p) ≡ any n (λ t. has x t && p t)
 meets-component n x p b =
-    same-test (meets capacity x (pack n p)) (any n (λ t. has x t && p t))
+    same-test (setsMeet capacity x (pack n p)) (any n (λ t. has x t && p t))
     (λ e.
     let v = meets-elim capacity x (pack n p) e in
     let l = has-lt n (pack n p) (v .0) (pack-lt n p) (v .3) in
@@ -56,19 +56,20 @@ meets-component n x p b =
     meets-intro capacity x (pack n p) (v .0) (omega (arith, v .1)) (and-left (has x (v .0)) (p (v .0)) (v .2))
     (has-pack-below n p (v .0) (v .1) ∙ and-right (has x (v .0)) (p (v .0)) (v .2)))
 
--- l has the outputs outside rest in the sets of the requirements that they serve
-pub record Sorted (g : Game) (rest : ℕ) (l : List OutSet) : Type 0 where
+-- the lists have the outputs outside rest in the sets of the requirements that they serve
+pub record Sorted (g : Game) (rest : ℕ) (f s : List ℕ) : Type 0 where
+  pub whole : Whole f s
   pub within : (t : ℕ) → has rest t ≡ true → t < g .output .states
-  pub done : (r t : ℕ) → r < g .k → t < g .output .states → has rest t ≡ false → has (serversAt l r) t ≡ serves g r t
-  pub left : (r t : ℕ) → r < g .k → has rest t ≡ true → has (serversAt l r) t ≡ false
-  pub past : (r t : ℕ) → r < g .k → g .output .states ≤ t → has (serversAt l r) t ≡ false
+  pub done : (r t : ℕ) → r < g .k → t < g .output .states → has rest t ≡ false → has (serversAt f s r) t ≡ serves g r t
+  pub left : (r t : ℕ) → r < g .k → has rest t ≡ true → has (serversAt f s r) t ≡ false
+  pub past : (r t : ℕ) → r < g .k → g .output .states ≤ t → has (serversAt f s r) t ≡ false
 
 module _ (g : Game) (F : Fits g) where
-  in-meets : (i x : ℕ) → meets capacity x (pack (g .input .states) (joined (graphOf (g .input)) i)) ≡ meetsAt (graphOf (g .input)) i (has x)
+  in-meets : (i x : ℕ) → setsMeet capacity x (pack (g .input .states) (joined (graphOf (g .input)) i)) ≡ meetsAt (graphOf (g .input)) i (has x)
   unfolding meetsAt graphOf
   in-meets i x = meets-component (g .input .states) x (joined (graphOf (g .input)) i) (F .input .most)
 
-  out-meets : (d x : ℕ) → meets capacity x (pack (g .output .states) (joined (graphOf (g .output)) d)) ≡ meetsAt (graphOf (g .output)) d (has x)
+  out-meets : (d x : ℕ) → setsMeet capacity x (pack (g .output .states) (joined (graphOf (g .output)) d)) ≡ meetsAt (graphOf (g .output)) d (has x)
   unfolding meetsAt graphOf
   out-meets d x = meets-component (g .output .states) x (joined (graphOf (g .output)) d) (F .output .most)
 
@@ -114,21 +115,19 @@ module _ (g : Game) (F : Fits g) where
           pack-ext (g .output .states) (joined (graphOf (g .output)) d) (joined (graphOf (g .output)) t)
           (λ u l. joined-same (graphOf (g .output)) d t u together-t)
 
-  pub sorted-start : (n rest : ℕ) (v : OutSet) → bitsOf (v .0) ≡ 0 → g .k ≤ n → ((t : ℕ) → has rest t ≡ ltb t (g .output .states))
-      → Sorted g rest (replicate n v)
-  unfolding serversAt
-  sorted-start n rest v e b f = record {
+  pub sorted-start : (rest : ℕ) → ((t : ℕ) → has rest t ≡ ltb t (g .output .states)) → Sorted g rest (replicate (wordsFor 4) 0) (replicate (wordsFor 4) 0)
+  sorted-start rest f = record {
+    whole = record { first = refl; second = refl };
     within = λ t h. ltb-true t (g .output .states) (sym (f t) ∙ h);
     done = λ r t l a h. clash (f t ∙ lt-ltb t (g .output .states) a) h;
     left = λ r t l h. none r t l;
     past = λ r t l a. none r t l;
   }
     where
-      none : (r t : ℕ) → r < g .k → has (bitsOf (getD (replicate n v) r noOutput .0)) t ≡ false
-      none r t l =
-          ap (λ (x : OutSet). has (bitsOf (x .0)) t) (getD-replicate n r v noOutput (omega arith)) ∙ ap (λ (x : ℕ). has x t) e ∙ has-zero t
+      none : (r t : ℕ) → r < g .k → has (serversAt (replicate (wordsFor 4) 0) (replicate (wordsFor 4) 0) r) t ≡ false
+      none r t l = ap (λ (x : ℕ). has x t) (servers-none r (omega (arith, F .few))) ∙ has-zero t
 
-  module _ (rows : List ℕ) (C : Closes (g .output) rows) (rest : ℕ) (x : List OutSet) (S : Sorted g rest x) (some : rest ≢ 0) (d : ℕ)
+  module _ (rows : List ℕ) (C : Closes (g .output) rows) (rest : ℕ) (x y : List ℕ) (S : Sorted g rest x y) (some : rest ≢ 0) (d : ℕ)
       (e : d ≡ least capacity (has rest)) where
     small : (s : ℕ) → has rest s ≡ true → s < capacity
     small s h = omega (arith, S .within s h, F .output .most)
@@ -163,12 +162,14 @@ module _ (g : Game) (F : Fits g) where
             count-less capacity (has less) (has rest) (λ t b h. kept t h) d (small d here)
             (f d ∙ and-false-right (has rest d) (ap not itself)) here
 
-        pub sorted-next : (y : List OutSet) → Marked g c (g .k) x y → Sorted g less y
-        sorted-next y M = record {
+        pub sorted-next : (v w : List ℕ) → Whole v w
+            → ((r : ℕ) → r < g .k → (t : ℕ) → has (serversAt v w r) t ≡ (has (serversAt x y r) t || (servedIn g c r && has c t))) → Sorted g less v w
+        sorted-next v w W M = record {
+          whole = W;
           within = λ t h. S .within t (kept t h);
-          done = λ r t l a h. M .done r l t ∙ done r t l a h (decide (has c t)) (decide (has rest t));
-          left = λ r t l h. M .done r l t ∙ or-false (S .left r t l (kept t h)) (and-false-right (servedIn g c r) (outside t h));
-          past = λ r t l a. M .done r l t ∙ or-false (S .past r t l a)
+          done = λ r t l a h. M r l t ∙ done r t l a h (decide (has c t)) (decide (has rest t));
+          left = λ r t l h. M r l t ∙ or-false (S .left r t l (kept t h)) (and-false-right (servedIn g c r) (outside t h));
+          past = λ r t l a. M r l t ∙ or-false (S .past r t l a)
               (and-false-right (servedIn g c r) (false-of (has c t) (λ h. absurd (omega (arith, below-c t h)))));
         }
           where
@@ -184,7 +185,7 @@ module _ (g : Game) (F : Fits g) where
 
             done : (r t : ℕ) → r < g .k → t < g .output .states → has less t ≡ false
                 → (has c t ≡ true) ⊎ (has c t ≡ false) → (has rest t ≡ true) ⊎ (has rest t ≡ false)
-                → (has (serversAt x r) t || (servedIn g c r && has c t)) ≡ serves g r t
+                → (has (serversAt x y r) t || (servedIn g c r && has c t)) ≡ serves g r t
             done r t l a h (inl k) (inl v) =
                 rw (k, S .left r t l v) (same (servedIn g c r) ∙ component-serves rows C d c sorted-below q r t k)
               where
@@ -193,25 +194,26 @@ module _ (g : Game) (F : Fits g) where
                 same false = refl
             done r t l a h (inl k) (inr v) =
                 let s = component-serves rows C d c sorted-below q r t k in
-                rw k (both (has (serversAt x r) t) (servedIn g c r) (S .done r t l a v ∙ sym s) ∙ s)
+                rw k (both (has (serversAt x y r) t) (servedIn g c r) (S .done r t l a v ∙ sym s) ∙ s)
             done r t l a h (inr k) (inl v) = clash (f t ∙ and-intro v (ap not k)) h
-            done r t l a h (inr k) (inr v) = rw k (none (has (serversAt x r) t) (servedIn g c r) ∙ S .done r t l a v)
+            done r t l a h (inr k) (inr v) = rw k (none (has (serversAt x y r) t) (servedIn g c r) ∙ S .done r t l a v)
 
-  pub sorted-end : (rest : ℕ) (l : List OutSet) → Sorted g rest l → rest ≡ 0 → Serving g l
-  sorted-end rest l S z = record {
-    at = λ r b. ext (serversAt l r) (pack (g .output .states) (serves g r)) (λ t. at r t b (decLt t (g .output .states)));
+  pub sorted-end : (rest : ℕ) (f s : List ℕ) → Sorted g rest f s → rest ≡ 0 → Serving g f s
+  sorted-end rest f s S z = record {
+    whole = S .whole;
+    at = λ r b. ext (serversAt f s r) (pack (g .output .states) (serves g r)) (λ t. at r t b (decLt t (g .output .states)));
   }
     where
-      at : (r t : ℕ) → r < g .k → Dec (t < g .output .states) → has (serversAt l r) t ≡ has (pack (g .output .states) (serves g r)) t
+      at : (r t : ℕ) → r < g .k → Dec (t < g .output .states) → has (serversAt f s r) t ≡ has (pack (g .output .states) (serves g r)) t
       at r t b (yes a) =
           S .done r t b a (ap (λ (v : ℕ). has v t) z ∙ has-zero t) ∙ sym (has-pack-below (g .output .states) (serves g r) t a)
       at r t b (no a) = S .past r t b (omega arith) ∙ sym (has-pack-past (g .output .states) (serves g r) t (omega arith))
 
-  pub accepted-means : (l : List OutSet) (i d : ℕ) → Serving g l → d < g .output .states
-      → all (g .k) (admits g (pack (g .input .states) (joined (graphOf (g .input)) i)) l d) ≡ accepting (separatedOf g) i d
+  pub accepted-means : (f s : List ℕ) (i d : ℕ) → Serving g f s → d < g .output .states
+      → all (g .k) (admits g (pack (g .input .states) (joined (graphOf (g .input)) i)) f s d) ≡ accepting (separatedOf g) i d
   unfolding admits dueIn serves accepting separatedOf requirementsOf
-  accepted-means l i d S b =
-      all-same (g .k) (admits g (pack (g .input .states) (joined (graphOf (g .input)) i)) l d)
+  accepted-means f s i d S b =
+      all-same (g .k) (admits g (pack (g .input .states) (joined (graphOf (g .input)) i)) f s d)
       (λ r. not (due (separatedOf g) i (requirementOf (requirementAt g r))) || served (separatedOf g) d (requirementOf (requirementAt g r)))
       (λ r h. ap₂ (λ (x y : Bool). not x || y) (due-means (requirementAt g r) i)
       (ap (λ (x : ℕ). has x d) (S .at r h) ∙ has-pack-below (g .output .states) (serves g r) d b))

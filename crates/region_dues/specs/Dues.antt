@@ -1,44 +1,46 @@
--- Requirements that are due or served in a component, told of sets.
+-- Requirements that are due or served in a component, told of sets: of the sets of a game, and of the sets in a list that has them. The sets of outputs
+-- that serve each requirement stand in two lists of words: those of the first four requirements, then of the others.
 --
 --   inMeets q c k          == the first k input sets of q meet the set c
 --   outMeets q c k         == the first k output sets of q meet the set c
 --   dueIn g a r            == all input sets of requirement r meet a
 --   servedIn g b r         == all output sets of requirement r meet b
+--   dueBy l n a r          == the input sets of requirement r in the list l, as many as n has for it, meet a
+--   servedBy l n b r       == the output sets of requirement r in the list l, as many as n has for it, meet b
 --   Few g                  == few enough requirements and sets for their places
---   serverOf t r           == the set of t for requirement r
---   serverList t           == the sets of t, for the requirements in order
---   Whole t                == the lists of t have the lengths of the arrays in the record
---   serversAt l r          == the set of l for requirement r
---   Marked g c k x y       == y is x where the first k sets have c too, if c serves their requirements
+--   FewSets n i k          == n has at most four for each of k requirements from number i on
+--   FirstFour k n          == n of k requirements are among the first four
+--   Whole f s              == the lists have the lengths of the arrays
+--   serversAt f s r        == the set of requirement r in the two lists
+--   Marked l n i k c x y   == y is x where the sets of k requirements from number i on have c too, if c serves their requirements
 --   serves g r d           == requirement r is served in the component of d
---   Serving g l            == l has for each requirement the outputs whose components serve it
---   admits g a l d r       == requirement r is not due in a, or d is in its set of l
-use Prim.Native.Nat.{ℕ, _-_, _≤_, _<_}
+--   Serving g f s          == the lists have for each requirement the outputs whose components serve it
+--   admitsBy l n i a x d q == the requirement q past number i is not due in a, or d is in its set of x
+--   admits g a f s d r     == requirement r is not due in a, or d is in its set of the two lists
+use Prim.Native.Nat.{ℕ, _+_, _-_, _≤_, _<_}
 use mathlib.Core.Path.{_≡_}
 use mathlib.Core.Bool.{Bool, true, false, not, _&&_, _||_}
 use mathlib.Core.List.{List}
 use lib.Dec.{ltb}
 use lib.ListN.{length, getD}
 use Rattle.finite.specs.Bounded.{all}
-use Rattle.finite.specs.Tabulate.{tabulate}
-use Rattle.bits.specs.Member.{has, pack, meets}
-use Rattle.sets.specs.Words.{capacity, bitsOf}
+use Rattle.bits.specs.Member.{has, pack, setsMeet}
+use Rattle.sets.specs.Words.{capacity, bitsOf, setsIn, wordsFor}
 use Rattle.game.specs.declared.Requirement.{Requirement}
 use Rattle.game.specs.declared.Game.{Game}
-use Rattle.game.specs.declared.OutSet.{OutSet}
 use Rattle.game.specs.Access.{noInput, noOutput, requirementAt}
+use Rattle.game_sets.specs.Lists.{inSet, outSet}
 use Rattle.play.specs.Play.{requirementOf, separatedOf}
 use Rattle.theory.specs.Region.{served}
-use Rattle.region_dues.specs.declared.Servers.{Servers}
 
 unfoldable pub inMeetsAt : Requirement → ℕ → ℕ → Bool
-inMeetsAt q c j = meets capacity (bitsOf (getD (q .assumptions) j noInput .0)) c
+inMeetsAt q c j = setsMeet capacity (bitsOf (getD (q .assumptions) j noInput .0)) c
 
 unfoldable pub inMeets : Requirement → ℕ → ℕ → Bool
 inMeets q c k = all k (inMeetsAt q c)
 
 unfoldable pub outMeetsAt : Requirement → ℕ → ℕ → Bool
-outMeetsAt q c j = meets capacity (bitsOf (getD (q .guarantees) j noOutput .0)) c
+outMeetsAt q c j = setsMeet capacity (bitsOf (getD (q .guarantees) j noOutput .0)) c
 
 unfoldable pub outMeets : Requirement → ℕ → ℕ → Bool
 outMeets q c k = all k (outMeetsAt q c)
@@ -49,34 +51,54 @@ dueIn g a r = inMeets (requirementAt g r) a (requirementAt g r .assumed)
 unfoldable pub servedIn : Game → ℕ → ℕ → Bool
 servedIn g b r = outMeets (requirementAt g r) b (requirementAt g r .guaranteed)
 
+unfoldable pub inMeetsBy : List ℕ → ℕ → ℕ → ℕ → Bool
+inMeetsBy l a r j = setsMeet capacity (inSet l r j) a
+
+unfoldable pub dueBy : List ℕ → List ℕ → ℕ → ℕ → Bool
+dueBy l n a r = all (getD n r 0) (inMeetsBy l a r)
+
+unfoldable pub outMeetsBy : List ℕ → ℕ → ℕ → ℕ → Bool
+outMeetsBy l b r j = setsMeet capacity (outSet l r j) b
+
+unfoldable pub servedBy : List ℕ → List ℕ → ℕ → ℕ → Bool
+servedBy l n b r = all (getD n r 0) (outMeetsBy l b r)
+
 pub record Few (g : Game) : Type 0 where
   pub requirements : g .k ≤ 8
   pub assumed : (r : ℕ) → r < 8 → requirementAt g r .assumed ≤ 4
   pub guaranteed : (r : ℕ) → r < 8 → requirementAt g r .guaranteed ≤ 4
 
-unfoldable pub serverOf : Servers → ℕ → OutSet
-serverOf t r = elim (ltb r 4) [ true ↦ getD (t .first) r noOutput | false ↦ getD (t .second) (r - 4) noOutput ]
+pub record FewSets (n : List ℕ) (i k : ℕ) : Type 0 where
+  pub at : (q : ℕ) → q < k → getD n (i + q) 0 ≤ 4
 
-unfoldable pub serverList : Servers → List OutSet
-serverList t = tabulate 8 (serverOf t)
+pub record FirstFour (k n : ℕ) : Type 0 where
+  pub most : n ≤ 4
+  pub within : n ≤ k
+  pub others : k ≤ n + 4
+  pub first : (r : ℕ) → r < k → r < 4 → r < n
+  pub second : (q : ℕ) → q < k - n → 4 + q < k
 
-pub record Whole (t : Servers) : Type 0 where
-  pub first : length (t .first) ≡ 4
-  pub second : length (t .second) ≡ 4
+pub record Whole (f s : List ℕ) : Type 0 where
+  pub first : length f ≡ wordsFor 4
+  pub second : length s ≡ wordsFor 4
 
-unfoldable pub serversAt : List OutSet → ℕ → ℕ
-serversAt l r = bitsOf (getD l r noOutput .0)
+unfoldable pub serversAt : List ℕ → List ℕ → ℕ → ℕ
+serversAt f s r = elim (ltb r 4) [ true ↦ getD (setsIn f) r 0 | false ↦ getD (setsIn s) (r - 4) 0 ]
 
-pub record Marked (g : Game) (c k : ℕ) (x y : List OutSet) : Type 0 where
+pub record Marked (l n : List ℕ) (i k c : ℕ) (x y : List ℕ) : Type 0 where
   pub long : length y ≡ length x
-  pub done : (r : ℕ) → r < k → (t : ℕ) → has (serversAt y r) t ≡ (has (serversAt x r) t || (servedIn g c r && has c t))
-  pub rest : (r : ℕ) → k ≤ r → serversAt y r ≡ serversAt x r
+  pub done : (q : ℕ) → q < k → (t : ℕ) → has (getD y q 0) t ≡ (has (getD x q 0) t || (servedBy l n c (i + q) && has c t))
+  pub rest : (q : ℕ) → k ≤ q → getD y q 0 ≡ getD x q 0
 
 unfoldable pub serves : Game → ℕ → ℕ → Bool
 serves g r d = served (separatedOf g) d (requirementOf (requirementAt g r))
 
-pub record Serving (g : Game) (l : List OutSet) : Type 0 where
-  pub at : (r : ℕ) → r < g .k → serversAt l r ≡ pack (g .output .states) (serves g r)
+pub record Serving (g : Game) (f s : List ℕ) : Type 0 where
+  pub whole : Whole f s
+  pub at : (r : ℕ) → r < g .k → serversAt f s r ≡ pack (g .output .states) (serves g r)
 
-unfoldable pub admits : Game → ℕ → List OutSet → ℕ → ℕ → Bool
-admits g a l d r = not (dueIn g a r) || has (serversAt l r) d
+unfoldable pub admitsBy : List ℕ → List ℕ → ℕ → ℕ → List ℕ → ℕ → ℕ → Bool
+admitsBy l n i a x d q = not (dueBy l n a (i + q)) || has (getD x q 0) d
+
+unfoldable pub admits : Game → ℕ → List ℕ → List ℕ → ℕ → ℕ → Bool
+admits g a f s d r = not (dueIn g a r) || has (serversAt f s r) d

@@ -15,7 +15,6 @@ use Rattle.graphs.proofs.Closure.{reaches-edge, reaches-trans}
 use Rattle.graphs.proofs.Component.{joined-intro, joined-there, joined-self, leaves-elim, leaves-apart}
 use Rattle.game.specs.declared.Graph.{Graph as Record}
 use Rattle.game.specs.declared.Game.{Game}
-use Rattle.game.specs.declared.OutSet.{OutSet}
 use Rattle.game.proofs.Laws.{Fits}
 use Rattle.play.specs.Play.{graphOf, separatedOf}
 use Rattle.theory.specs.Region.{accepting, safe, homeFor, region}
@@ -89,16 +88,16 @@ module _ (g : Game) (F : Fits g) where
         one j lj (inr h) = rw (e j, h) refl
 
     -- the sets that the row is worked out from: among has the outputs in nontrivial components that accept, x the exits of i's component
-    module _ (outer : ℕ) (served : List OutSet) (S : Serving g served) (x among : ℕ)
+    module _ (outer : ℕ) (first second : List ℕ) (S : Serving g first second) (x among : ℕ)
         (o : outer ≡ pack (g .output .states) (nontrivial (graphOf (g .output))))
-        (h : (d : ℕ) → has among d ≡ (has outer d && all (g .k) (admits g (pack (g .input .states) (joined (graphOf (g .input)) i)) served d)))
+        (h : (d : ℕ) → has among d ≡ (has outer d && all (g .k) (admits g (pack (g .input .states) (joined (graphOf (g .input)) i)) first second d)))
         (e : (t : ℕ) → has x t ≡ leaves (graphOf (g .input)) i t) where
       home-means : (d : ℕ) → d < g .output .states → homeAt l (g .input .states) c x among d ≡ homeFor (separatedOf g) (region (separatedOf g)) i d
       unfolding homeAt homeFor separatedOf
       home-means d ld =
           ap₂ _&&_
           (h d ∙ ap₂ _&&_ (ap (λ (y : ℕ). has y d) o ∙ has-pack-below (g .output .states) (nontrivial (graphOf (g .output))) d ld)
-          (accepted-means g F served i d S ld))
+          (accepted-means g F first second i d S ld))
           (safe-means x d ld e)
           ∙ and-assoc (nontrivial (graphOf (g .output)) d) (accepting (separatedOf g) i d) (safe (separatedOf g) (region (separatedOf g)) i d)
 

@@ -17,7 +17,7 @@ use borrow.Author.Tests.{eq-eqb, eqb-true, lt-ltb}
 use Rattle.finite.specs.Bounded.{all, any, least, count}
 use Rattle.finite.proofs.Truth.{decide, clash, same-test, and-intro, and-left, and-right, or-left, or-right, or-cases, not-true}
 use Rattle.finite.proofs.Bounded.{all-same, any-intro, any-elim}
-use Rattle.bits.specs.Member.{has, pack, meets}
+use Rattle.bits.specs.Member.{has, pack, setsMeet}
 use Rattle.bits.proofs.Membership.{has-zero, has-lt, has-pack-below, pack-lt, pack-ext}
 use Rattle.bits.proofs.Compare.{meets-intro, meets-elim}
 use Rattle.bits.proofs.Remove.{less-in, less-other, less-falls}
@@ -35,19 +35,19 @@ module _ (rows : List ℕ) (x y : ℕ) where
   -- where the last set is the same
   pub known-same : (last r : ℕ) → Held rows last x → y ≢ 0 → y ≡ last → Known rows x y r
   known-same last r H some e =
-      record { answers = λ o h k. ap (λ (v : ℕ). meets capacity (getD rows o 0) v) e ∙ H .answers (λ z. some (e ∙ z)) o h }
+      record { answers = λ o h k. ap (λ (v : ℕ). setsMeet capacity (getD rows o 0) v) e ∙ H .answers (λ z. some (e ∙ z)) o h }
 
   pub held-now : (r : ℕ) → ((o : ℕ) → has r o ≡ answersAt rows x y o) → Held rows y r
   unfolding answersAt
-  held-now r f = record { answers = λ some o h. and-right (has x o) (meets capacity (getD rows o 0) y) (sym (f o) ∙ h) }
+  held-now r f = record { answers = λ some o h. and-right (has x o) (setsMeet capacity (getD rows o 0) y) (sym (f o) ∙ h) }
 
 -- the outputs of a set that are looked at, the lowest first: those with a move into y join the ones that are known
 module _ (rows : List ℕ) (y : ℕ) where
   pub record Looking (from known left x : ℕ) : Type 0 where
     pub inside : (o : ℕ) → has left o ≡ true → has from o ≡ true
     pub kept : (o : ℕ) → has known o ≡ true → has x o ≡ true
-    pub right : (o : ℕ) → has x o ≡ true → (has known o ≡ true) ⊎ ((has from o ≡ true) × (meets capacity (getD rows o 0) y ≡ true))
-    pub all : (o : ℕ) → has from o ≡ true → has left o ≡ false → meets capacity (getD rows o 0) y ≡ true → has x o ≡ true
+    pub right : (o : ℕ) → has x o ≡ true → (has known o ≡ true) ⊎ ((has from o ≡ true) × (setsMeet capacity (getD rows o 0) y ≡ true))
+    pub all : (o : ℕ) → has from o ≡ true → has left o ≡ false → setsMeet capacity (getD rows o 0) y ≡ true → has x o ≡ true
 
   pub looking-start : (from known : ℕ) → Looking from known from known
   looking-start from known = record { inside = λ o h. h; kept = λ o h. h; right = λ o h. inl h; all = λ o h k q. clash h k }
@@ -70,7 +70,8 @@ module _ (rows : List ℕ) (y : ℕ) where
       pub looking-falls : count capacity (has r) < count capacity (has left)
       looking-falls = less-falls left h r less capacity looking-below here
 
-      pub looking-next : (ok : Bool) (z : ℕ) → ok ≡ meets capacity (getD rows h 0) y → ((o : ℕ) → has z o ≡ (has x o || (ok && eqb o h))) → Looking from known r z
+      pub looking-next : (ok : Bool) (z : ℕ) → ok ≡ setsMeet capacity (getD rows h 0) y → ((o : ℕ) → has z o ≡ (has x o || (ok && eqb o h)))
+          → Looking from known r z
       looking-next ok z q f = record {
         inside = λ o i. L .inside o (less-in left h r less o i);
         kept = λ o i. f o ∙ or-left (ok && eqb o h) (L .kept o i);
@@ -81,7 +82,7 @@ module _ (rows : List ℕ) (y : ℕ) where
               inr (rw j (L .inside h here, sym q ∙ and-left ok (eqb o h) k))
         ];
         all = λ o i k g. elim (ℕ-discrete o h) [
-          | yes j ↦ f o ∙ or-right (has x o) (and-intro (q ∙ ap (λ (v : ℕ). meets capacity (getD rows v 0) y) (sym j) ∙ g) (eq-eqb o h j))
+          | yes j ↦ f o ∙ or-right (has x o) (and-intro (q ∙ ap (λ (v : ℕ). setsMeet capacity (getD rows v 0) y) (sym j) ∙ g) (eq-eqb o h j))
           | no j ↦ f o ∙ or-left (ok && eqb o h) (L .all o i (sym (less-other left h r less o j) ∙ k) g)
         ];
       }
@@ -91,17 +92,18 @@ module _ (rows : List ℕ) (y : ℕ) where
       → Known rows old y from → ((o : ℕ) → has known o ≡ (has old o && not (has from o))) → (o : ℕ) → has x o ≡ answersAt rows old y o
   unfolding answersAt
   looking-end old from known left x L z i K d o =
-      same-test (has x o) (has old o && meets capacity (getD rows o 0) y) (λ h. to (L .right o h))
-      (λ h. back (and-left (has old o) (meets capacity (getD rows o 0) y) h) (and-right (has old o) (meets capacity (getD rows o 0) y) h)
+      same-test (has x o) (has old o && setsMeet capacity (getD rows o 0) y) (λ h. to (L .right o h))
+      (λ h. back (and-left (has old o) (setsMeet capacity (getD rows o 0) y) h) (and-right (has old o) (setsMeet capacity (getD rows o 0) y) h)
       (decide (has from o)))
     where
-      to : (has known o ≡ true) ⊎ ((has from o ≡ true) × (meets capacity (getD rows o 0) y ≡ true)) → (has old o && meets capacity (getD rows o 0) y) ≡ true
+      to : (has known o ≡ true) ⊎ ((has from o ≡ true) × (setsMeet capacity (getD rows o 0) y ≡ true))
+          → (has old o && setsMeet capacity (getD rows o 0) y) ≡ true
       to (inl h) =
           let a = and-left (has old o) (not (has from o)) (sym (d o) ∙ h) in
           and-intro a (K .answers o a (not-true (has from o) (and-right (has old o) (not (has from o)) (sym (d o) ∙ h))))
       to (inr h) = and-intro (i o (h .0)) (h .1)
 
-      back : has old o ≡ true → meets capacity (getD rows o 0) y ≡ true → (has from o ≡ true) ⊎ (has from o ≡ false) → has x o ≡ true
+      back : has old o ≡ true → setsMeet capacity (getD rows o 0) y ≡ true → (has from o ≡ true) ⊎ (has from o ≡ false) → has x o ≡ true
       back a g (inl h) = L .all o h (ap (λ (v : ℕ). has v o) z ∙ has-zero o) g
       back a g (inr h) = L .kept o (d o ∙ and-intro a (ap not h))
 
@@ -109,9 +111,9 @@ pub held-none : (rows : List ℕ) (y x : ℕ) → y ≡ 0 → Held rows y x
 held-none rows y x z = record { answers = λ some. absurd (some z) }
 
 -- a set meets the outputs that are won
-meets-won : (m x : ℕ) (p : ℕ → Bool) → m ≤ capacity → meets capacity x (pack m p) ≡ any m (λ t. has x t && p t)
+meets-won : (m x : ℕ) (p : ℕ → Bool) → m ≤ capacity → setsMeet capacity x (pack m p) ≡ any m (λ t. has x t && p t)
 meets-won m x p b =
-    same-test (meets capacity x (pack m p)) (any m (λ t. has x t && p t))
+    same-test (setsMeet capacity x (pack m p)) (any m (λ t. has x t && p t))
     (λ e.
     let v = meets-elim capacity x (pack m p) e in
     let l = has-lt m (pack m p) (v .0) (pack-lt m p) (v .3) in
@@ -123,7 +125,7 @@ meets-won m x p b =
 
 -- whether output o answers next input j, the rows of moves being given
 unfoldable pub answered : List ℕ → ℕ → ℕ → List ℕ → ℕ → ℕ → ℕ → Bool
-answered l n c rows m j o = meets capacity (getD rows o 0) (pack m (wonAt l n c j))
+answered l n c rows m j o = setsMeet capacity (getD rows o 0) (pack m (wonAt l n c j))
 
 module _ (l : List ℕ) (n c next : ℕ) (rows : List ℕ) (m : ℕ) (most : m ≤ capacity) where
   one-answered : (a : Bool) (p q : ℕ → Bool) (k : ℕ) → 0 < k → any k (λ j. not a || (p j && q j)) ≡ (not a || any k (λ j. p j && q j))
@@ -137,8 +139,8 @@ module _ (l : List ℕ) (n c next : ℕ) (rows : List ℕ) (m : ℕ) (most : m �
       q
       ∙ pack-ext m (passes (answered l n c rows m) n m x among) (replyWith l n c next rows m)
       (λ o a.
-      ap (λ (t : Bool). t && all n (λ j. not (has x j) || meets capacity (getD rows o 0) (pack m (wonAt l n c j)))) (e o ∙ lt-ltb o m a)
-      ∙ all-same n (λ j. not (has x j) || meets capacity (getD rows o 0) (pack m (wonAt l n c j))) (replied l n c next (getD rows o 0) m)
+      ap (λ (t : Bool). t && all n (λ j. not (has x j) || setsMeet capacity (getD rows o 0) (pack m (wonAt l n c j)))) (e o ∙ lt-ltb o m a)
+      ∙ all-same n (λ j. not (has x j) || setsMeet capacity (getD rows o 0) (pack m (wonAt l n c j))) (replied l n c next (getD rows o 0) m)
       (λ j h.
       ap₂ (λ (s t : Bool). not s || t) (same j h) (meets-won m (getD rows o 0) (wonAt l n c j) most)
       ∙ sym (one-answered (has next j) (has (getD rows o 0)) (wonAt l n c j) m (omega arith))))

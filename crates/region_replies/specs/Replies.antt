@@ -12,7 +12,7 @@ use mathlib.Core.List.{List}
 use mathlib.Core.Logic.{_≢_}
 use lib.ListN.{getD}
 use Rattle.finite.specs.Bounded.{all, any}
-use Rattle.bits.specs.Member.{has, meets}
+use Rattle.bits.specs.Member.{has, setsMeet}
 use Rattle.game.specs.declared.Game.{Game}
 use Rattle.sets.specs.Words.{capacity, setsIn}
 use Rattle.scratch.specs.Stored.{wonAt}
@@ -37,10 +37,10 @@ replyAt g l c i = replyWith l (g .input .states) c (getD (setsIn (g .input .move
 
 -- output o, of the rows of moves, is in x and has a move into y
 unfoldable pub answersAt : List ℕ → ℕ → ℕ → ℕ → Bool
-answersAt rows x y o = has x o && meets capacity (getD rows o 0) y
+answersAt rows x y o = has x o && setsMeet capacity (getD rows o 0) y
 
 pub record Held (rows : List ℕ) (y x : ℕ) : Type 0 where
-  pub answers : y ≢ 0 → (o : ℕ) → has x o ≡ true → meets capacity (getD rows o 0) y ≡ true
+  pub answers : y ≢ 0 → (o : ℕ) → has x o ≡ true → setsMeet capacity (getD rows o 0) y ≡ true
 
 pub record Known (rows : List ℕ) (x y r : ℕ) : Type 0 where
-  pub answers : (o : ℕ) → has x o ≡ true → has r o ≡ false → meets capacity (getD rows o 0) y ≡ true
+  pub answers : (o : ℕ) → has x o ≡ true → has r o ≡ false → setsMeet capacity (getD rows o 0) y ≡ true

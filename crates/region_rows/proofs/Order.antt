@@ -24,7 +24,6 @@ use Rattle.graphs.proofs.Graph.{edge-to}
 use Rattle.graphs.proofs.Component.{leaves-elim, joined-intro, joined-there, joined-self, joined-sym, nontrivial-same}
 use Rattle.arena.specs.Arena.{Separated}
 use Rattle.game.specs.declared.Game.{Game}
-use Rattle.game.specs.declared.OutSet.{OutSet}
 use Rattle.play.specs.Play.{graphOf, separatedOf}
 use Rattle.graph_components.specs.Component.{together, enters}
 use Rattle.graph_components.proofs.Closed.{component-closed, leaving-closed}
@@ -50,9 +49,9 @@ module _ {g : Game} {s : List ℕ} {x : Nontrivial} {i : ℕ} (R : RowReady g s 
   test = ap (λ (y : ℕ). has y i) (R .nontrivial .inputs) ∙ has-pack-below (g .input .states) (nontrivial (graphOf (g .input))) i (R .here)
 
   -- what the row of an input in a nontrivial component is worked out from: a its component, e what moves out of it enter, among the outputs that accept
-  module _ (a e among : ℕ) (served : List OutSet) (S : Serving g served) (whole : a ≡ pack (g .input .states) (joined (graphOf (g .input)) i))
+  module _ (a e among : ℕ) (first second : List ℕ) (S : Serving g first second) (whole : a ≡ pack (g .input .states) (joined (graphOf (g .input)) i))
       (h : (t : ℕ) → has e t ≡ (enters (setsIn (g .input .moves)) a (g .input .states) t && not (has a t)))
-      (w : (d : ℕ) → has among d ≡ (has (bitsOf (x .outputs .0)) d && all (g .k) (admits g a served d))) where
+      (w : (d : ℕ) → has among d ≡ (has (bitsOf (x .outputs .0)) d && all (g .k) (admits g a first second d))) where
     exits : (t : ℕ) → has e t ≡ leaves (graphOf (g .input)) i t
     exits =
         leaving-closed (g .input) (R .fits .input) i e
@@ -66,7 +65,7 @@ module _ {g : Game} {s : List ℕ} {x : Nontrivial} {i : ℕ} (R : RowReady g s 
 
     pub among-below : (d : ℕ) → has among d ≡ true → d < g .output .states
     among-below d k =
-        let inside = and-left (has (bitsOf (x .outputs .0)) d) (all (g .k) (admits g a served d)) (sym (w d) ∙ k) in
+        let inside = and-left (has (bitsOf (x .outputs .0)) d) (all (g .k) (admits g a first second d)) (sym (w d) ∙ k) in
         has-lt (g .output .states) (pack (g .output .states) outer) d (pack-lt (g .output .states) outer)
         (ap (λ (y : ℕ). has y d) (sym (R .nontrivial .outputs)) ∙ inside)
       where
@@ -77,8 +76,8 @@ module _ {g : Game} {s : List ℕ} {x : Nontrivial} {i : ℕ} (R : RowReady g s 
         → r ≡ storedRow (separatedOf g) i
     row-homes r k q =
         q
-        ∙ home-row-means g (R .fits) s (R .laid) c i (R .here) (R .nontrivial .inputs) (R .below) (bitsOf (x .outputs .0)) served S e among
-        (R .nontrivial .outputs) (λ d. w d ∙ ap (λ (y : ℕ). has (bitsOf (x .outputs .0)) d && all (g .k) (admits g y served d)) whole) exits
+        ∙ home-row-means g (R .fits) s (R .laid) c i (R .here) (R .nontrivial .inputs) (R .below) (bitsOf (x .outputs .0)) first second S e among
+        (R .nontrivial .outputs) (λ d. w d ∙ ap (λ (y : ℕ). has (bitsOf (x .outputs .0)) d && all (g .k) (admits g y first second d)) whole) exits
         (sym test ∙ k)
 
   pub row-replies : (r : ℕ) → has c i ≡ false → r ≡ pack (g .output .states) (replyAt g (setsIn s) c i) → r ≡ storedRow (separatedOf g) i

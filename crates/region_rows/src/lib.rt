@@ -9,36 +9,41 @@ ghost use Rattle.sets.specs.Words.{capacity, bitsOf, setCount};
 ghost use Rattle.graphs.specs.Component.{joined};
 ghost use Rattle.play.specs.Play.{graphOf, separatedOf};
 ghost use Rattle.scratch.specs.Stored.{storedRow, Laid};
-ghost use Rattle.region_dues.specs.Dues.{serverList, Serving};
+ghost use Rattle.game_sets.specs.Lists.{Lists, AssumedCounts};
+ghost use Rattle.region_dues.specs.Dues.{Serving};
 ghost use Rattle.region_rows.specs.Fill.{RowReady, Inside, Descending, Bottom, RowsPut, Filling, PastKept};
 use game::Game;
 use game::InSet;
 use game::InState;
 use game::OutSet;
-use region_dues::Servers;
 use scratch::Nontrivial;
 
 // The region's row of input i, a being its component, where the rows of the inputs that it reaches past its component stand. Here and below the rows of
-// the graphs, `ins` and `outs`, are read where they stand: a game goes by value, and to read a row of it would copy all of them for each input.
+// the graphs, `ins` and `outs`, and the sets of the requirements, `l`, are read where they stand: a game goes by value, and to read a row or a requirement of
+// it would copy all of it for each input. `first` and `second` are the outputs that serve each requirement.
 fn stored_row(
     g: Game,
     ins: &[u64; sets::ROW_WORDS],
     outs: &[u64; sets::ROW_WORDS],
-    t: Servers,
+    l: &[u64; sets::ROW_WORDS],
+    assumed: &[usize; 8],
+    first: &[u64; 8],
+    second: &[u64; 8],
     s: &[u64],
     x: Nontrivial,
     a: InSet,
     i: InState,
 ) -> OutSet
-    requires { ⌜ RowReady g (now s) x (i .0) × Serving g (serverList t)
-        × (bitsOf (a .0) ≡ pack (g .input .states) (joined (graphOf (g .input)) (i .0))) × (now ins ≡ g .input .moves) × (now outs ≡ g .output .moves) ⌝ }
+    requires { ⌜ RowReady g (now s) x (i .0) × Serving g (now first) (now second)
+        × (bitsOf (a .0) ≡ pack (g .input .states) (joined (graphOf (g .input)) (i .0))) × (now ins ≡ g .input .moves) × (now outs ≡ g .output .moves)
+        × Lists g (now l) × AssumedCounts g (now assumed) ⌝ }
     ensures { λ r. ⌜ bitsOf (r .0) ≡ storedRow (separatedOf g) (i .0) ⌝ }
 {
     let c = x.inputs;
     if sets::member(c.0, i.0) {
         let n = g.input.states;
         let m = g.output.states;
-        let among = region_dues::accepted(g, t, a, x.outputs);
+        let among = region_dues::accepted(g, l, assumed, first, second, a, x.outputs);
         let entered = InSet(graph_components::leaving(g.input, ins, a.0));
         return region_homes::home_row(s, n, m, c, entered, among);
     }
@@ -114,20 +119,23 @@ pub fn fill_component(
     g: Game,
     ins: &[u64; sets::ROW_WORDS],
     outs: &[u64; sets::ROW_WORDS],
-    t: Servers,
+    l: &[u64; sets::ROW_WORDS],
+    assumed: &[usize; 8],
+    first: &[u64; 8],
+    second: &[u64; 8],
     s: &mut [u64],
     x: Nontrivial,
     left: InSet,
 ) -> InSet
-    requires { ⌜ Filling g x (now s) (bitsOf (left .0)) × Serving g (serverList t) × (bitsOf (left .0) ≢ 0) × (now ins ≡ g .input .moves)
-        × (now outs ≡ g .output .moves) ⌝ }
+    requires { ⌜ Filling g x (now s) (bitsOf (left .0)) × Serving g (now first) (now second) × (bitsOf (left .0) ≢ 0) × (now ins ≡ g .input .moves)
+        × (now outs ≡ g .output .moves) × Lists g (now l) × AssumedCounts g (now assumed) ⌝ }
     ensures { λ r. ⌜ Filling g x (now (s .exit)) (bitsOf (r .0)) × PastKept g (now (s .entry)) (now (s .exit))
         × (members capacity (has (bitsOf (r .0))) < members capacity (has (bitsOf (left .0)))) ⌝ }
 {
     let n = g.input.states;
     let i = bottom(g, s, left);
     let a = scratch::in_component(s, n, i);
-    let r = stored_row(g, ins, outs, t, s, x, a, i);
+    let r = stored_row(g, ins, outs, l, assumed, first, second, s, x, a, i);
     put_rows(s, n, a, r);
     InSet(sets::difference(left.0, a.0))
 }

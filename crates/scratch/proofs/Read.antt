@@ -6,7 +6,7 @@
 --   some-won-in, some-won-out  : the two cases of `someWonAt`
 --   won-region                 : where the rows of j and o are right, `wonAt` is the region
 --   ready-won, ready-row       : so it is where scratch is ready
-use Prim.Native.Nat.{ℕ, _+_, _≤_, _<_}
+use Prim.Native.Nat.{ℕ, _≤_, _<_}
 use mathlib.Core.Path.{_≡_, refl, sym, _∙_, ap, ap₂}
 use mathlib.Core.Bool.{Bool, true, false, _&&_}
 use mathlib.Core.List.{List}
@@ -16,7 +16,7 @@ use lib.Dec.{ltb}
 use Rattle.finite.specs.Bounded.{any}
 use Rattle.finite.proofs.Truth.{decide, clash, false-of, same-test, and-intro, and-left, and-right, and-false-right}
 use Rattle.finite.proofs.Bounded.{any-intro, any-elim}
-use Rattle.bits.specs.Member.{has, pack, meets}
+use Rattle.bits.specs.Member.{has, pack, setsMeet}
 use Rattle.bits.proofs.Membership.{ext, has-zero, has-pack, has-pack-below, has-lt, pack-lt, pack-ext}
 use Rattle.bits.proofs.Compare.{meets-intro, meets-elim}
 use Rattle.sets.specs.Words.{capacity, setsIn}
@@ -29,7 +29,7 @@ use Rattle.theory.specs.Region.{homeFor, settles, region}
 use Rattle.theory.proofs.Region.{region-settles}
 use Rattle.scratch.specs.Stored.{rowAt, outReachAt, reachingAt, storedAt, storedRow, wonAt, someWonAt, Reached, Ready}
 
-pub won-in : (l : List ℕ) (n c j o : ℕ) {r : Bool} → has c j ≡ true → r ≡ meets capacity (rowAt l n j) (outReachAt l n o) → r ≡ wonAt l n c j o
+pub won-in : (l : List ℕ) (n c j o : ℕ) {r : Bool} → has c j ≡ true → r ≡ setsMeet capacity (rowAt l n j) (outReachAt l n o) → r ≡ wonAt l n c j o
 unfolding wonAt
 won-in l n c j o h e = rw (h, wonAt) e
 
@@ -43,7 +43,7 @@ module _ (l : List ℕ) (n m c i r x : ℕ) (e : x ≡ rowAt l n i) where
   unfolding reachingAt
   won-all-in h q =
       q
-      ∙ pack-ext m (reachingAt l n x) (wonAt l n c i) (λ o b. won-in l n c i o h (ap (λ (y : ℕ). meets capacity y (outReachAt l n o)) e))
+      ∙ pack-ext m (reachingAt l n x) (wonAt l n c i) (λ o b. won-in l n c i o h (ap (λ (y : ℕ). setsMeet capacity y (outReachAt l n o)) e))
 
   pub won-all-same : has c i ≡ true → (y : ℕ) → x ≡ y → r ≡ pack m (reachingAt l n y) → r ≡ pack m (wonAt l n c i)
   won-all-same h y q k = won-all-in h (k ∙ ap (λ (z : ℕ). pack m (reachingAt l n z)) (sym q))
@@ -67,9 +67,9 @@ pub reaching-none : (l : List ℕ) (n m x y : ℕ) → x ≡ 0 → y ≡ 0 → y
 unfolding reachingAt
 reaching-none l n m x y e q = q ∙ ext 0 (pack m (reachingAt l n x)) (λ s. has-zero s ∙ sym (none s))
   where
-    nothing : (o : ℕ) → meets capacity x (outReachAt l n o) ≡ false
+    nothing : (o : ℕ) → setsMeet capacity x (outReachAt l n o) ≡ false
     nothing o =
-        false-of (meets capacity x (outReachAt l n o))
+        false-of (setsMeet capacity x (outReachAt l n o))
         (λ h.
         let w = meets-elim capacity x (outReachAt l n o) h in
         clash (w .2) (ap (λ (z : ℕ). has z (w .0)) e ∙ has-zero (w .0)))
@@ -82,18 +82,18 @@ module _ (l : List ℕ) (n m c j y z : ℕ) (R : Reached l n m y z) where
   won-of : ℕ → Bool
   won-of p = has y p && wonAt l n c j p
 
-  pub some-won-in : {r : Bool} → has c j ≡ true → r ≡ meets capacity (rowAt l n j) z → r ≡ someWonAt l n m c j y
+  pub some-won-in : {r : Bool} → has c j ≡ true → r ≡ setsMeet capacity (rowAt l n j) z → r ≡ someWonAt l n m c j y
   unfolding someWonAt won-of
-  some-won-in h e = e ∙ same-test (meets capacity (rowAt l n j) z) (any m won-of) to back
+  some-won-in h e = e ∙ same-test (setsMeet capacity (rowAt l n j) z) (any m won-of) to back
     where
-      to : meets capacity (rowAt l n j) z ≡ true → any m won-of ≡ true
+      to : setsMeet capacity (rowAt l n j) z ≡ true → any m won-of ≡ true
       to k =
           let w = meets-elim capacity (rowAt l n j) z k in
           let v = R .reached (w .0) (w .3) in
           any-intro m won-of (v .0) (R .below (v .0) (v .1))
           (and-intro (v .1) (sym (won-in l n c j (v .0) h refl) ∙ meets-intro capacity (rowAt l n j) (outReachAt l n (v .0)) (w .0) (w .1) (w .2) (v .2)))
 
-      back : any m won-of ≡ true → meets capacity (rowAt l n j) z ≡ true
+      back : any m won-of ≡ true → setsMeet capacity (rowAt l n j) z ≡ true
       back k =
           let v = any-elim m won-of k in
           let won = and-right (has y (v .0)) (wonAt l n c j (v .0)) (v .2) in
@@ -101,16 +101,16 @@ module _ (l : List ℕ) (n m c j y z : ℕ) (R : Reached l n m y z) where
           meets-intro capacity (rowAt l n j) z (w .0) (w .1) (w .2)
           (R .reaches (v .0) (w .0) (and-left (has y (v .0)) (wonAt l n c j (v .0)) (v .2)) (w .3))
 
-  pub some-won-out : {r : Bool} → m ≤ capacity → has c j ≡ false → r ≡ meets capacity (rowAt l n j) y → r ≡ someWonAt l n m c j y
+  pub some-won-out : {r : Bool} → m ≤ capacity → has c j ≡ false → r ≡ setsMeet capacity (rowAt l n j) y → r ≡ someWonAt l n m c j y
   unfolding someWonAt won-of
-  some-won-out small h e = e ∙ same-test (meets capacity (rowAt l n j) y) (any m won-of) to back
+  some-won-out small h e = e ∙ same-test (setsMeet capacity (rowAt l n j) y) (any m won-of) to back
     where
-      to : meets capacity (rowAt l n j) y ≡ true → any m won-of ≡ true
+      to : setsMeet capacity (rowAt l n j) y ≡ true → any m won-of ≡ true
       to k =
           let w = meets-elim capacity (rowAt l n j) y k in
           any-intro m won-of (w .0) (R .below (w .0) (w .3)) (and-intro (w .3) (sym (won-out l n c j (w .0) h refl) ∙ w .2))
 
-      back : any m won-of ≡ true → meets capacity (rowAt l n j) y ≡ true
+      back : any m won-of ≡ true → setsMeet capacity (rowAt l n j) y ≡ true
       back k =
           let v = any-elim m won-of k in
           let won = and-right (has y (v .0)) (wonAt l n c j (v .0)) (v .2) in
@@ -118,16 +118,16 @@ module _ (l : List ℕ) (n m c j y z : ℕ) (R : Reached l n m y z) where
           (and-left (has y (v .0)) (wonAt l n c j (v .0)) (v .2))
 
 -- two sets of outputs meet exactly where some member is common
-meets-packed : (m : ℕ) (p q : ℕ → Bool) → m ≤ capacity → meets capacity (pack m p) (pack m q) ≡ any m (λ d. q d && p d)
-meets-packed m p q b = same-test (meets capacity (pack m p) (pack m q)) (any m (λ d. q d && p d)) there back
+meets-packed : (m : ℕ) (p q : ℕ → Bool) → m ≤ capacity → setsMeet capacity (pack m p) (pack m q) ≡ any m (λ d. q d && p d)
+meets-packed m p q b = same-test (setsMeet capacity (pack m p) (pack m q)) (any m (λ d. q d && p d)) there back
   where
-    there : meets capacity (pack m p) (pack m q) ≡ true → any m (λ d. q d && p d) ≡ true
+    there : setsMeet capacity (pack m p) (pack m q) ≡ true → any m (λ d. q d && p d) ≡ true
     there e =
         let v = meets-elim capacity (pack m p) (pack m q) e in
         let l = has-lt m (pack m p) (v .0) (pack-lt m p) (v .2) in
         any-intro m (λ d. q d && p d) (v .0) l (and-intro (sym (has-pack-below m q (v .0) l) ∙ v .3) (sym (has-pack-below m p (v .0) l) ∙ v .2))
 
-    back : any m (λ d. q d && p d) ≡ true → meets capacity (pack m p) (pack m q) ≡ true
+    back : any m (λ d. q d && p d) ≡ true → setsMeet capacity (pack m p) (pack m q) ≡ true
     back e =
         let v = any-elim m (λ d. q d && p d) e in
         meets-intro capacity (pack m p) (pack m q) (v .0) (omega (arith, v .1))
@@ -171,7 +171,7 @@ won-region g l c j o m a b inner row out = go (decide (nontrivial (S .input) j))
     go : (nontrivial (S .input) j ≡ true) ⊎ (nontrivial (S .input) j ≡ false) → wonAt l (g .input .states) c j o ≡ region S j o
     go (inl t) =
         sym (won-in l (g .input .states) c j o (test ∙ t) refl)
-        ∙ ap₂ (λ (x y : ℕ). meets capacity x y) (row ∙ stored-nontrivial S j t) out
+        ∙ ap₂ (λ (x y : ℕ). setsMeet capacity x y) (row ∙ stored-nontrivial S j t) out
         ∙ meets-packed (g .output .states) (homeFor S (region S) j) (reaches (graphOf (g .output)) o) m
         ∙ sym (settles-any S j o) ∙ sym (region-settles S j o a b t)
     go (inr t) =

@@ -24,7 +24,7 @@ use mathlib.Core.List.{List}
 use mathlib.Core.Logic.{_≢_}
 use lib.ListN.{length, getD, drop}
 use Rattle.finite.specs.Bounded.{any}
-use Rattle.bits.specs.Member.{has, pack, meets}
+use Rattle.bits.specs.Member.{has, pack, setsMeet}
 use Rattle.sets.specs.Words.{capacity, bitsOf, setsIn, setCount}
 use Rattle.graphs.specs.Closure.{reaches}
 use Rattle.graphs.specs.Component.{nontrivial}
@@ -50,7 +50,7 @@ unfoldable pub outArea : List ℕ → ℕ → List ℕ
 outArea l n = drop (n + n) l
 
 unfoldable pub reachingAt : List ℕ → ℕ → ℕ → ℕ → Bool
-reachingAt l n x o = meets capacity x (outReachAt l n o)
+reachingAt l n x o = setsMeet capacity x (outReachAt l n o)
 
 unfoldable pub storedAt : Separated → ℕ → ℕ → Bool
 storedAt S j o = elim (nontrivial (S .input) j) [ true ↦ homeFor S (region S) j o | false ↦ region S j o ]
@@ -59,7 +59,7 @@ unfoldable pub storedRow : Separated → ℕ → ℕ
 storedRow S j = pack (S .output .states) (storedAt S j)
 
 unfoldable pub wonAt : List ℕ → ℕ → ℕ → ℕ → ℕ → Bool
-wonAt l n c j o = elim (has c j) [ true ↦ meets capacity (rowAt l n j) (outReachAt l n o) | false ↦ has (rowAt l n j) o ]
+wonAt l n c j o = elim (has c j) [ true ↦ setsMeet capacity (rowAt l n j) (outReachAt l n o) | false ↦ has (rowAt l n j) o ]
 
 unfoldable pub someWonAt : List ℕ → ℕ → ℕ → ℕ → ℕ → ℕ → Bool
 someWonAt l n m c j y = any m (λ p. has y p && wonAt l n c j p)

@@ -6,13 +6,14 @@ ghost use Prim.Native.Nat.{ℕ, _+_, _≤_, _<_};
 ghost use lib.ListN.{length as lengthOf, drop};
 ghost use Rattle.bits.specs.Member.{pack};
 ghost use Rattle.sets.specs.Words.{capacity, bitsOf, setsIn, setCount};
+ghost use Rattle.game.specs.declared.Graph.{Graph};
+ghost use Rattle.graph_closure.specs.Sweep.{Given};
 ghost use Rattle.graph_components.specs.Component.{together, nontrivialAt};
 ghost use Rattle.game.specs.Fits.{Fits};
 ghost use Rattle.scratch.specs.Scratch.{scratchSets, scratchLength, Kept};
 ghost use Rattle.scratch.specs.Stored.{inReachAt, rowAt, outReachAt, outArea, reachingAt, wonAt, someWonAt, WonKept, Reached, RowPut, NontrivialOf, Laid};
 ghost use Rattle.scratch.specs.Areas.{ClosedAt};
 use game::Game;
-use game::Graph;
 use game::InSet;
 use game::InState;
 use game::OutSet;
@@ -90,23 +91,29 @@ pub fn out_component(s: &[u64], n: usize, m: usize, o: OutState) -> OutSet
     OutSet(graph_components::component(&s[at..], m, o.0))
 }
 
-// The closure of f, from set number at of s on.
-fn close_at(f: Graph, s: &mut [u64], at: usize)
-    requires { ⌜ (f .states ≤ capacity) × (at ≤ capacity + capacity) × (at + f .states ≤ setCount (now s)) ⌝ }
-    ensures { λ _. ⌜ ClosedAt f at (setsIn (now (s .entry))) (setsIn (now (s .exit))) ⌝ }
+// The closure of a graph of k states with the rows `moves`, from set number at of s on. The graph is not passed itself, as it would be copied.
+fn close_at(moves: &[u64; sets::ROW_WORDS], k: usize, s: &mut [u64], at: usize)
+    requires { ⌜ (k ≤ capacity) × (at ≤ capacity + capacity) × (at + k ≤ setCount (now s)) ⌝ }
+    ensures { λ _. ⌜ ((f : Graph) → Given f k (now (moves .entry)) → ClosedAt f at (setsIn (now (s .entry))) (setsIn (now (s .exit)))) ⌝ }
 {
     let start = sets::words(at);
-    graph_closure::close(f, &mut s[start..]);
+    graph_closure::close(moves, k, &mut s[start..]);
 }
 
-// Works out both closures.
-pub fn close(g: Game, s: &mut [u64])
-    requires { ⌜ Fits g × (scratchLength g ≤ lengthOf (now s)) ⌝ }
+// Works out both closures. `ins` and `outs` are the rows of the graphs, which are lent so that they are read where they stand.
+pub fn close<'a>(
+    g: Game,
+    ins: &'a [u64; sets::ROW_WORDS],
+    outs: &'a [u64; sets::ROW_WORDS],
+    s: &mut [u64],
+)
+    requires { ⌜ Fits g × (scratchLength g ≤ lengthOf (now s)) × (now ins ≡ g .input .moves) × (now outs ≡ g .output .moves) ⌝ }
     ensures { λ _. ⌜ Laid g (now (s .exit)) × Kept g (now (s .entry)) (now (s .exit)) ⌝ }
 {
     let n = g.input.states;
-    close_at(g.input, s, 0);
-    close_at(g.output, s, n + n);
+    let m = g.output.states;
+    close_at(ins, n, s, 0);
+    close_at(outs, m, s, n + n);
 }
 
 // The states in nontrivial components of a graph of k states with the rows `moves`, its closure standing from set number at of s on.
@@ -119,15 +126,20 @@ fn nontrivial_at(moves: &[u64; sets::ROW_WORDS], k: usize, s: &[u64], at: usize)
 }
 
 // The states in nontrivial components, from both closures.
-pub fn nontrivial_states(g: Game, s: &[u64]) -> Nontrivial
-    requires { ⌜ Fits g × Laid g (now s) ⌝ }
+pub fn nontrivial_states<'a>(
+    g: Game,
+    ins: &'a [u64; sets::ROW_WORDS],
+    outs: &'a [u64; sets::ROW_WORDS],
+    s: &[u64],
+) -> Nontrivial
+    requires { ⌜ Fits g × Laid g (now s) × (now ins ≡ g .input .moves) × (now outs ≡ g .output .moves) ⌝ }
     ensures { λ r. ⌜ NontrivialOf g r ⌝ }
 {
     let n = g.input.states;
     let m = g.output.states;
     Nontrivial {
-        inputs: InSet(nontrivial_at(&g.input.moves, n, s, 0)),
-        outputs: OutSet(nontrivial_at(&g.output.moves, m, s, n + n)),
+        inputs: InSet(nontrivial_at(ins, n, s, 0)),
+        outputs: OutSet(nontrivial_at(outs, m, s, n + n)),
     }
 }
 

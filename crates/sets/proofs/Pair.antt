@@ -13,7 +13,7 @@ use Rattle.finite.specs.Bounded.{least, count}
 use Rattle.finite.proofs.Bounded.{least-below}
 use Rattle.bits.proofs.Compare.{nonzero-below}
 use Rattle.finite.proofs.Truth.{or-false-left, or-false-right, and-intro, and-left, and-right, same-test}
-use Rattle.bits.specs.Member.{has, within, subset, meets}
+use Rattle.bits.specs.Member.{has, within, subset, setsMeet}
 use Rattle.bits.proofs.Membership.{has-zero, has-or, has-past, ext}
 use Rattle.sets.specs.Words.{value}
 use Rattle.sets.proofs.Values.{Words, has-first, has-later, value-lt, has-words, empty-words, within-first, within-later, within-not}
@@ -156,8 +156,8 @@ module _ (a b x y : ℕ) (h : a < 2 ^ 64) (g : x < 2 ^ 64) where
   pub pair-subset : subset 128 (value 64 (a ∷ b ∷ [])) (value 64 (x ∷ y ∷ [])) ≡ (subset 64 a x && subset 64 b y)
   pair-subset = subset-words 64 64 a x (b ∷ []) (y ∷ []) h g ∙ ap₂ (λ (m n : ℕ). subset 64 a x && subset 64 m n) (single b) (single y)
 
-  pub pair-meets : meets 128 (value 64 (a ∷ b ∷ [])) (value 64 (x ∷ y ∷ [])) ≡ (meets 64 a x || meets 64 b y)
-  pair-meets = meets-words 64 64 a x (b ∷ []) (y ∷ []) h g ∙ ap₂ (λ (m n : ℕ). meets 64 a x || meets 64 m n) (single b) (single y)
+  pub pair-meets : setsMeet 128 (value 64 (a ∷ b ∷ [])) (value 64 (x ∷ y ∷ [])) ≡ (setsMeet 64 a x || setsMeet 64 b y)
+  pair-meets = meets-words 64 64 a x (b ∷ []) (y ∷ []) h g ∙ ap₂ (λ (m n : ℕ). setsMeet 64 a x || setsMeet 64 m n) (single b) (single y)
 
   pub same-high : a ≡ x → eqb b y ≡ eqb (value 64 (a ∷ b ∷ [])) (value 64 (x ∷ y ∷ []))
   same-high e = same-test (eqb b y) (eqb (value 64 (a ∷ b ∷ [])) (value 64 (x ∷ y ∷ []))) to back

@@ -18,11 +18,11 @@ use lib.Dec.{eqb}
 use lib.Arith.{digits-lt}
 use lib.ListN.{length, getD}
 use lib.Pow.{pow-pos, pow-add}
-use Rattle.finite.specs.Bounded.{any, least, count, one}
+use Rattle.finite.specs.Bounded.{least, count, one}
 use Rattle.finite.proofs.Truth.{clash, false-of, and-intro, and-left, and-right, or-left, or-right, or-cases, same-test}
 use Rattle.finite.proofs.Bounded.{all-elim, least-le, least-member, least-before, least-unique, least-below, count-same}
 use borrow.Author.Tests.{eqb-true, eq-eqb}
-use Rattle.bits.specs.Member.{has, within, implies, subset, meets}
+use Rattle.bits.specs.Member.{has, within, implies, subset, setsMeet}
 use Rattle.bits.proofs.Membership.{has-zero, has-block-low, has-block-high, has-past, has-within, within-has, ext}
 use Rattle.bits.proofs.Compare.{nonzero-below, nonzero-member, subset-intro, meets-intro, meets-elim}
 use Rattle.sets.specs.Words.{value}
@@ -208,23 +208,24 @@ module _ (w : ℕ) where
                 ∙ subset-at n (value w a) (value w b) (and-right (subset w x y) (subset n (value w a) (value w b)) e) t (omega arith)
                 (sym (has-later x a t h) ∙ (rw q at m)))
 
-    pub meets-words : meets (w + n) (value w (x ∷ a)) (value w (y ∷ b)) ≡ (meets w x y || meets n (value w a) (value w b))
-    meets-words = same-test (meets (w + n) (value w (x ∷ a)) (value w (y ∷ b))) (meets w x y || meets n (value w a) (value w b)) to back
+    pub meets-words : setsMeet (w + n) (value w (x ∷ a)) (value w (y ∷ b)) ≡ (setsMeet w x y || setsMeet n (value w a) (value w b))
+    meets-words = same-test (setsMeet (w + n) (value w (x ∷ a)) (value w (y ∷ b))) (setsMeet w x y || setsMeet n (value w a) (value w b)) to back
       where
-        to : meets (w + n) (value w (x ∷ a)) (value w (y ∷ b)) ≡ true → (meets w x y || meets n (value w a) (value w b)) ≡ true
+        to : setsMeet (w + n) (value w (x ∷ a)) (value w (y ∷ b)) ≡ true → (setsMeet w x y || setsMeet n (value w a) (value w b)) ≡ true
         to e =
             let m = meets-elim (w + n) (value w (x ∷ a)) (value w (y ∷ b)) e in
             go (m .0) (m .1) (m .2) (m .3) (first-or-later w (m .0))
           where
             go : (s : ℕ) → s < w + n → has (value w (x ∷ a)) s ≡ true → has (value w (y ∷ b)) s ≡ true → (s < w) ⊎ ((t : ℕ) × (s ≡ w + t))
-                → (meets w x y || meets n (value w a) (value w b)) ≡ true
-            go s l m q (inl c) = or-left (meets n (value w a) (value w b)) (meets-intro w x y s c (sym (has-first x a s c) ∙ m) (sym (has-first y b s c) ∙ q))
+                → (setsMeet w x y || setsMeet n (value w a) (value w b)) ≡ true
+            go s l m q (inl c) = or-left (setsMeet n (value w a) (value w b))
+                (meets-intro w x y s c (sym (has-first x a s c) ∙ m) (sym (has-first y b s c) ∙ q))
             go s l m q (inr (t, z)) =
-                or-right (meets w x y)
+                or-right (setsMeet w x y)
                 (meets-intro n (value w a) (value w b) t (omega arith) (sym (has-later x a t h) ∙ (rw z at m)) (sym (has-later y b t g) ∙ (rw z at q)))
 
-        back : (meets w x y || meets n (value w a) (value w b)) ≡ true → meets (w + n) (value w (x ∷ a)) (value w (y ∷ b)) ≡ true
-        back e = elim (or-cases (meets w x y) (meets n (value w a) (value w b)) e) [
+        back : (setsMeet w x y || setsMeet n (value w a) (value w b)) ≡ true → setsMeet (w + n) (value w (x ∷ a)) (value w (y ∷ b)) ≡ true
+        back e = elim (or-cases (setsMeet w x y) (setsMeet n (value w a) (value w b)) e) [
           | inl q ↦ let m = meets-elim w x y q in
               meets-intro (w + n) (value w (x ∷ a)) (value w (y ∷ b)) (m .0) (omega (arith, m .1)) (has-first x a (m .0) (m .1) ∙ m .2)
               (has-first y b (m .0) (m .1) ∙ m .3)

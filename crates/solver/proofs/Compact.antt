@@ -1,13 +1,16 @@
 -- What the solver answers, case by case, where it writes the controller's table with its rows by component.
 use Prim.Native.Nat.{ℕ, _+_, _*_, _≤_, _<_}
+use native.Mathlib.Nat.{mul-le-mul}
 use mathlib.Core.Path.{_≡_, refl, sym, _∙_, ap, subst, subst⁻¹}
 use mathlib.Core.Bool.{Bool, true, false}
 use mathlib.Core.List.{List, [], _∷_, _++_}
+use mathlib.Core.Logic.{_≢_}
 use native.Mathlib.Omega.{arith}
 use lib.Dec.{leb}
 use lib.ListN.{length, getD, take, drop, List·getD-append}
 use lib.Seq.{take-append-seam}
 use borrow.Author.Tests.{le-leb, lt-leb}
+use Rattle.finite.proofs.Truth.{true-of, false-of}
 use Rattle.arena.specs.Arena.{Separated}
 use Rattle.arena.specs.Win.{system, environment, DemandThree}
 use Rattle.game.specs.declared.Game.{Game}
@@ -15,6 +18,7 @@ use Rattle.game.specs.declared.Acceptance.{Acceptance}
 use Rattle.game.specs.declared.Acceptance.the-variants.{Accepted, Refused as Faulty}
 use Rattle.game.specs.Acceptance.{acceptance}
 use Rattle.game.specs.Numbers.{firstOf}
+use Rattle.game.proofs.Laws.{accepted-fits}
 use Rattle.game.proofs.Numbers.{after, game-after}
 use Rattle.play.specs.Play.{graphOf, separatedOf}
 use Rattle.theory.specs.Region.{verdict}
@@ -24,14 +28,15 @@ use Rattle.demands.specs.Demands.{playOf, environmentOf}
 use Rattle.demands.proofs.Demands.{demand-three-environment}
 use Rattle.compact.specs.Rank.{componentCount}
 use Rattle.compact.specs.Compact.{compactLength, compactEntries, compactCell, compactRow, fullRow, compactTable, compactOutcome}
-use Rattle.compact.proofs.Rank.{rank-below}
+use Rattle.compact.proofs.Rank.{rank-below, components-le}
 use Rattle.compact.proofs.Entries.{compact-entries-length, compact-rank, rows-equal}
 use Rattle.compact.proofs.Claims.{rows-by-component}
 use Rattle.scratch_clearing.specs.Clearing.{cleared}
 use Rattle.scratch.specs.Scratch.{scratchLength}
+use Rattle.table_sizes.proofs.Lengths.{inputs-most, controller-entries}
 use Rattle.solver.specs.declared.Verdict.{Verdict}
 use Rattle.solver.specs.declared.Verdict.the-variants.{System, Environment, Refused as NotSolved}
-use Rattle.solver.specs.Promise.{environmentLength, numberOf, environmentAfter, verdictScratch}
+use Rattle.solver.specs.Promise.{controllerLength, environmentLength, verdictNumber, environmentAfter, verdictScratch}
 use Rattle.solver.specs.Compact.{
   compactNamed,
   compactTenth,
@@ -44,24 +49,24 @@ use Rattle.solver.specs.Compact.{
   EqualRows,
   SolvedCompact,
 }
-use Rattle.solver.proofs.Verdicts.{environment-long}
+use Rattle.solver.proofs.Verdicts.{controller-long, environment-long}
 use Rattle.solver_winner.specs.Written.{WrittenCompact}
 
 -- ---- the number
 
 module _ (g : Game) (s c e : ℕ) where
   named-number : (b : Bool)
-      → numberOf (elim b as (λ x. Verdict) [ true ↦ System (compactLength (separatedOf g)) | false ↦ Environment (environmentLength g) ]) ≡ 0
+      → verdictNumber (elim b as (λ x. Verdict) [ true ↦ System (compactLength (separatedOf g)) | false ↦ Environment (environmentLength g) ]) ≡ 0
   named-number true = refl
   named-number false = refl
 
-  tenth-number : (b : Bool) → numberOf (elim b as (λ x. Verdict) [ true ↦ compactNamed g | false ↦ NotSolved 10 ]) ≡ firstOf ((10, b) ∷ [])
+  tenth-number : (b : Bool) → verdictNumber (elim b as (λ x. Verdict) [ true ↦ compactNamed g | false ↦ NotSolved 10 ]) ≡ firstOf ((10, b) ∷ [])
   unfolding compactNamed firstOf
   tenth-number true = named-number (verdict (separatedOf g))
   tenth-number false = refl
 
   ninth-number : (b : Bool)
-      → numberOf (elim b as (λ x. Verdict) [ true ↦ compactTenth g e | false ↦ NotSolved 9 ]) ≡ firstOf ((9, b) ∷ (10, leb (environmentLength g) e) ∷ [])
+      → verdictNumber (elim b as (λ x. Verdict) [ true ↦ compactTenth g e | false ↦ NotSolved 9 ]) ≡ firstOf ((9, b) ∷ (10, leb (environmentLength g) e) ∷ [])
   unfolding compactTenth firstOf
   ninth-number true = tenth-number (leb (environmentLength g) e)
   ninth-number false = refl
@@ -69,18 +74,19 @@ module _ (g : Game) (s c e : ℕ) where
   abbrev rooms : Bool → List (ℕ × Bool)
   rooms b = (8, b) ∷ (9, leb (compactLength (separatedOf g)) c) ∷ (10, leb (environmentLength g) e) ∷ []
 
-  eighth-number : (b : Bool) → numberOf (elim b as (λ x. Verdict) [ true ↦ compactNinth g c e | false ↦ NotSolved 8 ]) ≡ firstOf (rooms b)
+  eighth-number : (b : Bool) → verdictNumber (elim b as (λ x. Verdict) [ true ↦ compactNinth g c e | false ↦ NotSolved 8 ]) ≡ firstOf (rooms b)
   unfolding compactNinth firstOf
   eighth-number true = ninth-number (leb (compactLength (separatedOf g)) c)
   eighth-number false = refl
 
   acceptance-number : (a : Acceptance)
-      → numberOf (elim a as (λ x. Verdict) [ Accepted ↦ compactEighth g s c e | Faulty n ↦ NotSolved n ]) ≡ after a (firstOf (rooms (leb (scratchLength g) s)))
+      → verdictNumber (elim a as (λ x. Verdict) [ Accepted ↦ compactEighth g s c e | Faulty n ↦ NotSolved n ])
+      ≡ after a (firstOf (rooms (leb (scratchLength g) s)))
   unfolding compactEighth
   acceptance-number Accepted = eighth-number (leb (scratchLength g) s)
   acceptance-number (Faulty n) = refl
 
-  verdict-number : numberOf (compactAnswer g s c e) ≡ firstOf (compactTests g s c e)
+  verdict-number : verdictNumber (compactAnswer g s c e) ≡ firstOf (compactTests g s c e)
   unfolding compactAnswer compactTests
   verdict-number = acceptance-number (acceptance g) ∙ sym (game-after g (rooms (leb (scratchLength g) s)))
 
@@ -110,11 +116,30 @@ rows-behind : (g : Game) (o h j : ℕ) → o < g .output .states → h < control
 unfolding separatedOf graphOf
 rows-behind g o h j lo lh lj l = front-row (separatedOf g) l o h j lo lh lj ∙ rows-equal (separatedOf g) o h j lo lh lj
 
+-- ---- the length
+
+pub compact-some : (g : Game) → acceptance g ≡ Accepted → 0 < compactLength (separatedOf g)
+unfolding compactLength separatedOf graphOf
+compact-some g a = omega (arith, accepted-fits g a .input .some)
+
+-- the full layout is far from wrapping
+pub full-most : (g : Game) → acceptance g ≡ Accepted → length (controllerEntries (separatedOf g)) ≤ 524416
+unfolding controllerLength
+full-most g a = omega (arith, controller-long g, inputs-most g a, controller-entries g a (controllerCounters (separatedOf g)) refl)
+
+-- a room with a row for each input is long enough
+pub compact-most : (g : Game) → compactLength (separatedOf g) ≤ g .input .states + length (controllerEntries (separatedOf g))
+unfolding compactLength separatedOf graphOf controllerLength
+compact-most g =
+    let m : ℕ = g .output .states * controllerCounters (separatedOf g) in
+    let p : m * componentCount (separatedOf g) ≤ m * g .input .states = mul-le-mul {n₁ = m} {n₂ = m} (omega arith) (components-le (separatedOf g)) in
+    omega (arith, controller-long g, p)
+
 -- ---- the answers
 
 module _ (g : Game) (s c e : List ℕ) where
-  told : {r : Verdict} → r ≡ compactAnswer g (length s) (length c) (length e) → numberOf r ≡ firstOf (compactTests g (length s) (length c) (length e))
-  told h = ap numberOf h ∙ verdict-number g (length s) (length c) (length e)
+  told : {r : Verdict} → r ≡ compactAnswer g (length s) (length c) (length e) → verdictNumber r ≡ firstOf (compactTests g (length s) (length c) (length e))
+  told h = ap verdictNumber h ∙ verdict-number g (length s) (length c) (length e)
 
   refused : (n : ℕ) → NotSolved n ≡ compactAnswer g (length s) (length c) (length e) → SolvedCompact g s s c c e e (NotSolved n)
   unfolding verdictScratch compactAfter environmentAfter DecidedCompact EqualRows
@@ -207,52 +232,29 @@ module _ (g : Game) (s c e : List ℕ) where
 
 -- ---- from what was written
 
-module _ (g : Game) (s s′ c c′ e e′ : List ℕ) {r : Bool} (W : WrittenCompact g s s′ c c′ e e′ r) (a : acceptance g ≡ Accepted) (h : scratchLength g ≤ length s)
-    (x y : ℕ) (p : x ≡ compactLength (separatedOf g)) (q : y ≡ length (environmentEntries (separatedOf g))) (k : x ≤ length c)
-    (l : y ≤ length e) where
+module _ (g : Game) (s s′ c c′ e e′ : List ℕ) {r : ℕ} (W : WrittenCompact g s s′ c c′ e e′ r) (a : acceptance g ≡ Accepted) (h : scratchLength g ≤ length s)
+    (k : compactLength (separatedOf g) ≤ length c) (y : ℕ) (q : y ≡ length (environmentEntries (separatedOf g))) (l : y ≤ length e) where
   le : y ≡ environmentLength g
   le = q ∙ environment-long g
 
-  pub written-system : r ≡ true → SolvedCompact g s s′ c c′ e e′ (System x)
-  written-system v =
-      subst⁻¹ (λ (n : ℕ). SolvedCompact g s s′ c c′ e e′ (System n)) p
-      (subst⁻¹ (λ (t : List ℕ). SolvedCompact g s s′ c c′ e t (System (compactLength (separatedOf g)))) same
-      (solved-system g s c e a h (subst (λ (n : ℕ). n ≤ length c) p k) (subst (λ (n : ℕ). n ≤ length e) le l) s′ c′ (sym (W .wins) ∙ v) (W .scratch) front))
-    where
-      same : e′ ≡ e
-      same =
-          W .environment ∙ ap (λ (b : Bool). elim b as (λ t. List ℕ)
-          [ true ↦ e | false ↦ environmentEntries (separatedOf g) ++ drop (length (environmentEntries (separatedOf g))) e ]) v
+  -- a table has entries, so the answer is 0 for the environment alone
+  won : r ≢ 0 → verdict (separatedOf g) ≡ true
+  won n = true-of (verdict (separatedOf g)) (λ v. n (rw v at (W .wins)))
 
-      front : c′ ≡ compactEntries (separatedOf g) ++ drop (compactLength (separatedOf g)) c
-      front =
-          W .controller
-          ∙ ap (λ (b : Bool). elim b as (λ t. List ℕ) [
-            | true ↦ compactEntries (separatedOf g) ++ drop (compactLength (separatedOf g)) c
-            | false ↦ c
-          ]) v
+  lost : r ≡ 0 → verdict (separatedOf g) ≡ false
+  lost z = false-of (verdict (separatedOf g)) (λ v. absurd (omega (arith, compact-some g a, rw v at (W .wins))))
 
-  pub written-environment : r ≡ false → SolvedCompact g s s′ c c′ e e′ (Environment y)
-  written-environment v =
+  pub written-system : r ≢ 0 → SolvedCompact g s s′ c c′ e e′ (System r)
+  written-system n =
+      let v = won n in
+      subst⁻¹ (λ (n : ℕ). SolvedCompact g s s′ c c′ e e′ (System n)) (rw v at (W .wins))
+      (subst⁻¹ (λ (t : List ℕ). SolvedCompact g s s′ c c′ e t (System (compactLength (separatedOf g)))) (rw v at (W .environment))
+      (solved-system g s c e a h k (subst (λ (n : ℕ). n ≤ length e) le l) s′ c′ v (W .scratch) (rw v at (W .controller))))
+
+  pub written-environment : r ≡ 0 → SolvedCompact g s s′ c c′ e e′ (Environment y)
+  written-environment z =
+      let v = lost z in
       subst⁻¹ (λ (n : ℕ). SolvedCompact g s s′ c c′ e e′ (Environment n)) le
-      (subst⁻¹ (λ (t : List ℕ). SolvedCompact g s s′ c t e e′ (Environment (environmentLength g))) same
-      (solved-environment g s c e a h (subst (λ (n : ℕ). n ≤ length c) p k) (subst (λ (n : ℕ). n ≤ length e) le l) s′ e′ (sym (W .wins) ∙ v) (W .scratch)
-      front))
-    where
-      same : c′ ≡ c
-      same =
-          W .controller
-          ∙ ap (λ (b : Bool). elim b as (λ t. List ℕ) [
-            | true ↦ compactEntries (separatedOf g) ++ drop (compactLength (separatedOf g)) c
-            | false ↦ c
-          ]) v
-
-      front : e′ ≡ environmentEntries (separatedOf g) ++ drop (environmentLength g) e
-      front =
-          W .environment
-          ∙ ap (λ (b : Bool). elim b as (λ t. List ℕ) [
-            | true ↦ e
-            | false ↦ environmentEntries (separatedOf g) ++ drop
-                (length (environmentEntries (separatedOf g))) e
-          ]) v
-          ∙ ap (λ (n : ℕ). environmentEntries (separatedOf g) ++ drop n e) (environment-long g)
+      (subst⁻¹ (λ (t : List ℕ). SolvedCompact g s s′ c t e e′ (Environment (environmentLength g))) (rw v at (W .controller))
+      (solved-environment g s c e a h k (subst (λ (n : ℕ). n ≤ length e) le l) s′ e′ v (W .scratch)
+      (rw v at (W .environment) ∙ ap (λ (n : ℕ). environmentEntries (separatedOf g) ++ drop n e) (environment-long g))))

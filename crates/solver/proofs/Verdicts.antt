@@ -34,7 +34,7 @@ use Rattle.solver.specs.Promise.{
   eighth,
   verdictAnswer,
   solveTests,
-  numberOf,
+  verdictNumber,
   controllerAfter,
   environmentAfter,
   verdictScratch,
@@ -54,17 +54,17 @@ environment-long g = entries.environment-long (separatedOf g)
 -- ---- the number
 
 module _ (g : Game) (s c e : ℕ) where
-  named-number : (b : Bool) → numberOf (elim b as (λ x. Verdict) [ true ↦ System (controllerLength g) | false ↦ Environment (environmentLength g) ]) ≡ 0
+  named-number : (b : Bool) → verdictNumber (elim b as (λ x. Verdict) [ true ↦ System (controllerLength g) | false ↦ Environment (environmentLength g) ]) ≡ 0
   named-number true = refl
   named-number false = refl
 
-  tenth-number : (b : Bool) → numberOf (elim b as (λ x. Verdict) [ true ↦ named g | false ↦ NotSolved 10 ]) ≡ firstOf ((10, b) ∷ [])
+  tenth-number : (b : Bool) → verdictNumber (elim b as (λ x. Verdict) [ true ↦ named g | false ↦ NotSolved 10 ]) ≡ firstOf ((10, b) ∷ [])
   unfolding named firstOf
   tenth-number true = named-number (verdict (separatedOf g))
   tenth-number false = refl
 
   ninth-number : (b : Bool)
-      → numberOf (elim b as (λ x. Verdict) [ true ↦ tenth g e | false ↦ NotSolved 9 ]) ≡ firstOf ((9, b) ∷ (10, leb (environmentLength g) e) ∷ [])
+      → verdictNumber (elim b as (λ x. Verdict) [ true ↦ tenth g e | false ↦ NotSolved 9 ]) ≡ firstOf ((9, b) ∷ (10, leb (environmentLength g) e) ∷ [])
   unfolding tenth firstOf
   ninth-number true = tenth-number (leb (environmentLength g) e)
   ninth-number false = refl
@@ -72,18 +72,18 @@ module _ (g : Game) (s c e : ℕ) where
   abbrev rooms : Bool → List (ℕ × Bool)
   rooms b = (8, b) ∷ (9, leb (controllerLength g) c) ∷ (10, leb (environmentLength g) e) ∷ []
 
-  eighth-number : (b : Bool) → numberOf (elim b as (λ x. Verdict) [ true ↦ ninth g c e | false ↦ NotSolved 8 ]) ≡ firstOf (rooms b)
+  eighth-number : (b : Bool) → verdictNumber (elim b as (λ x. Verdict) [ true ↦ ninth g c e | false ↦ NotSolved 8 ]) ≡ firstOf (rooms b)
   unfolding ninth firstOf
   eighth-number true = ninth-number (leb (controllerLength g) c)
   eighth-number false = refl
 
   acceptance-number : (a : Acceptance)
-      → numberOf (elim a as (λ x. Verdict) [ Accepted ↦ eighth g s c e | Faulty n ↦ NotSolved n ]) ≡ after a (firstOf (rooms (leb (scratchLength g) s)))
+      → verdictNumber (elim a as (λ x. Verdict) [ Accepted ↦ eighth g s c e | Faulty n ↦ NotSolved n ]) ≡ after a (firstOf (rooms (leb (scratchLength g) s)))
   unfolding eighth
   acceptance-number Accepted = eighth-number (leb (scratchLength g) s)
   acceptance-number (Faulty n) = refl
 
-  verdict-number : numberOf (verdictAnswer g s c e) ≡ firstOf (solveTests g s c e)
+  verdict-number : verdictNumber (verdictAnswer g s c e) ≡ firstOf (solveTests g s c e)
   unfolding verdictAnswer solveTests
   verdict-number = acceptance-number (acceptance g) ∙ sym (game-after g (rooms (leb (scratchLength g) s)))
 
@@ -97,8 +97,8 @@ more-scratch g s c e h =
     told b = elim (acceptance g) [ Accepted ↦ elim b [ true ↦ ninth g c e | false ↦ NotSolved 8 ] | Faulty n ↦ NotSolved n ]
 
 module _ (g : Game) (s c e : List ℕ) where
-  told : {r : Verdict} → r ≡ verdictAnswer g (length s) (length c) (length e) → numberOf r ≡ firstOf (solveTests g (length s) (length c) (length e))
-  told h = ap numberOf h ∙ verdict-number g (length s) (length c) (length e)
+  told : {r : Verdict} → r ≡ verdictAnswer g (length s) (length c) (length e) → verdictNumber r ≡ firstOf (solveTests g (length s) (length c) (length e))
+  told h = ap verdictNumber h ∙ verdict-number g (length s) (length c) (length e)
 
   refused : (n : ℕ) → NotSolved n ≡ verdictAnswer g (length s) (length c) (length e) → Solved g s s c c e e (NotSolved n)
   unfolding verdictScratch controllerAfter environmentAfter Decided

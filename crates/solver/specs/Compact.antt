@@ -26,7 +26,7 @@ use Rattle.compact.specs.Compact.{compactLength, compactEntries, compactRow, fu
 use Rattle.scratch.specs.Scratch.{scratchLength}
 use Rattle.solver.specs.declared.Verdict.{Verdict}
 use Rattle.solver.specs.declared.Verdict.the-variants.{System, Environment, Refused as NotSolved}
-use Rattle.solver.specs.Promise.{environmentLength, numberOf, environmentAfter, verdictScratch}
+use Rattle.solver.specs.Promise.{environmentLength, verdictNumber, environmentAfter, verdictScratch}
 
 -- the side that wins, with the length of its table
 unfoldable pub compactNamed : Game → Verdict
@@ -71,7 +71,7 @@ EqualRows g (NotSolved n) c = Unit {0}
 
 pub record SolvedCompact (g : Game) (s s′ c c′ e e′ : List ℕ) (r : Verdict) : Type 0 where
   pub answer : r ≡ compactAnswer g (length s) (length c) (length e)
-  pub number : numberOf r ≡ firstOf (compactTests g (length s) (length c) (length e))
+  pub number : verdictNumber r ≡ firstOf (compactTests g (length s) (length c) (length e))
   pub scratch : s′ ≡ verdictScratch g r s
   pub controller : c′ ≡ compactAfter g r c
   pub environment : e′ ≡ environmentAfter g r e

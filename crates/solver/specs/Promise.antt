@@ -3,7 +3,7 @@
 --   controllerLength g, environmentLength g    == how many entries the two tables have
 --   verdictAnswer g s c e     == the answer of the solver, scratch being of s words and the buffers of c and e entries
 --   solveTests g s c e        == its tests under their numbers
---   numberOf r                == document 01's number of the answer r, 0 for a verdict
+--   verdictNumber r           == document 01's number of the answer r, 0 for a verdict
 --   Decided g r c e           == demand 3 for the answer r, the buffers then being c and e
 --   Solved g s s′ c c′ e e′ r == the solver answers r and leaves scratch s as s′, the controller's buffer c as c′ and the environment's e as e′
 use Prim.Native.Nat.{ℕ, _+_, _*_}
@@ -53,10 +53,10 @@ verdictAnswer g s c e = elim (acceptance g) [ Accepted ↦ eighth g s c e | Faul
 unfoldable pub solveTests : Game → ℕ → ℕ → ℕ → List (ℕ × Bool)
 solveTests g s c e = gameTests g ++ (8, leb (scratchLength g) s) ∷ (9, leb (controllerLength g) c) ∷ (10, leb (environmentLength g) e) ∷ []
 
-abbrev pub numberOf : Verdict → ℕ
-numberOf (System n) = 0
-numberOf (Environment n) = 0
-numberOf (NotSolved n) = n
+abbrev pub verdictNumber : Verdict → ℕ
+verdictNumber (System n) = 0
+verdictNumber (Environment n) = 0
+verdictNumber (NotSolved n) = n
 
 -- "On a verdict the answer is the filled front of one of two lent rooms; the rest of that room and all of the other stay unchanged."
 unfoldable pub controllerAfter : Game → Verdict → List ℕ → List ℕ
@@ -83,7 +83,7 @@ Decided g (NotSolved n) c e = Unit {0}
 
 pub record Solved (g : Game) (s s′ c c′ e e′ : List ℕ) (r : Verdict) : Type 0 where
   pub answer : r ≡ verdictAnswer g (length s) (length c) (length e)
-  pub number : numberOf r ≡ firstOf (solveTests g (length s) (length c) (length e))
+  pub number : verdictNumber r ≡ firstOf (solveTests g (length s) (length c) (length e))
   pub scratch : s′ ≡ verdictScratch g r s
   pub controller : c′ ≡ controllerAfter g r c
   pub environment : e′ ≡ environmentAfter g r e

@@ -2,6 +2,7 @@
 ghost use mathlib.Core.Path.{_≡_};
 ghost use Rattle.game.specs.declared.Acceptance.the-variants.{Accepted};
 ghost use Rattle.game.specs.Acceptance.{acceptance};
+ghost use Rattle.game_sets.specs.Lists.{Lists};
 ghost use Rattle.table_sizes.specs.Outlined.{Outlined};
 ghost use Rattle.solver.specs.Promise.{Solved};
 ghost use Rattle.solver.specs.Compact.{SolvedCompact};
@@ -23,13 +24,15 @@ pub enum Verdict {
 fn solve_accepted<'a>(
     g: Game,
     given: Outline,
+    l: &'a [u64; sets::ROW_WORDS],
     ins: &'a [u64; sets::ROW_WORDS],
     outs: &'a [u64; sets::ROW_WORDS],
     scratch: &mut [u64],
     controller: &mut [u16],
     panel: &mut [u16],
 ) -> Verdict
-    requires { ⌜ (acceptance g ≡ Accepted) × Outlined g given × (now ins ≡ g .input .moves) × (now outs ≡ g .output .moves) ⌝ }
+    requires { ⌜ (acceptance g ≡ Accepted) × Outlined g given × (now ins ≡ g .input .moves) × (now outs ≡ g .output .moves)
+        × Lists g (now l) ⌝ }
     ensures { λ r. ⌜ Solved g (now (scratch .entry)) (now (scratch .exit)) (now (controller .entry)) (now (controller .exit)) (now (panel .entry))
         (now (panel .exit)) r ⌝ }
 {
@@ -44,7 +47,7 @@ fn solve_accepted<'a>(
     if panel.len() < e {
         return Verdict::Refused(10);
     }
-    if solver_winner::write_winner(g, given, ins, outs, scratch, controller, panel) {
+    if solver_winner::write_winner(g, given, l, ins, outs, scratch, controller, panel) {
         return Verdict::System(c);
     }
     Verdict::Environment(e)
@@ -60,14 +63,16 @@ pub fn solve_into(
     ensures { λ r. ⌜ Solved g (now (scratch .entry)) (now (scratch .exit)) (now (controller .entry)) (now (controller .exit)) (now (panel .entry))
         (now (panel .exit)) r ⌝ }
 {
-    let accepted = acceptance::accept(g);
+    let accepted = acceptance::accept_lent(g, &g.input.moves, &g.output.moves);
     match accepted {
         Acceptance::Refused(n) => Verdict::Refused(n),
         Acceptance::Accepted => {
-            let given = table_sizes::outline_of(g);
+            let wanted = game_sets::list_of(g);
+            let given = table_sizes::outline_of(g, wanted.assumed, wanted.guaranteed);
             solve_accepted(
                 g,
                 given,
+                &wanted.sets,
                 &g.input.moves,
                 &g.output.moves,
                 scratch,
@@ -88,14 +93,16 @@ pub fn solve_compact_into(
     ensures { λ r. ⌜ SolvedCompact g (now (scratch .entry)) (now (scratch .exit)) (now (controller .entry)) (now (controller .exit)) (now (panel .entry))
         (now (panel .exit)) r ⌝ }
 {
-    let accepted = acceptance::accept(g);
+    let accepted = acceptance::accept_lent(g, &g.input.moves, &g.output.moves);
     match accepted {
         Acceptance::Refused(n) => Verdict::Refused(n),
         Acceptance::Accepted => {
-            let given = table_sizes::outline_of(g);
+            let wanted = game_sets::list_of(g);
+            let given = table_sizes::outline_of(g, wanted.assumed, wanted.guaranteed);
             by_component::solve_accepted(
                 g,
                 given,
+                &wanted.sets,
                 &g.input.moves,
                 &g.output.moves,
                 scratch,

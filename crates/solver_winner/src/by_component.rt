@@ -1,50 +1,46 @@
 // The winner's table, the controller's with its rows by component.
 use game::Game;
-use game::InSet;
 use table_sizes::Outline;
 ghost use mathlib.Core.Path.{_≡_};
 ghost use Prim.Native.Nat.{_≤_};
 ghost use lib.ListN.{length};
-ghost use Rattle.bits.specs.Member.{pack};
-ghost use Rattle.sets.specs.Words.{bitsOf};
 ghost use Rattle.game.specs.declared.Acceptance.the-variants.{Accepted};
 ghost use Rattle.game.specs.Acceptance.{acceptance};
 ghost use Rattle.play.specs.Play.{separatedOf};
 ghost use Rattle.theory.specs.Entries.{environmentEntries};
-ghost use Rattle.compact.specs.Rank.{leads};
 ghost use Rattle.compact.specs.Compact.{compactLength};
+ghost use Rattle.game_sets.specs.Lists.{Lists};
 ghost use Rattle.table_sizes.specs.Outlined.{Outlined};
 ghost use Rattle.scratch.specs.Scratch.{scratchLength};
 ghost use Rattle.solver_winner.specs.Written.{WrittenCompact};
 
-// Writes the winner's table of an accepted game and clears scratch; the leaders are the smallest inputs of the components. Answers whether that is the
-// system's.
+// Writes the winner's table of an accepted game and clears scratch. Answers how many entries the system's table has, 0 where the environment's is written.
 pub fn write_winner<'a>(
     g: Game,
     given: Outline,
+    l: &'a [u64; sets::ROW_WORDS],
     ins: &'a [u64; sets::ROW_WORDS],
     outs: &'a [u64; sets::ROW_WORDS],
-    leaders: InSet,
     scratch: &mut [u64],
     controller: &mut [u16],
     panel: &mut [u16],
-) -> bool
-    requires { ⌜ (acceptance g ≡ Accepted) × (bitsOf (leaders .0) ≡ pack (g .input .states) (leads (separatedOf g)))
-        × (scratchLength g ≤ length (now scratch)) × (compactLength (separatedOf g) ≤ length (now controller))
+) -> usize
+    requires { ⌜ (acceptance g ≡ Accepted) × (scratchLength g ≤ length (now scratch)) × (compactLength (separatedOf g) ≤ length (now controller))
         × (length (environmentEntries (separatedOf g)) ≤ length (now panel))
-        × Outlined g given × (now ins ≡ g .input .moves) × (now outs ≡ g .output .moves) ⌝ }
+        × Outlined g given × (now ins ≡ g .input .moves) × (now outs ≡ g .output .moves)
+        × Lists g (now l) ⌝ }
     ensures { λ r. ⌜ WrittenCompact g (now (scratch .entry)) (now (scratch .exit)) (now (controller .entry)) (now (controller .exit)) (now (panel .entry))
         (now (panel .exit)) r ⌝ }
 {
     let used = scratch::length(g);
-    let x = region::prepare(g, scratch);
+    let x = region::prepare(g, ins, outs, l, &given.assumed, &given.guaranteed, scratch);
     let inner = x.inputs;
     if region_verdict::system_wins(g, scratch, inner) {
-        controller::fill_compact(g, given, outs, scratch, inner, leaders, controller);
+        let entries = controller::fill_compact(g, given, l, outs, scratch, inner, controller);
         scratch_clearing::clear(scratch, used);
-        return true;
+        return entries;
     }
-    environment::fill(g, given, ins, outs, scratch, inner, panel);
+    environment::fill(g, given, l, ins, outs, scratch, inner, panel);
     scratch_clearing::clear(scratch, used);
-    false
+    0
 }

@@ -6,6 +6,7 @@ ghost use Rattle.game.specs.declared.Acceptance.the-variants.{Accepted};
 ghost use Rattle.game.specs.Acceptance.{acceptance};
 ghost use Rattle.play.specs.Play.{separatedOf};
 ghost use Rattle.theory.specs.Entries.{controllerEntries, environmentEntries};
+ghost use Rattle.game_sets.specs.Lists.{Lists};
 ghost use Rattle.table_sizes.specs.Outlined.{Outlined};
 ghost use Rattle.scratch.specs.Scratch.{scratchLength};
 ghost use Rattle.solver_winner.specs.Written.{Written};
@@ -18,6 +19,7 @@ pub mod by_component; // with the controller's rows by component
 pub fn write_winner<'a>(
     g: Game,
     given: Outline,
+    l: &'a [u64; sets::ROW_WORDS],
     ins: &'a [u64; sets::ROW_WORDS],
     outs: &'a [u64; sets::ROW_WORDS],
     scratch: &mut [u64],
@@ -26,19 +28,20 @@ pub fn write_winner<'a>(
 ) -> bool
     requires { ⌜ (acceptance g ≡ Accepted) × (scratchLength g ≤ length (now scratch)) × (length (controllerEntries (separatedOf g)) ≤ length (now controller))
         × (length (environmentEntries (separatedOf g)) ≤ length (now panel))
-        × Outlined g given × (now ins ≡ g .input .moves) × (now outs ≡ g .output .moves) ⌝ }
+        × Outlined g given × (now ins ≡ g .input .moves) × (now outs ≡ g .output .moves)
+        × Lists g (now l) ⌝ }
     ensures { λ r. ⌜ Written g (now (scratch .entry)) (now (scratch .exit)) (now (controller .entry)) (now (controller .exit)) (now (panel .entry))
         (now (panel .exit)) r ⌝ }
 {
     let used = scratch::length(g);
-    let x = region::prepare(g, scratch);
+    let x = region::prepare(g, ins, outs, l, &given.assumed, &given.guaranteed, scratch);
     let inner = x.inputs;
     if region_verdict::system_wins(g, scratch, inner) {
-        controller::fill(g, given, outs, scratch, inner, controller);
+        controller::fill(g, given, l, outs, scratch, inner, controller);
         scratch_clearing::clear(scratch, used);
         return true;
     }
-    environment::fill(g, given, ins, outs, scratch, inner, panel);
+    environment::fill(g, given, l, ins, outs, scratch, inner, panel);
     scratch_clearing::clear(scratch, used);
     false
 }

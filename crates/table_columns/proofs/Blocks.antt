@@ -20,7 +20,7 @@ use Rattle.bits.proofs.Visit.{small-word, lowest-below, lowest-in, lowest-less}
 use Rattle.sets.specs.Words.{capacity}
 use Rattle.table_filling.specs.Grows.{Right, Grows}
 use Rattle.table_filling.proofs.Grows.{grows-none, grows-more}
-use Rattle.table_columns.specs.Column.{Fits, Columned, Column, BlockFits, BlockAgrees, Block}
+use Rattle.table_columns.specs.Column.{ColumnRoom, Columned, Column, BlockFits, BlockAgrees, Block}
 
 pub record ColumnsPart (E l m : List ℕ) (base width over which left : ℕ) : Type 0 where
   pub grows : Grows E l m
@@ -49,7 +49,7 @@ module _ (l m : List ℕ) (base width over which first more left x : ℕ) (C : B
   pub block-column : (x < width) × (has over x ≡ true)
   block-column = C .inside x (lowest-in capacity left x small ne e)
 
-  pub block-fits : BlockFits (length l) base width over which first more → Fits (length m) (base + x) width which first more
+  pub block-fits : BlockFits (length l) base width over which first more → ColumnRoom (length m) (base + x) width which first more
   block-fits B = let F = B .columns x (block-column .0) (block-column .1) in record { below = λ h w. omega (arith, F .below h w, C .long); small = F .small }
 
   module _ (r : ℕ) (d : (s : ℕ) → has r s ≡ (has left s && not (eqb s (least capacity (has left))))) where

@@ -15,7 +15,7 @@ use Rattle.bits.specs.Member.{has}
 use Rattle.table_counters.specs.Counters.{counterCapacity}
 use Rattle.table_filling.specs.Grows.{Right, Grows}
 use Rattle.table_filling.proofs.Grows.{grows-none, grows-more, grows-set, right-set}
-use Rattle.table_columns.specs.Column.{Fits, Agrees, Column, FrontFits, FrontAgrees, Front}
+use Rattle.table_columns.specs.Column.{ColumnRoom, Agrees, Column, FrontFits, FrontAgrees, Front}
 
 pub front-start : (l : List ℕ) (base step count first more : ℕ) → Front l l base step count first more 0
 front-start l base step count first more = record {
@@ -54,7 +54,7 @@ module _ (which b count : ℕ) (e : which ≡ b) (f : (s : ℕ) → has b s ≡ 
   below : (h : ℕ) → has which h ≡ true → h < count
   below h m = ltb-true h count (sym (f h) ∙ sym (ap (λ (y : ℕ). has y h) e) ∙ m)
 
-  pub front-fits : (n base step first more : ℕ) → Fits n base step which first more → count ≤ counterCapacity → FrontFits n base step count first more
+  pub front-fits : (n base step first more : ℕ) → ColumnRoom n base step which first more → count ≤ counterCapacity → FrontFits n base step count first more
   front-fits n base step first more F few = record { few = few; below = λ h lt. F .below h (into h lt); small = λ h lt. F .small h (into h lt) }
 
   pub front-column : (l m : List ℕ) (base step first more : ℕ) → Front l m base step count first more count → Column l m base step which first more

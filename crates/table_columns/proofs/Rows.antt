@@ -27,7 +27,7 @@ use Rattle.table_counters.specs.Counters.{counterCapacity}
 use Rattle.table_filling.specs.Grows.{Right, Grows}
 use Rattle.table_filling.proofs.Grows.{grows-none, grows-more, grows-set, right-set}
 use Rattle.table_columns.specs.Column.{
-  Fits,
+  ColumnRoom,
   RunAgrees,
   Run,
   RowFits,
@@ -197,7 +197,7 @@ module _ (over width inside b : ℕ) (f : (s : ℕ) → has b s ≡ ltb s width)
 
 module _ (n base width which first more inside : ℕ) (B : BlockFits n base width inside which first more) (I : Narrowed width inside)
     (h : ℕ) (w : has which h ≡ true) where
-  column-of : (x : ℕ) → has inside x ≡ true → Fits n (base + x) width which first more
+  column-of : (x : ℕ) → has inside x ≡ true → ColumnRoom n (base + x) width which first more
   column-of x e = B .columns x (I .within x e) e
 
   some : (x : ℕ) × (has inside x ≡ true)

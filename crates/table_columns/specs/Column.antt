@@ -1,7 +1,7 @@
 -- Entries written in columns: for each h of a set `which`, first + more × h at place base + step × h; and blocks of such columns. What is written
 -- is judged against any list E of entries that holds the same at those places.
 --
---   Fits n base step which first more              == the places are below n, and the entries fit 16 bits
+--   ColumnRoom n base step which first more        == the places are below n, and the entries fit 16 bits
 --   Agrees E base step which first more            == E holds those entries at those places
 --   Columned E l m base step which                 == from l to m entries of E were written, those of the places among them
 --   Column l m base step which first more          == so it is for every such E
@@ -19,7 +19,7 @@ use Rattle.sets.specs.Words.{capacity}
 use Rattle.table_counters.specs.Counters.{counterCapacity}
 use Rattle.table_filling.specs.Grows.{Right, Grows}
 
-pub record Fits (n base step which first more : ℕ) : Type 0 where
+pub record ColumnRoom (n base step which first more : ℕ) : Type 0 where
   pub below : (h : ℕ) → has which h ≡ true → base + step * h < n
   pub small : (h : ℕ) → has which h ≡ true → first + more * h < 65536
 
@@ -87,7 +87,7 @@ pub record Row (l m : List ℕ) (base over value : ℕ) : Type 0 where
 pub record BlockFits (n base width over which first more : ℕ) : Type 0 where
   pub narrow : width ≤ capacity
   pub inside : base + width ≤ n
-  pub columns : (x : ℕ) → x < width → has over x ≡ true → Fits n (base + x) width which first more
+  pub columns : (x : ℕ) → x < width → has over x ≡ true → ColumnRoom n (base + x) width which first more
 
 pub record BlockAgrees (E : List ℕ) (base width over which first more : ℕ) : Type 0 where
   pub columns : (x : ℕ) → x < width → has over x ≡ true → Agrees E (base + x) width which first more

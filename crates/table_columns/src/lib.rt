@@ -4,7 +4,7 @@ use table_counters::CounterSet;
 ghost use Prim.Native.Nat.{ℕ, _+_, _<_};
 ghost use lib.ListN.{length};
 ghost use Rattle.sets.specs.Words.{bitsOf};
-ghost use Rattle.table_columns.specs.Column.{Fits, Column, FrontFits, Front, Run, RowFits, Row, BlockFits, Block};
+ghost use Rattle.table_columns.specs.Column.{ColumnRoom, Column, FrontFits, Front, Run, RowFits, Row, BlockFits, Block};
 ghost use Rattle.table_columns.specs.Scattering.{Scattering};
 
 // From so many counters on a column is written faster than a row.
@@ -24,7 +24,7 @@ fn front(room: &mut [u16], base: usize, step: usize, count: usize, first: u16, m
 
 // The same for each h of any set `which`, lowest first.
 fn members(room: &mut [u16], base: usize, step: usize, which: CounterSet, first: u16, more: u16)
-    requires { ⌜ Fits (length (now room)) base step (which .0) first more ⌝ }
+    requires { ⌜ ColumnRoom (length (now room)) base step (which .0) first more ⌝ }
     ensures { λ r. ⌜ Column (now (room .entry)) (now (room .exit)) base step (which .0) first more ⌝ }
 {
     let mut rest = which;
@@ -37,7 +37,7 @@ fn members(room: &mut [u16], base: usize, step: usize, which: CounterSet, first:
 
 // The same, counted where the set is all counters below some count: then the count is the lowest that does not belong.
 pub fn column(room: &mut [u16], base: usize, step: usize, which: CounterSet, first: u16, more: u16)
-    requires { ⌜ Fits (length (now room)) base step (which .0) first more ⌝ }
+    requires { ⌜ ColumnRoom (length (now room)) base step (which .0) first more ⌝ }
     ensures { λ r. ⌜ Column (now (room .entry)) (now (room .exit)) base step (which .0) first more ⌝ }
 {
     let count = table_counters::lowest(table_counters::difference(

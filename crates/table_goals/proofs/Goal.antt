@@ -14,7 +14,7 @@ use Rattle.bits.proofs.Membership.{within-has}
 use Rattle.bits.proofs.Compare.{nonzero-member}
 use Rattle.theory.specs.Tour.{around}
 use Rattle.theory.proofs.Around.{around-cases, around-below, distance, distance-below, around-distance}
-use Rattle.table_goals.specs.Goal.{Goals, firstFrom, passed}
+use Rattle.table_goals.specs.Goal.{Goals, firstFrom, passedCounter}
 
 -- the number r is first where it is a member and those before it, going round, are none
 pub first-is : (m q g r d : ℕ) → d < m → around m g d ≡ r → has q r ≡ true → ((k : ℕ) → k < d → has q (around m g k) ≡ false) → firstFrom m q g ≡ r
@@ -24,17 +24,17 @@ first-is m q g r d b e h f =
 
 -- the counter after a move
 
-pub passed-stays : (m a : ℕ) (b : Bool) → b ≡ false → a ≡ passed m b a
-unfolding passed
-passed-stays m a b e = rw (e, passed) refl
+pub passed-stays : (m a : ℕ) (b : Bool) → b ≡ false → a ≡ passedCounter m b a
+unfolding passedCounter
+passed-stays m a b e = rw (e, passedCounter) refl
 
-pub passed-on : (m a : ℕ) (b : Bool) → b ≡ true → a + 1 < m → a + 1 ≡ passed m b a
-unfolding passed
-passed-on m a b e h = rw (e, passed) (elim (around-cases m a 1) [ inl c ↦ omega arith | inr c ↦ omega arith ])
+pub passed-on : (m a : ℕ) (b : Bool) → b ≡ true → a + 1 < m → a + 1 ≡ passedCounter m b a
+unfolding passedCounter
+passed-on m a b e h = rw (e, passedCounter) (elim (around-cases m a 1) [ inl c ↦ omega arith | inr c ↦ omega arith ])
 
-pub passed-round : (m a : ℕ) (b : Bool) → b ≡ true → a < m → m ≤ a + 1 → 0 ≡ passed m b a
-unfolding passed
-passed-round m a b e l h = rw (e, passed) (elim (around-cases m a 1) [ inl c ↦ omega arith | inr c ↦ omega arith ])
+pub passed-round : (m a : ℕ) (b : Bool) → b ≡ true → a < m → m ≤ a + 1 → 0 ≡ passedCounter m b a
+unfolding passedCounter
+passed-round m a b e l h = rw (e, passedCounter) (elim (around-cases m a 1) [ inl c ↦ omega arith | inr c ↦ omega arith ])
 
 pub goals-at : (q m g h : ℕ) → Goals q m g → h < m → Goals q m h
 goals-at q m g h G b = record { some = G .some; members = G .members; few = G .few; below = b }
@@ -52,7 +52,7 @@ first-member q m g G =
 pub first-below : (q m g : ℕ) → Goals q m g → firstFrom m q g < m
 first-below q m g G = within-has q m (firstFrom m q g) (G .members) (first-member q m g G)
 
-pub passed-below : (m a : ℕ) (b : Bool) → a < m → passed m b a < m
-unfolding passed
+pub passed-below : (m a : ℕ) (b : Bool) → a < m → passedCounter m b a < m
+unfolding passedCounter
 passed-below m a true h = around-below m a 1 h (omega arith)
 passed-below m a false h = h

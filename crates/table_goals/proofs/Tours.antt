@@ -37,7 +37,7 @@ use Rattle.theory.proofs.Tour.{inside-intro, inside-edge, inside-to, inside-mov
 use Rattle.graph_ways.specs.Kept.{kept}
 use Rattle.graph_ways.proofs.Kept.{kept-pack, members-pack}
 use Rattle.graphs.proofs.Way.{prefer-same, prefer-wider}
-use Rattle.table_goals.specs.Goal.{Goals, firstFrom, passed}
+use Rattle.table_goals.specs.Goal.{Goals, firstFrom, passedCounter}
 use Rattle.table_goals.specs.Stretches.{metIn}
 
 -- the sets that meet the component, whose states are the word x
@@ -91,8 +91,8 @@ module _ (G : Graph) (c : ℕ) (l : List (ℕ → Bool)) (q : ℕ) (e : q ≡ pa
       (least-same (length l) (λ k. has q (around (length l) g k)) (λ k. meetsAt G c (goalAt l (around (length l) g k)))
       (λ k d. goal-meets (around (length l) g k) (around-below (length l) g k b (omega arith))))
 
-arrive-passed : (l : List (ℕ → Bool)) (a t : ℕ) → arrive l a t ≡ gives (passed (length l) (goalAt l a t) a) t
-unfolding arrive passed
+arrive-passed : (l : List (ℕ → Bool)) (a t : ℕ) → arrive l a t ≡ gives (passedCounter (length l) (goalAt l a t) a) t
+unfolding arrive passedCounter
 arrive-passed l a t = go (goalAt l a t)
   where
     go : (b : Bool) → elim b as (λ x. Answer) [ true ↦ gives (around (length l) a 1) t | false ↦ gives a t ] ≡ gives
@@ -154,7 +154,7 @@ unfolding tour
 tour-rests G c l s g p h e = rw (h, tour) (ap (gives g) (sym e))
 
 pub tour-aims : (G : Graph) (c : ℕ) (l : List (ℕ → Bool)) (s g a t : ℕ) → hasGoal G c l ≡ true → a ≡ goal G c l g
-    → t ≡ toward (G .states) (inside G c) (target G c l a) s → tour G c l s g ≡ gives (passed (length l) (goalAt l a t) a) t
+    → t ≡ toward (G .states) (inside G c) (target G c l a) s → tour G c l s g ≡ gives (passedCounter (length l) (goalAt l a t) a) t
 unfolding tour
 tour-aims G c l s g a t h e f =
     rw (h, tour)

@@ -2,7 +2,7 @@
 --
 --   Goals q m g         == q has a member, all are below m, and so is g
 --   firstFrom m q g     == the first member of q from g on, going round below m
---   passed m b a        == the counter after a move towards goal a; b tells whether the move landed in it
+--   passedCounter m b a == the counter after a move towards goal a; b tells whether the move landed in it
 --   aimedAt m q a h     == a is the first member from h on
 use Prim.Native.Nat.{ℕ, _≤_, _<_}
 use mathlib.Core.Path.{_≡_}
@@ -25,8 +25,8 @@ unfoldable pub firstFrom : ℕ → ℕ → ℕ → ℕ
 firstFrom m q g = around m g (least m (λ k. has q (around m g k)))
 
 -- "The counter becomes aim + 1, going round, if the move lands in the aim, else aim."
-unfoldable pub passed : ℕ → Bool → ℕ → ℕ
-passed m b a = elim b [ true ↦ around m a 1 | false ↦ a ]
+unfoldable pub passedCounter : ℕ → Bool → ℕ → ℕ
+passedCounter m b a = elim b [ true ↦ around m a 1 | false ↦ a ]
 
 unfoldable pub aimedAt : ℕ → ℕ → ℕ → ℕ → Bool
 aimedAt m q a h = eqb (firstFrom m q h) a

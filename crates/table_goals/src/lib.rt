@@ -2,10 +2,10 @@
 use sets::Set;
 use table_counters::CounterSet;
 ghost use mathlib.Core.Path.{_≡_};
-ghost use Prim.Native.Nat.{_≤_, _<_};
+ghost use Prim.Native.Nat.{_<_};
 ghost use Rattle.bits.specs.Member.{pack};
 ghost use Rattle.sets.specs.Words.{bitsOf};
-ghost use Rattle.table_goals.specs.Goal.{Goals, passed, aimedAt};
+ghost use Rattle.table_goals.specs.Goal.{Goals, passedCounter, aimedAt};
 ghost use Rattle.table_goals.specs.Stretches.{Short, MetMore};
 
 // Some sets of a tour, one after the other: the first of them is number `from` of all. Of the four places `count` are in use.
@@ -33,7 +33,7 @@ pub fn add_met(q: CounterSet, s: Stretch, x: Set) -> CounterSet
 // The counter after a move towards goal a: past it where the move landed there.
 pub fn next_counter(count: usize, a: usize, landed: bool) -> usize
     requires { ⌜ a < count ⌝ }
-    ensures { λ r. ⌜ r ≡ passed count landed a ⌝ }
+    ensures { λ r. ⌜ r ≡ passedCounter count landed a ⌝ }
 {
     if !landed {
         return a;

@@ -21,9 +21,9 @@ use Rattle.theory.proofs.Entries.{place-below}
 use Rattle.table_counters.specs.Counters.{mostCounters}
 use Rattle.table_filling.specs.Grows.{Right}
 use Rattle.table_filling.proofs.Grows.{grows-none, grows-more}
-use Rattle.table_columns.specs.Column.{Fits as ColumnFits, Agrees, Columned, Column, BlockFits, BlockAgrees, Blocked, Block}
+use Rattle.table_columns.specs.Column.{ColumnRoom as ColumnFits, Agrees, Columned, Column, BlockFits, BlockAgrees, Blocked, Block}
 use Rattle.table_layout.specs.declared.Layout.{Layout}
-use Rattle.table_layout.specs.Rows.{place, Fits, Rows, Filled, Entries, Wrote, WroteColumn}
+use Rattle.table_layout.specs.Rows.{place, LayoutFits, Rows, Filled, Entries, Wrote, WroteColumn}
 
 -- a row's place
 module _ (z : Layout) (a h b : ℕ) (la : a < z .states) (lh : h < z .counters) (lb : b < z .width) where
@@ -34,11 +34,11 @@ module _ (z : Layout) (a h b : ℕ) (la : a < z .states) (lh : h < z .counters) 
   place-in : (f : ℕ → ℕ → ℕ → Answer) (E : List ℕ) → Rows z f E → place z a h b < length E
   place-in f E R = rw (R .long) place-front
 
-rows-room : (z : Layout) (f : ℕ → ℕ → ℕ → Answer) (E : List ℕ) (n : ℕ) → Rows z f E → Fits z n → length E ≤ n
+rows-room : (z : Layout) (f : ℕ → ℕ → ℕ → Answer) (E : List ℕ) (n : ℕ) → Rows z f E → LayoutFits z n → length E ≤ n
 rows-room z f E n R F = rw (R .long) (F .room)
 
 -- a buffer of the same length has the rows too
-pub fits-same : (z : Layout) (n m : ℕ) → m ≡ n → Fits z n → Fits z m
+pub fits-same : (z : Layout) (n m : ℕ) → m ≡ n → LayoutFits z n → LayoutFits z m
 fits-same z n m e F = rw e F
 
 -- rows written in any order
@@ -66,7 +66,7 @@ place-base : (z : Layout) (a h b : ℕ) → z .base + a * z .counters * z .width
 unfolding place
 place-base z a h b = omega (arith, add-mul (a * z .counters) h (z .width), mul-comm h (z .width))
 
-module _ (z : Layout) (n a : ℕ) (F : Fits z n) (la : a < z .states) where
+module _ (z : Layout) (n a : ℕ) (F : LayoutFits z n) (la : a < z .states) where
   pub own-small : a * z .counters ≤ capacity * mostCounters
   own-small = mul-le-mul {n₂ = capacity} {m₂ = mostCounters} (omega (arith, F .states)) (F .counters)
 

@@ -2,7 +2,7 @@
 --
 --   place z a h b                    == the place of the row of own state a, counter h and column b
 --   mostStarts                       == how many entries may stand before the rows
---   Fits z n                         == a buffer of n entries has the rows
+--   LayoutFits z n                   == a buffer of n entries has the rows
 --   Rows z f E                       == the list E ends in the rows f, written out
 --   Filled z E P l m                 == from l to m entries of E were written, those of the rows with P among them
 --   Entries z which first more       == the members of `which` are counters, and first + more × h fits 16 bits for each
@@ -29,7 +29,7 @@ place z a h b = z .base + ((a * z .counters + h) * z .width + b)
 abbrev pub mostStarts : ℕ
 mostStarts = capacity + capacity
 
-pub record Fits (z : Layout) (n : ℕ) : Type 0 where
+pub record LayoutFits (z : Layout) (n : ℕ) : Type 0 where
   pub front : z .base ≤ mostStarts
   pub states : z .states ≤ capacity
   pub some : 0 < z .counters

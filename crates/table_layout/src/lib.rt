@@ -5,7 +5,7 @@ use table_counters::CounterSet;
 ghost use Prim.Native.Nat.{_<_};
 ghost use lib.ListN.{length};
 ghost use Rattle.sets.specs.Words.{bitsOf};
-ghost use Rattle.table_layout.specs.Rows.{Fits, Entries, Wrote, WroteColumn};
+ghost use Rattle.table_layout.specs.Rows.{LayoutFits, Entries, Wrote, WroteColumn};
 
 // Where rows lie: they begin at `base`, one for each of `states` own states, `counters` counters and `width` columns.
 pub struct Layout {
@@ -25,7 +25,7 @@ pub fn write(
     first: u16,
     more: u16,
 )
-    requires { ⌜ Fits z (length (now room)) × (a < z .states) × Entries z (which .0) first more ⌝ }
+    requires { ⌜ LayoutFits z (length (now room)) × (a < z .states) × Entries z (which .0) first more ⌝ }
     ensures { λ r. ⌜ Wrote z a (bitsOf over) (which .0) first more (now (room .entry)) (now (room .exit)) ⌝ }
 {
     table_columns::block(
@@ -49,7 +49,7 @@ pub fn write_column(
     first: u16,
     more: u16,
 )
-    requires { ⌜ Fits z (length (now room)) × (a < z .states) × (b < z .width) × Entries z (which .0) first more ⌝ }
+    requires { ⌜ LayoutFits z (length (now room)) × (a < z .states) × (b < z .width) × Entries z (which .0) first more ⌝ }
     ensures { λ r. ⌜ WroteColumn z a b (which .0) first more (now (room .entry)) (now (room .exit)) ⌝ }
 {
     table_columns::column(

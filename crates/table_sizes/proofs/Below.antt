@@ -21,7 +21,7 @@ use Rattle.game.proofs.Laws.{accepted-fits}
 use Rattle.play.specs.Play.{requirementOf, requirementsOf, separatedOf}
 use Rattle.theory.specs.Tour.{goalAt}
 use Rattle.theory.specs.Choice.{setsOf}
-use Rattle.table_sizes.specs.Below.{Side, guaranteeSide, assumptionSide, setsBelow, setsIn}
+use Rattle.table_sizes.specs.Below.{Side, guaranteeSide, assumptionSide, setsBelow, allSets}
 use Rattle.table_sizes.proofs.Concat.{length-more, getD-within}
 
 abbrev pub Listed : Side → Type 0
@@ -51,16 +51,16 @@ module _ (s : Side) (L : Listed s) (g : Game) where
       rw add-one
       (omega (arith, count-at r, length-more (s .sets) (λ k. requirementOf (requirementAt g k)) r))
 
-  pub below-all : (r n : ℕ) → r ≤ g .k → g .k ≤ r → n ≡ length (setsBelow s g r) → n ≡ length (setsIn s g)
-  unfolding setsBelow setsIn separatedOf requirementsOf
+  pub below-all : (r n : ℕ) → r ≤ g .k → g .k ≤ r → n ≡ length (setsBelow s g r) → n ≡ length (allSets s g)
+  unfolding setsBelow allSets separatedOf requirementsOf
   below-all r n a b e =
       e ∙ ap (λ (k : ℕ). length (setsOf (s .sets) (tabulate k (λ j. requirementOf (requirementAt g j))))) (omega arith)
 
   -- set number a of all, j places after those of the first r requirements
 
   pub set-found : (r a j : ℕ) → r < g .k → a ≡ length (setsBelow s g r) + j → j < s .count (requirementAt g r)
-      → has (bitsOf (s .set (requirementAt g r) j)) ≡ goalAt (setsIn s g) a
-  unfolding setsBelow setsIn separatedOf requirementsOf goalAt
+      → has (bitsOf (s .set (requirementAt g r) j)) ≡ goalAt (allSets s g) a
+  unfolding setsBelow allSets separatedOf requirementsOf goalAt
   set-found r a j l e b =
       sym
       (getD-within (s .sets) (λ k. requirementOf (requirementAt g k)) (g .k) r a j (λ t. false) l e (omega (arith, count-at r))

@@ -2,5 +2,4 @@
 pub mod Concat
 pub mod Below
 pub mod Numbered
-pub mod Outlined
 pub mod Lengths

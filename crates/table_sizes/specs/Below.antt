@@ -3,7 +3,7 @@
 --   Side                             == what a side takes of a requirement: its sets, how many are in use, and set number j
 --   guaranteeSide, assumptionSide    == the two sides
 --   setsBelow s g r                  == the sets of the first r requirements
---   setsIn s g                       == the sets of all requirements
+--   allSets s g                      == the sets of all requirements
 use Prim.Native.Nat.{ℕ}
 use mathlib.Core.Bool.{Bool}
 use mathlib.Core.List.{List}
@@ -31,5 +31,5 @@ assumptionSide = record { sets = λ q. q .assumptions; count = λ q. q .assumed;
 unfoldable pub setsBelow : Side → Game → ℕ → List (ℕ → Bool)
 setsBelow s g r = setsOf (s .sets) (tabulate r (λ k. requirementOf (requirementAt g k)))
 
-unfoldable pub setsIn : Side → Game → List (ℕ → Bool)
-setsIn s g = setsOf (s .sets) (separatedOf g .requirements)
+unfoldable pub allSets : Side → Game → List (ℕ → Bool)
+allSets s g = setsOf (s .sets) (separatedOf g .requirements)

@@ -5,7 +5,7 @@
 use Prim.Native.Nat.{ℕ, _*_, _≤_, _<_}
 use mathlib.Core.Path.{_≡_}
 use lib.ListN.{length, getD}
-use Rattle.sets.specs.Words.{noStates}
+use Rattle.sets.specs.Words.{bitsOf, noStates}
 use Rattle.game.specs.declared.Requirement.{Requirement}
 use Rattle.game.specs.declared.Game.{Game}
 use Rattle.table_goals.specs.declared.Stretch.{Stretch}
@@ -14,7 +14,7 @@ use Rattle.table_sizes.specs.Below.{Side, setsBelow}
 pub record SetsOf (s : Side) (q : Requirement) (n : ℕ) (t : Stretch) : Type 0 where
   pub first : t .from ≡ n
   pub count : t .count ≡ s .count q
-  pub sets : (j : ℕ) → j < 4 → getD (t .sets) j noStates ≡ s .set q j
+  pub sets : (j : ℕ) → j < 4 → bitsOf (getD (t .sets) j noStates) ≡ bitsOf (s .set q j)
 
 pub record Upto (s : Side) (g : Game) (r n : ℕ) : Type 0 where
   pub few : n ≤ 4 * r

@@ -2,16 +2,17 @@
 use game::Game;
 use game::InSet;
 use game::OutSet;
-use game::Requirement;
 use table_counters::CounterSet;
 use table_goals::Stretch;
 ghost use mathlib.Core.Path.{_≡_};
-ghost use Prim.Native.Nat.{max};
+ghost use Prim.Native.Nat.{max, _≤_, _<_};
 ghost use lib.ListN.{length};
 ghost use Rattle.bits.specs.Member.{pack};
 ghost use Rattle.sets.specs.Words.{bitsOf};
+ghost use Rattle.game.specs.Access.{requirementAt};
 ghost use Rattle.game.specs.Acceptance.{acceptance};
 ghost use Rattle.game.specs.declared.Acceptance.the-variants.{Accepted};
+ghost use Rattle.game_sets.specs.Lists.{Lists, AssumedCounts, GuaranteedCounts, Counts};
 ghost use Rattle.play.specs.Play.{separatedOf};
 ghost use Rattle.theory.specs.Choice.{guarantees, assumptions};
 ghost use Rattle.theory.specs.Entries.{controllerCounters, environmentCounters, controllerEntries, environmentEntries};
@@ -20,10 +21,11 @@ ghost use Rattle.table_goals.specs.Stretches.{metIn};
 ghost use Rattle.table_sizes.specs.Numbered.{SetsOf};
 ghost use Rattle.table_sizes.specs.Outlined.{Outlined};
 
-// The requirements of an accepted game, and how many counters each of its tables has: what a writer of a table reads of the game besides its counts and the
-// rows of its graphs. A game goes by value, and to read a requirement of it by number would copy the rows too.
+// How many sets each requirement of an accepted game has, and how many counters each of its tables: with the list of the sets (crate game_sets), what a writer
+// of a table reads of the game besides its counts and the rows of its graphs.
 pub struct Outline {
-    pub requirements: [Requirement; 8],
+    pub assumed: [usize; 8],
+    pub guaranteed: [usize; 8],
     pub controller: usize,
     pub environment: usize,
 }
@@ -60,35 +62,42 @@ pub fn assumption_count(g: Game) -> usize
     n
 }
 
-// The guarantees of one requirement, the first of them number `from` of all.
-pub fn guarantees_of(q: Requirement, from: usize) -> Stretch
-    ensures { λ s. ⌜ SetsOf guaranteeSide q from s ⌝ }
+// The guarantees of requirement r, the first of them number `from` of all. Here and below `l` is the list of the game's sets.
+pub fn guarantees_of(
+    g: Game,
+    given: Outline,
+    l: &[u64; sets::ROW_WORDS],
+    r: usize,
+    from: usize,
+) -> Stretch
+    requires { ⌜ (g .k ≤ 8) × (r < g .k) × Outlined g given × Lists g (now l) ⌝ }
+    ensures { λ s. ⌜ SetsOf guaranteeSide (requirementAt g r) from s ⌝ }
 {
-    let a = q.guarantees[0];
-    let b = q.guarantees[1];
-    let c = q.guarantees[2];
-    let d = q.guarantees[3];
+    let a = game_sets::guarantee(l, r, 0);
+    let b = game_sets::guarantee(l, r, 1);
+    let c = game_sets::guarantee(l, r, 2);
+    let d = game_sets::guarantee(l, r, 3);
     let w = a.0;
     let x = b.0;
     let y = c.0;
     let z = d.0;
     Stretch {
         sets: [w, x, y, z],
-        count: q.guaranteed,
+        count: given.guaranteed[r],
         from,
     }
 }
 
 // The numbers of the guarantees that have a state in x.
-pub fn guarantees_met(g: Game, given: Outline, x: OutSet) -> CounterSet
-    requires { ⌜ (acceptance g ≡ Accepted) × Outlined g given ⌝ }
+pub fn guarantees_met(g: Game, given: Outline, l: &[u64; sets::ROW_WORDS], x: OutSet) -> CounterSet
+    requires { ⌜ (acceptance g ≡ Accepted) × Outlined g given × Lists g (now l) ⌝ }
     ensures { λ q. ⌜ q .0 ≡ pack (length (guarantees (separatedOf g))) (metIn (guarantees (separatedOf g)) (bitsOf (x .0))) ⌝ }
 {
     let mut q = table_counters::empty();
     let mut n: usize = 0;
     let mut r: usize = 0;
     while r < g.k {
-        let s = guarantees_of(given.requirements[r], n);
+        let s = guarantees_of(g, given, l, r, n);
         q = table_goals::add_met(q, s, x.0);
         n += s.count;
         r += 1;
@@ -96,35 +105,42 @@ pub fn guarantees_met(g: Game, given: Outline, x: OutSet) -> CounterSet
     q
 }
 
-// The assumptions of one requirement, the first of them number `from` of all.
-pub fn assumptions_of(q: Requirement, from: usize) -> Stretch
-    ensures { λ s. ⌜ SetsOf assumptionSide q from s ⌝ }
+// The assumptions of requirement r, the first of them number `from` of all.
+pub fn assumptions_of(
+    g: Game,
+    given: Outline,
+    l: &[u64; sets::ROW_WORDS],
+    r: usize,
+    from: usize,
+) -> Stretch
+    requires { ⌜ (g .k ≤ 8) × (r < g .k) × Outlined g given × Lists g (now l) ⌝ }
+    ensures { λ s. ⌜ SetsOf assumptionSide (requirementAt g r) from s ⌝ }
 {
-    let a = q.assumptions[0];
-    let b = q.assumptions[1];
-    let c = q.assumptions[2];
-    let d = q.assumptions[3];
+    let a = game_sets::assumption(l, r, 0);
+    let b = game_sets::assumption(l, r, 1);
+    let c = game_sets::assumption(l, r, 2);
+    let d = game_sets::assumption(l, r, 3);
     let w = a.0;
     let x = b.0;
     let y = c.0;
     let z = d.0;
     Stretch {
         sets: [w, x, y, z],
-        count: q.assumed,
+        count: given.assumed[r],
         from,
     }
 }
 
 // The numbers of the assumptions that have a state in x.
-pub fn assumptions_met(g: Game, given: Outline, x: InSet) -> CounterSet
-    requires { ⌜ (acceptance g ≡ Accepted) × Outlined g given ⌝ }
+pub fn assumptions_met(g: Game, given: Outline, l: &[u64; sets::ROW_WORDS], x: InSet) -> CounterSet
+    requires { ⌜ (acceptance g ≡ Accepted) × Outlined g given × Lists g (now l) ⌝ }
     ensures { λ q. ⌜ q .0 ≡ pack (length (assumptions (separatedOf g))) (metIn (assumptions (separatedOf g)) (bitsOf (x .0))) ⌝ }
 {
     let mut q = table_counters::empty();
     let mut n: usize = 0;
     let mut r: usize = 0;
     while r < g.k {
-        let s = assumptions_of(given.requirements[r], n);
+        let s = assumptions_of(g, given, l, r, n);
         q = table_goals::add_met(q, s, x.0);
         n += s.count;
         r += 1;
@@ -158,16 +174,46 @@ pub fn environment_counters(g: Game) -> usize
     at_least_one(assumption_count(g))
 }
 
-// The outline of an accepted game.
-pub fn outline_of(g: Game) -> Outline
-    requires { ⌜ acceptance g ≡ Accepted ⌝ }
+// How many guarantees all requirements have, from how many each has.
+fn guarantees_counted(g: Game, guaranteed: &[usize; 8]) -> usize
+    requires { ⌜ (acceptance g ≡ Accepted) × GuaranteedCounts g (now guaranteed) ⌝ }
+    ensures { λ r. ⌜ r ≡ length (guarantees (separatedOf g)) ⌝ }
+{
+    let mut n = 0;
+    let mut r = 0;
+    while r < g.k {
+        n += guaranteed[r];
+        r += 1;
+    }
+    n
+}
+
+// How many assumptions all requirements have, from how many each has.
+fn assumptions_counted(g: Game, assumed: &[usize; 8]) -> usize
+    requires { ⌜ (acceptance g ≡ Accepted) × AssumedCounts g (now assumed) ⌝ }
+    ensures { λ r. ⌜ r ≡ length (assumptions (separatedOf g)) ⌝ }
+{
+    let mut n = 0;
+    let mut r = 0;
+    while r < g.k {
+        n += assumed[r];
+        r += 1;
+    }
+    n
+}
+
+// The outline of an accepted game, from how many sets each requirement has.
+pub fn outline_of(g: Game, assumed: [usize; 8], guaranteed: [usize; 8]) -> Outline
+    requires { ⌜ (acceptance g ≡ Accepted) × Counts g assumed guaranteed ⌝ }
     ensures { λ r. ⌜ Outlined g r ⌝ }
 {
-    let requirements = g.requirements;
+    let controller = at_least_one(guarantees_counted(g, &guaranteed));
+    let environment = at_least_one(assumptions_counted(g, &assumed));
     Outline {
-        requirements,
-        controller: controller_counters(g),
-        environment: environment_counters(g),
+        assumed,
+        guaranteed,
+        controller,
+        environment,
     }
 }
 

@@ -5,7 +5,7 @@
 --   Left, left-start, left-next, left-end  : with no goal, state after state
 --   aim-first, aim-counters, aim-ground    : what the walk to a goal asks
 --   aimed-done                             : what it gives
-use Prim.Native.Nat.{ℕ, _+_, _*_, _^_, _≤_, _<_}
+use Prim.Native.Nat.{ℕ, _^_, _≤_, _<_}
 use native.Mathlib.Nat.{zero-mul, add-zero, max-eq-right}
 use mathlib.Core.Path.{_≡_, refl, sym, _∙_, ap}
 use mathlib.Core.Bool.{Bool, true, false, not, _&&_}
@@ -37,7 +37,7 @@ use Rattle.table_entries.specs.Step.{entryStep}
 use Rattle.table_entries.proofs.Packed.{entry-steps}
 use Rattle.theory.proofs.Tour.{inside-move, inside-to, inside-edge}
 use Rattle.graph_ways.specs.Kept.{kept}
-use Rattle.table_goals.specs.Goal.{Goals, firstFrom, passed, aimedAt}
+use Rattle.table_goals.specs.Goal.{Goals, firstFrom, passedCounter, aimedAt}
 use Rattle.table_goals.proofs.Goal.{passed-below}
 use Rattle.table_goals.proofs.Tours.{
   goal-meets,
@@ -54,7 +54,7 @@ use Rattle.table_goals.proofs.Tours.{
   tour-aims,
 }
 use Rattle.table_layout.specs.declared.Layout.{Layout}
-use Rattle.table_layout.specs.Rows.{Fits, Filled, Wrote}
+use Rattle.table_layout.specs.Rows.{LayoutFits, Filled, Wrote}
 use Rattle.table_layout.proofs.Places.{filled-none, filled-join, filled-part}
 use Rattle.table_walks.specs.declared.Stamp.{Stamp}
 use Rattle.table_walks.specs.Walk.{firstEntry, Stamps, Ground, Leading, Walks}
@@ -220,16 +220,16 @@ pub record Towards (z : Layout) (over q x a : ℕ) (w : Stamp) : Type 0 where
   pub columns : bitsOf (w .over) ≡ over
   pub which : w .which .0 ≡ pack (z .counters) (aimedAt (z .counters) q a)
   pub goal : bitsOf (w .goal) ≡ x
-  pub hit : w .hit ≡ passed (z .counters) true a
+  pub hit : w .hit ≡ passedCounter (z .counters) true a
   pub miss : w .miss ≡ a
   pub more : w .more ≡ 0
 
-passed-not : (m a : ℕ) → passed m false a ≡ a
-unfolding passed
+passed-not : (m a : ℕ) → passedCounter m false a ≡ a
+unfolding passedCounter
 passed-not m a = refl
 
 towards-first : (z : Layout) (over q x a : ℕ) (w : Stamp) (t : ℕ) → Towards z over q x a w
-    → firstEntry w t ≡ entry (gives (passed (z .counters) (has x t) a) t)
+    → firstEntry w t ≡ entry (gives (passedCounter (z .counters) (has x t) a) t)
 towards-first z over q x a w t T =
     elim (decide (has x t)) [
       | inl e ↦ rw e (sym (first-hit w t (ap (λ (k : ℕ). has k t) (T .goal) ∙ e)) ∙ ap (λ (k : ℕ). entry (gives k t)) (T .hit))
@@ -239,7 +239,8 @@ towards-first z over q x a w t T =
 pub goal-in : (q m a g : ℕ) → Goals q m g → has q a ≡ true → a < m
 goal-in q m a g G h = within-has q m a (G .members) h
 
-pub towards-stamps : (z : Layout) (n over q x a : ℕ) (w : Stamp) → Fits z n → Goals q (z .counters) 0 → has q a ≡ true → Towards z over q x a w → Stamps z w
+pub towards-stamps : (z : Layout) (n over q x a : ℕ) (w : Stamp) → LayoutFits z n → Goals q (z .counters) 0 → has q a ≡ true → Towards z over q x a w
+    → Stamps z w
 towards-stamps z n over q x a w F G h T = record {
   counters = λ k e. pack-below (z .counters) (aimedAt (z .counters) q a) k (rw (T .which) at e);
   hit = omega (arith, T .hit, F .counters, passed-below (z .counters) a true (goal-in q (z .counters) a 0 G h));
@@ -286,7 +287,7 @@ module _ (z : Layout) (moves : List ℕ) (c over q x a y : ℕ) (w : Stamp) (ne 
 
     tour-entry : (s h b t : ℕ) → s < z .states → has c s ≡ true → has (w .which .0) h ≡ true → b < z .width → has over b ≡ true
         → t ≡ toward (p .graph .states) (inside (p .graph) (p .number)) (target (p .graph) (p .number) (p .sets) a) s
-        → entry (gives (passed (z .counters) (has x t) a) t) ≡ entry (p .row s h b)
+        → entry (gives (passedCounter (z .counters) (has x t) a) t) ≡ entry (p .row s h b)
     tour-entry s h b t ls i k lb o e =
         let n = course-counters z moves c over q p ne in
         let k′ = aims h k in
@@ -296,13 +297,15 @@ module _ (z : Layout) (moves : List ℕ) (c over q x a y : ℕ) (w : Stamp) (ne 
           tour-aims (p .graph) (p .number) (p .sets) s h a t (goals-some (p .graph) (p .number) (p .sets) q (p .goals) ne)
               (sym (k′ .1) ∙ ap (λ (j : ℕ). firstFrom j q h) n ∙ goal-word (p .graph) (p .number) (p .sets) q (p .goals) h lh) e,
         )
-        (ap (λ (j : ℕ). entry (gives (passed j (has x t) a) t)) n ∙ ap (λ (j : ℕ → Bool). entry (gives (passed (length (p .sets)) (j t) a) t)) set)
+        (ap (λ (j : ℕ). entry (gives (passedCounter j (has x t) a) t)) n
+        ∙ ap (λ (j : ℕ → Bool). entry (gives (passedCounter (length (p .sets)) (j t) a) t)) set)
 
     leading : Leading moves z c y c w (p .row)
     leading = record {
       entry = λ s h b ls i m k lb o.
           rw (towards-first z over q x a w (toward (z .states) (kept moves c) (has y) s) T, T .more, zero-mul h)
-          (add-zero (entry (gives (passed (z .counters) (has x (toward (z .states) (kept moves c) (has y) s)) a) (toward (z .states) (kept moves c) (has y) s)))
+          (add-zero (entry (gives (passedCounter (z .counters) (has x (toward (z .states) (kept moves c) (has y) s)) a)
+          (toward (z .states) (kept moves c) (has y) s)))
           ∙ tour-entry s h b (toward (z .states) (kept moves c) (has y) s) ls i k lb (rw (T .columns) at o) (next-is s));
     }
 

@@ -14,7 +14,7 @@ use Rattle.bits.specs.Member.{has}
 use Rattle.theory.specs.Tour.{goalAt}
 use Rattle.table_goals.specs.declared.Stretch.{Stretch}
 use Rattle.table_goals.specs.Goal.{Goals, firstFrom}
-use Rattle.table_goals.specs.Stretches.{setOf}
+use Rattle.table_goals.specs.Stretches.{stretchSet}
 use Rattle.table_goals.proofs.Goal.{first-member, first-below, goals-at}
 use Rattle.table_layout.specs.declared.Layout.{Layout}
 use Rattle.table_layout.specs.Rows.{Filled}
@@ -29,7 +29,7 @@ module _ (moves : List ℕ) (z : Layout) (c over q : ℕ) (t : Stretch) where
   }
 
   pub stretched-next : (j : ℕ) {l m n k : List ℕ} → j < t .count → Stretched moves z c over q t j l m
-      → Aimed moves z c over q (setOf t j) (t .from + j) m n → k ≡ n → Stretched moves z c over q t (j + 1) l k
+      → Aimed moves z c over q (stretchSet t j) (t .from + j) m n → k ≡ n → Stretched moves z c over q t (j + 1) l k
   stretched-next j {l} {m} {n} {k} b D A e = rw e (record {
     long = A .long ∙ D .long;
     fills = λ p sets.
@@ -70,7 +70,7 @@ module _ (z : Layout) (moves : List ℕ) (c over q : ℕ) (p : Course z moves c 
 
   -- one stretch after the other
   pub headed-further : (t : Stretch) (n : ℕ) {l m k : List ℕ} → t .from ≡ n
-      → ((i : ℕ) → i < t .count → has (setOf t i) ≡ goalAt (p .sets) (t .from + i))
+      → ((i : ℕ) → i < t .count → has (stretchSet t i) ≡ goalAt (p .sets) (t .from + i))
       → Filled z (p .entries) (Headed z c over q 0 n) l m → Stretched moves z c over q t (t .count) m k
       → Filled z (p .entries) (Headed z c over q 0 (n + t .count)) l k
   headed-further t n {l} {m} {k} e sets F D =

@@ -22,7 +22,7 @@ use Rattle.arena.specs.Table.{Answer}
 use Rattle.theory.specs.Tour.{goalAt, tour}
 use Rattle.table_goals.specs.declared.Stretch.{Stretch}
 use Rattle.table_goals.specs.Goal.{firstFrom}
-use Rattle.table_goals.specs.Stretches.{setOf}
+use Rattle.table_goals.specs.Stretches.{stretchSet}
 use Rattle.table_layout.specs.declared.Layout.{Layout}
 use Rattle.table_layout.specs.Rows.{Rows, Filled}
 
@@ -65,5 +65,5 @@ pub record Headed (z : Layout) (c over q i e s h b : ℕ) : Type 0 where
 
 pub record Stretched (moves : List ℕ) (z : Layout) (c over q : ℕ) (t : Stretch) (j : ℕ) (l m : List ℕ) : Type 0 where
   pub long : length m ≡ length l
-  pub fills : (p : Course z moves c over q) → ((i : ℕ) → i < t .count → has (setOf t i) ≡ goalAt (p .sets) (t .from + i))
+  pub fills : (p : Course z moves c over q) → ((i : ℕ) → i < t .count → has (stretchSet t i) ≡ goalAt (p .sets) (t .from + i))
       → Filled z (p .entries) (Headed z c over q (t .from) (t .from + j)) l m

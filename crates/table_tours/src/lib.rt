@@ -11,12 +11,12 @@ ghost use Rattle.bits.specs.Member.{has, within};
 ghost use Rattle.sets.specs.Words.{bitsOf, setsIn};
 ghost use Rattle.table_goals.specs.Goal.{Goals};
 ghost use Rattle.table_goals.specs.Stretches.{Short};
-ghost use Rattle.table_layout.specs.Rows.{Fits};
+ghost use Rattle.table_layout.specs.Rows.{LayoutFits};
 ghost use Rattle.table_tours.specs.Course.{Moving, Stayed, Aimed, Stretched};
 
 // The rows of the states of c where no set is to be visited: the preferred move inside c; the counter stays.
 pub fn stay(moves: &[u64; sets::ROW_WORDS], room: &mut [u16], z: Layout, c: Set, over: Set)
-    requires { ⌜ Fits z (length (now room)) × Moving (setsIn (now moves)) (z .states) (bitsOf c) ⌝ }
+    requires { ⌜ LayoutFits z (length (now room)) × Moving (setsIn (now moves)) (z .states) (bitsOf c) ⌝ }
     ensures { λ r. ⌜ Stayed (setsIn (now (moves .entry))) z (bitsOf c) (bitsOf over) (now (room .entry)) (now (room .exit)) ⌝ }
 {
     let w = Stamp {
@@ -48,7 +48,7 @@ pub fn aim(
     x: Set,
     a: usize,
 )
-    requires { ⌜ Fits z (length (now room)) × (within (bitsOf c) (z .states) ≡ true) × Goals (q .0) (z .counters) 0 × (has (q .0) a ≡ true) ⌝ }
+    requires { ⌜ LayoutFits z (length (now room)) × (within (bitsOf c) (z .states) ≡ true) × Goals (q .0) (z .counters) 0 × (has (q .0) a ≡ true) ⌝ }
     ensures { λ r. ⌜ Aimed (setsIn (now (moves .entry))) z (bitsOf c) (bitsOf over) (q .0) (bitsOf x) a (now (room .entry)) (now (room .exit)) ⌝ }
 {
     let past = table_goals::next_counter(z.counters, a, true);
@@ -73,7 +73,7 @@ pub fn aim_some(
     q: CounterSet,
     t: Stretch,
 )
-    requires { ⌜ Fits z (length (now room)) × (within (bitsOf c) (z .states) ≡ true) × Goals (q .0) (z .counters) 0 × Short t ⌝ }
+    requires { ⌜ LayoutFits z (length (now room)) × (within (bitsOf c) (z .states) ≡ true) × Goals (q .0) (z .counters) 0 × Short t ⌝ }
     ensures { λ r. ⌜ Stretched (setsIn (now (moves .entry))) z (bitsOf c) (bitsOf over) (q .0) t (t .count) (now (room .entry)) (now (room .exit)) ⌝ }
 {
     let mut j: usize = 0;

@@ -27,7 +27,7 @@ use Rattle.graph_ways.specs.Kept.{kept}
 use Rattle.graph_ways.specs.Search.{choices}
 use Rattle.graph_ways.proofs.Round.{choices-reached, settles-left}
 use Rattle.table_layout.specs.declared.Layout.{Layout}
-use Rattle.table_layout.specs.Rows.{Fits, Rows, Filled, Entries}
+use Rattle.table_layout.specs.Rows.{LayoutFits, Rows, Filled, Entries}
 use Rattle.table_layout.proofs.Places.{filled-none, filled-join, filled-part}
 use Rattle.table_walks.specs.declared.Stamp.{Stamp}
 use Rattle.table_walks.specs.Walk.{firstEntry, Stamps, Fair, Settled, Leading, Walks}
@@ -50,7 +50,7 @@ first-small z w p S b =
       | inr e ↦ omega (arith, first-miss w p e, entry-small (w .miss) p b (S .miss))
     ]
 
-pub stamp-entries : (z : Layout) (n : ℕ) (w : Stamp) (p first : ℕ) → Fits z n → Stamps z w → p < capacity → first ≡ firstEntry w p
+pub stamp-entries : (z : Layout) (n : ℕ) (w : Stamp) (p first : ℕ) → LayoutFits z n → Stamps z w → p < capacity → first ≡ firstEntry w p
     → Entries z (w .which .0) first (w .more)
 stamp-entries z n w p first F S b e = record {
   counters = S .counters;

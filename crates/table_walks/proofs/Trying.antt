@@ -19,7 +19,7 @@ use Rattle.bits.proofs.Visit.{small-word, lowest-below, lowest-in, lowest-less,
 use Rattle.sets.specs.Words.{capacity, bitsOf}
 use Rattle.graphs.specs.Way.{prefer}
 use Rattle.arena.specs.Table.{Answer}
-use Rattle.graph_ways.specs.Search.{choices, settles}
+use Rattle.graph_ways.specs.Search.{choices, movesInto}
 use Rattle.graph_ways.proofs.Kept.{pack-below, pack-holds}
 use Rattle.graph_ways.proofs.Round.{settles-of, settles-not, settles-left}
 use Rattle.table_layout.specs.declared.Layout.{Layout}
@@ -42,7 +42,7 @@ module _ (rows : List ℕ) (z : Layout) (c left l : ℕ) (w : Stamp) where
     fills = λ g E R F. filled-none z g E R x (λ s h k ls lh lk p. clash (in-rest s ls (p .1)) (p .0));
   }
     where
-      in-rest : (t : ℕ) → t < z .states → settles rows c left l t ≡ true → has rest t ≡ true
+      in-rest : (t : ℕ) → t < z .states → movesInto rows c left l t ≡ true → has rest t ≡ true
       in-rest t lt q = cut-all left b rest (z .states) f i t lt (settles-left rows c left l t q)
 
   module _ {x y : List ℕ} {r rest s : ℕ} (T : Trying rows z c left l w x y r rest) (ne : rest ≢ 0) (e : s ≡ least capacity (has rest)) where
@@ -84,10 +84,10 @@ module _ (rows : List ℕ) (z : Layout) (c left l : ℕ) (w : Stamp) where
         fills = λ k E R F. filled-part z k E R (T .fills k E R F) (λ a h b la lh lb p. (before a (p .0) (p .1), p .1, p .2, p .3));
       })
         where
-          before : (t : ℕ) → has v t ≡ false → settles rows c left l t ≡ true → has rest t ≡ false
+          before : (t : ℕ) → has v t ≡ false → movesInto rows c left l t ≡ true → has rest t ≡ false
           before t a b =
               elim (tried t a) [
-                | inl k ↦ clash (ap (settles rows c left l) (sym k) ∙ b) (settles-not rows c left l s (sym q ∙ zero))
+                | inl k ↦ clash (ap (movesInto rows c left l) (sym k) ∙ b) (settles-not rows c left l s (sym q ∙ zero))
                 | inr k ↦ k
               ]
 
@@ -104,10 +104,10 @@ module _ (rows : List ℕ) (z : Layout) (c left l : ℕ) (w : Stamp) where
         fills = fills;
       })
         where
-          hit : settles rows c left l s ≡ true
+          hit : movesInto rows c left l s ≡ true
           hit = settles-of rows c left l s (λ k. some (q ∙ k))
 
-          taken : (t : ℕ) → t < z .states → has v t ≡ false → settles rows c left l t ≡ true → has r′ t ≡ true
+          taken : (t : ℕ) → t < z .states → has v t ≡ false → movesInto rows c left l t ≡ true → has r′ t ≡ true
           taken t lt a b =
               more t
               ∙ elim (tried t a) [
@@ -115,7 +115,7 @@ module _ (rows : List ℕ) (z : Layout) (c left l : ℕ) (w : Stamp) where
                 | inr k ↦ or-left (eqb t s) (T .taken t lt k b)
               ]
 
-          only : (t : ℕ) → has r′ t ≡ true → (t < z .states) × (settles rows c left l t ≡ true)
+          only : (t : ℕ) → has r′ t ≡ true → (t < z .states) × (movesInto rows c left l t ≡ true)
           only t a =
               elim (or-cases (has r t) (eqb t s) (sym (more t) ∙ a)) [
                 | inl k ↦ T .only t k
@@ -124,7 +124,7 @@ module _ (rows : List ℕ) (z : Layout) (c left l : ℕ) (w : Stamp) where
 
           fills : (k : ℕ → ℕ → ℕ → Answer) (E : List ℕ) → Rows z k E → Fair rows z c left l w k
               → Filled z E
-              (λ t h b. (has v t ≡ false) × (settles rows c left l t ≡ true) × (has (w .which .0) h ≡ true) × (has (bitsOf (w .over)) b ≡ true)) x y′
+              (λ t h b. (has v t ≡ false) × (movesInto rows c left l t ≡ true) × (has (w .which .0) h ≡ true) × (has (bitsOf (w .over)) b ≡ true)) x y′
           fills k E R F =
               filled-join z k E R (T .fills k E R F)
               (W .fills k E R
@@ -138,7 +138,7 @@ module _ (rows : List ℕ) (z : Layout) (c left l : ℕ) (w : Stamp) where
 
   pub trying-end : {x y : List ℕ} {r rest : ℕ} → Trying rows z c left l w x y r rest → rest ≡ 0 → Settled rows z c left l w x y r
   trying-end {x} {y} {r} {rest} T e = record {
-    states = ext r (pack (z .states) (settles rows c left l)) (λ t. same-test (has r t) (has (pack (z .states) (settles rows c left l)) t) (to t) (back t));
+    states = ext r (pack (z .states) (movesInto rows c left l)) (λ t. same-test (has r t) (has (pack (z .states) (movesInto rows c left l)) t) (to t) (back t));
     long = T .long;
     fills = λ k E R F. filled-part z k E R (T .fills k E R F) (λ a h b la lh lb p. (gone a, p .0, p .1, p .2));
   }
@@ -146,8 +146,8 @@ module _ (rows : List ℕ) (z : Layout) (c left l : ℕ) (w : Stamp) where
       gone : (t : ℕ) → has rest t ≡ false
       gone t = ap (λ (k : ℕ). has k t) e ∙ has-zero t
 
-      to : (t : ℕ) → has r t ≡ true → has (pack (z .states) (settles rows c left l)) t ≡ true
-      to t a = let o = T .only t a in has-pack-below (z .states) (settles rows c left l) t (o .0) ∙ o .1
+      to : (t : ℕ) → has r t ≡ true → has (pack (z .states) (movesInto rows c left l)) t ≡ true
+      to t a = let o = T .only t a in has-pack-below (z .states) (movesInto rows c left l) t (o .0) ∙ o .1
 
-      back : (t : ℕ) → has (pack (z .states) (settles rows c left l)) t ≡ true → has r t ≡ true
-      back t a = T .taken t (pack-below (z .states) (settles rows c left l) t a) (gone t) (pack-holds (z .states) (settles rows c left l) t a)
+      back : (t : ℕ) → has (pack (z .states) (movesInto rows c left l)) t ≡ true → has r t ≡ true
+      back t a = T .taken t (pack-below (z .states) (movesInto rows c left l) t a) (gone t) (pack-holds (z .states) (movesInto rows c left l) t a)

@@ -13,7 +13,7 @@ use mathlib.Core.List.{List}
 use lib.Dec.{ltb}
 use lib.ListN.{length, getD}
 use Rattle.finite.specs.Bounded.{least}
-use Rattle.bits.specs.Member.{has, both, meets}
+use Rattle.bits.specs.Member.{has, both, setsMeet}
 use Rattle.sets.specs.Words.{capacity, bitsOf}
 use Rattle.graphs.specs.Way.{toward}
 use Rattle.graphs.proofs.Way.{Leads}
@@ -34,7 +34,7 @@ pub record Staying (z : Layout) (over : ℕ) (w : Stamp) : Type 0 where
 
 pub record Entering (rows : List ℕ) (n own target : ℕ) : Type 0 where
   pub below : (s : ℕ) → has own s ≡ true → s < n
-  pub move : (s : ℕ) → has own s ≡ true → meets capacity (getD rows s 0) target ≡ true
+  pub move : (s : ℕ) → has own s ≡ true → setsMeet capacity (getD rows s 0) target ≡ true
 
 -- "the lowest move to ..; h stays", "there take the lowest such j; h stays"
 pub record Stepping (rows : List ℕ) (z : Layout) (own target over : ℕ) (f : ℕ → ℕ → ℕ → Answer) : Type 0 where

@@ -9,7 +9,7 @@ use lib.ListN.{length}
 use Rattle.bits.specs.Member.{has}
 use Rattle.sets.specs.Words.{capacity, bitsOf}
 use Rattle.arena.specs.Table.{Answer}
-use Rattle.graph_ways.specs.Search.{settles}
+use Rattle.graph_ways.specs.Search.{movesInto}
 use Rattle.table_layout.specs.declared.Layout.{Layout}
 use Rattle.table_layout.specs.Rows.{Rows, Filled}
 use Rattle.table_walks.specs.declared.Stamp.{Stamp}
@@ -19,8 +19,8 @@ pub record Trying (rows : List ℕ) (z : Layout) (c left l : ℕ) (w : Stamp) (x
   pub bound : z .states ≤ capacity
   pub member : (t : ℕ) → has rest t ≡ true → has left t ≡ true
   pub below : (t : ℕ) → has rest t ≡ true → t < z .states
-  pub taken : (t : ℕ) → t < z .states → has rest t ≡ false → settles rows c left l t ≡ true → has r t ≡ true
-  pub only : (t : ℕ) → has r t ≡ true → (t < z .states) × (settles rows c left l t ≡ true)
+  pub taken : (t : ℕ) → t < z .states → has rest t ≡ false → movesInto rows c left l t ≡ true → has r t ≡ true
+  pub only : (t : ℕ) → has r t ≡ true → (t < z .states) × (movesInto rows c left l t ≡ true)
   pub long : length y ≡ length x
   pub fills : (f : ℕ → ℕ → ℕ → Answer) (E : List ℕ) → Rows z f E → Fair rows z c left l w f
-      → Filled z E (λ s h b. (has rest s ≡ false) × (settles rows c left l s ≡ true) × (has (w .which .0) h ≡ true) × (has (bitsOf (w .over)) b ≡ true)) x y
+      → Filled z E (λ s h b. (has rest s ≡ false) × (movesInto rows c left l s ≡ true) × (has (w .which .0) h ≡ true) × (has (bitsOf (w .over)) b ≡ true)) x y

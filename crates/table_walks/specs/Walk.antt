@@ -22,7 +22,7 @@ use Rattle.theory.specs.Entries.{entry}
 use Rattle.table_counters.specs.Counters.{mostCounters}
 use Rattle.table_entries.specs.Step.{entryStep}
 use Rattle.graph_ways.specs.Kept.{kept}
-use Rattle.graph_ways.specs.Search.{choices, settles}
+use Rattle.graph_ways.specs.Search.{choices, movesInto}
 use Rattle.table_layout.specs.declared.Layout.{Layout}
 use Rattle.table_layout.specs.Rows.{Rows, Filled}
 use Rattle.table_walks.specs.declared.Stamp.{Stamp}
@@ -37,14 +37,14 @@ pub record Stamps (z : Layout) (w : Stamp) : Type 0 where
   pub more : w .more ≤ entryStep
 
 pub record Fair (rows : List ℕ) (z : Layout) (c left l : ℕ) (w : Stamp) (f : ℕ → ℕ → ℕ → Answer) : Type 0 where
-  pub entry : (s h b : ℕ) → s < z .states → settles rows c left l s ≡ true → has (w .which .0) h ≡ true → b < z .width → has (bitsOf (w .over)) b ≡ true
+  pub entry : (s h b : ℕ) → s < z .states → movesInto rows c left l s ≡ true → has (w .which .0) h ≡ true → b < z .width → has (bitsOf (w .over)) b ≡ true
       → firstEntry w (prefer capacity s (has (choices rows c left l s))) + w .more * h ≡ entry (f s h b)
 
 pub record Settled (rows : List ℕ) (z : Layout) (c left l : ℕ) (w : Stamp) (x y : List ℕ) (r : ℕ) : Type 0 where
-  pub states : r ≡ pack (z .states) (settles rows c left l)
+  pub states : r ≡ pack (z .states) (movesInto rows c left l)
   pub long : length y ≡ length x
   pub fills : (f : ℕ → ℕ → ℕ → Answer) (E : List ℕ) → Rows z f E → Fair rows z c left l w f
-      → Filled z E (λ s h b. (settles rows c left l s ≡ true) × (has (w .which .0) h ≡ true) × (has (bitsOf (w .over)) b ≡ true)) x y
+      → Filled z E (λ s h b. (movesInto rows c left l s ≡ true) × (has (w .which .0) h ≡ true) × (has (bitsOf (w .over)) b ≡ true)) x y
 
 pub record Ground (n c target own : ℕ) : Type 0 where
   pub members : within target n ≡ true

@@ -10,7 +10,7 @@ ghost use lib.ListN.{length};
 ghost use Rattle.bits.specs.Member.{within};
 ghost use Rattle.sets.specs.Words.{capacity, bitsOf, setsIn};
 ghost use Rattle.table_counters.specs.Counters.{mostCounters};
-ghost use Rattle.table_layout.specs.Rows.{Fits, Wrote};
+ghost use Rattle.table_layout.specs.Rows.{LayoutFits, Wrote};
 ghost use Rattle.table_walks.specs.Walk.{firstEntry, Stamps, Settled, Ground, Walks};
 ghost use Rattle.table_walks.specs.Trying.{Trying};
 ghost use Rattle.table_walks.specs.Staying.{Staying, Entering, Enters, Approaches};
@@ -40,7 +40,7 @@ fn first_entry(w: Stamp, p: usize) -> u16
 
 // The rows of state s, whose move is p.
 pub fn write_move(room: &mut [u16], z: Layout, s: usize, p: usize, w: Stamp)
-    requires { ⌜ Fits z (length (now room)) × (s < z .states) × (p < capacity) × Stamps z w ⌝ }
+    requires { ⌜ LayoutFits z (length (now room)) × (s < z .states) × (p < capacity) × Stamps z w ⌝ }
     ensures { λ r. ⌜ Wrote z s (bitsOf (w .over)) (w .which .0) (firstEntry w p) (w .more) (now (room .entry)) (now (room .exit)) ⌝ }
 {
     let first = first_entry(w, p);
@@ -65,7 +65,7 @@ fn settle_low(
     reached: Set,
     w: Stamp,
 ) -> Tried
-    requires { ⌜ Fits z (length (now room)) × Stamps z w × (within (bitsOf reached) (z .states) ≡ true) ⌝ }
+    requires { ⌜ LayoutFits z (length (now room)) × Stamps z w × (within (bitsOf reached) (z .states) ≡ true) ⌝ }
     ensures { λ r. ⌜ Trying (setsIn (now (rows .entry))) z (bitsOf inside) (bitsOf left) (bitsOf reached) w (now (room .entry)) (now (room .exit))
         (bitsOf (r .settled)) (bitsOf (r .rest)) ⌝ }
 {
@@ -93,7 +93,7 @@ fn settle(
     reached: Set,
     w: Stamp,
 ) -> Set
-    requires { ⌜ Fits z (length (now room)) × Stamps z w × (within (bitsOf reached) (z .states) ≡ true) ⌝ }
+    requires { ⌜ LayoutFits z (length (now room)) × Stamps z w × (within (bitsOf reached) (z .states) ≡ true) ⌝ }
     ensures { λ r. ⌜ Settled (setsIn (now (rows .entry))) z (bitsOf inside) (bitsOf left) (bitsOf reached) w (now (room .entry)) (now (room .exit))
         (bitsOf r) ⌝ }
 {
@@ -123,7 +123,7 @@ pub fn walk(
     own: Set,
     w: Stamp,
 )
-    requires { ⌜ Fits z (length (now room)) × Stamps z w × Ground (z .states) (bitsOf inside) (bitsOf target) (bitsOf own) ⌝ }
+    requires { ⌜ LayoutFits z (length (now room)) × Stamps z w × Ground (z .states) (bitsOf inside) (bitsOf target) (bitsOf own) ⌝ }
     ensures { λ r. ⌜ Walks (setsIn (now (rows .entry))) z (bitsOf inside) (bitsOf target) (bitsOf own) w (now (room .entry)) (now (room .exit)) ⌝ }
 {
     let mut reached = target;
@@ -162,7 +162,7 @@ pub fn enter(
     target: Set,
     over: Set,
 )
-    requires { ⌜ Fits z (length (now room)) × Entering (setsIn (now rows)) (z .states) (bitsOf own) (bitsOf target) ⌝ }
+    requires { ⌜ LayoutFits z (length (now room)) × Entering (setsIn (now rows)) (z .states) (bitsOf own) (bitsOf target) ⌝ }
     ensures { λ r. ⌜ Enters (setsIn (now (rows .entry))) z (bitsOf own) (bitsOf target) (bitsOf over) (now (room .entry)) (now (room .exit)) ⌝ }
 {
     let w = counter_stays(z, over);
@@ -185,7 +185,7 @@ pub fn approach(
     target: Set,
     over: Set,
 )
-    requires { ⌜ Fits z (length (now room)) × (within (bitsOf target) (z .states) ≡ true) ⌝ }
+    requires { ⌜ LayoutFits z (length (now room)) × (within (bitsOf target) (z .states) ≡ true) ⌝ }
     ensures { λ r. ⌜ Approaches (setsIn (now (rows .entry))) z (bitsOf inside) (bitsOf target) (bitsOf over) (now (room .entry)) (now (room .exit)) ⌝ }
 {
     let w = counter_stays(z, over);

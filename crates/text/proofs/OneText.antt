@@ -35,7 +35,7 @@ use Rattle.text_shape.specs.Shape.{gameFormat}
 use Rattle.text_shape.proofs.Graphs.{empty-shaped}
 use Rattle.text_shape.proofs.Shape.{game-sound, game-complete, game-live}
 use Rattle.text_put.proofs.Pieces.{in-word, out-word}
-use Rattle.text.specs.Read.{Reads, refused, misshapen, judged}
+use Rattle.text.specs.Read.{Reads, textRefused, misshapen, judged}
 use Rattle.text.specs.OneText.{Arrays, IsText, OneText}
 use Rattle.text.specs.declared.Answer.the-variants.{Read, Misshapen, Refused as NotRead}
 use Rattle.text.specs.declared.Reading.{Reading}
@@ -187,7 +187,7 @@ read-written g r h A l R = R .text l g (accepted-shaped g h A) refl ∙ judged-a
 -- what is read as a game is that game's text, byte for byte
 judged-read : (s : List ℕ) (g : Game) (r : Reading) (a : Acceptance) → acceptance g ≡ a → Shaped g → s ≡ gameText g → r ≡ judged g → r .answer ≡ Read
     → IsText s (r .game)
-unfolding refused
+unfolding textRefused
 judged-read s g r Accepted h S t e f =
     let same : g ≡ r .game = sym (ap (λ (x : Reading). x .game) (e ∙ judged-accepted g h)) in
     subst (λ (x : Game). IsText s x) same (record { accepted = h; shaped = S; text = t })
@@ -197,7 +197,7 @@ judged-read s g r (Refused n) h S t e f =
     absurd (omega arith)
 
 pub written-read : (s : List ℕ) (r : Reading) → Reads s r → r .answer ≡ Read → IsText s (r .game)
-unfolding refused misshapen
+unfolding textRefused misshapen
 written-read s r R f =
     by-cases (leb (length s) 40960)
     (λ b. short (leb-true (length s) 40960 b) (reading gameFormat s) refl)

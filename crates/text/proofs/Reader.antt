@@ -11,12 +11,12 @@ use Rattle.text_grammar.proofs.Place.{one-value, read-got, read-fault, read-fau
 use Rattle.game.specs.declared.Game.{Game}
 use Rattle.text_shape.specs.Text.{gameText, Shaped}
 use Rattle.text_shape.specs.Shape.{gameFormat}
-use Rattle.game.specs.Acceptance.{acceptance, numberOf as gameNumber}
+use Rattle.game.specs.Acceptance.{acceptance, acceptanceNumber as gameNumber}
 use Rattle.game.specs.Numbers.{firstOf, gameTests}
 use Rattle.game.proofs.Numbers.{accepts}
 use Rattle.game.specs.declared.Acceptance.{Acceptance}
 use Rattle.game.specs.declared.Acceptance.the-variants.{Accepted, Refused}
-use Rattle.text.specs.Read.{BeginsText, LongestFront, refused, misshapen, judgedBy, judged, numberOf, placeOf, Reads}
+use Rattle.text.specs.Read.{BeginsText, LongestFront, textRefused, misshapen, judgedBy, judged, readingNumber, placeOf, Reads}
 use Rattle.text.specs.declared.Answer.the-variants.{Read}
 use Rattle.text.specs.declared.Reading.{Reading}
 use Rattle.text_shape.proofs.Shape.{game-sound, game-complete, game-live}
@@ -42,20 +42,20 @@ longest-front s p L =
     }
 
 -- the number and the place of an answer
-number-as : {r q : Reading} → r ≡ q → numberOf (r .answer) ≡ numberOf (q .answer)
-number-as e = ap (λ (x : Reading). numberOf (x .answer)) e
+number-as : {r q : Reading} → r ≡ q → readingNumber (r .answer) ≡ readingNumber (q .answer)
+number-as e = ap (λ (x : Reading). readingNumber (x .answer)) e
 
-judged-number : (g : Game) → numberOf (judged g .answer) ≡ firstOf (gameTests g)
-unfolding judged judgedBy refused
+judged-number : (g : Game) → readingNumber (judged g .answer) ≡ firstOf (gameTests g)
+unfolding judged judgedBy textRefused
 judged-number g = go (acceptance g) ∙ accepts g refl .number
   where
-    go : (a : Acceptance) → numberOf (judgedBy g a .answer) ≡ gameNumber a
+    go : (a : Acceptance) → readingNumber (judgedBy g a .answer) ≡ gameNumber a
     go Accepted = refl
     go (Refused n) = refl
 
 -- the three answers
-pub reads-long : (s : List ℕ) (r : Reading) → 40960 < length s → r ≡ refused 12 → Reads s r
-unfolding refused
+pub reads-long : (s : List ℕ) (r : Reading) → 40960 < length s → r ≡ textRefused 12 → Reads s r
+unfolding textRefused
 reads-long s r h e =
     record {
       number = record { long = λ _. number-as e; place = λ l _. absurd (omega arith); text = λ l g S t. absurd (omega arith) };
@@ -106,7 +106,7 @@ reads-game s r g j h f n e =
     }
 
 -- the game of a well-shaped file
-pub judged-refused : (g : Game) (n : ℕ) → acceptance g ≡ Refused n → judged g ≡ refused n
+pub judged-refused : (g : Game) (n : ℕ) → acceptance g ≡ Refused n → judged g ≡ textRefused n
 unfolding judged judgedBy
 judged-refused g n e = ap (judgedBy g) e
 

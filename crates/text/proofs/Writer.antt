@@ -18,7 +18,7 @@ use Rattle.text_shape.specs.Text.{gameText}
 use Rattle.text_put.specs.Put.{overlay, Writable}
 use Rattle.text_put.proofs.Buffer.{overlay-front}
 use Rattle.text_put.proofs.Bounds.{game-short}
-use Rattle.text.specs.Write.{answerBy, bufferBy, writeAnswer, writeBuffer, writeTests, numberOf, Writes}
+use Rattle.text.specs.Write.{answerBy, bufferBy, writeAnswer, writeBuffer, writeTests, writtenNumber, Writes}
 use Rattle.text.specs.declared.WriteAnswer.{WriteAnswer}
 use Rattle.text.specs.declared.WriteAnswer.the-variants.{Written, Refused as NotWritten}
 
@@ -38,23 +38,24 @@ pub accepted-room : (g : Game) → acceptance g ≡ Accepted → Writable g × (
 accepted-room g h = let W = accepted-writable g h in (W, omega (arith, game-short g W))
 
 -- the number
-write-number : (g : Game) (d : List ℕ) → numberOf (writeAnswer g d) ≡ firstOf (writeTests g d)
+write-number : (g : Game) (d : List ℕ) → writtenNumber (writeAnswer g d) ≡ firstOf (writeTests g d)
 unfolding writeAnswer writeTests answerBy firstOf
 write-number g d = go (acceptance g) ∙ sym (game-after g (room ∷ []))
   where
     room : ℕ × Bool
     room = (13, not (ltb (length d) (length (gameText g))))
 
-    short : (b : Bool) → numberOf (elim b as (λ x. WriteAnswer) [ true ↦ NotWritten 13 | false ↦ Written (length (gameText g)) ]) ≡ firstOf ((13, not b) ∷ [])
+    short : (b : Bool)
+        → writtenNumber (elim b as (λ x. WriteAnswer) [ true ↦ NotWritten 13 | false ↦ Written (length (gameText g)) ]) ≡ firstOf ((13, not b) ∷ [])
     short true = refl
     short false = refl
 
-    go : (a : Acceptance) → numberOf (answerBy a (gameText g) d) ≡ after a (firstOf (room ∷ []))
+    go : (a : Acceptance) → writtenNumber (answerBy a (gameText g) d) ≡ after a (firstOf (room ∷ []))
     go Accepted = short (ltb (length d) (length (gameText g)))
     go (Refused n) = refl
 
 writes-as : (g : Game) (d : List ℕ) {r : WriteAnswer} {e : List ℕ} → r ≡ writeAnswer g d → e ≡ writeBuffer g d → Writes g d r e
-writes-as g d h q = record { answer = h; number = ap numberOf h ∙ write-number g d; buffer = q }
+writes-as g d h q = record { answer = h; number = ap writtenNumber h ∙ write-number g d; buffer = q }
 
 pub writes-refused : (g : Game) (d : List ℕ) (n : ℕ) → acceptance g ≡ Refused n → Writes g d (NotWritten n) d
 unfolding writeAnswer writeBuffer answerBy bufferBy

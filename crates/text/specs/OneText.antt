@@ -15,7 +15,7 @@ use Rattle.game.specs.declared.Acceptance.the-variants.{Accepted}
 use Rattle.text_shape.specs.Text.{gameText, Shaped}
 use Rattle.text.specs.declared.Answer.the-variants.{Read}
 use Rattle.text.specs.declared.Reading.{Reading}
-use Rattle.text.specs.Read.{Reads, refused}
+use Rattle.text.specs.Read.{Reads, textRefused}
 
 pub record Arrays (g : Game) : Type 0 where
   pub input : length (g .input .moves) ≡ rowWords
@@ -43,7 +43,7 @@ pub record OneText : Type 0 where
   pub read-back : (g : Game) (r : Reading) → acceptance g ≡ Accepted → Arrays g → length (gameText g) ≤ 40960 → Reads (gameText g) r
       → r ≡ record { game = g; answer = Read }
   -- every other accepted game's text is refused with 12
-  pub too-long : (g : Game) (r : Reading) → acceptance g ≡ Accepted → 40960 < length (gameText g) → Reads (gameText g) r → r ≡ refused 12
+  pub too-long : (g : Game) (r : Reading) → acceptance g ≡ Accepted → 40960 < length (gameText g) → Reads (gameText g) r → r ≡ textRefused 12
   -- what is read as a game is that game's text, byte for byte
   pub only-texts : (s : List ℕ) (r : Reading) → Reads s r → r .answer ≡ Read → IsText s (r .game)
   -- texts that are read as one game are one text

@@ -2,10 +2,10 @@
 --
 --   BeginsText s       == s begins the text of some game: a well-shaped file
 --   LongestFront s p   == p is the length of the longest front of s that begins a well-shaped file
---   refused n          == the refusal n, with the empty game beside it
+--   textRefused n      == the refusal n, with the empty game beside it
 --   misshapen p        == the refusal 11 at place p
 --   judged g           == the answer to a file that is the text of g: g itself, or the first of 1 to 7
---   numberOf a         == document 01's number of the answer a, 0 for a game that is read
+--   readingNumber a    == document 01's number of the answer a, 0 for a game that is read
 --   placeOf a          == the place of 11, 0 for another answer
 --   ReadNumber s n p   == n is the number that the file s gets, and p the place where that is 11
 --   Reads s r          == r is the answer to the file s
@@ -35,23 +35,23 @@ pub record LongestFront (s : List ℕ) (p : ℕ) : Type 0 where
   pub front : BeginsText (take p s)
   pub longest : (q : ℕ) → p < q → q ≤ length s → BeginsText (take q s) → ⊥
 
-unfoldable pub refused : ℕ → Reading
-refused n = record { game = emptyGame; answer = NotRead n }
+unfoldable pub textRefused : ℕ → Reading
+textRefused n = record { game = emptyGame; answer = NotRead n }
 
 unfoldable pub misshapen : ℕ → Reading
 misshapen p = record { game = emptyGame; answer = Misshapen p }
 
 unfoldable pub judgedBy : Game → Acceptance → Reading
 judgedBy g Accepted = record { game = g; answer = Read }
-judgedBy g (Refused n) = refused n
+judgedBy g (Refused n) = textRefused n
 
 unfoldable pub judged : Game → Reading
 judged g = judgedBy g (acceptance g)
 
-abbrev pub numberOf : Answer → ℕ
-numberOf Read = 0
-numberOf (Misshapen p) = 11
-numberOf (NotRead n) = n
+abbrev pub readingNumber : Answer → ℕ
+readingNumber Read = 0
+readingNumber (Misshapen p) = 11
+readingNumber (NotRead n) = n
 
 abbrev pub placeOf : Answer → ℕ
 placeOf Read = 0
@@ -66,7 +66,7 @@ pub record ReadNumber (s : List ℕ) (n p : ℕ) : Type 0 where
 
 -- the same of the whole answer
 pub record Reads (s : List ℕ) (r : Reading) : Type 0 where
-  pub number : ReadNumber s (numberOf (r .answer)) (placeOf (r .answer))
-  pub long : 40960 < length s → r ≡ refused 12
+  pub number : ReadNumber s (readingNumber (r .answer)) (placeOf (r .answer))
+  pub long : 40960 < length s → r ≡ textRefused 12
   pub place : length s ≤ 40960 → ((g : Game) → Shaped g → s ≡ gameText g → ⊥) → (p : ℕ) × LongestFront s p × (r ≡ misshapen p)
   pub text : length s ≤ 40960 → (g : Game) → Shaped g → s ≡ gameText g → r ≡ judged g

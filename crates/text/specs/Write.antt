@@ -4,7 +4,7 @@
 --   writeBuffer g d    == the buffer afterwards: as it was, or the text of g and then the rest as it was
 --   Writes g d r e     == r is the answer, and e the buffer afterwards
 --   writeTests g d     == its tests under their numbers
---   numberOf a         == document 01's number of the answer a, 0 for a text that is written
+--   writtenNumber a    == document 01's number of the answer a, 0 for a text that is written
 use Prim.Native.Nat.{ℕ}
 use mathlib.Core.Bool.{Bool, true, false, not}
 use mathlib.Core.List.{List, [], _∷_, _++_}
@@ -39,11 +39,11 @@ writeBuffer g d = bufferBy (acceptance g) (gameText g) d
 unfoldable pub writeTests : Game → List ℕ → List (ℕ × Bool)
 writeTests g d = gameTests g ++ (13, not (ltb (length d) (length (gameText g)))) ∷ []
 
-abbrev pub numberOf : WriteAnswer → ℕ
-numberOf (Written n) = 0
-numberOf (NotWritten n) = n
+abbrev pub writtenNumber : WriteAnswer → ℕ
+writtenNumber (Written n) = 0
+writtenNumber (NotWritten n) = n
 
 pub record Writes (g : Game) (d : List ℕ) (r : WriteAnswer) (e : List ℕ) : Type 0 where
   pub answer : r ≡ writeAnswer g d
-  pub number : numberOf r ≡ firstOf (writeTests g d)
+  pub number : writtenNumber r ≡ firstOf (writeTests g d)
   pub buffer : e ≡ writeBuffer g d

@@ -6,7 +6,7 @@ use text_put::measure;
 use text_scan::whole;
 ghost use mathlib.Core.Path.{_≡_};
 ghost use Rattle.text.specs.Write.{Writes};
-ghost use Rattle.text.specs.Read.{Reads, refused as noGame, misshapen as noShape, judged};
+ghost use Rattle.text.specs.Read.{Reads, textRefused as noGame, misshapen as noShape, judged};
 
 // The answer to a file. Misshapen is number 11, with its place; the others hold their number.
 pub enum Answer {

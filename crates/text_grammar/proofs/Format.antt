@@ -10,7 +10,7 @@ use lib.Dec.{eqb}
 use lib.ListN.{length}
 use borrow.Author.Tests.{eq-eqb, ne-eqb, eqb-true}
 use Rattle.finite.proofs.Truth.{clash}
-use Rattle.text_grammar.specs.Format.{Format, Run, TextOf, Stands, run, Live, bind, lit, alt, opens, child, chars, follow, IsNode, Bytes}
+use Rattle.text_grammar.specs.Format.{Format, Run, TextOf, Stands, run, Live, bind, lit, alt, mayBegin, child, chars, follow, IsNode, Bytes}
 use Rattle.text_grammar.specs.Format.Format.{done, node}
 use Rattle.text_grammar.specs.Format.Run.{got, fault}
 
@@ -219,8 +219,8 @@ pub alt-left : {R : Type 0} (b : ℕ) (f g : Format R) (t : List ℕ) (r : R) �
 unfolding alt TextOf
 alt-left b f g t r p = rw (eq-eqb b b refl) (refl, p)
 
-pub alt-right : {R : Type 0} (b : ℕ) (f g : Format R) (t : List ℕ) (r : R) → (opens g b ≡ false) → TextOf g t r → IsNode g → TextOf (alt b f g) t r
-unfolding alt TextOf opens child IsNode
+pub alt-right : {R : Type 0} (b : ℕ) (f g : Format R) (t : List ℕ) (r : R) → (mayBegin g b ≡ false) → TextOf g t r → IsNode g → TextOf (alt b f g) t r
+unfolding alt TextOf mayBegin child IsNode
 alt-right b f (done x) t r o p n = absurd n
 alt-right b f (node ok next) [] r o p n = absurd p
 alt-right b f (node ok next) (c ∷ t) r o p n =
@@ -230,7 +230,7 @@ alt-right b f (node ok next) (c ∷ t) r o p n =
 
 pub alt-parts : {R : Type 0} (b : ℕ) (f g : Format R) (t : List ℕ) (r : R) → TextOf (alt b f g) t r
     → ((u : List ℕ) × (t ≡ b ∷ u) × TextOf f u r) ⊎ TextOf g t r
-unfolding alt TextOf opens child
+unfolding alt TextOf mayBegin child
 alt-parts b f g [] r p = absurd p
 alt-parts b f (done x) (c ∷ t) r p =
     by-cases (eqb c b)
@@ -242,7 +242,7 @@ alt-parts b f (node ok next) (c ∷ t) r p =
     (λ e. inr (rw e at p))
 
 pub alt-live : {R : Type 0} (b : ℕ) (f g : Format R) → b < 256 → Live f → Live g → IsNode g → Live (alt b f g)
-unfolding alt Live opens child IsNode
+unfolding alt Live mayBegin child IsNode
 alt-live b f (done x) s l m n = absurd n
 alt-live b f (node ok next) s l m n = (
   (b, rw (eq-eqb b b refl)),
@@ -259,7 +259,7 @@ unfolding alt run
 run-alt-left b f g w i h = let e = eq-eqb (w i) b h in rw (e, run) (rw e)
 
 pub run-alt-right : {R : Type 0} (b : ℕ) (f g : Format R) (w : ℕ → ℕ) (i : ℕ) → (w i ≡ b → ⊥) → IsNode g → run (alt b f g) w i ≡ run g w i
-unfolding alt run opens child IsNode
+unfolding alt run mayBegin child IsNode
 run-alt-right b f (done x) w i h n = absurd n
 run-alt-right {R} b f (node ok next) w i h n =
     let e = ne-eqb (w i) b h in
@@ -316,11 +316,11 @@ unfolding run
 run-done r w i = refl
 
 -- the first byte
-pub opens-lit : {R : Type 0} (b : ℕ) (f : Format R) (c : ℕ) → opens (lit b f) c ≡ eqb c b
-unfolding opens lit
+pub opens-lit : {R : Type 0} (b : ℕ) (f : Format R) (c : ℕ) → mayBegin (lit b f) c ≡ eqb c b
+unfolding mayBegin lit
 opens-lit b f c = refl
 
-pub opens-bind : {A B : Type 0} (f : Format A) (k : A → Format B) (c : ℕ) → IsNode f → opens (bind f k) c ≡ opens f c
-unfolding opens bind IsNode
+pub opens-bind : {A B : Type 0} (f : Format A) (k : A → Format B) (c : ℕ) → IsNode f → mayBegin (bind f k) c ≡ mayBegin f c
+unfolding mayBegin bind IsNode
 opens-bind (done x) k c n = absurd n
 opens-bind (node ok next) k c n = refl

@@ -7,10 +7,25 @@ use mathlib.Core.Logic.{_⊎_, inl, inr}
 use mathlib.Core.Path.{_≡_, refl, sym, _∙_, ap, subst}
 use lib.Dec.{leb, ltb, eqb}
 use borrow.Author.Tests.{le-leb, lt-leb, leb-true, lt-ltb, le-ltb, ltb-true, ltb-false, eqb-true}
-use Rattle.text_grammar.specs.Format.{Format, Run, TextOf, run, Live, lit, alt, opens, child, follow, IsNode}
+use Rattle.text_grammar.specs.Format.{Format, Run, TextOf, run, Live, lit, alt, mayBegin, child, follow, IsNode}
 use Rattle.text_grammar.specs.Format.Format.{done, node}
 use Rattle.text_grammar.specs.Format.Run.{got, fault}
-use Rattle.text_grammar.specs.Number.{digits, decimal, digit, inside, meets, begins, tenfold, extends, after, starts, num, numberEnd, digitsAt, numberAt}
+use Rattle.text_grammar.specs.Number.{
+  digits,
+  decimal,
+  digit,
+  withinRange,
+  rangesMeet,
+  digitsBegin,
+  tenfold,
+  extends,
+  after,
+  starts,
+  num,
+  numberEnd,
+  digitsAt,
+  numberAt,
+}
 use Rattle.finite.proofs.Truth.{clash, and-left, and-right, or-left, or-right, or-cases}
 use Rattle.text_grammar.proofs.Format.{by-cases, run-step, run-stop, follow-got, follow-fault, lit-node, alt-node, not-fault}
 
@@ -23,12 +38,12 @@ digit-intro : (b : ℕ) → 48 ≤ b → b ≤ 57 → digit b ≡ true
 unfolding digit
 digit-intro b p q = rw (le-leb 48 b p) (le-leb b 57 q)
 
-inside-bounds : (lo hi v : ℕ) → inside lo hi v ≡ true → (lo ≤ v) × (v ≤ hi)
-unfolding inside
+inside-bounds : (lo hi v : ℕ) → withinRange lo hi v ≡ true → (lo ≤ v) × (v ≤ hi)
+unfolding withinRange
 inside-bounds lo hi v h = (leb-true lo v (and-left (leb lo v) (leb v hi) h), leb-true v hi (and-right (leb lo v) (leb v hi) h))
 
-pub inside-intro : (lo hi v : ℕ) → lo ≤ v → v ≤ hi → inside lo hi v ≡ true
-unfolding inside
+pub inside-intro : (lo hi v : ℕ) → lo ≤ v → v ≤ hi → withinRange lo hi v ≡ true
+unfolding withinRange
 inside-intro lo hi v p q = rw (le-leb lo v p) (le-leb v hi q)
 
 record Common (lo hi a b : ℕ) : Type 0 where
@@ -38,8 +53,8 @@ record Common (lo hi a b : ℕ) : Type 0 where
   from : a ≤ at
   upto : at ≤ b
 
-meets-elim : (lo hi a b : ℕ) → a ≤ b → meets lo hi a b ≡ true → Common lo hi a b
-unfolding meets
+meets-elim : (lo hi a b : ℕ) → a ≤ b → rangesMeet lo hi a b ≡ true → Common lo hi a b
+unfolding rangesMeet
 meets-elim lo hi a b l h =
     let q = and-left (leb lo hi && leb lo b) (leb a hi) h in
     let x = leb-true lo hi (and-left (leb lo hi) (leb lo b) q) in
@@ -47,8 +62,8 @@ meets-elim lo hi a b l h =
     let z = leb-true a hi (and-right (leb lo hi && leb lo b) (leb a hi) h) in
     record { at = max lo a; low = omega arith; high = omega arith; from = omega arith; upto = omega arith }
 
-meets-intro : (lo hi a b u : ℕ) → lo ≤ u → u ≤ hi → a ≤ u → u ≤ b → meets lo hi a b ≡ true
-unfolding meets
+meets-intro : (lo hi a b u : ℕ) → lo ≤ u → u ≤ hi → a ≤ u → u ≤ b → rangesMeet lo hi a b ≡ true
+unfolding rangesMeet
 meets-intro lo hi a b u p q r s =
     rw (le-leb lo hi (omega arith)) (rw (le-leb lo b (omega arith)) (le-leb a hi (omega arith)))
 
@@ -63,11 +78,11 @@ record Reach (lo hi v : ℕ) : Type 0 where
   high : at ≤ hi
   begun : (at ≡ v) ⊎ (((0 < v) × (at / 10 ≡ v)) ⊎ ((0 < v) × (at / 100 ≡ v)))
 
-begins-elim : (lo hi v : ℕ) → begins lo hi v ≡ true → Reach lo hi v
-unfolding begins
-begins-elim lo hi v h = first (or-cases (inside lo hi v) _ h)
+begins-elim : (lo hi v : ℕ) → digitsBegin lo hi v ≡ true → Reach lo hi v
+unfolding digitsBegin
+begins-elim lo hi v h = first (or-cases (withinRange lo hi v) _ h)
   where
-    second : 0 < v → (meets lo hi (10 * v) (10 * v + 9) ≡ true) ⊎ (meets lo hi (100 * v) (100 * v + 99) ≡ true) → Reach lo hi v
+    second : 0 < v → (rangesMeet lo hi (10 * v) (10 * v + 9) ≡ true) ⊎ (rangesMeet lo hi (100 * v) (100 * v + 99) ≡ true) → Reach lo hi v
     second pos (inl e) =
         let c = meets-elim lo hi (10 * v) (10 * v + 9) (omega arith) e in
         record { at = c .at; low = c .low; high = c .high; begun = inr (inl (pos, omega arith)) }
@@ -75,13 +90,14 @@ begins-elim lo hi v h = first (or-cases (inside lo hi v) _ h)
         let c = meets-elim lo hi (100 * v) (100 * v + 99) (omega arith) e in
         record { at = c .at; low = c .low; high = c .high; begun = inr (inr (pos, omega arith)) }
 
-    first : (inside lo hi v ≡ true) ⊎ ((ltb 0 v && (meets lo hi (10 * v) (10 * v + 9) || meets lo hi (100 * v) (100 * v + 99))) ≡ true) → Reach lo hi v
+    first : (withinRange lo hi v ≡ true) ⊎ ((ltb 0 v && (rangesMeet lo hi (10 * v) (10 * v + 9) || rangesMeet lo hi (100 * v) (100 * v + 99)))
+        ≡ true) → Reach lo hi v
     first (inl e) = let p = inside-bounds lo hi v e in record { at = v; low = p .0; high = p .1; begun = inl refl }
     first (inr e) =
         second (ltb-true 0 v (and-left (ltb 0 v) _ e))
-        (or-cases (meets lo hi (10 * v) (10 * v + 9)) _ (and-right (ltb 0 v) _ e))
+        (or-cases (rangesMeet lo hi (10 * v) (10 * v + 9)) _ (and-right (ltb 0 v) _ e))
 
-begins-most : (lo hi v : ℕ) → begins lo hi v ≡ true → v ≤ hi
+begins-most : (lo hi v : ℕ) → digitsBegin lo hi v ≡ true → v ≤ hi
 begins-most lo hi v h = go (begins-elim lo hi v h)
   where
     go : Reach lo hi v → v ≤ hi
@@ -96,41 +112,41 @@ begins-most lo hi v h = go (begins-elim lo hi v h)
         hundredth : (u : ℕ) → u ≤ hi → u / 100 ≡ v → v ≤ hi
         hundredth u q e = omega arith
 
-begins-self : (lo hi u : ℕ) → lo ≤ u → u ≤ hi → begins lo hi u ≡ true
-unfolding begins
+begins-self : (lo hi u : ℕ) → lo ≤ u → u ≤ hi → digitsBegin lo hi u ≡ true
+unfolding digitsBegin
 begins-self lo hi u p q = or-left _ (inside-intro lo hi u p q)
 
-begins-tenth : (lo hi v u : ℕ) → lo ≤ u → u ≤ hi → 0 < v → u / 10 ≡ v → begins lo hi v ≡ true
-unfolding begins
+begins-tenth : (lo hi v u : ℕ) → lo ≤ u → u ≤ hi → 0 < v → u / 10 ≡ v → digitsBegin lo hi v ≡ true
+unfolding digitsBegin
 begins-tenth lo hi v u p q pos e =
-    or-right (inside lo hi v)
+    or-right (withinRange lo hi v)
     (rw (lt-ltb 0 v pos) (or-left _ (meets-intro lo hi (10 * v) (10 * v + 9) u p q (omega arith) (omega arith))))
 
-begins-hundredth : (lo hi v u : ℕ) → lo ≤ u → u ≤ hi → 0 < v → u / 100 ≡ v → begins lo hi v ≡ true
-unfolding begins
+begins-hundredth : (lo hi v u : ℕ) → lo ≤ u → u ≤ hi → 0 < v → u / 100 ≡ v → digitsBegin lo hi v ≡ true
+unfolding digitsBegin
 begins-hundredth lo hi v u p q pos e =
-    or-right (inside lo hi v)
-    (rw (lt-ltb 0 v pos) (or-right (meets lo hi (10 * v) (10 * v + 9)) (meets-intro lo hi (100 * v) (100 * v + 99) u p q (omega arith) (omega arith))))
+    or-right (withinRange lo hi v)
+    (rw (lt-ltb 0 v pos) (or-right (rangesMeet lo hi (10 * v) (10 * v + 9)) (meets-intro lo hi (100 * v) (100 * v + 99) u p q (omega arith) (omega arith))))
 
 record Extended (lo hi v b : ℕ) : Type 0 where
   low : 48 ≤ b
   high : b ≤ 57
   pos : 0 < v
-  goes : begins lo hi (tenfold v b) ≡ true
+  goes : digitsBegin lo hi (tenfold v b) ≡ true
 
 extends-elim : (lo hi v b : ℕ) → extends lo hi v b ≡ true → Extended lo hi v b
 unfolding extends
 extends-elim lo hi v b h =
-    let q = and-left (digit b && ltb 0 v) (begins lo hi (tenfold v b)) h in
+    let q = and-left (digit b && ltb 0 v) (digitsBegin lo hi (tenfold v b)) h in
     let d = digit-bounds b (and-left (digit b) (ltb 0 v) q) in
     record {
       low = d .0;
       high = d .1;
       pos = ltb-true 0 v (and-right (digit b) (ltb 0 v) q);
-      goes = and-right (digit b && ltb 0 v) (begins lo hi (tenfold v b)) h;
+      goes = and-right (digit b && ltb 0 v) (digitsBegin lo hi (tenfold v b)) h;
     }
 
-extends-intro : (lo hi v b : ℕ) → 48 ≤ b → b ≤ 57 → 0 < v → begins lo hi (tenfold v b) ≡ true → extends lo hi v b ≡ true
+extends-intro : (lo hi v b : ℕ) → 48 ≤ b → b ≤ 57 → 0 < v → digitsBegin lo hi (tenfold v b) ≡ true → extends lo hi v b ≡ true
 unfolding extends
 extends-intro lo hi v b p q pos h = rw (digit-intro b p q) (rw (lt-ltb 0 v pos) h)
 
@@ -139,40 +155,40 @@ unfolding extends
 extends-digit lo hi v b h = rw h
 
 -- the tests in the order in which code takes them
-pub meets-off : (lo hi a b : ℕ) → hi < lo → meets lo hi a b ≡ false
-unfolding meets
+pub meets-off : (lo hi a b : ℕ) → hi < lo → rangesMeet lo hi a b ≡ false
+unfolding rangesMeet
 meets-off lo hi a b h = rw (lt-leb lo hi h)
 
-pub meets-on : (lo hi a b : ℕ) → lo ≤ hi → meets lo hi a b ≡ (leb lo b && leb a hi)
-unfolding meets
+pub meets-on : (lo hi a b : ℕ) → lo ≤ hi → rangesMeet lo hi a b ≡ (leb lo b && leb a hi)
+unfolding rangesMeet
 meets-on lo hi a b h = rw (le-leb lo hi h)
 
-pub begins-inside : (lo hi v : ℕ) → inside lo hi v ≡ true → begins lo hi v ≡ true
-unfolding begins
+pub begins-inside : (lo hi v : ℕ) → withinRange lo hi v ≡ true → digitsBegin lo hi v ≡ true
+unfolding digitsBegin
 begins-inside lo hi v h = rw h
 
-pub begins-zero : (lo hi v : ℕ) → v ≡ 0 → inside lo hi v ≡ false → begins lo hi v ≡ false
-unfolding begins
+pub begins-zero : (lo hi v : ℕ) → v ≡ 0 → withinRange lo hi v ≡ false → digitsBegin lo hi v ≡ false
+unfolding digitsBegin
 begins-zero lo hi v z h = rw (h, le-ltb 0 v (omega arith))
 
-pub begins-ten : (lo hi v : ℕ) → (v ≡ 0 → ⊥) → meets lo hi (10 * v) (10 * v + 9) ≡ true → begins lo hi v ≡ true
-unfolding begins
-begins-ten lo hi v n h = or-right (inside lo hi v) (rw (lt-ltb 0 v (pos-of v n), h))
+pub begins-ten : (lo hi v : ℕ) → (v ≡ 0 → ⊥) → rangesMeet lo hi (10 * v) (10 * v + 9) ≡ true → digitsBegin lo hi v ≡ true
+unfolding digitsBegin
+begins-ten lo hi v n h = or-right (withinRange lo hi v) (rw (lt-ltb 0 v (pos-of v n), h))
 
-pub begins-hundred : (lo hi v : ℕ) → inside lo hi v ≡ false → (v ≡ 0 → ⊥) → meets lo hi (10 * v) (10 * v + 9) ≡ false
-    → begins lo hi v ≡ meets lo hi (100 * v) (100 * v + 99)
-unfolding begins
+pub begins-hundred : (lo hi v : ℕ) → withinRange lo hi v ≡ false → (v ≡ 0 → ⊥) → rangesMeet lo hi (10 * v) (10 * v + 9) ≡ false
+    → digitsBegin lo hi v ≡ rangesMeet lo hi (100 * v) (100 * v + 99)
+unfolding digitsBegin
 begins-hundred lo hi v i n h = rw (i, lt-ltb 0 v (pos-of v n), h)
 
 pub extends-zero : (lo hi v b : ℕ) → v ≡ 0 → extends lo hi v b ≡ false
 unfolding extends
 extends-zero lo hi v b z = let e = le-ltb 0 v (omega arith) in by-cases (digit b) (λ h. rw (h, e)) (λ h. rw h)
 
-pub extends-by : (lo hi v b : ℕ) → (v ≡ 0 → ⊥) → digit b ≡ true → extends lo hi v b ≡ begins lo hi (10 * v + (b - 48))
+pub extends-by : (lo hi v b : ℕ) → (v ≡ 0 → ⊥) → digit b ≡ true → extends lo hi v b ≡ digitsBegin lo hi (10 * v + (b - 48))
 unfolding extends tenfold
 extends-by lo hi v b n h = rw (h, lt-ltb 0 v (pos-of v n))
 
-pub starts-by : (lo hi b : ℕ) → digit b ≡ true → starts lo hi b ≡ begins lo hi (b - 48)
+pub starts-by : (lo hi b : ℕ) → digit b ≡ true → starts lo hi b ≡ digitsBegin lo hi (b - 48)
 unfolding starts
 starts-by lo hi b h = rw h
 
@@ -217,11 +233,11 @@ unfolding tenfold
 tenfold-le v b = omega arith
 
 -- the bytes of a number, one at a time
-pub number-end : (lo hi v j : ℕ) → inside lo hi v ≡ true → numberEnd lo hi v j ≡ got v j
+pub number-end : (lo hi v j : ℕ) → withinRange lo hi v ≡ true → numberEnd lo hi v j ≡ got v j
 unfolding numberEnd
 number-end lo hi v j h = rw (h, numberEnd)
 
-pub number-out : (lo hi v j : ℕ) → inside lo hi v ≡ false → numberEnd lo hi v j ≡ fault j
+pub number-out : (lo hi v j : ℕ) → withinRange lo hi v ≡ false → numberEnd lo hi v j ≡ fault j
 unfolding numberEnd
 number-out lo hi v j h = rw (h, numberEnd)
 
@@ -295,7 +311,7 @@ number-never lo hi w i b q h = number-none lo hi w i (ap (starts lo hi) (sym q) 
 number-end-range : (lo hi v j u i : ℕ) → numberEnd lo hi v j ≡ got u i → (lo ≤ u) × (u ≤ hi)
 unfolding numberEnd
 number-end-range lo hi v j u i h =
-    by-cases (inside lo hi v)
+    by-cases (withinRange lo hi v)
     (λ e.
     let same : got v j ≡ got u i = sym (number-end lo hi v j e) ∙ h in
     let k : v ≡ u = cc in
@@ -318,8 +334,8 @@ number-range lo hi w i u j h =
     (λ e. not-fault (sym (number-none lo hi w i e) ∙ h))
 
 -- a format by its first byte
-open-text : {R : Type 0} (f : Format R) (b : ℕ) (t : List ℕ) (r : R) → opens f b ≡ true → TextOf (child f b) t r → TextOf f (b ∷ t) r
-unfolding opens child TextOf
+open-text : {R : Type 0} (f : Format R) (b : ℕ) (t : List ℕ) (r : R) → mayBegin f b ≡ true → TextOf (child f b) t r → TextOf f (b ∷ t) r
+unfolding mayBegin child TextOf
 open-text (done x) b t r o p = clash o refl
 open-text (node ok next) b t r o p = (o, p)
 
@@ -328,30 +344,30 @@ unfolding IsNode TextOf
 node-text (done x) r n p = n
 node-text (node ok next) r n p = p
 
-text-open : {R : Type 0} (f : Format R) (b : ℕ) (t : List ℕ) (r : R) → TextOf f (b ∷ t) r → (opens f b ≡ true) × TextOf (child f b) t r
-unfolding opens child TextOf
+text-open : {R : Type 0} (f : Format R) (b : ℕ) (t : List ℕ) (r : R) → TextOf f (b ∷ t) r → (mayBegin f b ≡ true) × TextOf (child f b) t r
+unfolding mayBegin child TextOf
 text-open (done x) b t r p = absurd p
 text-open (node ok next) b t r p = p
 
-live-opens : {R : Type 0} (f : Format R) → Live f → IsNode f → (b : ℕ) × (opens f b ≡ true)
-unfolding opens Live IsNode
+live-opens : {R : Type 0} (f : Format R) → Live f → IsNode f → (b : ℕ) × (mayBegin f b ≡ true)
+unfolding mayBegin Live IsNode
 live-opens (done x) l n = absurd n
 live-opens (node ok next) l n = l .0
 
-live-mark : {R : Type 0} (f : Format R) → Live f → opens f 256 ≡ false
-unfolding opens Live
+live-mark : {R : Type 0} (f : Format R) → Live f → mayBegin f 256 ≡ false
+unfolding mayBegin Live
 live-mark (done x) l = refl
 live-mark (node ok next) l = l .2
 
-live-child : {R : Type 0} (f : Format R) (b : ℕ) → Live f → opens f b ≡ true → Live (child f b)
-unfolding opens child Live
+live-child : {R : Type 0} (f : Format R) (b : ℕ) → Live f → mayBegin f b ≡ true → Live (child f b)
+unfolding mayBegin child Live
 live-child (done x) b l o = l
 live-child (node ok next) b l o = l .1 b o
 
 -- what may stand behind a number: a byte, and no digit
 pub record Ends {R : Type 0} (f : Format R) : Type 0 where
   pub wants : IsNode f
-  pub plain : (b : ℕ) → opens f b ≡ true → digit b ≡ false
+  pub plain : (b : ℕ) → mayBegin f b ≡ true → digit b ≡ false
 
 pub record NumberParts {R : Type 0} (lo hi : ℕ) (k : ℕ → Format R) (t : List ℕ) (r : R) : Type 0 where
   pub value : ℕ
@@ -373,10 +389,10 @@ record AfterParts {R : Type 0} (lo hi : ℕ) (k : ℕ → Format R) (s t : List 
   is-back : TextOf (k value) back r
 
 module _ {R : Type 0} (lo hi : ℕ) (k : ℕ → Format R) where
-  after-here : (v b : ℕ) (t : List ℕ) (r : R) → (inside lo hi v && opens (k v) b) ≡ true → TextOf (child (k v) b) t r
+  after-here : (v b : ℕ) (t : List ℕ) (r : R) → (withinRange lo hi v && mayBegin (k v) b) ≡ true → TextOf (child (k v) b) t r
       → AfterParts lo hi k (decimal v) (b ∷ t) r
   after-here v b t r o p =
-      let l = inside-bounds lo hi v (and-left (inside lo hi v) _ o) in
+      let l = inside-bounds lo hi v (and-left (withinRange lo hi v) _ o) in
       record {
         value = v;
         front = [];
@@ -385,7 +401,7 @@ module _ {R : Type 0} (lo hi : ℕ) (k : ℕ → Format R) where
         high = l .1;
         digits-are = sym (append-nil (decimal v));
         whole = refl;
-        is-back = open-text (k v) b t r (and-right (inside lo hi v) _ o) p;
+        is-back = open-text (k v) b t r (and-right (withinRange lo hi v) _ o) p;
       }
 
   after-parts : (n v : ℕ) (t : List ℕ) (r : R) → TextOf (after n lo hi k v) t r → AfterParts lo hi k (decimal v) t r
@@ -430,7 +446,7 @@ module _ {R : Type 0} (lo hi : ℕ) (k : ℕ → Format R) where
       }
 
   -- the number ends here
-  after-end : (n v b : ℕ) (t : List ℕ) (r : R) → Ends (k v) → inside lo hi v ≡ true → TextOf (k v) (b ∷ t) r → TextOf (after n lo hi k v) (b ∷ t) r
+  after-end : (n v b : ℕ) (t : List ℕ) (r : R) → Ends (k v) → withinRange lo hi v ≡ true → TextOf (k v) (b ∷ t) r → TextOf (after n lo hi k v) (b ∷ t) r
   unfolding after TextOf
   after-end zero v b t r E i p = let q = text-open (k v) b t r p in rw i q
   after-end (suc n) v b t r E i p =
@@ -442,11 +458,11 @@ module _ {R : Type 0} (lo hi : ℕ) (k : ℕ → Format R) where
   unfolding after TextOf
   after-more n v b t r e p = rw e (refl, p)
 
-  num-first : (v : ℕ) (t : List ℕ) (r : R) → v < 10 → begins lo hi v ≡ true → TextOf (after 2 lo hi k v) t r → TextOf (num lo hi k) ((48 + v) ∷ t) r
+  num-first : (v : ℕ) (t : List ℕ) (r : R) → v < 10 → digitsBegin lo hi v ≡ true → TextOf (after 2 lo hi k v) t r → TextOf (num lo hi k) ((48 + v) ∷ t) r
   unfolding num TextOf starts
   num-first v t r l b p =
       let same : 48 + v - 48 ≡ v = omega arith in (
-        rw (digit-intro (48 + v) (omega arith) (omega arith)) (ap (begins lo hi) same ∙ b),
+        rw (digit-intro (48 + v) (omega arith) (omega arith)) (ap (digitsBegin lo hi) same ∙ b),
         subst (λ (x : ℕ). TextOf (after 2 lo hi k x) t r) (sym same) p,
       )
 
@@ -494,50 +510,51 @@ module _ {R : Type 0} (lo hi : ℕ) (k : ℕ → Format R) where
       (λ f. num-three u b t r p q (ltb-false u 100 f) (omega arith) E x))
 
   -- every way can be finished
-  after-live-step : (n v : ℕ) → ((u : ℕ) → lo ≤ u → u ≤ hi → Live (k u) × IsNode (k u)) → begins lo hi v ≡ true
+  after-live-step : (n v : ℕ) → ((u : ℕ) → lo ≤ u → u ≤ hi → Live (k u) × IsNode (k u)) → digitsBegin lo hi v ≡ true
       → ((b : ℕ) → extends lo hi v b ≡ true → Live (after n lo hi k (tenfold v b))) → Live (after (suc n) lo hi k v)
   unfolding after Live digit
   after-live-step n v K h step = (some (begins-elim lo hi v h), each, no-mark)
     where
-      no-mark : (extends lo hi v 256 || inside lo hi v && opens (k v) 256) ≡ false
+      no-mark : (extends lo hi v 256 || withinRange lo hi v && mayBegin (k v) 256) ≡ false
       no-mark =
           rw (extends-digit lo hi v 256 refl)
-          (by-cases (inside lo hi v)
+          (by-cases (withinRange lo hi v)
           (λ e. let l = inside-bounds lo hi v e in rw e (live-mark (k v) (K v (l .0) (l .1) .0)))
           (λ e. rw e))
 
-      here : lo ≤ v → v ≤ hi → (b : ℕ) × ((extends lo hi v b || inside lo hi v && opens (k v) b) ≡ true)
+      here : lo ≤ v → v ≤ hi → (b : ℕ) × ((extends lo hi v b || withinRange lo hi v && mayBegin (k v) b) ≡ true)
       here p q =
           let o = live-opens (k v) (K v p q .0) (K v p q .1) in
           (o .0, or-right (extends lo hi v (o .0)) (rw (inside-intro lo hi v p q) (o .1)))
 
-      digit-to : (u : ℕ) → 0 < v → u / 10 ≡ v → begins lo hi u ≡ true → (b : ℕ) × ((extends lo hi v b || inside lo hi v && opens (k v) b) ≡ true)
+      digit-to : (u : ℕ) → 0 < v → u / 10 ≡ v → digitsBegin lo hi u ≡ true → (b : ℕ) × ((extends lo hi v b || withinRange lo hi v && mayBegin (k v) b) ≡ true)
       digit-to u pos e g =
           let same : tenfold v (48 + u % 10) ≡ u = ap (λ (x : ℕ). tenfold x (48 + u % 10)) (sym e) ∙ tenfold-tenth u in
-          (48 + u % 10, or-left _ (extends-intro lo hi v (48 + u % 10) (omega arith) (omega arith) pos (ap (begins lo hi) same ∙ g)))
+          (48 + u % 10, or-left _ (extends-intro lo hi v (48 + u % 10) (omega arith) (omega arith) pos (ap (digitsBegin lo hi) same ∙ g)))
 
-      unit : (u : ℕ) → lo ≤ u → u ≤ hi → 0 < v → u / 10 ≡ v → (b : ℕ) × ((extends lo hi v b || inside lo hi v && opens (k v) b) ≡ true)
+      unit : (u : ℕ) → lo ≤ u → u ≤ hi → 0 < v → u / 10 ≡ v → (b : ℕ) × ((extends lo hi v b || withinRange lo hi v && mayBegin (k v) b) ≡ true)
       unit u p q pos e = digit-to u pos e (begins-self lo hi u p q)
 
-      ten : (u : ℕ) → lo ≤ u → u ≤ hi → 0 < v → u / 100 ≡ v → (b : ℕ) × ((extends lo hi v b || inside lo hi v && opens (k v) b) ≡ true)
+      ten : (u : ℕ) → lo ≤ u → u ≤ hi → 0 < v → u / 100 ≡ v → (b : ℕ) × ((extends lo hi v b || withinRange lo hi v && mayBegin (k v) b) ≡ true)
       ten u p q pos e = digit-to (u / 10) pos (omega arith) (begins-tenth lo hi (u / 10) u p q (omega arith) refl)
 
-      some : Reach lo hi v → (b : ℕ) × ((extends lo hi v b || inside lo hi v && opens (k v) b) ≡ true)
+      some : Reach lo hi v → (b : ℕ) × ((extends lo hi v b || withinRange lo hi v && mayBegin (k v) b) ≡ true)
       some c = elim (c .begun) [
         | inl e ↦ here (subst (λ (x : ℕ). lo ≤ x) e (c .low)) (subst (λ (x : ℕ). x ≤ hi) e (c .high))
         | inr d ↦ elim d [ inl e ↦ unit (c .at) (c .low) (c .high) (e .0) (e .1) | inr e ↦ ten (c .at) (c .low) (c .high) (e .0) (e .1) ]
       ]
 
-      each : (b : ℕ) → (extends lo hi v b || inside lo hi v && opens (k v) b) ≡ true
+      each : (b : ℕ) → (extends lo hi v b || withinRange lo hi v && mayBegin (k v) b) ≡ true
           → Live {R = R} (elim (extends lo hi v b) [ true ↦ after n lo hi k (tenfold v b) | false ↦ child (k v) b ])
       each b o =
           by-cases (extends lo hi v b)
           (λ e. rw e (step b e))
           (λ e. let q = rw e at o in
-          rw e (let l = inside-bounds lo hi v (and-left (inside lo hi v) _ q) in live-child (k v) b (K v (l .0) (l .1) .0) (and-right (inside lo hi v) _ q)))
+          rw e (let l = inside-bounds lo hi v (and-left (withinRange lo hi v) _ q) in live-child (k v) b (K v (l .0) (l .1) .0)
+          (and-right (withinRange lo hi v) _ q)))
 
   -- no digit is left: the number itself is in range
-  after-live-last : (v : ℕ) → ((u : ℕ) → lo ≤ u → u ≤ hi → Live (k u) × IsNode (k u)) → begins lo hi v ≡ true → hi < 10 * v → Live (after 0 lo hi k v)
+  after-live-last : (v : ℕ) → ((u : ℕ) → lo ≤ u → u ≤ hi → Live (k u) × IsNode (k u)) → digitsBegin lo hi v ≡ true → hi < 10 * v → Live (after 0 lo hi k v)
   unfolding after Live
   after-live-last v K h l = let i = own (begins-elim lo hi v h) in (some i, each i, no-mark i)
     where
@@ -553,38 +570,38 @@ module _ {R : Type 0} (lo hi : ℕ) (k : ℕ → Format R) where
           hundredth : (u : ℕ) → u ≤ hi → u / 100 ≡ v → ⊥
           hundredth u q e = omega arith
 
-      no-mark : (lo ≤ v) × (v ≤ hi) → (inside lo hi v && opens (k v) 256) ≡ false
+      no-mark : (lo ≤ v) × (v ≤ hi) → (withinRange lo hi v && mayBegin (k v) 256) ≡ false
       no-mark i = rw (inside-intro lo hi v (i .0) (i .1)) (live-mark (k v) (K v (i .0) (i .1) .0))
 
-      some : (lo ≤ v) × (v ≤ hi) → (b : ℕ) × ((inside lo hi v && opens (k v) b) ≡ true)
+      some : (lo ≤ v) × (v ≤ hi) → (b : ℕ) × ((withinRange lo hi v && mayBegin (k v) b) ≡ true)
       some i =
           let o = live-opens (k v) (K v (i .0) (i .1) .0) (K v (i .0) (i .1) .1) in
           (o .0, rw (inside-intro lo hi v (i .0) (i .1)) (o .1))
 
-      each : (lo ≤ v) × (v ≤ hi) → (b : ℕ) → (inside lo hi v && opens (k v) b) ≡ true → Live (child (k v) b)
-      each i b o = live-child (k v) b (K v (i .0) (i .1) .0) (and-right (inside lo hi v) _ o)
+      each : (lo ≤ v) × (v ≤ hi) → (b : ℕ) → (withinRange lo hi v && mayBegin (k v) b) ≡ true → Live (child (k v) b)
+      each i b o = live-child (k v) b (K v (i .0) (i .1) .0) (and-right (withinRange lo hi v) _ o)
 
   pub num-live : lo ≤ hi → hi < 1000 → ((u : ℕ) → lo ≤ u → u ≤ hi → Live (k u) × IsNode (k u)) → Live (num lo hi k)
   unfolding num Live starts digit
   num-live p q K = (first, λ b o. two (b - 48) (and-right (digit b) _ o), refl)
     where
-      none : (v : ℕ) → begins lo hi v ≡ true → hi < 10 * v → Live (after 0 lo hi k v)
+      none : (v : ℕ) → digitsBegin lo hi v ≡ true → hi < 10 * v → Live (after 0 lo hi k v)
       none v h l = after-live-last v K h l
 
-      one : (v : ℕ) → begins lo hi v ≡ true → hi < 100 * v → Live (after 1 lo hi k v)
+      one : (v : ℕ) → digitsBegin lo hi v ≡ true → hi < 100 * v → Live (after 1 lo hi k v)
       one v h l = after-live-step 0 v K h (λ b e. let x = extends-elim lo hi v b e in none (tenfold v b) (x .goes) (omega (arith, tenfold-le v b)))
 
-      two : (v : ℕ) → begins lo hi v ≡ true → Live (after 2 lo hi k v)
+      two : (v : ℕ) → digitsBegin lo hi v ≡ true → Live (after 2 lo hi k v)
       two v h =
           after-live-step 1 v K h (λ b e. let x = extends-elim lo hi v b e in let pos : 0 < v = x .pos in one (tenfold v b) (x .goes)
           (omega (arith, tenfold-le v b)))
 
-      with-first : (v : ℕ) → v < 10 → begins lo hi v ≡ true → (b : ℕ) × ((digit b && begins lo hi (b - 48)) ≡ true)
+      with-first : (v : ℕ) → v < 10 → digitsBegin lo hi v ≡ true → (b : ℕ) × ((digit b && digitsBegin lo hi (b - 48)) ≡ true)
       with-first v l h =
           let same : 48 + v - 48 ≡ v = omega arith in
-          (48 + v, rw (digit-intro (48 + v) (omega arith) (omega arith)) (ap (begins lo hi) same ∙ h))
+          (48 + v, rw (digit-intro (48 + v) (omega arith) (omega arith)) (ap (digitsBegin lo hi) same ∙ h))
 
-      first : (b : ℕ) × ((digit b && begins lo hi (b - 48)) ≡ true)
+      first : (b : ℕ) × ((digit b && digitsBegin lo hi (b - 48)) ≡ true)
       first =
           by-cases (ltb lo 10)
           (λ e. with-first lo (ltb-true lo 10 e) (begins-self lo hi lo (omega arith) p))
@@ -599,24 +616,25 @@ module _ {R : Type 0} (lo hi : ℕ) (k : ℕ → Format R) where
 
   -- following the format along an input: first the number's own bytes, then what its value asks for
   module _ (K : (v : ℕ) → IsNode (k v)) (w : ℕ → ℕ) where
-    run-child : (f : Format R) → IsNode f → (j : ℕ) → run (node (λ b. opens f b) (λ b. child f b)) w j ≡ run f w j
-    unfolding run opens child IsNode
+    run-child : (f : Format R) → IsNode f → (j : ℕ) → run (node (λ b. mayBegin f b) (λ b. child f b)) w j ≡ run f w j
+    unfolding run mayBegin child IsNode
     run-child (done x) n j = absurd n
     run-child (node ok next) n j = refl
 
-    run-end : (v j : ℕ) → run (node (λ b. inside lo hi v && opens (k v) b) (λ b. child (k v) b)) w j ≡ follow (numberEnd lo hi v j) (λ u i. run (k u) w i)
+    run-end : (v j : ℕ) → run (node (λ b. withinRange lo hi v && mayBegin (k v) b) (λ b. child (k v) b)) w j
+        ≡ follow (numberEnd lo hi v j) (λ u i. run (k u) w i)
     run-end v j =
-        by-cases (inside lo hi v)
-        (λ e. ap (λ (x : Bool). run (node (λ b. x && opens (k v) b) (λ b. child (k v) b)) w j) e ∙ run-child (k v) (K v) j
+        by-cases (withinRange lo hi v)
+        (λ e. ap (λ (x : Bool). run (node (λ b. x && mayBegin (k v) b) (λ b. child (k v) b)) w j) e ∙ run-child (k v) (K v) j
         ∙ sym (follow-got (λ u i. run (k u) w i) v j (number-end lo hi v j e)))
-        (λ e. run-stop (λ b. inside lo hi v && opens (k v) b) (λ b. child (k v) b) w j (rw e)
+        (λ e. run-stop (λ b. withinRange lo hi v && mayBegin (k v) b) (λ b. child (k v) b) w j (rw e)
         ∙ sym (follow-fault (λ u i. run (k u) w i) j (number-out lo hi v j e)))
 
     run-after : (n v j : ℕ) → run (after n lo hi k v) w j ≡ follow (digitsAt n lo hi v w j) (λ u i. run (k u) w i)
     unfolding after digitsAt
     run-after zero v j = run-end v j
     run-after (suc n) v j =
-        let ok : ℕ → Bool = λ b. extends lo hi v b || inside lo hi v && opens (k v) b in
+        let ok : ℕ → Bool = λ b. extends lo hi v b || withinRange lo hi v && mayBegin (k v) b in
         let next : ℕ → Format R = λ b. elim (extends lo hi v b) [ true ↦ after n lo hi k (tenfold v b) | false ↦ child (k v) b ] in
         let rest : ℕ → ℕ → Run R = λ u i. run (k u) w i in
         by-cases (extends lo hi v (w j))
@@ -626,12 +644,12 @@ module _ {R : Type 0} (lo hi : ℕ) (k : ℕ → Format R) where
         ∙ ap (λ (x : Run ℕ). follow x rest) (sym (number-more n lo hi v w j e)))
         (λ e.
         let same : next (w j) ≡ child (k v) (w j) = rw e in
-        let end : run (node ok next) w j ≡ run (node (λ b. inside lo hi v && opens (k v) b) (λ b. child (k v) b)) w j =
-        by-cases (inside lo hi v && opens (k v) (w j))
+        let end : run (node ok next) w j ≡ run (node (λ b. withinRange lo hi v && mayBegin (k v) b) (λ b. child (k v) b)) w j =
+        by-cases (withinRange lo hi v && mayBegin (k v) (w j))
         (λ h. run-step ok next w j (rw e h) ∙ ap (λ (f : Format R). run f w (suc j)) same
-        ∙ sym (run-step (λ b. inside lo hi v && opens (k v) b) (λ b. child (k v) b) w j h))
+        ∙ sym (run-step (λ b. withinRange lo hi v && mayBegin (k v) b) (λ b. child (k v) b) w j h))
         (λ h. run-stop ok next w j (rw e h)
-        ∙ sym (run-stop (λ b. inside lo hi v && opens (k v) b) (λ b. child (k v) b) w j h)) in
+        ∙ sym (run-stop (λ b. withinRange lo hi v && mayBegin (k v) b) (λ b. child (k v) b) w j h)) in
         end ∙ run-end v j ∙ ap (λ (x : Run ℕ). follow x rest) (sym (number-stop (suc n) lo hi v w j e)))
 
     pub run-num : (i : ℕ) → run (num lo hi k) w i ≡ follow (numberAt lo hi w i) (λ u j. run (k u) w j)
@@ -645,17 +663,17 @@ module _ {R : Type 0} (lo hi : ℕ) (k : ℕ → Format R) where
 
 -- a byte behind a number
 pub ends-lit : {R : Type 0} (b : ℕ) (f : Format R) → digit b ≡ false → Ends (lit b f)
-unfolding lit opens
+unfolding lit mayBegin
 ends-lit b f h = record { wants = lit-node b f; plain = λ c e. ap digit (eqb-true c b e) ∙ h }
 
 pub ends-alt : {R : Type 0} (b : ℕ) (f g : Format R) → digit b ≡ false → Ends g → Ends (alt b f g)
-unfolding alt opens
+unfolding alt mayBegin
 ends-alt b f g h E =
     record {
       wants = alt-node b f g;
-      plain = λ c e. elim (or-cases (eqb c b) (opens g c) e) [ inl x ↦ ap digit (eqb-true c b x) ∙ h | inr x ↦ E .plain c x ];
+      plain = λ c e. elim (or-cases (eqb c b) (mayBegin g c) e) [ inl x ↦ ap digit (eqb-true c b x) ∙ h | inr x ↦ E .plain c x ];
     }
 
-pub opens-num : {R : Type 0} (lo hi : ℕ) (k : ℕ → Format R) (b : ℕ) → digit b ≡ false → opens (num lo hi k) b ≡ false
-unfolding opens num starts
+pub opens-num : {R : Type 0} (lo hi : ℕ) (k : ℕ → Format R) (b : ℕ) → digit b ≡ false → mayBegin (num lo hi k) b ≡ false
+unfolding mayBegin num starts
 opens-num lo hi k b h = rw h

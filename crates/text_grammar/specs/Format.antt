@@ -9,7 +9,7 @@
 --   bind f k           == a text of f, then one of the format that k gives for its value
 --   lit b f            == the byte b, then f
 --   alt b f g          == the byte b, then f; or else g
---   opens f b          == a text of f may begin with b
+--   mayBegin f b       == a text of f may begin with b
 --   child f b          == what follows b in f
 --   chars t            == the bytes t
 --   follow r k         == k of what r found; the fault where it found none
@@ -54,16 +54,16 @@ bind (node ok next) k = node ok (λ b. bind (next b) k)
 unfoldable pub lit : {R : Type 0} → ℕ → Format R → Format R
 lit b f = node (λ c. eqb c b) (λ c. f)
 
-unfoldable pub opens : {R : Type 0} → Format R → ℕ → Bool
-opens (done r) b = false
-opens (node ok next) b = ok b
+unfoldable pub mayBegin : {R : Type 0} → Format R → ℕ → Bool
+mayBegin (done r) b = false
+mayBegin (node ok next) b = ok b
 
 unfoldable pub child : {R : Type 0} → Format R → ℕ → Format R
 child (done r) b = done r
 child (node ok next) b = next b
 
 unfoldable pub alt : {R : Type 0} → ℕ → Format R → Format R → Format R
-alt b f g = node (λ c. eqb c b || opens g c) (λ c. elim (eqb c b) [ true ↦ f | false ↦ child g c ])
+alt b f g = node (λ c. eqb c b || mayBegin g c) (λ c. elim (eqb c b) [ true ↦ f | false ↦ child g c ])
 
 unfoldable pub chars : List ℕ → Format (Unit {0})
 chars [] = done tt

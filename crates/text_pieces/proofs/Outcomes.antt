@@ -13,7 +13,7 @@ use Rattle.text_pieces.specs.declared.Number.{Number}
 use Rattle.text_pieces.specs.declared.Number.the-variants.{Value, Fault as NoNumber}
 use Rattle.text_pieces.specs.declared.SetScan.{SetScan}
 use Rattle.text_pieces.specs.declared.SetScan.the-variants.{Members, Fault as NoSet}
-use Rattle.text_pieces.specs.Pieces.{stepOf, numberOf, setScanOf}
+use Rattle.text_pieces.specs.Pieces.{stepOf, numberRead, setScanOf}
 
 pub step-at : {x : Run (Unit {0})} {j : ℕ} → x ≡ got tt j → At j ≡ stepOf x
 unfolding stepOf
@@ -33,21 +33,21 @@ unfolding stepOf
 fault-step (got u i) e = let z : _≡_ {A = ℕ} 0 1 = cc in absurd (omega arith)
 fault-step (fault q) e = cc
 
-pub number-value : {x : Run ℕ} {v j : ℕ} → x ≡ got v j → Value v j ≡ numberOf x
-unfolding numberOf
-number-value e = sym (ap numberOf e)
+pub number-value : {x : Run ℕ} {v j : ℕ} → x ≡ got v j → Value v j ≡ numberRead x
+unfolding numberRead
+number-value e = sym (ap numberRead e)
 
-pub number-fault : {x : Run ℕ} {p : ℕ} → x ≡ fault p → NoNumber p ≡ numberOf x
-unfolding numberOf
-number-fault e = sym (ap numberOf e)
+pub number-fault : {x : Run ℕ} {p : ℕ} → x ≡ fault p → NoNumber p ≡ numberRead x
+unfolding numberRead
+number-fault e = sym (ap numberRead e)
 
-pub value-number : (x : Run ℕ) {v j : ℕ} → Value v j ≡ numberOf x → x ≡ got v j
-unfolding numberOf
+pub value-number : (x : Run ℕ) {v j : ℕ} → Value v j ≡ numberRead x → x ≡ got v j
+unfolding numberRead
 value-number (got u i) e = cc
 value-number (fault p) e = let z : _≡_ {A = ℕ} 0 1 = cc in absurd (omega arith)
 
-pub fault-number : (x : Run ℕ) {p : ℕ} → NoNumber p ≡ numberOf x → x ≡ fault p
-unfolding numberOf
+pub fault-number : (x : Run ℕ) {p : ℕ} → NoNumber p ≡ numberRead x → x ≡ fault p
+unfolding numberRead
 fault-number (got u i) e = let z : _≡_ {A = ℕ} 0 1 = cc in absurd (omega arith)
 fault-number (fault q) e = cc
 

@@ -1,7 +1,7 @@
 -- What is found at a place of a text: the answers to fixed bytes, numbers and sets, by what following the format finds.
 --
 --   stepOf x           == the answer to fixed bytes
---   numberOf x         == the answer to a number
+--   numberRead x       == the answer to a number
 --   setScanOf x        == the answer to a set
 --   memberOf x         == the answer to a further member
 --   nextMember lo w i  == what stands behind a member, at place i: the closing bracket, or a blank and a member from lo on
@@ -25,9 +25,9 @@ unfoldable pub stepOf : Run (Unit {0}) → Step
 stepOf (got u j) = At j
 stepOf (fault p) = Fault p
 
-unfoldable pub numberOf : Run ℕ → Number
-numberOf (got v j) = Value v j
-numberOf (fault p) = NoNumber p
+unfoldable pub numberRead : Run ℕ → Number
+numberRead (got v j) = Value v j
+numberRead (fault p) = NoNumber p
 
 unfoldable pub setScanOf : Run ℕ → SetScan
 setScanOf (got x j) = Members (setOf x) j

@@ -5,11 +5,11 @@ ghost use Prim.Native.Nat.{_+_, _<_, _≤_};
 ghost use Rattle.sets.specs.Words.{capacity, highest, bitsOf};
 ghost use Rattle.text_grammar.specs.Format.{run, lit};
 ghost use Rattle.text_grammar.specs.Format.Format.{done};
-ghost use Rattle.text_grammar.specs.Number.{digit, inside as within, meets as overlap, begins as fore, extends as further};
+ghost use Rattle.text_grammar.specs.Number.{digit, withinRange as within, rangesMeet as overlap, digitsBegin as fore, extends as further};
 ghost use Rattle.text_grammar.specs.Number.{starts as first, numberEnd, digitsAt, numberAt};
 ghost use Rattle.text_grammar.specs.Place.{bytes};
 ghost use Rattle.text_shape.specs.Shape.{moreMembers, membersFormat, setFormat, numThen};
-ghost use Rattle.text_pieces.specs.Pieces.{numberOf, setScanOf, nextMember};
+ghost use Rattle.text_pieces.specs.Pieces.{numberRead, setScanOf, nextMember};
 
 // The bytes of a text, as `byte_at` answers them.
 pub const OPEN: usize = b'(' as usize;
@@ -122,7 +122,7 @@ fn starts(lo: usize, hi: usize, b: usize) -> bool
 
 // The number v, whose digits end at place j, if it is in lo..hi.
 fn number_end(lo: usize, hi: usize, v: usize, j: usize) -> Number
-    ensures { λ r. ⌜ r ≡ numberOf (numberEnd lo hi v j) ⌝ }
+    ensures { λ r. ⌜ r ≡ numberRead (numberEnd lo hi v j) ⌝ }
 {
     if inside(lo, hi, v) {
         return Number::Value(v, j);
@@ -133,7 +133,7 @@ fn number_end(lo: usize, hi: usize, v: usize, j: usize) -> Number
 // The digits at place i behind those of v, at most two.
 fn more_digits(s: &[u8], i: usize, lo: usize, hi: usize, v: usize) -> Number
     requires { ⌜ (hi < 1000) × (v < 1000) ⌝ }
-    ensures { λ r. ⌜ r ≡ numberOf (digitsAt 2 lo hi v (bytes (now (s .entry))) i) ⌝ }
+    ensures { λ r. ⌜ r ≡ numberRead (digitsAt 2 lo hi v (bytes (now (s .entry))) i) ⌝ }
 {
     let mut value = v;
     let mut at = i;
@@ -154,7 +154,7 @@ fn more_digits(s: &[u8], i: usize, lo: usize, hi: usize, v: usize) -> Number
 // The number in lo..hi at place i.
 pub fn number_at(s: &[u8], i: usize, lo: usize, hi: usize) -> Number
     requires { ⌜ hi < 1000 ⌝ }
-    ensures { λ r. ⌜ r ≡ numberOf (numberAt lo hi (bytes (now (s .entry))) i) ⌝ }
+    ensures { λ r. ⌜ r ≡ numberRead (numberAt lo hi (bytes (now (s .entry))) i) ⌝ }
 {
     let b = byte_at(s, i);
     if starts(lo, hi, b) {
@@ -166,7 +166,7 @@ pub fn number_at(s: &[u8], i: usize, lo: usize, hi: usize) -> Number
 // The number in lo..hi at place i, and the byte b behind it.
 pub fn number_then(s: &[u8], i: usize, lo: usize, hi: usize, b: u8) -> Number
     requires { ⌜ hi < 1000 ⌝ }
-    ensures { λ r. ⌜ r ≡ numberOf (run (numThen lo hi b) (bytes (now (s .entry))) i) ⌝ }
+    ensures { λ r. ⌜ r ≡ numberRead (run (numThen lo hi b) (bytes (now (s .entry))) i) ⌝ }
 {
     let n = number_at(s, i, lo, hi);
     match n {

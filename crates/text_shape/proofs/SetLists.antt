@@ -12,7 +12,7 @@ use borrow.Author.Tests.{eqb-true, eqb-false}
 use Rattle.bits.proofs.Membership.{zero-within}
 use Rattle.bits.specs.Member.{within}
 use Rattle.sets.specs.Words.{capacity}
-use Rattle.text_grammar.specs.Format.{Format, TextOf, Live, lit, alt, bind, opens, IsNode}
+use Rattle.text_grammar.specs.Format.{Format, TextOf, Live, lit, alt, bind, mayBegin, IsNode}
 use Rattle.text_grammar.specs.Format.Format.{done}
 use Rattle.text_grammar.proofs.Format.{
   by-cases,
@@ -212,7 +212,7 @@ sets-live =
     (bind-live setFormat k set-live (λ t x p. more-sets-live 3 (push noSets x)))
     (bind-node setFormat k set-node))
 
-opens-set : opens setFormat 41 ≡ false
+opens-set : mayBegin setFormat 41 ≡ false
 unfolding setFormat
 opens-set = opens-lit 40 _ 41
 

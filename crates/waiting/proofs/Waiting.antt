@@ -29,7 +29,7 @@ use Rattle.theory.proofs.Demands.{wins-verdict, reached-won}
 use Rattle.demands.specs.Demands.{playOf, controllerOf}
 use Rattle.demands.proofs.Demands.{demand-two}
 use Rattle.demands.proofs.Sizes.{accepted-sized}
-use Rattle.waiting.specs.Waiting.{Moves, ours, Begins, StaysIn, entered, AtHome, RightToWait}
+use Rattle.waiting.specs.Waiting.{Moves, ours, KeptFrom, StaysIn, entered, AtHome, RightToWait}
 use Rattle.waiting.proofs.Staying.{Turn, stays-first, stays-turn, homecoming, visits}
 
 -- where a walk ends
@@ -61,13 +61,13 @@ module _ (g : Game) (a : acceptance g ≡ Accepted) where
   follows = read-follows (separatedOf g) (accepted-sized g a)
 
   -- a play is kept from where a position is won and the counter in range
-  begins-kept : (x : Configuration) → Begins g x → Kept (separatedOf g) x
+  begins-kept : (x : Configuration) → KeptFrom g x → Kept (separatedOf g) x
   begins-kept x B = record {
     won = demand-two g .marks (x .input) (x .output) (B .input) (B .output) .1 (B .won);
     range = subst (λ (k : ℕ). x .memory < k) (follows .counters) (B .memory);
   }
 
-  kept-begins : (x : Configuration) → Kept (separatedOf g) x → Begins g x
+  kept-begins : (x : Configuration) → Kept (separatedOf g) x → KeptFrom g x
   unfolding separatedOf graphOf
   kept-begins x K =
       let i = region-in (separatedOf g) (x .input) (x .output) (K .won) in
@@ -80,16 +80,16 @@ module _ (g : Game) (a : acceptance g ≡ Accepted) where
       }
 
   -- a turn of our table keeps what is won
-  turn-keeps : (x y : Configuration) → Begins g x → ControllerTurn (playOf g) (ours g) x y → Kept (separatedOf g) y
+  turn-keeps : (x y : Configuration) → KeptFrom g x → ControllerTurn (playOf g) (ours g) x y → Kept (separatedOf g) y
   unfolding playOf
   turn-keeps x y B t = turn-kept (separatedOf g) (ours g) follows x y (begins-kept x B) t
 
   reached-begins : SystemWins (playOf g) → (x : Configuration) → Reachable (ControllerFirst (playOf g) (ours g)) (ControllerTurn (playOf g) (ours g)) x
-      → Begins g x
+      → KeptFrom g x
   unfolding playOf ours controllerOf separatedOf graphOf
   reached-begins w x r = kept-begins x (reached-won (separatedOf g) (accepted-sized g a) (wins-verdict (separatedOf g) w) x r)
 
-  module _ (x : Configuration) (B : Begins g x) (n : nontrivial (graphOf (g .input)) (x .input) ≡ true) where
+  module _ (x : Configuration) (B : KeptFrom g x) (n : nontrivial (graphOf (g .input)) (x .input) ≡ true) where
     kept : Kept (separatedOf g) x
     kept = begins-kept x B
 
@@ -125,7 +125,7 @@ module _ (g : Game) (a : acceptance g ≡ Accepted) where
         (visits (separatedOf g) (ours g) follows x kept stayable q b m (carry v) (h .there) (carry w) (rw (carried w) l))
 
   -- A turn of x enters the component of b. The same reply is made from a state of that component that moves to b, and won with the output of x.
-  module _ (x b : Configuration) (B : Begins g x) (t : ControllerTurn (playOf g) (ours g) x b) (n : nontrivial (graphOf (g .input)) (b .input) ≡ true) where
+  module _ (x b : Configuration) (B : KeptFrom g x) (t : ControllerTurn (playOf g) (ours g) x b) (n : nontrivial (graphOf (g .input)) (b .input) ≡ true) where
     abbrev I : Graph
     I = graphOf (g .input)
 
@@ -152,7 +152,7 @@ module _ (g : Game) (a : acceptance g ≡ Accepted) where
     abbrev x′ : Configuration
     x′ = record { input = prior .0; output = x .output; memory = x .memory }
 
-    begins′ : Begins g x′
+    begins′ : KeptFrom g x′
     unfolding separatedOf
     begins′ = kept-begins x′ (record {
       won = delay (separatedOf g) (b .input) (prior .0) (b .output) (x .output) (prior .2) (reaches-edge O (x .output) (b .output) reply) (kept-b .won);

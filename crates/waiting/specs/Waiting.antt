@@ -2,7 +2,7 @@
 --
 --   Moves G s t            == G has a move from s to t
 --   ours g                 == our controller: the table read from the entries that the solver writes
---   Begins g x             == x is a configuration from which a play is kept by our controller: a won position, with a counter in range
+--   KeptFrom g x           == x is a configuration from which a play is kept by our controller: a won position, with a counter in range
 --   StaysIn g c x y        == a turn of our controller, the panel staying in the component of c
 --   entered w              == the configurations that a walk enters, one for each reply
 --   AtHome g x y           == the output of y lies in the home of x
@@ -31,7 +31,7 @@ Moves G s t = edge G s t ≡ true
 unfoldable pub ours : Game → ControllerTable
 ours g = controllerOf g (controllerEntries (separatedOf g))
 
-pub record Begins (g : Game) (x : Configuration) : Type 0 where
+pub record KeptFrom (g : Game) (x : Configuration) : Type 0 where
   pub input : x .input < g .input .states
   pub output : x .output < g .output .states
   pub memory : x .memory < ours g .memories
@@ -55,20 +55,20 @@ pub record RightToWait (g : Game) : Type 0 where
   pub waits : (i i′ o o′ : ℕ) → i < g .input .states → o < g .output .states
       → Walk (Moves (graphOf (g .input))) i i′ → Walk (Moves (graphOf (g .output))) o′ o → Won (playOf g) i o → Won (playOf g) i′ o′
   -- "a play kept by our controller is at home within outputs − 1 replies"
-  pub homecoming : (x y : Configuration) → Begins g x → nontrivial (graphOf (g .input)) (x .input) ≡ true
+  pub homecoming : (x y : Configuration) → KeptFrom g x → nontrivial (graphOf (g .input)) (x .input) ≡ true
       → (w : Walk (StaysIn g (x .input)) x y) → g .output .states - 1 ≤ length (entered w) → AtHome g x y
   -- the replies counted from the one to the input that enters the component:
-  pub arrives : (x b y : Configuration) → Begins g x → ControllerTurn (playOf g) (ours g) x b → nontrivial (graphOf (g .input)) (b .input) ≡ true
+  pub arrives : (x b y : Configuration) → KeptFrom g x → ControllerTurn (playOf g) (ours g) x b → nontrivial (graphOf (g .input)) (b .input) ≡ true
       → (w : Walk (StaysIn g (b .input)) b y) → g .output .states - 1 ≤ suc (length (entered w)) → AtHome g b y
   -- "and from then on enters each output set that meets home within max(1, G) × outputs replies"
-  pub visits : (x y z : Configuration) → Begins g x → nontrivial (graphOf (g .input)) (x .input) ≡ true
+  pub visits : (x y z : Configuration) → KeptFrom g x → nontrivial (graphOf (g .input)) (x .input) ≡ true
       → Walk (StaysIn g (x .input)) x y → AtHome g x y
       → (w : Walk (StaysIn g (x .input)) y z) → max 1 (length (guarantees (separatedOf g))) * g .output .states ≤ length (entered w)
       → (q : ℕ) → q < length (guarantees (separatedOf g))
       → meetsAt (graphOf (g .output)) (home (separatedOf g) (x .input) (x .output)) (goalAt (guarantees (separatedOf g)) q) ≡ true
       → visitsOutput (goalAt (guarantees (separatedOf g)) q) (entered w) ≡ true
   -- "a play kept by our controller": what a turn makes of a configuration that the claims are about is another,
-  pub keeps : (x y : Configuration) → Begins g x → ControllerTurn (playOf g) (ours g) x y → Begins g y
+  pub keeps : (x y : Configuration) → KeptFrom g x → ControllerTurn (playOf g) (ours g) x y → KeptFrom g y
   -- and in a game that the system wins, the claims are about every configuration that our table comes to
   pub begins : SystemWins (playOf g) → (x : Configuration) → Reachable (ControllerFirst (playOf g) (ours g)) (ControllerTurn (playOf g) (ours g)) x
-      → Begins g x
+      → KeptFrom g x

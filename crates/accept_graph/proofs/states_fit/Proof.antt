@@ -15,10 +15,10 @@ use Rattle.accept_graph.proofs.states_fit.Statement.{statement}
 use Rattle.accept_graph.proofs.states_fit.Tie as tie
 
 abbrev Inv-loop : tie.InvT-loop
-Inv-loop g m s₀ s = (s ≤ m) × (all s (rowFits g) ≡ true)
+Inv-loop g moves m s₀ s = (s ≤ m) × (all s (rowFits g) ≡ true)
 
 abbrev μ-loop : tie.MeasureT-loop
-μ-loop g m s₀ s = m - s
+μ-loop g moves m s₀ s = m - s
 
 within-requires : tie.Need-within-requires Inv-loop μ-loop
 within-requires c κs = search needs
@@ -36,8 +36,9 @@ returns-2 : tie.Need-returns-2 Inv-loop μ-loop
 returns-2 c =
     let e = c .before in
     let j = e .before in
-    let i = j .before .before .before in
-    let w = j .joined-past .ensures .some (is-some _ (e .is-empty .ensures) (c .if2 .taken)) in
+    let i = j .before in
+    let lent = i .before .before .pre in
+    let w = (rw lent at (j .joined-past .ensures)) .some (is-some _ (e .is-empty .ensures) (c .if2 .taken)) in
     states-row _ (w .0) (passed (i .before .within .ensures) (i .if1 .left)) (w .2) (past-fails _ (w .0) (w .1) (w .3))
 
 first-rows-requires : tie.Need-first-rows-requires Inv-loop μ-loop
@@ -47,9 +48,7 @@ loop-holds : tie.Need-loop-holds Inv-loop μ-loop
 loop-holds c = (omega arith, all-start _)
 
 row-of-requires : tie.Need-row-of-requires Inv-loop μ-loop
-row-of-requires c κs =
-    let t = c .before .before in
-    omega (arith, t .loop-test .taken, t .before .before .first-rows .ensures)
+row-of-requires c κs = omega (arith, c .loop-test .taken, c .before .before .first-rows .ensures)
 
 row-fits-requires : tie.Need-row-fits-requires Inv-loop μ-loop
 row-fits-requires c κs = search needs
@@ -58,18 +57,18 @@ returns-3 : tie.Need-returns-3 Inv-loop μ-loop
 returns-3 c =
     let r = c .before in
     let o = r .before in
-    let t = o .before .before .before in
+    let t = o .before in
     let f = t .before .before in
-    let j = f .before .before .before in
-    let i = j .before .before .before in
+    let i = f .before .before .before .before in
+    let lent = i .before .before .pre in
     states-row _ _
     (passed (i .before .within .ensures) (i .if1 .left))
     (omega (arith, t .loop-test .taken, f .first-rows .ensures))
-    (failed (row-fits _ _ _ _ (o .row-of .ensures .1) (r .row-fits .ensures)) (c .if3 .taken))
+    (failed (row-fits _ _ _ _ (rw lent at (o .row-of .ensures .1)) (r .row-fits .ensures)) (c .if3 .taken))
 
 add-s : tie.Need-add-s Inv-loop μ-loop
 add-s c =
-    let t = c .before .before .before .before .before in
+    let t = c .before .before .before in
     omega (arith, t .loop-test .taken, t .before .before .first-rows .ensures)
 
 loop-less : tie.Need-loop-less Inv-loop μ-loop
@@ -79,8 +78,12 @@ loop-again : tie.Need-loop-again Inv-loop μ-loop
 loop-again c =
     let r = c .before in
     let o = r .before in
-    let l = o .before .before .before .before in
-    (omega arith, all-turn _ _ (l .loop .inv .1) (passed (row-fits _ _ _ _ (o .row-of .ensures .1) (r .row-fits .ensures)) (c .if3 .left)))
+    let l = o .before .before in
+    let i = l .before .before .before .before .before in
+    let lent = i .before .before .pre in (
+      omega arith,
+      all-turn _ _ (l .loop .inv .1) (passed (row-fits _ _ _ _ (rw lent at (o .row-of .ensures .1)) (r .row-fits .ensures)) (c .if3 .left)),
+    )
 
 returns-4 : tie.Need-returns-4 Inv-loop μ-loop
 returns-4 c =
@@ -88,13 +91,14 @@ returns-4 c =
     let f = l .before in
     let e = f .before .before in
     let j = e .before in
-    let i = j .before .before .before in
+    let i = j .before in
+    let lent = i .before .before .pre in
     let none = is-none _ (e .is-empty .ensures) (f .before .if2 .left) in
     states-end _ capacity
     (passed (i .before .within .ensures) (i .if1 .left))
     (omega arith)
     (omega arith)
-    (past-fits _ _ (l .loop .s) _ (f .first-rows .ensures) (c .loop-test .left) none (j .joined-past .ensures) (l .loop .inv .1))
+    (past-fits _ _ (l .loop .s) _ (f .first-rows .ensures) (c .loop-test .left) none (rw lent at (j .joined-past .ensures)) (l .loop .inv .1))
 
 pub states-fit-spec : {M : Type 1} → statement M
 states-fit-spec =

@@ -1,5 +1,4 @@
 -- `widen_by`.
-use mathlib.Core.Path.{_≡_, _∙_}
 use mathlib.Core.Logic.{inr}
 use native.Mathlib.Omega.{arith}
 use Rattle.sets.proofs.Rows.{count-same}

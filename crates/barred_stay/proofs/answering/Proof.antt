@@ -2,7 +2,7 @@
 use Prim.Native.Nat.{ℕ, _-_, _≤_}
 use mathlib.Core.Path.{_≡_, _∙_, ap}
 use lib.ListN.{getD}
-use Rattle.bits.specs.Member.{meets, pack}
+use Rattle.bits.specs.Member.{setsMeet, pack}
 use Rattle.bits.proofs.Collect.{collect-none, collect-next, collect-end}
 use Rattle.sets.specs.Words.{capacity, bitsOf, setsIn}
 use native.Mathlib.Omega.{arith}
@@ -11,7 +11,7 @@ use Rattle.barred_stay.proofs.answering.Statement.{statement}
 use Rattle.barred_stay.proofs.answering.Tie as tie
 
 abbrev Inv-loop : tie.InvT-loop
-Inv-loop moves m x c₀ o₀ c o = (o ≤ m) × (bitsOf c ≡ pack o (λ q. meets capacity (getD (setsIn moves) q 0) (bitsOf (x .0))))
+Inv-loop moves m x c₀ o₀ c o = (o ≤ m) × (bitsOf c ≡ pack o (λ q. setsMeet capacity (getD (setsIn moves) q 0) (bitsOf (x .0))))
 
 abbrev μ-loop : tie.MeasureT-loop
 μ-loop moves m x c₀ o₀ c o = m - o
@@ -41,7 +41,7 @@ loop-again : tie.Need-loop-again Inv-loop μ-loop
 loop-again c =
     let m = c .before in
     let b = m .before .before .before in
-    let met = m .meets .ensures ∙ ap (λ (y : ℕ). meets capacity y (bitsOf (b .before .before .args .x .0))) (m .before .row-of .ensures .1) in
+    let met = m .meets .ensures ∙ ap (λ (y : ℕ). setsMeet capacity y (bitsOf (b .before .before .args .x .0))) (m .before .row-of .ensures .1) in
     (omega arith, collect-next _ (b .loop .o) _ _ _ (b .loop .inv .1) met (c .insert-if .ensures))
 
 returns : tie.Need-returns Inv-loop μ-loop

@@ -1,5 +1,4 @@
 -- `follow`.
-use mathlib.Core.Path.{_≡_}
 use native.Mathlib.Omega.{arith}
 use Rattle.bits.proofs.Visit.{lowest-less}
 use Rattle.sets.specs.Words.{bitsOf, capacity}

@@ -3,14 +3,14 @@ use Prim.Native.Nat.{_≤_, _-_}
 use mathlib.Core.Path.{_≡_}
 use mathlib.Core.Bool.{true}
 use native.Mathlib.Omega.{arith}
-use Rattle.compact_checks.specs.Parts.{rowFits}
+use Rattle.compact_checks.specs.Parts.{rowAgrees}
 use Rattle.compact_checks.proofs.Parts.{row-start, row-turn, row-stop, row-end}
 use borrow.Author.Needs.{needs}
 use Rattle.compact_checks.proofs.row_fits.Statement.{statement}
 use Rattle.compact_checks.proofs.row_fits.Tie as tie
 
 abbrev Inv-loop : tie.InvT-loop
-Inv-loop table row part count firsts k₀ k = (k ≤ count) × (rowFits table firsts row part k ≡ true)
+Inv-loop table row part count firsts k₀ k = (k ≤ count) × (rowAgrees table firsts row part k ≡ true)
 
 abbrev μ-loop : tie.MeasureT-loop
 μ-loop table row part count firsts k₀ k = count - k

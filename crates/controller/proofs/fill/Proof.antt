@@ -36,7 +36,7 @@ rows-requires c κs =
     let k = t .before .before .before .before in
     let e = k .size-of .ensures in
     let p = k .before .before .before .pre in
-    (given k, omega (arith, p .2, input-long _ _ (e .0) (e .1), long-starts (t .starts .ensures)), p .3, p .4)
+    (given k, omega (arith, p .2, input-long _ _ (e .0) (e .1), long-starts (t .starts .ensures)), p .3, p .4, p .5)
 
 same-length : tie.Need-same-length
 same-length c = search needs

@@ -16,7 +16,7 @@ settle-all-requires : tie.Need-settle-all-requires
 settle-all-requires c κs =
     let w = c .before .before .before in
     let p = w .before .before .before .before .pre in
-    (p .0, omega (arith, p .1, long-plains (w .plains .ensures)), p .2, p .3)
+    (p .0, omega (arith, p .1, long-plains (w .plains .ensures)), p .2, p .3, p .4)
 
 same-length : tie.Need-same-length
 same-length c = search needs

@@ -60,6 +60,7 @@ tour-requires c κs =
       omega (arith, b .pre .2, n .approach .ensures .long),
       b .pre .3,
       b .pre .4,
+      b .pre .5,
     )
 
 same-length : tie.Need-same-length

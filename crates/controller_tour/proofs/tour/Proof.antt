@@ -9,7 +9,7 @@ use Rattle.controller_tour.proofs.tour.Statement.{statement}
 use Rattle.controller_tour.proofs.tour.Tie as tie
 
 guarantees-met-requires : tie.Need-guarantees-met-requires
-guarantees-met-requires c κs = let p = c .before .before .pre in (p .0 .accepted, p .3)
+guarantees-met-requires c κs = let p = c .before .before .pre in (p .0 .accepted, p .3, p .5)
 
 is-empty-requires : tie.Need-is-empty-requires
 is-empty-requires c κs = search needs
@@ -55,7 +55,7 @@ seek-all-requires c κs =
     let e = c .before .before in
     let m = e .before in
     let p = m .before .before .before .pre in
-    (p .0, p .1, met-goals _ _ (p .0) _ (p .1) _ (m .guarantees-met .ensures), some _ (e .is-empty .ensures) (c .before .if1 .left), p .2, p .3, p .4)
+    (p .0, p .1, met-goals _ _ (p .0) _ (p .1) _ (m .guarantees-met .ensures), some _ (e .is-empty .ensures) (c .before .if1 .left), p .2, p .3, p .4, p .5)
 
 same-length-2 : tie.Need-same-length-2
 same-length-2 c = search needs

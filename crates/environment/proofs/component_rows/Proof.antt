@@ -56,7 +56,7 @@ tours-requires c κs =
     let e = x .before .before in
     let k = e .before .before .before in
     let p = k .before .before .before .before .before .pre in
-    (roomy-more _ (p .1) (x .escapes .ensures .filled), left-of _ _ _ (p .0) _ (p .2) (whole e) (x .escapes .ensures), p .3, p .4)
+    (roomy-more _ (p .1) (x .escapes .ensures .filled), left-of _ _ _ (p .0) _ (p .2) (whole e) (x .escapes .ensures), p .3, p .4, p .6)
 
 same-length : tie.Need-same-length
 same-length c = search needs

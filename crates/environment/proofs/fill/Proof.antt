@@ -21,7 +21,7 @@ walked-rows-requires : tie.Need-walked-rows-requires
 walked-rows-requires c κs =
     let r = c .before .before .before in
     let p = r .before .before .before .before .before .pre in
-    (p .0 .known, roomy-more _ (roomy-of _ _ _ _ (p .0) (p .1 .environment) (simp length-set)) (r .plain-rows .ensures), p .1, p .2, p .3)
+    (p .0 .known, roomy-more _ (roomy-of _ _ _ _ (p .0) (p .1 .environment) (simp length-set)) (r .plain-rows .ensures), p .1, p .2, p .3, p .4)
 
 same-length : tie.Need-same-length
 same-length c =

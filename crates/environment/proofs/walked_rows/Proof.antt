@@ -5,7 +5,7 @@ use mathlib.Core.Path.{_≡_}
 use mathlib.Core.Bool.{false}
 use Rattle.graphs.specs.Component.{number}
 use Rattle.play.specs.Play.{graphOf}
-use Rattle.environment_table.specs.Table.{Filled}
+use Rattle.environment_table.specs.Table.{EnvironmentFilled}
 use Rattle.environment_table.specs.Reading.{plain}
 use Rattle.environment_table.proofs.Places.{filled-none, filled-join, filled-same, roomy-more, below-next}
 use Rattle.environment_table.proofs.Walked.{number-within}
@@ -13,11 +13,11 @@ use Rattle.environment.proofs.walked_rows.Statement.{statement}
 use Rattle.environment.proofs.walked_rows.Tie as tie
 
 abbrev Inv-loop : tie.InvT-loop
-Inv-loop g given ins outs s inner counters room₀ n i₀ room i =
-    (i ≤ n) × Filled g (λ a h b. (number (graphOf (g .input)) a < i) × (plain g a b ≡ false)) room₀ room
+Inv-loop g given l ins outs s inner counters room₀ n i₀ room i =
+    (i ≤ n) × EnvironmentFilled g (λ a h b. (number (graphOf (g .input)) a < i) × (plain g a b ≡ false)) room₀ room
 
 abbrev μ-loop : tie.MeasureT-loop
-μ-loop g given ins outs s inner counters room₀ n i₀ room i = n - i
+μ-loop g given l ins outs s inner counters room₀ n i₀ room i = n - i
 
 loop-holds : tie.Need-loop-holds Inv-loop μ-loop
 loop-holds c = (omega arith, filled-none _ _ (λ a h b p. omega (arith, p .0)))
@@ -25,7 +25,7 @@ loop-holds c = (omega arith, filled-none _ _ (λ a h b p. omega (arith, p .0)))
 component-rows-requires : tie.Need-component-rows-requires Inv-loop μ-loop
 component-rows-requires c κs =
     let p = c .before .before .before .before .before .pre in
-    (p .0, roomy-more _ (p .1) (c .before .before .loop .inv .1), c .before .loop-test .taken, p .2, p .3, p .4)
+    (p .0, roomy-more _ (p .1) (c .before .before .loop .inv .1), c .before .loop-test .taken, p .2, p .3, p .4, p .5)
 
 add-i : tie.Need-add-i Inv-loop μ-loop
 add-i c = omega arith

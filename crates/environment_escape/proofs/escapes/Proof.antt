@@ -9,7 +9,7 @@ use Rattle.bits.specs.Member.{pack}
 use Rattle.bits.proofs.Collect.{collect-none, collect-next, collect-end}
 use Rattle.sets.specs.Words.{bitsOf, setsIn}
 use Rattle.table_layout.proofs.Places.{fits-same}
-use Rattle.environment_table.specs.Table.{Filled}
+use Rattle.environment_table.specs.Table.{EnvironmentFilled}
 use Rattle.environment_table.specs.Pressing.{touringAt}
 use Rattle.environment_table.proofs.Places.{filled-none, roomy-more}
 use Rattle.environment_table.proofs.Laid.{laid-fits}
@@ -20,7 +20,7 @@ use Rattle.environment_escape.proofs.escapes.Tie as tie
 
 abbrev Inv-loop : tie.InvT-loop
 Inv-loop g ins outs s inner counters c room₀ z part group₀ touring₀ o₀ room group touring o =
-    (o ≤ g .output .states) × Filled g (Passed g (part .first .0) o (bitsOf (group .gates .0)) (bitsOf (group .outputs .0))) room₀ room
+    (o ≤ g .output .states) × EnvironmentFilled g (Passed g (part .first .0) o (bitsOf (group .gates .0)) (bitsOf (group .outputs .0))) room₀ room
     × (bitsOf touring ≡ pack o (touringAt g (part .first .0)))
     × Gated g (part .first .0) (bitsOf (group .gates .0)) (bitsOf (group .outputs .0))
 

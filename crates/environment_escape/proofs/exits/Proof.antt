@@ -4,7 +4,7 @@ use mathlib.Core.Logic.{_≢_}
 use borrow.Author.Needs.{needs}
 use lib.ListN.{getD}
 use Rattle.finite.specs.Bounded.{count}
-use Rattle.bits.specs.Member.{has, meets}
+use Rattle.bits.specs.Member.{has, setsMeet}
 use Rattle.bits.proofs.Visit.{Collected, within-start, collected-small, collected-falls, collected-next, collected-end}
 use Rattle.sets.specs.Words.{capacity, bitsOf, setsIn}
 use Rattle.sets.proofs.Rows.{is-none, is-some}
@@ -14,7 +14,7 @@ use Rattle.environment_escape.proofs.exits.Tie as tie
 
 abbrev Inv-loop : tie.InvT-loop
 Inv-loop moves n out x₀ rest₀ x rest =
-    Collected capacity (bitsOf rest₀) n (λ k. meets capacity (getD (setsIn moves) k 0) (bitsOf (out .0))) (bitsOf rest) (bitsOf x)
+    Collected capacity (bitsOf rest₀) n (λ k. setsMeet capacity (getD (setsIn moves) k 0) (bitsOf (out .0))) (bitsOf rest) (bitsOf x)
 
 abbrev μ-loop : tie.MeasureT-loop
 μ-loop moves n out x₀ rest₀ x rest = count capacity (has (bitsOf rest))

@@ -5,13 +5,13 @@ use mathlib.Core.Path.{_≡_}
 use mathlib.Core.Bool.{true}
 use Rattle.play.specs.Play.{separatedOf}
 use Rattle.theory.specs.Region.{region}
-use Rattle.environment_table.specs.Table.{Filled}
+use Rattle.environment_table.specs.Table.{EnvironmentFilled}
 use Rattle.environment_table.proofs.Places.{filled-none, filled-join, filled-same, roomy-more, below-next}
 use Rattle.environment_plain.proofs.none_rows.Statement.{statement}
 use Rattle.environment_plain.proofs.none_rows.Tie as tie
 
 abbrev Inv-loop : tie.InvT-loop
-Inv-loop g s inner counters room₀ n i₀ room i = (i ≤ n) × Filled g (λ a h b. (a < i) × (region (separatedOf g) a b ≡ true)) room₀ room
+Inv-loop g s inner counters room₀ n i₀ room i = (i ≤ n) × EnvironmentFilled g (λ a h b. (a < i) × (region (separatedOf g) a b ≡ true)) room₀ room
 
 abbrev μ-loop : tie.MeasureT-loop
 μ-loop g s inner counters room₀ n i₀ room i = n - i

@@ -9,7 +9,7 @@ use Rattle.sets.specs.Words.{setsIn}
 use mathlib.Core.Bool.{true, false}
 use Rattle.play.specs.Play.{separatedOf}
 use Rattle.theory.specs.Region.{region}
-use Rattle.environment_table.specs.Table.{Filled}
+use Rattle.environment_table.specs.Table.{EnvironmentFilled}
 use Rattle.environment_table.specs.Reading.{unwalked}
 use Rattle.environment_table.proofs.Places.{filled-none, filled-same, roomy-more}
 use Rattle.environment_table.proofs.Known.{pushed-of, pushes-next}
@@ -18,7 +18,7 @@ use Rattle.environment_plain.proofs.push_columns.Tie as tie
 
 abbrev Inv-loop : tie.InvT-loop
 Inv-loop g ins outs s inner counters lone room₀ m o₀ room o =
-    (o ≤ m) × Filled g (λ a k b. (b < o) × (unwalked g a b ≡ true) × (region (separatedOf g) a b ≡ false)) room₀ room
+    (o ≤ m) × EnvironmentFilled g (λ a k b. (b < o) × (unwalked g a b ≡ true) × (region (separatedOf g) a b ≡ false)) room₀ room
 
 abbrev μ-loop : tie.MeasureT-loop
 μ-loop g ins outs s inner counters lone room₀ m o₀ room o = m - o

@@ -8,7 +8,7 @@ use Rattle.environment_tour.proofs.tours.Statement.{statement}
 use Rattle.environment_tour.proofs.tours.Tie as tie
 
 assumptions-met-requires : tie.Need-assumptions-met-requires
-assumptions-met-requires c κs = let p = c .before .pre in (p .0 .accepted, p .2)
+assumptions-met-requires c κs = let p = c .before .pre in (p .0 .accepted, p .2, p .4)
 
 is-empty-requires : tie.Need-is-empty-requires
 is-empty-requires c κs = search needs
@@ -42,7 +42,8 @@ aims-requires : tie.Need-aims-requires
 aims-requires c κs =
     let t = c .before in
     let p = t .before .before .before .before .pre in
-    (p .0, aims-of _ _ _ _ _ _ (p .0) (p .1) (t .before .before .assumptions-met .ensures) (some _ (t .before .is-empty .ensures) (t .if1 .left)), p .2, p .3)
+    let q = aims-of _ _ _ _ _ _ (p .0) (p .1) (t .before .before .assumptions-met .ensures) (some _ (t .before .is-empty .ensures) (t .if1 .left)) in
+    (p .0, q, p .2, p .3, p .4)
 
 same-length-2 : tie.Need-same-length-2
 same-length-2 c = search needs

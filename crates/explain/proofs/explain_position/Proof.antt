@@ -4,6 +4,9 @@ use borrow.Author.Needs.{needs}
 use Rattle.explain.proofs.explain_position.Statement.{statement}
 use Rattle.explain.proofs.explain_position.Tie as tie
 
+list-of-requires : tie.Need-list-of-requires
+list-of-requires c κs = c .before .pre .0 .few
+
 prepare-requires : tie.Need-prepare-requires
 prepare-requires c κs = search needs
 
@@ -30,4 +33,4 @@ returns c =
 pub explain-position-spec : {M : Type 1} → statement M
 explain-position-spec =
     tie.close
-    (tie.spec prepare-requires find-requires length-requires clear-requires same-length returns)
+    (tie.spec list-of-requires prepare-requires find-requires length-requires clear-requires same-length returns)

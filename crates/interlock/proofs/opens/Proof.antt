@@ -2,7 +2,7 @@
 use mathlib.Core.Path.{_≡_, refl, sym, _∙_, ap, ap₂}
 use mathlib.Core.Bool.{true, false}
 use Rattle.finite.proofs.Truth.{not-true, not-false}
-use Rattle.bits.specs.Member.{has, meets}
+use Rattle.bits.specs.Member.{has, setsMeet}
 use Rattle.sets.specs.Words.{capacity, bitsOf}
 use Rattle.game.specs.declared.InSet.{InSet}
 use Rattle.game.specs.declared.OutSet.{OutSet}
@@ -45,7 +45,7 @@ returns-2 c =
     let b = m .before .before .before in
     let e : has (bitsOf (b .args .g .input .initial)) (b .args .i .0) ≡ true =
     ap (λ (x : InSet). has (bitsOf (x .0)) (b .args .i .0)) (sym (m .before .in-initial .ensures)) ∙ sym (m .member .ensures) ∙ not-false _ (t .if1 .left) in
-    rw e (c .meets .ensures ∙ ap₂ (meets capacity) (ap (λ (x : OutSet). bitsOf (x .0)) (u .out-initial .ensures)) (r .row .ensures))
+    rw e (c .meets .ensures ∙ ap₂ (setsMeet capacity) (ap (λ (x : OutSet). bitsOf (x .0)) (u .out-initial .ensures)) (r .row .ensures))
 
 pub opens-spec : {M : Type 1} → statement M
 opens-spec =

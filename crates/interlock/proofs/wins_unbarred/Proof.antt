@@ -1,16 +1,22 @@
 -- `wins_unbarred`.
 use native.Mathlib.Omega.{arith}
+use mathlib.Core.Path.{refl}
 use Rattle.game.proofs.Laws.{accepted-fits}
 use Rattle.interlock.proofs.Answers.{prepared-rest}
 use borrow.Author.Needs.{needs}
 use Rattle.interlock.proofs.wins_unbarred.Statement.{statement}
 use Rattle.interlock.proofs.wins_unbarred.Tie as tie
 
+list-of-requires : tie.Need-list-of-requires
+list-of-requires c κs = accepted-fits _ (c .before .pre .0) .few
+
 prepare-requires : tie.Need-prepare-requires
 prepare-requires c κs =
-    let b = c .before .before in
-    let F = accepted-fits _ (b .pre .0) in
-    (F, omega (arith, b .pre .1, F .input .most, F .output .most))
+    let sets = c .before .before .before in
+    let l = sets .before .before .before .before .before in
+    let p = l .before .before .pre in
+    let F = accepted-fits _ (p .0) in
+    (F, omega (arith, p .1, F .input .most, F .output .most), refl, refl, l .list-of .ensures .0, l .list-of .ensures .1)
 
 system-wins-requires : tie.Need-system-wins-requires
 system-wins-requires c κs = search needs
@@ -26,9 +32,10 @@ returns c =
     let l = c .before .before in
     let v = l .before .before in
     let p = v .before .before .before .before in
-    let b = p .before .before .before in
-    (v .system-wins .ensures, prepared-rest _ (accepted-fits _ (b .pre .0)) _ _ _ (p .prepare .ensures .kept .rest) (l .clear .ensures))
+    let sets = p .before .before .before .before in
+    let list = sets .before .before .before .before .before in
+    (v .system-wins .ensures, prepared-rest _ (accepted-fits _ (list .before .before .pre .0)) _ _ _ (p .prepare .ensures .kept .rest) (l .clear .ensures))
 
 pub wins-unbarred-spec : {M : Type 1} → statement M
 wins-unbarred-spec =
-    tie.close (tie.spec prepare-requires system-wins-requires clear-requires same-length returns)
+    tie.close (tie.spec list-of-requires prepare-requires system-wins-requires clear-requires same-length returns)

@@ -4,6 +4,9 @@ use borrow.Author.Needs.{needs}
 use Rattle.map.proofs.make_map.Statement.{statement}
 use Rattle.map.proofs.make_map.Tie as tie
 
+list-of-requires : tie.Need-list-of-requires
+list-of-requires c κs = c .before .before .pre .0 .few
+
 prepare-requires : tie.Need-prepare-requires
 prepare-requires c κs = search needs
 
@@ -34,6 +37,7 @@ pub make-map-spec : {M : Type 1} → statement M
 make-map-spec =
     tie.close
     (tie.spec
+    list-of-requires
     prepare-requires
     fill-map-requires
     length-requires

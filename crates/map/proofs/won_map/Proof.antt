@@ -1,12 +1,12 @@
 -- `won_map`.
 use Rattle.map.proofs.Made.{map-faulty}
-use mathlib.Core.Path.{sym, _∙_}
+use mathlib.Core.Path.{refl, sym, _∙_}
 use borrow.Author.Needs.{needs}
 use Rattle.map.proofs.won_map.Statement.{statement}
 use Rattle.map.proofs.won_map.Tie as tie
 
-accept-requires : tie.Need-accept-requires
-accept-requires c κs = search needs
+accept-lent-requires : tie.Need-accept-lent-requires
+accept-lent-requires c κs = search needs
 
 enum-known-accepted : tie.Need-enum-known-accepted
 enum-known-accepted c = search needs
@@ -15,10 +15,12 @@ enum-told : tie.Need-enum-told
 enum-told c = search needs
 
 map-accepted-requires : tie.Need-map-accepted-requires
-map-accepted-requires c κs = sym (c .before .before .before .before .accept .ensures .answer) ∙ c .before .before .enum-told .given .1
+map-accepted-requires c κs =
+    let t = c .before .before .before .before .before in
+    (sym (t .before .before .accept-lent .ensures .answer) ∙ t .enum-told .given .1, refl, refl)
 
 returns : tie.Need-returns
-returns c = map-faulty _ _ _ _ (sym (c .before .before .before .accept .ensures .answer) ∙ c .before .accepted .given .1)
+returns c = map-faulty _ _ _ _ (sym (c .before .before .before .accept-lent .ensures .answer) ∙ c .before .accepted .given .1)
 
 same-length : tie.Need-same-length
 same-length c = search needs
@@ -33,7 +35,7 @@ pub won-map-spec : {M : Type 1} → statement M
 won-map-spec =
     tie.close
     (tie.spec
-    accept-requires
+    accept-lent-requires
     enum-known-accepted
     enum-told
     map-accepted-requires

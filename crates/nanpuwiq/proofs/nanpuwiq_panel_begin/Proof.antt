@@ -2,7 +2,7 @@
 use mathlib.Core.Path.{ap, _∙_}
 use borrow.Author.Needs.{needs}
 use Rattle.player.specs.Player.{movedOf}
-use Rattle.nanpuwiq_results.specs.Results.{nowhere}
+use Rattle.nanpuwiq_results.specs.Results.{zeroPosition}
 use Rattle.nanpuwiq.proofs.nanpuwiq_panel_begin.Statement.{statement}
 use Rattle.nanpuwiq.proofs.nanpuwiq_panel_begin.Tie as tie
 
@@ -13,7 +13,7 @@ first-move-requires : tie.Need-first-move-requires
 first-move-requires c κs = search needs
 
 returns : tie.Need-returns
-returns c = c .first-move .ensures ∙ ap (movedOf nowhere) (c .before .begin .ensures .answer)
+returns c = c .first-move .ensures ∙ ap (movedOf zeroPosition) (c .before .begin .ensures .answer)
 
 pub nanpuwiq-panel-begin-spec : {M : Type 1} → statement M
 nanpuwiq-panel-begin-spec = tie.close (tie.spec begin-requires first-move-requires returns)

@@ -2,14 +2,14 @@
 use Prim.Native.Nat.{_%_}
 use native.Mathlib.Omega.{arith}
 use borrow.Author.Needs.{needs}
-use Rattle.print_lines.specs.Line.{environmentStart}
+use Rattle.print_lines.specs.Line.{environmentStartLine}
 use Rattle.print_lines.proofs.Lines.{number-short, opening-short, none-line, environment-pieces}
 use Rattle.text_put.proofs.Buffer.{puts-then, puts-as}
 use Rattle.print_lines.proofs.put_environment_start.Statement.{statement}
 use Rattle.print_lines.proofs.put_environment_start.Tie as tie
 
 returns : tie.Need-returns
-unfolding environmentStart
+unfolding environmentStartLine
 returns c = none-line _ _ _ _ (c .if1 .taken)
 
 put-opening-requires : tie.Need-put-opening-requires

@@ -11,10 +11,10 @@ use Rattle.region.proofs.fill.Statement.{statement}
 use Rattle.region.proofs.fill.Tie as tie
 
 abbrev Inv-loop : tie.InvT-loop
-Inv-loop g ins outs t s₀ x left₀ s left = Filling g x s (bitsOf (left .0)) × PastKept g s₀ s
+Inv-loop g ins outs l assumed first second s₀ x left₀ s left = Filling g x s (bitsOf (left .0)) × PastKept g s₀ s
 
 abbrev μ-loop : tie.MeasureT-loop
-μ-loop g ins outs t s₀ x left₀ s left = count capacity (has (bitsOf (left .0)))
+μ-loop g ins outs l assumed first second s₀ x left₀ s left = count capacity (has (bitsOf (left .0)))
 
 below-requires : tie.Need-below-requires Inv-loop μ-loop
 below-requires c κs = c .before .pre .0 .input .most
@@ -30,7 +30,7 @@ fill-component-requires c κs =
     let e = c .before .before in
     let b = e .before in
     let p = b .before .before .before .pre in
-    (b .loop .inv .0, p .3, is-some _ (e .is-empty .ensures) (c .before .if1 .taken), p .4, p .5)
+    (b .loop .inv .0, p .3, is-some _ (e .is-empty .ensures) (c .before .if1 .taken), p .4, p .5, p .6, p .7)
 
 loop-less : tie.Need-loop-less Inv-loop μ-loop
 loop-less c = c .before .before .fill-component .ensures .2

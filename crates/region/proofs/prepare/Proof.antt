@@ -1,6 +1,5 @@
 -- `prepare` works out the closures, then the components, then the rows.
 use Rattle.region.proofs.Parts.{kept-words}
-use mathlib.Core.Path.{refl}
 use native.Mathlib.Omega.{arith}
 use borrow.Author.Needs.{needs}
 use Rattle.region.proofs.prepare.Statement.{statement}
@@ -15,17 +14,17 @@ nontrivial-states-requires c κs = search needs
 served-requires : tie.Need-served-requires
 served-requires c κs =
     let closed = c .before .before .before .before .before in
-    let F = closed .before .before .before .pre .0 in
-    (F, closed .close .ensures .0)
+    let p = closed .before .before .before .pre in
+    (p .0, closed .close .ensures .0, p .4, p .5 .guaranteed)
 
 fill-requires : tie.Need-fill-requires
 fill-requires c κs =
     let served = c .before .before .before .before in
     let found = served .before .before in
     let closed = found .before .before .before .before in
-    let F = closed .before .before .before .pre .0 in
+    let p = closed .before .before .before .pre in
     let L = closed .close .ensures .0 in
-    (F, L, found .nontrivial-states .ensures, served .served .ensures, refl, refl)
+    (p .0, L, found .nontrivial-states .ensures, served .served .ensures, p .2, p .3, p .4, p .5 .assumed)
 
 same-length : tie.Need-same-length
 same-length c = search needs

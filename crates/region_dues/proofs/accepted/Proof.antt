@@ -1,71 +1,41 @@
--- `accepted`. Invariant: y has the members of x that the requirements below r admit.
-use Prim.Native.Nat.{ℕ, _-_, _≤_}
-use mathlib.Core.Path.{_≡_}
-use mathlib.Core.Bool.{_&&_}
-use Rattle.finite.specs.Bounded.{all}
-use Rattle.bits.specs.Member.{has}
-use Rattle.sets.specs.Words.{bitsOf}
-use Rattle.region_dues.specs.Dues.{dueIn, serverList, admits}
-use Rattle.region_dues.proofs.Halves.{accepted-by}
-use Rattle.region_dues.proofs.Steps.{accepted-start, accepted-end}
+-- `accepted` goes through the first four requirements, then through the others.
 use native.Mathlib.Omega.{arith}
+use Rattle.region_dues.proofs.Halves.{half-room, first-below, assumed-few, accepted-both}
+use borrow.Author.Needs.{needs}
 use Rattle.region_dues.proofs.accepted.Statement.{statement}
 use Rattle.region_dues.proofs.accepted.Tie as tie
 
-abbrev Inv-loop : tie.InvT-loop
-Inv-loop t a g n y₀ r₀ y r = (r ≤ n) × ((d : ℕ) → has (bitsOf (y .0)) d ≡ (has (bitsOf (y₀ .0)) d && all r (admits g (bitsOf (a .0)) (serverList t) d)))
+first-four-requires : tie.Need-first-four-requires
+first-four-requires c κs = search needs
 
-abbrev μ-loop : tie.MeasureT-loop
-μ-loop t a g n y₀ r₀ y r = n - r
-
-loop-holds : tie.Need-loop-holds Inv-loop μ-loop
-loop-holds c = (omega arith, accepted-start _ _ _ _)
-
-mul-q : tie.Need-mul-q Inv-loop μ-loop
-mul-q c = omega arith
-
-element-copy-out-q : tie.Need-element-copy-out-q Inv-loop μ-loop
-element-copy-out-q c = omega (arith, c .before .before .pre .requirements)
-
-server-requires : tie.Need-server-requires Inv-loop μ-loop
-server-requires c κs = omega (arith, c .before .before .before .pre .requirements)
-
-admitted-requires : tie.Need-admitted-requires Inv-loop μ-loop
-admitted-requires c κs =
-    let b = c .before .before .before in
-    let F = b .before .pre in
-    F .assumed (b .loop .r) (omega (arith, F .requirements))
-
-add-r : tie.Need-add-r Inv-loop μ-loop
-add-r c = omega arith
-
-loop-less : tie.Need-loop-less Inv-loop μ-loop
-loop-less c = omega arith
-
-loop-again : tie.Need-loop-again Inv-loop μ-loop
-unfolding dueIn
-loop-again c =
-    let b = c .before .before .before .before in
-    let F = b .before .pre in (
-      omega arith,
-      accepted-by _ _ _ _ (b .loop .r) _ _ _ (omega (arith, F .requirements)) (c .before .server .ensures) (b .loop .inv .1) (c .admitted .ensures),
+narrow-requires : tie.Need-narrow-requires
+narrow-requires c κs =
+    let p = c .before .before .pre in
+    let H = c .before .first-four .ensures in (
+      omega (arith, H .most),
+      assumed-few (p .0) (p .2) _ _ (first-below H),
+      half-room _ _ (p .3 .first) (H .most),
     )
 
-returns : tie.Need-returns Inv-loop μ-loop
-returns c = accepted-end _ _ _ _ (c .before .loop .r) _ _ (omega arith) (omega arith) (c .before .loop .inv .1)
+sub-narrow : tie.Need-sub-narrow
+sub-narrow c = search needs
+
+narrow-requires-2 : tie.Need-narrow-requires-2
+narrow-requires-2 c κs =
+    let started = c .before .before .before in
+    let p = started .before .pre in
+    let H = started .first-four .ensures in (
+      omega (arith, H .others),
+      assumed-few (p .0) (p .2) _ _ (H .second),
+      half-room _ _ (p .3 .second) (omega (arith, H .others)),
+    )
+
+returns : tie.Need-returns
+returns c =
+    let n = c .before .before in
+    let started = n .before .before in
+    let p = started .before .pre in
+    accepted-both (p .0) (p .1) (started .first-four .ensures) (p .2) _ _ _ _ _ _ (n .narrow .ensures) (c .narrow2 .ensures)
 
 pub accepted-spec : {M : Type 1} → statement M
-accepted-spec =
-    tie.close
-    (tie.spec
-    Inv-loop
-    μ-loop
-    loop-holds
-    mul-q
-    element-copy-out-q
-    server-requires
-    admitted-requires
-    add-r
-    loop-less
-    loop-again
-    returns)
+accepted-spec = tie.close (tie.spec first-four-requires narrow-requires sub-narrow narrow-requires-2 returns)

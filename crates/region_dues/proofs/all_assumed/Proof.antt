@@ -1,40 +1,48 @@
 -- `all_assumed`.
 use native.Mathlib.Omega.{arith}
 use mathlib.Core.Bool.{true}
+use mathlib.Core.Path.{_≡_, _∙_, ap}
+use Prim.Native.Nat.{ℕ, _-_, _≤_}
+use Rattle.finite.specs.Bounded.{all}
 use Rattle.finite.proofs.Loops.{all-start, all-turn, all-stop, all-end, failed, passed}
-use Rattle.region_dues.specs.Dues.{inMeets, inMeetsAt}
+use Rattle.bits.specs.Member.{setsMeet}
+use Rattle.sets.specs.Words.{capacity, bitsOf}
+use Rattle.region_dues.specs.Dues.{inMeetsBy, dueBy}
 use borrow.Author.Needs.{needs}
-use Rattle.sets.specs.Words.{bitsOf}
-use mathlib.Core.Path.{_≡_}
-use Prim.Native.Nat.{_-_, _≤_}
 use Rattle.region_dues.proofs.all_assumed.Statement.{statement}
 use Rattle.region_dues.proofs.all_assumed.Tie as tie
 
 abbrev Inv-loop : tie.InvT-loop
-Inv-loop c q n j₀ j = (j ≤ n) × (inMeets q (bitsOf (c .0)) j ≡ true)
+Inv-loop l assumed r c n j₀ j = (j ≤ n) × (all j (inMeetsBy l (bitsOf (c .0)) r) ≡ true)
 
 abbrev μ-loop : tie.MeasureT-loop
-μ-loop c q n j₀ j = n - j
+μ-loop l assumed r c n j₀ j = n - j
+
+mul-n : tie.Need-mul-n Inv-loop μ-loop
+mul-n c = omega (arith, c .pre .0)
+
+element-copy-out-n : tie.Need-element-copy-out-n Inv-loop μ-loop
+element-copy-out-n c = c .pre .0
 
 loop-holds : tie.Need-loop-holds Inv-loop μ-loop
-unfolding inMeets
 loop-holds c = (omega arith, all-start _)
 
-mul-x : tie.Need-mul-x Inv-loop μ-loop
-mul-x c = omega arith
-
-element-copy-out-x : tie.Need-element-copy-out-x Inv-loop μ-loop
-element-copy-out-x c = omega arith
+assumption-requires : tie.Need-assumption-requires Inv-loop μ-loop
+assumption-requires c κs =
+    let p = c .before .before .before .pre in
+    (p .0, omega (arith, p .1))
 
 meets-requires : tie.Need-meets-requires Inv-loop μ-loop
 meets-requires c κs = search needs
 
 returns : tie.Need-returns Inv-loop μ-loop
-unfolding inMeets inMeetsAt
+unfolding dueBy inMeetsBy
 returns c =
-    let b = c .before .before .before .before in
-    let a = b .before .args in
-    all-stop _ (b .loop .j) (inMeetsAt (a .t1) (bitsOf (a .c .0))) (omega arith) (failed (c .before .meets .ensures) (c .if1 .taken))
+    let got = c .before .before in
+    let b = got .before .before in
+    let a = b .before .before .args in
+    all-stop _ (b .loop .j) (inMeetsBy (a .l .now) (bitsOf (a .c .0)) (a .r)) (omega arith)
+    (failed (c .before .meets .ensures ∙ ap (λ (x : ℕ). setsMeet capacity x (bitsOf (a .c .0))) (got .assumption .ensures)) (c .if1 .taken))
 
 add-j : tie.Need-add-j Inv-loop μ-loop
 add-j c = omega arith
@@ -43,14 +51,18 @@ loop-less : tie.Need-loop-less Inv-loop μ-loop
 loop-less c = omega arith
 
 loop-again : tie.Need-loop-again Inv-loop μ-loop
-unfolding inMeets inMeetsAt
+unfolding inMeetsBy
 loop-again c =
-    let b = c .before .before .before .before in
-    let a = b .before .args in
-    (omega arith, all-turn (b .loop .j) (inMeetsAt (a .t1) (bitsOf (a .c .0))) (b .loop .inv .1) (passed (c .before .meets .ensures) (c .if1 .left)))
+    let got = c .before .before in
+    let b = got .before .before in
+    let a = b .before .before .args in (
+      omega arith,
+      all-turn (b .loop .j) (inMeetsBy (a .l .now) (bitsOf (a .c .0)) (a .r)) (b .loop .inv .1)
+          (passed (c .before .meets .ensures ∙ ap (λ (x : ℕ). setsMeet capacity x (bitsOf (a .c .0))) (got .assumption .ensures)) (c .if1 .left)),
+    )
 
 returns-2 : tie.Need-returns-2 Inv-loop μ-loop
-unfolding inMeets
+unfolding dueBy
 returns-2 c = all-end _ (c .before .loop .j) _ (omega arith) (omega arith) (c .before .loop .inv .1)
 
 pub all-assumed-spec : {M : Type 1} → statement M
@@ -59,9 +71,10 @@ all-assumed-spec =
     (tie.spec
     Inv-loop
     μ-loop
+    mul-n
+    element-copy-out-n
     loop-holds
-    mul-x
-    element-copy-out-x
+    assumption-requires
     meets-requires
     returns
     add-j

@@ -1,68 +1,77 @@
--- `mark`. Invariant: the sets of the requirements below r are done.
-use Prim.Native.Nat.{_-_, _≤_}
-use Rattle.sets.specs.Words.{bitsOf}
-use Rattle.region_dues.specs.Dues.{servedIn, serverList, Whole, Marked}
-use Rattle.region_dues.proofs.Halves.{marked-put}
-use Rattle.region_dues.proofs.Steps.{marked-start, marked-end}
+-- `mark`. Invariant: the sets of the first q requirements are done.
+use Prim.Native.Nat.{_-_, _≤_, _<_}
+use mathlib.Core.Path.{_≡_, refl, _∙_}
+use lib.ListN.{length}
+use Rattle.sets.specs.Words.{bitsOf, setsIn}
+use Rattle.sets.proofs.Rows.{count-same, sets-long}
+use Rattle.region_dues.specs.Dues.{Marked}
+use Rattle.region_dues.proofs.Steps.{marked-start, marked-next, marked-end}
 use native.Mathlib.Omega.{arith}
 use borrow.Author.Needs.{needs}
 use Rattle.region_dues.proofs.mark.Statement.{statement}
 use Rattle.region_dues.proofs.mark.Tie as tie
 
 abbrev Inv-loop : tie.InvT-loop
-Inv-loop c g n u₀ r₀ u r = (r ≤ n) × Whole u × Marked g (bitsOf (c .0)) r (serverList u₀) (serverList u)
+Inv-loop l guaranteed from n c t₀ q₀ t q = (q ≤ n) × Marked l guaranteed from q (bitsOf (c .0)) (setsIn t₀) (setsIn t) × (length t ≡ length t₀)
 
 abbrev μ-loop : tie.MeasureT-loop
-μ-loop c g n u₀ r₀ u r = n - r
+μ-loop l guaranteed from n c t₀ q₀ t q = n - q
 
 loop-holds : tie.Need-loop-holds Inv-loop μ-loop
-loop-holds c = (omega arith, c .pre .1, marked-start _ _ _)
+loop-holds c = (omega arith, marked-start _ _ _ _ _, refl)
 
-mul-q : tie.Need-mul-q Inv-loop μ-loop
-mul-q c = omega arith
+row-requires : tie.Need-row-requires Inv-loop μ-loop
+row-requires c κs =
+    let b = c .before .before in
+    let start = b .before .before in
+    omega (arith, start .pre .2, count-same (b .loop .t) (start .args .t .now) (b .loop .inv .2))
 
-element-copy-out-q : tie.Need-element-copy-out-q Inv-loop μ-loop
-element-copy-out-q c = omega (arith, c .before .before .pre .0 .requirements)
-
-server-requires : tie.Need-server-requires Inv-loop μ-loop
-server-requires c κs = omega (arith, c .before .before .before .pre .0 .requirements)
+add-all-guaranteed : tie.Need-add-all-guaranteed Inv-loop μ-loop
+add-all-guaranteed c = omega (arith, c .before .before .before .before .before .pre .0)
 
 all-guaranteed-requires : tie.Need-all-guaranteed-requires Inv-loop μ-loop
 all-guaranteed-requires c κs =
-    let b = c .before .before .before in
-    let F = b .before .pre .0 in
-    F .guaranteed (b .loop .r) (omega (arith, F .requirements))
+    let p = c .before .before .before .before .before .pre in
+    (omega (arith, p .0), p .1 .at _ (omega arith))
 
 union-if-requires : tie.Need-union-if-requires Inv-loop μ-loop
 union-if-requires c κs = search needs
 
-with-server-requires : tie.Need-with-server-requires Inv-loop μ-loop
-with-server-requires c κs =
-    let b = c .before .before .before .before .before in
-    (omega (arith, b .before .pre .0 .requirements), b .loop .inv .1)
+put-requires : tie.Need-put-requires Inv-loop μ-loop
+put-requires c κs =
+    let rowed = c .before .before .before in
+    let b = rowed .before .before .before in
+    let start = b .before .before in
+    omega (arith, start .pre .2, count-same (b .loop .t) (start .args .t .now) (b .loop .inv .2))
 
-add-r : tie.Need-add-r Inv-loop μ-loop
-add-r c = omega arith
+add-q : tie.Need-add-q Inv-loop μ-loop
+add-q c = omega arith
 
 loop-less : tie.Need-loop-less Inv-loop μ-loop
 loop-less c = omega arith
 
 loop-again : tie.Need-loop-again Inv-loop μ-loop
-unfolding servedIn
 loop-again c =
-    let at-server = c .before .before .before in
-    let b = at-server .before .before .before in
-    let F = b .before .pre .0 in (
+    let w = c .before .before in
+    let joined = w .before .before in
+    let tested = joined .before in
+    let rowed = tested .before in
+    let b = rowed .before .before .before in
+    let start = b .before .before in
+    let room : b .loop .q < length (setsIn (start .args .t .now)) = omega (arith, start .pre .2, sets-long (start .args .t .now)) in (
       omega arith,
-      c .with-server .ensures .0,
-      marked-put _ _ _ (b .loop .u) _ (b .loop .r) _ _ _ (omega (arith, F .requirements)) (b .loop .inv .2) (at-server .server .ensures)
-          (c .before .before .all-guaranteed .ensures) (c .before .union-if .ensures) (c .with-server .ensures .1),
+      marked-next _ _ _ _ _ (b .loop .q) _ _ _ _ _ room (b .loop .inv .1) (rowed .row .ensures) (tested .all-guaranteed .ensures) (joined .union-if .ensures)
+          (w .put .ensures),
+      w .put .kept .0 ∙ b .loop .inv .2,
     )
+
+same-length : tie.Need-same-length Inv-loop μ-loop
+same-length c = c .before .loop .inv .2
 
 returns : tie.Need-returns Inv-loop μ-loop
 returns c =
     let l = c .before .loop in
-    (l .inv .1, marked-end _ _ _ (l .r) _ _ (omega arith) (omega arith) (l .inv .2))
+    (marked-end _ _ _ _ _ (l .q) _ _ (omega arith) (omega arith) (l .inv .1), l .inv .2)
 
 pub mark-spec : {M : Type 1} → statement M
 mark-spec =
@@ -71,13 +80,13 @@ mark-spec =
     Inv-loop
     μ-loop
     loop-holds
-    mul-q
-    element-copy-out-q
-    server-requires
+    row-requires
+    add-all-guaranteed
     all-guaranteed-requires
     union-if-requires
-    with-server-requires
-    add-r
+    put-requires
+    add-q
     loop-less
     loop-again
+    same-length
     returns)

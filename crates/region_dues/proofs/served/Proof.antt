@@ -1,34 +1,34 @@
 -- `served`. Invariant: the outputs outside `rest` are in the sets of the requirements that they serve.
-use mathlib.Core.Path.{sym, subst}
+use mathlib.Core.Path.{_∙_}
+use native.Mathlib.Omega.{arith}
 use Rattle.finite.specs.Bounded.{count}
 use Rattle.bits.specs.Member.{has}
 use Rattle.sets.specs.Words.{capacity, bitsOf}
 use Rattle.sets.proofs.Rows.{is-some, is-none}
 use Rattle.scratch.proofs.Areas.{area-closes}
-use Rattle.region_dues.specs.Dues.{serverList, Whole}
-use Rattle.region_dues.proofs.Halves.{servers-none}
+use Rattle.region_dues.proofs.Halves.{half-room, first-below, guaranteed-few, marked-both}
 use Rattle.region_dues.proofs.Meaning.{fits-few, Sorted, sorted-start, sorted-below, sorted-falls, sorted-next, sorted-end}
 use borrow.Author.Needs.{needs}
 use Rattle.region_dues.proofs.served.Statement.{statement}
 use Rattle.region_dues.proofs.served.Tie as tie
 
 abbrev Inv-loop : tie.InvT-loop
-Inv-loop g s n m t₀ rest₀ t rest = Whole t × Sorted g (bitsOf rest) (serverList t)
+Inv-loop g l guaranteed s k few more first₀ second₀ rest₀ first second rest = Sorted g (bitsOf rest) first second
 
 abbrev μ-loop : tie.MeasureT-loop
-μ-loop g s n m t₀ rest₀ t rest = count capacity (has (bitsOf rest))
+μ-loop g l guaranteed s k few more first₀ second₀ rest₀ first second rest = count capacity (has (bitsOf rest))
 
-empty-requires : tie.Need-empty-requires Inv-loop μ-loop
-empty-requires c κs = search needs
+first-four-requires : tie.Need-first-four-requires Inv-loop μ-loop
+first-four-requires c κs = c .before .pre .0 .few
+
+sub-more : tie.Need-sub-more Inv-loop μ-loop
+sub-more c = c .first-four .ensures .within
 
 below-requires : tie.Need-below-requires Inv-loop μ-loop
-below-requires c κs = search needs
+below-requires c κs = c .before .before .pre .0 .output .most
 
 loop-holds : tie.Need-loop-holds Inv-loop μ-loop
-loop-holds c =
-    let none = servers-none (record { 0 = c .before .empty .result }) in
-    let F = c .before .before .before .pre .0 in
-    (none .0, subst (Sorted _ _) (sym (none .1)) (sorted-start _ F 8 _ _ (c .before .empty .ensures .1) (F .few) (c .below .ensures)))
+loop-holds c = sorted-start _ (c .before .before .before .pre .0) _ (c .below .ensures)
 
 is-empty-requires : tie.Need-is-empty-requires Inv-loop μ-loop
 is-empty-requires c κs = search needs
@@ -42,44 +42,73 @@ out-component-requires c κs =
     let b = e .before in
     let p = b .before .before .before .before .pre in
     let some = is-some _ (e .is-empty .ensures) (c .before .if1 .taken) in
-    (p .0 .input .most, p .0 .output .most, sorted-below _ (p .0) _ (area-closes (p .1)) _ _ (b .loop .inv .1) some _ (c .lowest .ensures), p .1 .long)
+    (p .0 .input .most, p .0 .output .most, sorted-below _ (p .0) _ (area-closes (p .1)) _ _ _ (b .loop .inv) some _ (c .lowest .ensures), p .1 .long)
+
+slice-aggregate-mark : tie.Need-slice-aggregate-mark Inv-loop μ-loop
+slice-aggregate-mark c = search needs
 
 mark-requires : tie.Need-mark-requires Inv-loop μ-loop
 mark-requires c κs =
-    let b = c .before .before .before .before in
-    (fits-few _ (b .before .before .before .before .pre .0), b .loop .inv .0)
+    let e = c .before .before .before .before in
+    let b = e .before in
+    let started = b .before .before in
+    let p = started .before .before .pre in
+    let H = started .first-four .ensures in (
+      omega (arith, H .most),
+      guaranteed-few (fits-few _ (p .0)) (p .3) _ _ (first-below H),
+      half-room _ _ (b .loop .inv .whole .first) (H .most),
+    )
+
+slice-aggregate-mark-2 : tie.Need-slice-aggregate-mark-2 Inv-loop μ-loop
+slice-aggregate-mark-2 c = search needs
+
+mark-requires-2 : tie.Need-mark-requires-2 Inv-loop μ-loop
+mark-requires-2 c κs =
+    let marked = c .before .before .before in
+    let e = marked .before .before .before .before in
+    let b = e .before in
+    let started = b .before .before in
+    let p = started .before .before .pre in
+    let H = started .first-four .ensures in (
+      omega (arith, H .others),
+      guaranteed-few (fits-few _ (p .0)) (p .3) _ _ (H .second),
+      half-room _ _ (b .loop .inv .whole .second) (omega (arith, H .others)),
+    )
 
 difference-requires : tie.Need-difference-requires Inv-loop μ-loop
 difference-requires c κs = search needs
 
 loop-less : tie.Need-loop-less Inv-loop μ-loop
 loop-less c =
-    let o = c .before .before in
+    let marked = c .before .before .before .before .before in
+    let o = marked .before .before in
     let l = o .before in
     let e = l .before .before in
     let b = e .before in
     let p = b .before .before .before .before .pre in
     let some = is-some _ (e .is-empty .ensures) (l .before .if1 .taken) in
-    sorted-falls _ (p .0) _ (area-closes (p .1)) _ _ (b .loop .inv .1) some _ (l .lowest .ensures) _ (o .out-component .ensures) _ (c .difference .ensures)
+    sorted-falls _ (p .0) _ (area-closes (p .1)) _ _ _ (b .loop .inv) some _ (l .lowest .ensures) _ (o .out-component .ensures) _ (c .difference .ensures)
 
 loop-again : tie.Need-loop-again Inv-loop μ-loop
 loop-again c =
-    let M = c .before .mark .ensures in
-    let o = c .before .before in
+    let M = c .before .before .mark2 .ensures in
+    let marked = c .before .before .before .before .before in
+    let o = marked .before .before in
     let l = o .before in
     let e = l .before .before in
     let b = e .before in
-    let p = b .before .before .before .before .pre in
-    let some = is-some _ (e .is-empty .ensures) (l .before .if1 .taken) in (
-      M .0,
-      sorted-next _ (p .0) _ (area-closes (p .1)) _ _ (b .loop .inv .1) some _ (l .lowest .ensures) _ (o .out-component .ensures) _ (c .difference .ensures)
-          _ (M .1),
-    )
+    let started = b .before .before in
+    let p = started .before .before .pre in
+    let some = is-some _ (e .is-empty .ensures) (l .before .if1 .taken) in
+    let S = b .loop .inv in
+    sorted-next _ (p .0) _ (area-closes (p .1)) _ _ _ S some _ (l .lowest .ensures) _ (o .out-component .ensures) _ (c .difference .ensures) _ _
+    (record { first = marked .mark .ensures .1 ∙ S .whole .first; second = M .1 ∙ S .whole .second })
+    (marked-both (fits-few _ (p .0)) (p .2) (started .first-four .ensures) (p .3) _ _ _ _ _ (marked .mark .ensures .0) (M .0))
 
 returns : tie.Need-returns Inv-loop μ-loop
 returns c =
     let b = c .before .before in
-    sorted-end _ (b .before .before .before .before .pre .0) _ _ (b .loop .inv .1) (is-none _ (c .before .is-empty .ensures) (c .if1 .left))
+    sorted-end _ (b .before .before .before .before .pre .0) _ _ _ (b .loop .inv) (is-none _ (c .before .is-empty .ensures) (c .if1 .left))
 
 pub served-spec : {M : Type 1} → statement M
 served-spec =
@@ -87,13 +116,17 @@ served-spec =
     (tie.spec
     Inv-loop
     μ-loop
-    empty-requires
+    first-four-requires
+    sub-more
     below-requires
     loop-holds
     is-empty-requires
     lowest-requires
     out-component-requires
+    slice-aggregate-mark
     mark-requires
+    slice-aggregate-mark-2
+    mark-requires-2
     difference-requires
     loop-less
     loop-again

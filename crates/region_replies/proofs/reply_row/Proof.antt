@@ -8,7 +8,7 @@ use lib.Dec.{ltb}
 use lib.ListN.{getD}
 use borrow.Author.Tests.{ltb-true}
 use Rattle.finite.specs.Bounded.{count}
-use Rattle.bits.specs.Member.{has, pack, meets}
+use Rattle.bits.specs.Member.{has, pack, setsMeet}
 use Rattle.bits.proofs.Visit.{cut-in}
 use Rattle.sets.specs.Words.{capacity, bitsOf, setsIn}
 use Rattle.sets.proofs.Rows.{is-some, is-none, none, some}
@@ -151,7 +151,7 @@ loop-again c =
     let u = a .before .before .before in
     let y = bitsOf (u .before .before .won-next .result .row .0) in
     looking-next _ _ _ _ _ _ (looked-small a) (a .loop .inv) (some _ (i .is-empty2 .ensures) (l .before .if2 .left)) _ (l .lowest2 .ensures) _
-    (c .without-lowest .ensures) _ _ (w .meets .ensures ∙ ap (λ (v : ℕ). meets capacity v y) (r .row-of2 .ensures .1)) (c .before .insert-if .ensures)
+    (c .without-lowest .ensures) _ _ (w .meets .ensures ∙ ap (λ (v : ℕ). setsMeet capacity v y) (r .row-of2 .ensures .1)) (c .before .insert-if .ensures)
 
 without-lowest-requires-2 : tie.Need-without-lowest-requires-2 Inv-loop μ-loop Inv-next μ-next
 without-lowest-requires-2 c κs =
@@ -198,7 +198,7 @@ next-again c =
     (u .unknown .ensures .1 rows (b .next .inv .2)) (a .before .difference .ensures) in (
       w .won-next .ensures .0,
       narrowed-next _ _ _ _ _ (λ j h. within j h .0) (p .0) outputs _ _ (b .next .inv .1) ne _ (l .lowest .ensures) _ (c .without-lowest2 .ensures) _ _
-          (λ o h. ap (λ (v : ℕ). meets capacity (getD rows o 0) v) (w .won-next .ensures .1)) stay,
+          (λ o h. ap (λ (v : ℕ). setsMeet capacity (getD rows o 0) v) (w .won-next .ensures .1)) stay,
       held-now _ _ _ _ stay,
     )
 
@@ -243,7 +243,7 @@ returns-2 c =
     let stay = looking-end rows _ _ _ _ _ _ (a .loop .inv) (none _ (i .is-empty2 .ensures) (t .if2 .taken)) (u .unknown .ensures .0)
     (u .unknown .ensures .1 rows (b .next .inv .2)) (a .before .difference .ensures) in
     let stopped = narrowed-stop _ _ _ _ _ (λ j h. within j h .0) (p .0) outputs _ _ (b .next .inv .1) ne _ (l .lowest .ensures) _ _
-    (λ o h. ap (λ (v : ℕ). meets capacity (getD rows o 0) v) (w .won-next .ensures .1)) stay (none _ (c .before .is-empty3 .ensures) (c .if3 .taken)) in
+    (λ o h. ap (λ (v : ℕ). setsMeet capacity (getD rows o 0) v) (w .won-next .ensures .1)) stay (none _ (c .before .is-empty3 .ensures) (c .if3 .taken)) in
     answered-all _ _ _ _ _ _ (p .1) _ _ _ _ (cut .before .below2 .ensures) (cut .intersection .ensures) (first .below .ensures) stopped
     ∙ ap₂ (λ (y : ℕ) (v : List ℕ). pack m (replyWith (setsIn (g .s .now)) n (bitsOf (g .c .0)) y (setsIn v) m))
     (first .before .before .before .row-of .ensures .1 ∙ ap (λ (v : List ℕ). getD (setsIn v) (g .i .0) 0) (p .4)) (p .5)

@@ -22,7 +22,7 @@ stored-row-requires c κs =
     let b = a .before .before in
     let p = b .before .before .before .pre in
     let R = filling-ready (p .0) (b .bottom .ensures) in
-    (R, p .1, row-component R _ (a .in-component .ensures), p .3, p .4)
+    (R, p .1, row-component R _ (a .in-component .ensures), p .3, p .4, p .5, p .6)
 
 put-rows-requires : tie.Need-put-rows-requires
 put-rows-requires c κs =

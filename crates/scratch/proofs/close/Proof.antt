@@ -1,5 +1,5 @@
 -- `close` lays both closures.
-use mathlib.Core.Path.{_∙_}
+use mathlib.Core.Path.{refl, sym, _∙_}
 use Rattle.sets.proofs.Rows.{words-held, count-same}
 use Rattle.scratch.specs.Scratch.{scratchSets}
 use Rattle.scratch.proofs.Areas.{laid-both, kept-both}
@@ -22,7 +22,7 @@ close-at-requires-2 c κs =
     let first = c .before .before .before in
     let b = first .before .before .before in
     let held = words-held (b .args .s .now) (scratchSets (b .args .g .input .states) (b .args .g .output .states)) (b .pre .1) in
-    let same = count-same (first .close-at .last .1 .0) (b .args .s .now) (first .close-at .kept .1 .0) in
+    let same = count-same (first .close-at .last .1 .1 .0) (b .args .s .now) (first .close-at .kept .1 .1 .0) in
     (b .pre .0 .output .most, omega (arith, b .pre .0 .input .most), omega arith)
 
 same-length : tie.Need-same-length
@@ -34,9 +34,11 @@ returns c =
     let first = last .before .before .before .before in
     let known = first .before .before in
     let b = known .before in
-    let same = last .close-at2 .kept .1 .0 ∙ first .close-at .kept .1 .0 in (
-      laid-both (b .args .g) _ _ _ (first .close-at .ensures) (last .close-at2 .ensures) same (b .pre .1),
-      kept-both (b .args .g) _ _ _ (first .close-at .ensures) (last .close-at2 .ensures) same (b .pre .1) (λ i. omega (arith, c .slice-known3 .given i))
+    let ins = first .close-at .ensures (b .args .g .input) (record { states = refl; moves = sym (b .pre .2) }) in
+    let outs = last .close-at2 .ensures (b .args .g .output) (record { states = refl; moves = sym (b .pre .3) }) in
+    let same = last .close-at2 .kept .1 .1 .0 ∙ first .close-at .kept .1 .1 .0 in (
+      laid-both (b .args .g) _ _ _ ins outs same (b .pre .1),
+      kept-both (b .args .g) _ _ _ ins outs same (b .pre .1) (λ i. omega (arith, c .slice-known3 .given i))
           (λ i. omega (arith, known .slice-known .given i)),
     )
 

@@ -32,7 +32,7 @@ same-length c = search needs
 returns : tie.Need-returns
 returns c =
     let b = c .before .before .before .before in
-    closed-at _ _ _ _ _ (b .words .ensures) (omega arith) (c .before .before .close .ensures)
+    λ f G. closed-at f _ _ _ _ (b .words .ensures) (omega arith) (c .before .before .close .ensures f G)
 
 pub close-at-spec : {M : Type 1} → statement M
 close-at-spec =

@@ -1,5 +1,11 @@
 -- `nontrivial_states` reads both closures.
-use mathlib.Core.Path.{_∙_}
+use Prim.Native.Nat.{ℕ, _+_}
+use mathlib.Core.Path.{_∙_, ap}
+use mathlib.Core.List.{List}
+use lib.ListN.{drop}
+use Rattle.bits.specs.Member.{pack}
+use Rattle.sets.specs.Words.{setsIn}
+use Rattle.graph_components.specs.Component.{nontrivialAt}
 use Rattle.graph_components.proofs.Closed.{nontrivial-closed}
 use Rattle.scratch.proofs.Areas.{in-closes, out-closes}
 use borrow.Author.Needs.{needs}
@@ -17,13 +23,18 @@ nontrivial-at-requires-2 c κs = search needs
 
 returns : tie.Need-returns
 returns c =
-    let first = c .before .before .before in
-    let b = first .before .before .before .before in
+    let first = c .before in
+    let b = first .before .before in
     let f = b .pre .0 in
     let l = b .pre .1 in
+    let n = b .args .g .input .states in
+    let m = b .args .g .output .states in
+    let s = setsIn (b .args .s .now) in
+    let rows-in = ap (λ (w : List ℕ). pack n (nontrivialAt (setsIn w) s n)) (b .pre .2) in
+    let rows-out = ap (λ (w : List ℕ). pack m (nontrivialAt (setsIn w) (drop (n + n) s) m)) (b .pre .3) in
     record {
-      inputs = first .nontrivial-at .ensures ∙ nontrivial-closed _ _ (in-closes l) (f .input .most);
-      outputs = c .nontrivial-at2 .ensures ∙ nontrivial-closed _ _ (out-closes l) (f .output .most);
+      inputs = first .nontrivial-at .ensures ∙ rows-in ∙ nontrivial-closed _ _ (in-closes l) (f .input .most);
+      outputs = c .nontrivial-at2 .ensures ∙ rows-out ∙ nontrivial-closed _ _ (out-closes l) (f .output .most);
     }
 
 pub nontrivial-states-spec : {M : Type 1} → statement M

@@ -1,7 +1,7 @@
 -- `reaching` collects the outputs below o.
 use Prim.Native.Nat.{ℕ, _≤_, _-_}
 use mathlib.Core.Path.{_≡_, _∙_, ap}
-use Rattle.bits.specs.Member.{pack, meets}
+use Rattle.bits.specs.Member.{pack, setsMeet}
 use Rattle.bits.proofs.Collect.{collect-none, collect-next, collect-end}
 use Rattle.sets.specs.Words.{capacity, bitsOf, setsIn}
 use Rattle.scratch.specs.Stored.{reachingAt}
@@ -42,7 +42,7 @@ unfolding reachingAt
 loop-again c =
     let tested = c .before in
     let b = tested .before .before .before in
-    let read = ap (λ (z : ℕ). meets capacity (bitsOf (b .before .before .before .args .x .0)) z) (tested .before .out-reach .ensures) in
+    let read = ap (λ (z : ℕ). setsMeet capacity (bitsOf (b .before .before .before .args .x .0)) z) (tested .before .out-reach .ensures) in
     (omega arith, collect-next _ (b .loop .o) _ _ _ (b .loop .inv .1) (tested .meets .ensures ∙ read) (c .insert-if .ensures))
 
 returns : tie.Need-returns Inv-loop μ-loop

@@ -1,7 +1,7 @@
 -- `some_won` looks for a home in what the outputs reach, or for one of them in the row of j.
 use mathlib.Core.Path.{sym, _∙_, ap}
 use Prim.Native.Nat.{ℕ}
-use Rattle.bits.specs.Member.{meets}
+use Rattle.bits.specs.Member.{setsMeet}
 use Rattle.sets.specs.Words.{capacity, bitsOf}
 use Rattle.scratch.proofs.Read.{some-won-in, some-won-out}
 use native.Mathlib.Omega.{arith}
@@ -22,7 +22,7 @@ returns : tie.Need-returns
 returns c =
     let tested = c .before .before in
     let b = tested .before .before .before in
-    let read = ap (λ (x : ℕ). meets capacity x (bitsOf (b .args .z .0))) (tested .before .region-row .ensures) in
+    let read = ap (λ (x : ℕ). setsMeet capacity x (bitsOf (b .args .z .0))) (tested .before .region-row .ensures) in
     some-won-in _ _ _ _ _ _ _ (b .pre .4) (sym (tested .member .ensures) ∙ c .before .if1 .taken) (c .meets .ensures ∙ read)
 
 meets-requires-2 : tie.Need-meets-requires-2
@@ -32,7 +32,7 @@ returns-2 : tie.Need-returns-2
 returns-2 c =
     let tested = c .before .before in
     let b = tested .before .before .before in
-    let read = ap (λ (x : ℕ). meets capacity x (bitsOf (b .args .y .0))) (tested .before .region-row .ensures) in
+    let read = ap (λ (x : ℕ). setsMeet capacity x (bitsOf (b .args .y .0))) (tested .before .region-row .ensures) in
     some-won-out _ _ _ _ _ _ _ (b .pre .4) (omega arith) (sym (tested .member .ensures) ∙ c .before .if1 .left) (c .meets2 .ensures ∙ read)
 
 pub some-won-spec : {M : Type 1} → statement M

@@ -1,7 +1,7 @@
 -- `won` reads one row or two.
 use mathlib.Core.Path.{sym, _∙_, ap, ap₂}
 use Prim.Native.Nat.{ℕ}
-use Rattle.bits.specs.Member.{has, meets}
+use Rattle.bits.specs.Member.{has, setsMeet}
 use Rattle.sets.specs.Words.{capacity}
 use Rattle.scratch.proofs.Read.{won-in, won-out}
 use borrow.Author.Needs.{needs}
@@ -23,7 +23,7 @@ meets-requires c κs = search needs
 returns : tie.Need-returns
 returns c =
     let tested = c .before .before .before in
-    let read = ap₂ (λ (x y : ℕ). meets capacity x y) (tested .before .region-row .ensures) (c .before .out-reach .ensures) in
+    let read = ap₂ (λ (x y : ℕ). setsMeet capacity x y) (tested .before .region-row .ensures) (c .before .out-reach .ensures) in
     won-in _ _ _ _ _ (sym (tested .member .ensures) ∙ c .before .before .if1 .taken) (c .meets .ensures ∙ read)
 
 member-requires-2 : tie.Need-member-requires-2

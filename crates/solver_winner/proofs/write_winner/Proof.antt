@@ -14,8 +14,9 @@ length-requires c κs =
 
 prepare-requires : tie.Need-prepare-requires
 prepare-requires c κs =
-    let p = c .before .before .before .before .before .pre in
-    (accepted-fits _ (p .0), omega (arith, p .1))
+    let length = c .before .before .before .before in
+    let p = length .before .before .before .before .pre in
+    (accepted-fits _ (p .0), omega (arith, p .1), p .5, p .6, p .7, p .4 .counts)
 
 system-wins-requires : tie.Need-system-wins-requires
 system-wins-requires c κs = c .before .before .before .before .prepare .ensures .ready
@@ -25,12 +26,18 @@ fill-requires c κs =
     let branch = c .before .before in
     let won = branch .before .before .before in
     let prepare = won .before .before .before in
-    let length = prepare .before .before in
+    let length = prepare .before .before .before .before .before in
     let p = length .before .before .before .before .pre in
-    (p .0, prepare .prepare .ensures .ready, p .2, p .4, p .6)
+    (p .0, prepare .prepare .ensures .ready, p .2, p .4, p .6, p .7)
 
 clear-requires : tie.Need-clear-requires
-clear-requires c κs = search needs
+clear-requires c κs =
+    let fill = c .before .before .before in
+    let branch = fill .before .before .before in
+    let won = branch .before .before .before in
+    let prepare = won .before .before .before in
+    let length = prepare .before .before .before .before .before in
+    omega (arith, length .length .ensures, prepare .prepare .ensures .kept .long, length .before .before .before .before .pre .1)
 
 same-length : tie.Need-same-length
 same-length c = search needs
@@ -45,9 +52,10 @@ returns c =
     let branch = fill .before .before .before in
     let won = branch .before .before .before in
     let prepare = won .before .before .before in
+    let length = prepare .before .before .before .before .before in
     record {
       wins = sym (sym (branch .before .system-wins .ensures) ∙ branch .if1 .taken);
-      scratch = cleared-kept _ _ _ _ (prepare .prepare .ensures .kept) (prepare .before .before .length .ensures) (clear .clear .ensures);
+      scratch = cleared-kept _ _ _ _ (prepare .prepare .ensures .kept) (length .length .ensures) (clear .clear .ensures);
       controller = fill .fill .ensures;
       environment = refl;
     }
@@ -57,12 +65,18 @@ fill-requires-2 c κs =
     let branch = c .before .before in
     let won = branch .before .before .before in
     let prepare = won .before .before .before in
-    let length = prepare .before .before in
+    let length = prepare .before .before .before .before .before in
     let p = length .before .before .before .before .pre in
-    (record { known = record { accepted = p .0; ready = prepare .prepare .ensures .ready }; room = p .3 }, p .4, p .5, p .6)
+    (record { known = record { accepted = p .0; ready = prepare .prepare .ensures .ready }; room = p .3 }, p .4, p .5, p .6, p .7)
 
 clear-requires-2 : tie.Need-clear-requires-2
-clear-requires-2 c κs = search needs
+clear-requires-2 c κs =
+    let fill = c .before .before .before in
+    let branch = fill .before .before .before in
+    let won = branch .before .before .before in
+    let prepare = won .before .before .before in
+    let length = prepare .before .before .before .before .before in
+    omega (arith, length .length .ensures, prepare .prepare .ensures .kept .long, length .before .before .before .before .pre .1)
 
 same-length-3 : tie.Need-same-length-3
 same-length-3 c = search needs
@@ -77,9 +91,10 @@ returns-2 c =
     let branch = fill .before .before .before in
     let won = branch .before .before .before in
     let prepare = won .before .before .before in
+    let length = prepare .before .before .before .before .before in
     record {
       wins = sym (sym (branch .before .system-wins .ensures) ∙ branch .if1 .left);
-      scratch = cleared-kept _ _ _ _ (prepare .prepare .ensures .kept) (prepare .before .before .length .ensures) (clear .clear2 .ensures);
+      scratch = cleared-kept _ _ _ _ (prepare .prepare .ensures .kept) (length .length .ensures) (clear .clear2 .ensures);
       controller = refl;
       environment = fill .fill2 .ensures;
     }

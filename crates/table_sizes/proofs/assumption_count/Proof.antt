@@ -4,7 +4,7 @@ use mathlib.Core.Path.{_≡_}
 use native.Mathlib.Omega.{arith}
 use lib.ListN.{length}
 use Rattle.theory.specs.Choice.{assumptions}
-use Rattle.table_sizes.specs.Below.{assumptionSide, setsBelow, setsIn}
+use Rattle.table_sizes.specs.Below.{assumptionSide, setsBelow, allSets}
 use Rattle.table_sizes.proofs.Below.{assumptions-listed, below-none, below-more, below-all, few, assumed-few}
 use Rattle.table_sizes.proofs.assumption_count.Statement.{statement}
 use Rattle.table_sizes.proofs.assumption_count.Tie as tie
@@ -46,7 +46,7 @@ loop-again c =
     )
 
 returns : tie.Need-returns Inv-loop μ-loop
-unfolding assumptionSide setsIn assumptions
+unfolding assumptionSide allSets assumptions
 returns c = below-all assumptionSide assumptions-listed _ _ _ (c .before .before .loop .inv .0) (c .if1 .left) (c .before .before .loop .inv .3)
 
 pub assumption-count-spec : {M : Type 1} → statement M

@@ -8,19 +8,18 @@ use Rattle.bits.specs.Member.{pack}
 use Rattle.bits.proofs.Collect.{collect-none}
 use Rattle.theory.specs.Choice.{assumptions}
 use Rattle.table_goals.specs.Stretches.{metIn}
-use Rattle.table_sizes.specs.Below.{assumptionSide, setsIn}
+use Rattle.table_sizes.specs.Below.{assumptionSide, allSets}
 use Rattle.table_sizes.specs.Numbered.{Upto}
 use Rattle.table_sizes.proofs.Below.{assumptions-listed, few, assumed-few}
-use Rattle.table_sizes.proofs.Outlined.{outlined-sets}
 use Rattle.table_sizes.proofs.Numbered.{upto-none, upto-next, stretch-short, met-further, met-all}
 use Rattle.table_sizes.proofs.assumptions_met.Statement.{statement}
 use Rattle.table_sizes.proofs.assumptions_met.Tie as tie
 
 abbrev Inv-loop : tie.InvT-loop
-Inv-loop g x given q₀ n₀ r₀ q n r = (r ≤ g .k) × (g .k ≤ 8) × Upto assumptionSide g r n × (q .0 ≡ pack n (metIn (setsIn assumptionSide g) (bitsOf (x .0))))
+Inv-loop g given l x q₀ n₀ r₀ q n r = (r ≤ g .k) × (g .k ≤ 8) × Upto assumptionSide g r n × (q .0 ≡ pack n (metIn (allSets assumptionSide g) (bitsOf (x .0))))
 
 abbrev μ-loop : tie.MeasureT-loop
-μ-loop g x given q₀ n₀ r₀ q n r = g .k - r
+μ-loop g given l x q₀ n₀ r₀ q n r = g .k - r
 
 empty-requires : tie.Need-empty-requires Inv-loop μ-loop
 empty-requires c κs = search needs
@@ -28,21 +27,18 @@ empty-requires c κs = search needs
 loop-holds : tie.Need-loop-holds Inv-loop μ-loop
 loop-holds c = (omega arith, few _ (c .before .pre .0), upto-none assumptionSide assumptions-listed _, c .empty .ensures ∙ collect-none _)
 
-mul-assumptions-of : tie.Need-mul-assumptions-of Inv-loop μ-loop
-mul-assumptions-of c = omega arith
-
-element-copy-out-assumptions-of : tie.Need-element-copy-out-assumptions-of Inv-loop μ-loop
-element-copy-out-assumptions-of c = omega arith
-
 assumptions-of-requires : tie.Need-assumptions-of-requires Inv-loop μ-loop
-assumptions-of-requires c κs = search needs
+assumptions-of-requires c κs =
+    let l = c .before .before in
+    let p = l .before .before .pre in
+    (l .loop .inv .1, c .if1 .taken, p .1, p .2)
 
 add-met-requires : tie.Need-add-met-requires Inv-loop μ-loop
 unfolding assumptionSide
 add-met-requires c κs =
-    let l = c .before .before .before .before in
-    let b = c .before .before .if1 .taken in
-    let W = outlined-sets assumptionSide _ _ (l .before .before .pre .1) (l .loop .r) _ _ (c .assumptions-of .ensures) in
+    let l = c .before .before .before in
+    let b = c .before .if1 .taken in
+    let W = c .assumptions-of .ensures in
     stretch-short assumptionSide assumptions-listed _ (l .loop .r) _ _ b (l .loop .inv .1) (assumed-few _ (l .before .before .pre .0) (l .loop .r) b)
     (l .loop .inv .2) W
 
@@ -50,9 +46,9 @@ add-n : tie.Need-add-n Inv-loop μ-loop
 unfolding assumptionSide
 add-n c =
     let o = c .before .before in
-    let l = o .before .before .before .before in
-    let b = o .before .before .if1 .taken in
-    let W = outlined-sets assumptionSide _ _ (l .before .before .pre .1) (l .loop .r) _ _ (o .assumptions-of .ensures) in
+    let l = o .before .before .before in
+    let b = o .before .if1 .taken in
+    let W = o .assumptions-of .ensures in
     omega (
       arith,
       l .loop .inv .1,
@@ -70,9 +66,9 @@ loop-again : tie.Need-loop-again Inv-loop μ-loop
 unfolding assumptionSide
 loop-again c =
     let o = c .before .before in
-    let l = o .before .before .before .before in
-    let b = o .before .before .if1 .taken in
-    let W = outlined-sets assumptionSide _ _ (l .before .before .pre .1) (l .loop .r) _ _ (o .assumptions-of .ensures) in
+    let l = o .before .before .before in
+    let b = o .before .if1 .taken in
+    let W = o .assumptions-of .ensures in
     let f = assumed-few _ (l .before .before .pre .0) (l .loop .r) b in (
       omega arith,
       l .loop .inv .1,
@@ -82,7 +78,7 @@ loop-again c =
     )
 
 returns : tie.Need-returns Inv-loop μ-loop
-unfolding assumptionSide setsIn assumptions
+unfolding assumptionSide allSets assumptions
 returns c =
     let b = c .before .before in
     met-all assumptionSide assumptions-listed _ _ (b .loop .r) _ _ (b .loop .inv .0) (c .if1 .left) (b .loop .inv .2) (b .loop .inv .3)
@@ -95,8 +91,6 @@ assumptions-met-spec =
     μ-loop
     empty-requires
     loop-holds
-    mul-assumptions-of
-    element-copy-out-assumptions-of
     assumptions-of-requires
     add-met-requires
     add-n

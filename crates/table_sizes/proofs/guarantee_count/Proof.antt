@@ -4,7 +4,7 @@ use mathlib.Core.Path.{_≡_}
 use native.Mathlib.Omega.{arith}
 use lib.ListN.{length}
 use Rattle.theory.specs.Choice.{guarantees}
-use Rattle.table_sizes.specs.Below.{guaranteeSide, setsBelow, setsIn}
+use Rattle.table_sizes.specs.Below.{guaranteeSide, setsBelow, allSets}
 use Rattle.table_sizes.proofs.Below.{guarantees-listed, below-none, below-more, below-all, few, guaranteed-few}
 use Rattle.table_sizes.proofs.guarantee_count.Statement.{statement}
 use Rattle.table_sizes.proofs.guarantee_count.Tie as tie
@@ -46,7 +46,7 @@ loop-again c =
     )
 
 returns : tie.Need-returns Inv-loop μ-loop
-unfolding guaranteeSide setsIn guarantees
+unfolding guaranteeSide allSets guarantees
 returns c = below-all guaranteeSide guarantees-listed _ _ _ (c .before .before .loop .inv .0) (c .if1 .left) (c .before .before .loop .inv .3)
 
 pub guarantee-count-spec : {M : Type 1} → statement M

@@ -8,19 +8,18 @@ use Rattle.bits.specs.Member.{pack}
 use Rattle.bits.proofs.Collect.{collect-none}
 use Rattle.theory.specs.Choice.{guarantees}
 use Rattle.table_goals.specs.Stretches.{metIn}
-use Rattle.table_sizes.specs.Below.{guaranteeSide, setsIn}
+use Rattle.table_sizes.specs.Below.{guaranteeSide, allSets}
 use Rattle.table_sizes.specs.Numbered.{Upto}
 use Rattle.table_sizes.proofs.Below.{guarantees-listed, few, guaranteed-few}
-use Rattle.table_sizes.proofs.Outlined.{outlined-sets}
 use Rattle.table_sizes.proofs.Numbered.{upto-none, upto-next, stretch-short, met-further, met-all}
 use Rattle.table_sizes.proofs.guarantees_met.Statement.{statement}
 use Rattle.table_sizes.proofs.guarantees_met.Tie as tie
 
 abbrev Inv-loop : tie.InvT-loop
-Inv-loop g x given q₀ n₀ r₀ q n r = (r ≤ g .k) × (g .k ≤ 8) × Upto guaranteeSide g r n × (q .0 ≡ pack n (metIn (setsIn guaranteeSide g) (bitsOf (x .0))))
+Inv-loop g given l x q₀ n₀ r₀ q n r = (r ≤ g .k) × (g .k ≤ 8) × Upto guaranteeSide g r n × (q .0 ≡ pack n (metIn (allSets guaranteeSide g) (bitsOf (x .0))))
 
 abbrev μ-loop : tie.MeasureT-loop
-μ-loop g x given q₀ n₀ r₀ q n r = g .k - r
+μ-loop g given l x q₀ n₀ r₀ q n r = g .k - r
 
 empty-requires : tie.Need-empty-requires Inv-loop μ-loop
 empty-requires c κs = search needs
@@ -28,21 +27,18 @@ empty-requires c κs = search needs
 loop-holds : tie.Need-loop-holds Inv-loop μ-loop
 loop-holds c = (omega arith, few _ (c .before .pre .0), upto-none guaranteeSide guarantees-listed _, c .empty .ensures ∙ collect-none _)
 
-mul-guarantees-of : tie.Need-mul-guarantees-of Inv-loop μ-loop
-mul-guarantees-of c = omega arith
-
-element-copy-out-guarantees-of : tie.Need-element-copy-out-guarantees-of Inv-loop μ-loop
-element-copy-out-guarantees-of c = omega arith
-
 guarantees-of-requires : tie.Need-guarantees-of-requires Inv-loop μ-loop
-guarantees-of-requires c κs = search needs
+guarantees-of-requires c κs =
+    let l = c .before .before in
+    let p = l .before .before .pre in
+    (l .loop .inv .1, c .if1 .taken, p .1, p .2)
 
 add-met-requires : tie.Need-add-met-requires Inv-loop μ-loop
 unfolding guaranteeSide
 add-met-requires c κs =
-    let l = c .before .before .before .before in
-    let b = c .before .before .if1 .taken in
-    let W = outlined-sets guaranteeSide _ _ (l .before .before .pre .1) (l .loop .r) _ _ (c .guarantees-of .ensures) in
+    let l = c .before .before .before in
+    let b = c .before .if1 .taken in
+    let W = c .guarantees-of .ensures in
     stretch-short guaranteeSide guarantees-listed _ (l .loop .r) _ _ b (l .loop .inv .1) (guaranteed-few _ (l .before .before .pre .0) (l .loop .r) b)
     (l .loop .inv .2) W
 
@@ -50,9 +46,9 @@ add-n : tie.Need-add-n Inv-loop μ-loop
 unfolding guaranteeSide
 add-n c =
     let o = c .before .before in
-    let l = o .before .before .before .before in
-    let b = o .before .before .if1 .taken in
-    let W = outlined-sets guaranteeSide _ _ (l .before .before .pre .1) (l .loop .r) _ _ (o .guarantees-of .ensures) in
+    let l = o .before .before .before in
+    let b = o .before .if1 .taken in
+    let W = o .guarantees-of .ensures in
     omega (
       arith,
       l .loop .inv .1,
@@ -70,9 +66,9 @@ loop-again : tie.Need-loop-again Inv-loop μ-loop
 unfolding guaranteeSide
 loop-again c =
     let o = c .before .before in
-    let l = o .before .before .before .before in
-    let b = o .before .before .if1 .taken in
-    let W = outlined-sets guaranteeSide _ _ (l .before .before .pre .1) (l .loop .r) _ _ (o .guarantees-of .ensures) in
+    let l = o .before .before .before in
+    let b = o .before .if1 .taken in
+    let W = o .guarantees-of .ensures in
     let f = guaranteed-few _ (l .before .before .pre .0) (l .loop .r) b in (
       omega arith,
       l .loop .inv .1,
@@ -82,7 +78,7 @@ loop-again c =
     )
 
 returns : tie.Need-returns Inv-loop μ-loop
-unfolding guaranteeSide setsIn guarantees
+unfolding guaranteeSide allSets guarantees
 returns c =
     let b = c .before .before in
     met-all guaranteeSide guarantees-listed _ _ (b .loop .r) _ _ (b .loop .inv .0) (c .if1 .left) (b .loop .inv .2) (b .loop .inv .3)
@@ -95,8 +91,6 @@ guarantees-met-spec =
     μ-loop
     empty-requires
     loop-holds
-    mul-guarantees-of
-    element-copy-out-guarantees-of
     guarantees-of-requires
     add-met-requires
     add-n

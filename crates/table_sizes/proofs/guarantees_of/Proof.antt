@@ -1,32 +1,51 @@
 -- `guarantees_of` reads the four places.
+use mathlib.Core.Path.{_∙_}
+use native.Mathlib.Omega.{arith}
 use borrow.Author.Needs.{needs}
 use Rattle.table_sizes.specs.Below.{guaranteeSide}
 use Rattle.table_sizes.proofs.Numbered.{sets-of}
 use Rattle.table_sizes.proofs.guarantees_of.Statement.{statement}
 use Rattle.table_sizes.proofs.guarantees_of.Tie as tie
 
-element-copy-out-a : tie.Need-element-copy-out-a
-element-copy-out-a c = search needs
+guarantee-requires : tie.Need-guarantee-requires
+guarantee-requires c κs = search needs
 
-element-copy-out-b : tie.Need-element-copy-out-b
-element-copy-out-b c = search needs
+guarantee-requires-2 : tie.Need-guarantee-requires-2
+guarantee-requires-2 c κs = search needs
 
-element-copy-out-c : tie.Need-element-copy-out-c
-element-copy-out-c c = search needs
+guarantee-requires-3 : tie.Need-guarantee-requires-3
+guarantee-requires-3 c κs = search needs
 
-element-copy-out-d : tie.Need-element-copy-out-d
-element-copy-out-d c = search needs
+guarantee-requires-4 : tie.Need-guarantee-requires-4
+guarantee-requires-4 c κs = search needs
+
+mul-t16 : tie.Need-mul-t16
+mul-t16 c = search needs
+
+element-copy-out-t19 : tie.Need-element-copy-out-t19
+element-copy-out-t19 c = search needs
 
 returns : tie.Need-returns
 unfolding guaranteeSide
-returns c = sets-of guaranteeSide _ _
+returns c =
+    let z = c .before .before .before .before .before in
+    let y = z .before in
+    let x = y .before in
+    let w = x .before in
+    let p = w .before .pre in
+    let L = p .3 in
+    sets-of guaranteeSide _ _ _ _ _ _ _ (p .2 .counts .guaranteed .at _ (p .1)) (w .guarantee .ensures ∙ L .guaranteed _ 0 (p .1) (omega arith))
+    (x .guarantee2 .ensures ∙ L .guaranteed _ 1 (p .1) (omega arith)) (y .guarantee3 .ensures ∙ L .guaranteed _ 2 (p .1) (omega arith))
+    (z .guarantee4 .ensures ∙ L .guaranteed _ 3 (p .1) (omega arith))
 
 pub guarantees-of-spec : {M : Type 1} → statement M
 guarantees-of-spec =
     tie.close
     (tie.spec
-    element-copy-out-a
-    element-copy-out-b
-    element-copy-out-c
-    element-copy-out-d
+    guarantee-requires
+    guarantee-requires-2
+    guarantee-requires-3
+    guarantee-requires-4
+    mul-t16
+    element-copy-out-t19
     returns)

@@ -2,7 +2,7 @@
 use mathlib.Core.Path.{_≡_, refl, sym, _∙_, ap}
 use Prim.Native.Nat.{_<_}
 use native.Mathlib.Omega.{arith}
-use Rattle.text_pieces.specs.Pieces.{numberOf}
+use Rattle.text_pieces.specs.Pieces.{numberRead}
 use Rattle.text_grammar.proofs.Place.{byte-within}
 use Rattle.text_grammar.proofs.Number.{digits-go, digits-stop, digits-done, extended-digit, extended-small}
 use Rattle.text_grammar.specs.Place.{bytes}
@@ -63,14 +63,14 @@ number-end-requires c κs = tt
 
 returns : tie.Need-returns Inv-loop μ-loop
 returns c =
-    c .number-end .ensures ∙ sym (ap numberOf (digits-stop _ _ _ _ _ _ _ _ (c .before .before .before .before .before .loop .inv .0)
+    c .number-end .ensures ∙ sym (ap numberRead (digits-stop _ _ _ _ _ _ _ _ (c .before .before .before .before .before .loop .inv .0)
     (c .before .before .before .byte-at .ensures) (sym (c .before .before .extends .ensures) ∙ c .before .if1 .left)))
 
 number-end-requires-2 : tie.Need-number-end-requires-2 Inv-loop μ-loop
 number-end-requires-2 c κs = tt
 
 returns-2 : tie.Need-returns-2 Inv-loop μ-loop
-returns-2 c = c .number-end2 .ensures ∙ sym (ap numberOf (digits-done _ _ _ _ _ _ _ (c .before .before .loop .inv .0) (c .before .loop-test .left)))
+returns-2 c = c .number-end2 .ensures ∙ sym (ap numberRead (digits-done _ _ _ _ _ _ _ (c .before .before .loop .inv .0) (c .before .loop-test .left)))
 
 pub more-digits-spec : {M : Type 1} → statement M
 more-digits-spec =

@@ -3,7 +3,7 @@ use mathlib.Core.Path.{sym, _∙_, ap}
 use native.Mathlib.Omega.{arith}
 use borrow.Author.Needs.{needs}
 use Rattle.text_pieces.proofs.Outcomes.{number-fault}
-use Rattle.text_pieces.specs.Pieces.{numberOf}
+use Rattle.text_pieces.specs.Pieces.{numberRead}
 use Rattle.text_grammar.proofs.Place.{byte-within}
 use Rattle.text_grammar.proofs.Number.{started-digit, number-first, number-never}
 use Rattle.text_pieces.proofs.number_at.Statement.{statement}
@@ -31,7 +31,7 @@ more-digits-requires c κs = (search needs, omega (arith, started-digit _ _ _ (s
 
 returns : tie.Need-returns
 returns c =
-    c .more-digits .ensures ∙ sym (ap numberOf (number-first _ _ _ _ _ (c .before .before .before .byte-at .ensures)
+    c .more-digits .ensures ∙ sym (ap numberRead (number-first _ _ _ _ _ (c .before .before .before .byte-at .ensures)
     (sym (c .before .before .starts .ensures) ∙ c .before .if1 .taken)))
 
 returns-2 : tie.Need-returns-2

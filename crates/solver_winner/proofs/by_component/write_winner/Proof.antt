@@ -14,8 +14,9 @@ length-requires c κs =
 
 prepare-requires : tie.Need-prepare-requires
 prepare-requires c κs =
-    let p = c .before .before .before .before .before .pre in
-    (accepted-fits _ (p .0), omega (arith, p .2))
+    let length = c .before .before .before .before in
+    let p = length .before .before .before .before .pre in
+    (accepted-fits _ (p .0), omega (arith, p .1), p .5, p .6, p .7, p .4 .counts)
 
 system-wins-requires : tie.Need-system-wins-requires
 system-wins-requires c κs = c .before .before .before .before .prepare .ensures .ready
@@ -24,12 +25,18 @@ fill-compact-requires : tie.Need-fill-compact-requires
 fill-compact-requires c κs =
     let won = c .before .before .before .before in
     let prepare = won .before .before .before .before in
-    let length = prepare .before .before in
+    let length = prepare .before .before .before .before .before in
     let p = length .before .before .before .before .pre in
-    (p .0, prepare .prepare .ensures .ready, p .1, p .3, p .5, p .7)
+    (p .0, prepare .prepare .ensures .ready, p .2, p .4, p .6, p .7)
 
 clear-requires : tie.Need-clear-requires
-clear-requires c κs = search needs
+clear-requires c κs =
+    let fill = c .before .before .before in
+    let branch = fill .before .before .before in
+    let won = branch .before .before .before in
+    let prepare = won .before .before .before in
+    let length = prepare .before .before .before .before .before in
+    omega (arith, length .length .ensures, prepare .prepare .ensures .kept .long, length .before .before .before .before .pre .1)
 
 same-length : tie.Need-same-length
 same-length c = search needs
@@ -44,23 +51,31 @@ returns c =
     let branch = fill .before .before .before in
     let won = branch .before .before in
     let prepare = won .before .before .before .before in
+    let length = prepare .before .before .before .before .before in
+    let v = sym (branch .before .system-wins .ensures) ∙ branch .if1 .taken in
     record {
-      wins = sym (sym (branch .before .system-wins .ensures) ∙ branch .if1 .taken);
-      scratch = cleared-kept _ _ _ _ (prepare .prepare .ensures .kept) (prepare .before .before .length .ensures) (clear .clear .ensures);
-      controller = fill .fill-compact .ensures;
-      environment = refl;
+      wins = rw v (fill .fill-compact .ensures .1);
+      scratch = cleared-kept _ _ _ _ (prepare .prepare .ensures .kept) (length .length .ensures) (clear .clear .ensures);
+      controller = rw v (fill .fill-compact .ensures .0);
+      environment = rw v refl;
     }
 
 fill-requires : tie.Need-fill-requires
 fill-requires c κs =
     let won = c .before .before .before .before in
     let prepare = won .before .before .before .before in
-    let length = prepare .before .before in
+    let length = prepare .before .before .before .before .before in
     let p = length .before .before .before .before .pre in
-    (record { known = record { accepted = p .0; ready = prepare .prepare .ensures .ready }; room = p .4 }, p .5, p .6, p .7)
+    (record { known = record { accepted = p .0; ready = prepare .prepare .ensures .ready }; room = p .3 }, p .4, p .5, p .6, p .7)
 
 clear-requires-2 : tie.Need-clear-requires-2
-clear-requires-2 c κs = search needs
+clear-requires-2 c κs =
+    let fill = c .before .before .before in
+    let branch = fill .before .before .before in
+    let won = branch .before .before .before in
+    let prepare = won .before .before .before in
+    let length = prepare .before .before .before .before .before in
+    omega (arith, length .length .ensures, prepare .prepare .ensures .kept .long, length .before .before .before .before .pre .1)
 
 same-length-3 : tie.Need-same-length-3
 same-length-3 c = search needs
@@ -75,11 +90,13 @@ returns-2 c =
     let branch = fill .before .before .before in
     let won = branch .before .before in
     let prepare = won .before .before .before .before in
+    let length = prepare .before .before .before .before .before in
+    let v = sym (branch .before .system-wins .ensures) ∙ branch .if1 .left in
     record {
-      wins = sym (sym (branch .before .system-wins .ensures) ∙ branch .if1 .left);
-      scratch = cleared-kept _ _ _ _ (prepare .prepare .ensures .kept) (prepare .before .before .length .ensures) (clear .clear2 .ensures);
-      controller = refl;
-      environment = fill .fill .ensures;
+      wins = rw v refl;
+      scratch = cleared-kept _ _ _ _ (prepare .prepare .ensures .kept) (length .length .ensures) (clear .clear2 .ensures);
+      controller = rw v refl;
+      environment = rw v (fill .fill .ensures);
     }
 
 pub write-winner-spec : {M : Type 1} → statement M

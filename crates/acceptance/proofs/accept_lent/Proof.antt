@@ -1,9 +1,9 @@
--- `accept` from what each test ensures.
+-- `accept_lent` from what each test ensures.
 use Rattle.game.specs.Acceptance.{fewRequirements, tests, acceptance}
 use Rattle.game.proofs.Numbers.{accepts}
 use borrow.Author.Needs.{needs}
-use Rattle.acceptance.proofs.accept.Statement.{statement}
-use Rattle.acceptance.proofs.accept.Tie as tie
+use Rattle.acceptance.proofs.accept_lent.Statement.{statement}
+use Rattle.acceptance.proofs.accept_lent.Tie as tie
 
 counts-fit-requires : tie.Need-counts-fit-requires
 counts-fit-requires c κs = search needs
@@ -27,8 +27,8 @@ returns : tie.Need-returns
 unfolding acceptance tests fewRequirements
 returns c = accepts _ (cc)
 
-pub accept-spec : {M : Type 1} → statement M
-accept-spec =
+pub accept-lent-spec : {M : Type 1} → statement M
+accept-lent-spec =
     tie.close
     (tie.spec
     counts-fit-requires

@@ -1,0 +1,2 @@
+-- Laws of the sets of requirements in one list.
+pub mod Listing

@@ -1,0 +1,3 @@
+-- Laws of the way up through the inputs.
+pub mod First
+pub mod Written

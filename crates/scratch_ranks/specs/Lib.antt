@@ -1,0 +1,2 @@
+-- What the walk through the inputs has met, and the ranks that it has written.
+pub mod Passed
