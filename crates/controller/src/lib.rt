@@ -11,7 +11,7 @@ use table_sizes::Outline;
 ghost use mathlib.Core.Path.{_≡_};
 ghost use Prim.Native.Nat.{_≤_, _<_};
 ghost use lib.ListN.{length, drop};
-ghost use Rattle.sets.specs.Words.{bitsOf};
+ghost use Rattle.sets.specs.Words.{bitsOf, setsIn};
 ghost use Rattle.scratch.specs.Stored.{Ready};
 ghost use Rattle.game.specs.Acceptance.{acceptance};
 ghost use Rattle.game.specs.declared.Acceptance.the-variants.{Accepted};
@@ -20,6 +20,7 @@ ghost use Rattle.theory.specs.Entries.{controllerEntries};
 ghost use mathlib.Core.List.{_++_};
 ghost use Rattle.game_sets.specs.Lists.{Lists};
 ghost use Rattle.table_sizes.specs.Outlined.{Outlined};
+ghost use Rattle.region_runs.specs.Runs.{Runs};
 ghost use Rattle.controller_rows.specs.Writes.{lengthOf};
 ghost use Rattle.controller_table.specs.Filled.{ControllerFilled, Every, At, Below, Sized, Given};
 ghost use Rattle.controller.specs.Sizes.{ByInput, ByComponent};
@@ -27,7 +28,7 @@ ghost use Rattle.bits.specs.Member.{pack};
 ghost use Rattle.compact.specs.Rank.{leads};
 ghost use Rattle.compact.specs.Compact.{compactLength, compactEntries};
 
-// The rows whose home is d; c are the inputs in nontrivial components. Here and below the rows of the output graph, `outs`, are read where they stand, and the
+// The rows whose home is d; c are the inputs in nontrivial components, of which `firsts` begin a run of equal rows. Here and below the rows of the output graph, `outs`, are read where they stand, and the
 // requirements in the outline, `given`: a game goes by value, and of it only counts are read.
 fn settle(
     g: Game,
@@ -38,13 +39,15 @@ fn settle(
     room: &mut [u16],
     z: Size,
     c: InSet,
+    firsts: InSet,
     d: OutState,
 )
     requires { ⌜ Given g z (now s) (bitsOf (c .0)) × (d .0 < z .outputs) × (lengthOf z ≤ length (now room))
-        × Outlined g given × (now outs ≡ g .output .moves) × Lists g (now l) ⌝ }
+        × Outlined g given × (now outs ≡ g .output .moves) × Lists g (now l)
+        × Runs (setsIn (now s)) (z .inputs) (bitsOf (c .0)) (bitsOf (firsts .0)) ⌝ }
     ensures { λ r. ⌜ ControllerFilled (separatedOf g) z (At (separatedOf g) (d .0)) (now (room .entry)) (now (room .exit)) ⌝ }
 {
-    let inputs = controller_homeward::residents(s, z.inputs, c, d, d);
+    let inputs = controller_homeward::residents(s, z.inputs, c, firsts, d, d);
     if sets::is_empty(inputs.0) {
         return;
     }
@@ -54,7 +57,7 @@ fn settle(
         component,
         inputs,
     };
-    controller_homeward::approach(g, outs, s, room, z, c, w);
+    controller_homeward::approach(g, outs, s, room, z, c, firsts, w);
     controller_tour::tour(g, given, l, outs, room, z, w);
 }
 
@@ -68,14 +71,16 @@ fn settle_all(
     room: &mut [u16],
     z: Size,
     c: InSet,
+    firsts: InSet,
 )
-    requires { ⌜ Given g z (now s) (bitsOf (c .0)) × (lengthOf z ≤ length (now room)) × Outlined g given × (now outs ≡ g .output .moves) × Lists g (now l) ⌝ }
+    requires { ⌜ Given g z (now s) (bitsOf (c .0)) × (lengthOf z ≤ length (now room)) × Outlined g given × (now outs ≡ g .output .moves) × Lists g (now l)
+        × Runs (setsIn (now s)) (z .inputs) (bitsOf (c .0)) (bitsOf (firsts .0)) ⌝ }
     ensures { λ r. ⌜ ControllerFilled (separatedOf g) z (Below (separatedOf g) (z .outputs)) (now (room .entry)) (now (room .exit)) ⌝ }
 {
     let m = z.outputs;
     let mut d = 0;
     while d < m {
-        settle(g, given, l, outs, s, room, z, c, OutState(d));
+        settle(g, given, l, outs, s, room, z, c, firsts, OutState(d));
         d += 1;
     }
 }
@@ -94,8 +99,9 @@ fn rows(
     requires { ⌜ Given g z (now s) (bitsOf (c .0)) × (lengthOf z ≤ length (now room)) × Outlined g given × (now outs ≡ g .output .moves) × Lists g (now l) ⌝ }
     ensures { λ r. ⌜ ControllerFilled (separatedOf g) z Every (now (room .entry)) (now (room .exit)) ⌝ }
 {
-    unsettled::plains(room, s, z, c, outs);
-    settle_all(g, given, l, outs, s, room, z, c);
+    let firsts = region_runs::firsts(s, z.inputs, c);
+    unsettled::plains(room, s, z, c, firsts, outs);
+    settle_all(g, given, l, outs, s, room, z, c, firsts);
 }
 
 // The size of the table of an accepted game, with rows by input.

@@ -311,6 +311,12 @@ module _ (g : Game) (z : Size) (s : List ℕ) (inner : ℕ) (G : Given g z s inn
     pub homing-within : within x (z .inputs) ≡ true
     homing-within = has-within x (z .inputs) (λ j h. I .inputs j h .0)
 
+    pub homing-inner : (j : ℕ) → has x j ≡ true → has inner j ≡ true
+    homing-inner j h =
+        let i = I .inputs j h in
+        let l : j < separatedOf g .input .states = omega (arith, i .0, sizes-of g z (G .sized) .inputs) in
+        T .core j l ∙ H .resides j l (i .1) .core
+
     homing-small : x < 2 ^ capacity
     homing-small = small-word capacity x (λ j h. omega (arith, I .inputs j h .0, sizes-of g z (G .sized) .inputs, T .few-inputs))
 

@@ -9,7 +9,7 @@ use game::InState;
 use game::OutSet;
 use game::OutState;
 ghost use mathlib.Core.Path.{_≡_};
-ghost use Prim.Native.Nat.{_+_, _≤_, _<_};
+ghost use Prim.Native.Nat.{ℕ, _+_, _≤_, _<_};
 ghost use Rattle.sets.specs.Words.{capacity, bitsOf, setsIn, setCount};
 ghost use Rattle.scratch.specs.Scratch.{scratchSets};
 ghost use lib.ListN.{length};
@@ -17,6 +17,7 @@ ghost use Rattle.play.specs.Play.{separatedOf};
 ghost use mathlib.Core.Bool.{true, _&&_};
 ghost use Rattle.bits.specs.Member.{has, pack, within};
 ghost use Rattle.controller_rows.specs.Writes.{lengthOf, residesAt};
+ghost use Rattle.region_runs.specs.Runs.{Runs};
 ghost use Rattle.controller_homeward.specs.Homes.{lowestIs, settledAt, lowerAt, alikeAt, reachesFirst, nearAt};
 ghost use Rattle.controller_table.specs.Filled.{ControllerFilled, Away as AwayRow, Given, HomeOf};
 
@@ -43,13 +44,15 @@ fn settled(s: &[u64], n: usize, c: InSet, reach: OutSet, d: OutState) -> InSet
     InSet(x)
 }
 
-// The inputs of c, those in nontrivial components, whose home at output o is d.
-pub fn residents(s: &[u64], n: usize, c: InSet, o: OutState, d: OutState) -> InSet
-    requires { ⌜ (n ≤ capacity) × (o .0 < capacity) × (scratchSets n (o .0) < setCount (now s)) ⌝ }
+// The inputs of c, those in nontrivial components, whose home at output o is d. What is asked of a row is asked once for each run; `firsts` begin them.
+pub fn residents(s: &[u64], n: usize, c: InSet, firsts: InSet, o: OutState, d: OutState) -> InSet
+    requires { ⌜ (n ≤ capacity) × (o .0 < capacity) × (scratchSets n (o .0) < setCount (now s))
+        × Runs (setsIn (now s)) n (bitsOf (c .0)) (bitsOf (firsts .0)) ⌝ }
     ensures { λ r. ⌜ bitsOf (r .0) ≡ pack n (residesAt (setsIn (now (s .entry))) n (bitsOf (c .0)) (o .0) (d .0)) ⌝ }
 {
     let reach = scratch::out_reach(s, n, o);
-    settled(s, n, c, reach, d)
+    let x = settled(s, n, firsts, reach, d);
+    region_runs::spread(n, c, firsts, x)
 }
 
 // The homes of input j below d.
@@ -75,6 +78,28 @@ fn alike(s: &[u64], n: usize, x: InSet, homes: OutSet, d: OutState) -> InSet
         rest = sets::without_lowest(rest);
     }
     InSet(y)
+}
+
+// The same, x being inputs of c: asked of each where each begins a run, and else once for each run.
+fn alike_in(
+    s: &[u64],
+    n: usize,
+    c: InSet,
+    firsts: InSet,
+    x: InSet,
+    homes: OutSet,
+    d: OutState,
+) -> InSet
+    requires { ⌜ (n ≤ capacity) × (n + n ≤ setCount (now s)) × (d .0 < capacity) × (within (bitsOf (x .0)) n ≡ true)
+        × Runs (setsIn (now s)) n (bitsOf (c .0)) (bitsOf (firsts .0)) × ((j : ℕ) → has (bitsOf (x .0)) j ≡ true → has (bitsOf (c .0)) j ≡ true) ⌝ }
+    ensures { λ r. ⌜ bitsOf (r .0) ≡ pack n (λ j. has (bitsOf (x .0)) j && alikeAt (setsIn (now (s .entry))) n (d .0) (bitsOf (homes .0)) j) ⌝ }
+{
+    if sets::is_subset(x.0, firsts.0) {
+        return alike(s, n, x, homes, d);
+    }
+    let y = alike(s, n, firsts, homes, d);
+    let z = region_runs::spread(n, c, firsts, y);
+    InSet(sets::intersection(x.0, z.0))
 }
 
 // Whether an output with this reach reaches d, and none of the homes.
@@ -112,9 +137,11 @@ pub fn approach(
     room: &mut [u16],
     z: Size,
     c: InSet,
+    firsts: InSet,
     w: Home,
 )
-    requires { ⌜ Given g z (now s) (bitsOf (c .0)) × HomeOf (separatedOf g) w × (lengthOf z ≤ length (now room)) × (now outs ≡ g .output .moves) ⌝ }
+    requires { ⌜ Given g z (now s) (bitsOf (c .0)) × HomeOf (separatedOf g) w × (lengthOf z ≤ length (now room)) × (now outs ≡ g .output .moves)
+        × Runs (setsIn (now s)) (z .inputs) (bitsOf (c .0)) (bitsOf (firsts .0)) ⌝ }
     ensures { λ r. ⌜ ControllerFilled (separatedOf g) z (AwayRow (separatedOf g) (w .state .0)) (now (room .entry)) (now (room .exit)) ⌝ }
 {
     let n = z.inputs;
@@ -125,7 +152,7 @@ pub fn approach(
     while !sets::is_empty(rest) {
         let j = sets::lowest(rest);
         let homes = lower(s, n, InState(j), d);
-        let group = alike(s, n, InSet(rest), homes, d);
+        let group = alike_in(s, n, c, firsts, InSet(rest), homes, d);
         let inside = nearest(s, n, g.output.states, homes, d);
         let component = w.component;
         let over = leaders::columns_of(z, group);

@@ -1,8 +1,9 @@
 -- Laws of loops that change a buffer.
 --
 --   each-hit, each-miss, each-end    : the turns of a loop, and its end
+--   each-none                        : no step is made
 --   each-long                        : steps that keep the length
-use Prim.Native.Nat.{ℕ, _+_, _≤_}
+use Prim.Native.Nat.{ℕ, zero, suc, _+_, _≤_, _<_}
 use native.Mathlib.Numerals.{add-one}
 use mathlib.Core.Path.{_≡_, refl, _∙_, subst}
 use mathlib.Core.Bool.{Bool, true, false}
@@ -22,6 +23,10 @@ module _ {p : ℕ → Bool} {F : ℕ → List ℕ → List ℕ → Type 0} where
   each-end {k} {n} {l} {m} a b e =
       let q : k ≡ n = omega arith in
       subst (λ (i : ℕ). Each p F i l m) q e
+
+  pub each-none : (l : List ℕ) (k : ℕ) → ((i : ℕ) → i < k → p i ≡ false) → Each p F k l l
+  each-none l zero f = none
+  each-none l (suc k) f = miss (each-none l k (λ i b. f i (omega (arith, b)))) (f k (omega arith))
 
   pub each-long : ((i : ℕ) (l m : List ℕ) → F i l m → length m ≡ length l) → {k : ℕ} {l m : List ℕ} → Each p F k l m → length m ≡ length l
   each-long f none = refl

@@ -6,13 +6,13 @@
 --   long-..                          : lengths are kept
 --   plain-led, plain-other           : the rows of one output, input by input
 --   table-long                       : the table fits any buffer of the length
---   lowest-both, settles-in, settles-out, start-in, start-out : the tests by cases
+--   lowest-both, settled-told, start-in, start-out : the tests by cases
 use Prim.Native.Nat.{ℕ, _+_, _*_, _≤_, _<_}
 use native.Mathlib.Nat.{zero-mul}
 use mathlib.Core.Path.{_≡_, refl, sym, _∙_, ap}
-use mathlib.Core.Bool.{Bool, true, false, not, _&&_}
+use mathlib.Core.Bool.{true, false, not, _&&_}
 use mathlib.Core.List.{List}
-use mathlib.Core.Logic.{inl, inr}
+use mathlib.Core.Logic.{_⊎_, inl, inr}
 use native.Mathlib.Omega.{arith}
 use native.Mathlib.Decide.{decLt}
 use lib.ListN.{length, set, length-set}
@@ -20,7 +20,8 @@ use borrow.Author.Tests.{lt-ltb, le-ltb, ltb-true}
 use Rattle.finite.specs.Bounded.{least}
 use Rattle.finite.proofs.Truth.{decide, and-intro, and-false-left, and-false-right}
 use Rattle.finite.proofs.Bounded.{least-same, count-le}
-use Rattle.bits.specs.Member.{has, pack, both, setsMeet}
+use Rattle.bits.specs.Member.{has, pack, both}
+use Rattle.bits.proofs.Membership.{has-pack-below}
 use Rattle.sets.specs.Words.{capacity}
 use Rattle.arena.specs.Table.{gives}
 use Rattle.theory.specs.Entries.{entry}
@@ -48,7 +49,7 @@ use Rattle.controller_rows.specs.Writes.{
   Start,
   Starts,
 }
-use Rattle.controller_rows.proofs.Each.{each-hit, each-miss, each-long}
+use Rattle.controller_rows.proofs.Each.{each-hit, each-miss, each-none, each-long}
 
 -- ---- entries for every counter
 
@@ -155,6 +156,16 @@ module _ {z : Size} {s : List ℕ} {c o moves j : ℕ} {k l : List ℕ} where
   plain-other L t =
       record { each = each-miss (L .each) (and-false-left (not (settlesAt c j (rowAt s (z .inputs) j) (outReachAt s (z .inputs) o))) t) refl }
 
+-- where each leader has a home in reach there is no such row
+pub plain-none : {z : Size} {s : List ℕ} {c o moves : ℕ} (l : List ℕ) (k : ℕ)
+    → ((j : ℕ) → j < k → leading z j ≡ true → settlesAt c j (rowAt s (z .inputs) j) (outReachAt s (z .inputs) o) ≡ true) → Plain z s c o moves k l l
+plain-none {z} {s} {c} {o} l k f = record { each = each-none l k (λ j b. go j b (decide (leading z j))) }
+  where
+    go : (j : ℕ) → j < k → (leading z j ≡ true) ⊎ (leading z j ≡ false)
+        → (leading z j && not (settlesAt c j (rowAt s (z .inputs) j) (outReachAt s (z .inputs) o))) ≡ false
+    go j b (inl h) = and-false-right (leading z j) (ap not (f j b h))
+    go j b (inr h) = and-false-left (not (settlesAt c j (rowAt s (z .inputs) j) (outReachAt s (z .inputs) o))) h
+
 module _ {z : Size} {l m : List ℕ} where
   pub long-plain : {s : List ℕ} {c o moves k : ℕ} → Plain z s c o moves k l m → length m ≡ length l
   long-plain e = each-long (λ j a b r. r .column .long) (e .each)
@@ -173,14 +184,14 @@ pub lowest-both : (x y r : ℕ) {p : ℕ} → ((s : ℕ) → has r s ≡ (has x 
 unfolding both
 lowest-both x y r h e = e ∙ least-same capacity (has r) (both x y) (λ s b. h s)
 
-module _ (c j row reach : ℕ) where
-  pub settles-in : {r : Bool} → has c j ≡ true → r ≡ setsMeet capacity row reach → r ≡ settlesAt c j row reach
-  unfolding settlesAt
-  settles-in h e = rw h e
-
-  pub settles-out : has c j ≡ false → false ≡ settlesAt c j row reach
-  unfolding settlesAt
-  settles-out h = rw h refl
+-- a set of inputs with a home in reach tells of each of them whether it has one
+pub settled-told : (z : Size) (s : List ℕ) (c o x : ℕ) {r : ℕ} → r ≡ outReachAt s (z .inputs) o
+    → x ≡ pack (z .inputs) (λ j. settlesAt c j (rowAt s (z .inputs) j) r) → (j : ℕ) → j < z .inputs
+    → has x j ≡ settlesAt c j (rowAt s (z .inputs) j) (outReachAt s (z .inputs) o)
+settled-told z s c o x {r} e h j l =
+    ap (λ (k : ℕ). has k j) h
+    ∙ has-pack-below (z .inputs) (λ k. settlesAt c k (rowAt s (z .inputs) k) r) j l
+    ∙ ap (λ (k : ℕ). settlesAt c j (rowAt s (z .inputs) j) k) e
 
 module _ (z : Size) (s : List ℕ) (c ins outs i : ℕ) where
   pub start-in : {p x f m : ℕ} → has ins i ≡ true → x ≡ pack (z .outputs) (wonAt s (z .inputs) c i) → p ≡ least capacity (both outs x) → Stays p f m

@@ -12,7 +12,7 @@ residents-requires : tie.Need-residents-requires
 residents-requires c κs =
     let b = c .before .before in
     let t = table-of (b .args .g) (b .args .z) (b .pre .0 .sized) _ (b .pre .2) in
-    omega (arith, scratch-long (b .pre .0), b .pre .1, t .inputs, t .outputs)
+    (t .inputs, omega (arith, b .pre .1, t .outputs), omega (arith, scratch-long (b .pre .0), b .pre .1), b .pre .6)
 
 is-empty-requires : tie.Need-is-empty-requires
 is-empty-requires c κs = search needs
@@ -44,6 +44,7 @@ approach-requires c κs =
           (r .residents .ensures) _ (some _ (e .is-empty .ensures) (t .if1 .left)) (k .out-component .ensures),
       b .pre .2,
       b .pre .4,
+      b .pre .6,
     )
 
 tour-requires : tie.Need-tour-requires

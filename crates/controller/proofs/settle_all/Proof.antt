@@ -9,10 +9,10 @@ use Rattle.controller.proofs.settle_all.Statement.{statement}
 use Rattle.controller.proofs.settle_all.Tie as tie
 
 abbrev Inv-loop : tie.InvT-loop
-Inv-loop g given l outs s room₀ z cores m d₀ room d = (d ≤ m) × ControllerFilled (separatedOf g) z (Below (separatedOf g) d) room₀ room
+Inv-loop g given l outs s room₀ z cores firsts m d₀ room d = (d ≤ m) × ControllerFilled (separatedOf g) z (Below (separatedOf g) d) room₀ room
 
 abbrev μ-loop : tie.MeasureT-loop
-μ-loop g given l outs s room₀ z cores m d₀ room d = m - d
+μ-loop g given l outs s room₀ z cores firsts m d₀ room d = m - d
 
 loop-holds : tie.Need-loop-holds Inv-loop μ-loop
 loop-holds c = (omega arith, homes-none _ _ _)
@@ -21,7 +21,7 @@ settle-requires : tie.Need-settle-requires Inv-loop μ-loop
 settle-requires c κs =
     let l = c .before .before in
     let b = l .before .before .before in
-    (b .pre .0, omega arith, omega (arith, b .pre .1, l .loop .inv .1 .long), b .pre .2, b .pre .3, b .pre .4)
+    (b .pre .0, omega arith, omega (arith, b .pre .1, l .loop .inv .1 .long), b .pre .2, b .pre .3, b .pre .4, b .pre .5)
 
 add-d : tie.Need-add-d Inv-loop μ-loop
 add-d c = omega arith

@@ -17,6 +17,7 @@ use Rattle.controller_homeward.proofs.Homeward.{
   group-filled,
   homing-start,
   homing-within,
+  homing-inner,
   homing-in,
   homing-falls,
   homing-next,
@@ -26,10 +27,10 @@ use Rattle.controller_homeward.proofs.approach.Statement.{statement}
 use Rattle.controller_homeward.proofs.approach.Tie as tie
 
 abbrev Inv-loop : tie.InvT-loop
-Inv-loop g outs s room₀ z w n y d rest₀ room rest = Homing g z w (bitsOf rest) room₀ room
+Inv-loop g outs s room₀ z k firsts w n y d rest₀ room rest = Homing g z w (bitsOf rest) room₀ room
 
 abbrev μ-loop : tie.MeasureT-loop
-μ-loop g outs s room₀ z w n y d rest₀ room rest = count capacity (has (bitsOf rest))
+μ-loop g outs s room₀ z k firsts w n y d rest₀ room rest = count capacity (has (bitsOf rest))
 
 some-left : (c : tie.Then1 Inv-loop μ-loop) → bitsOf (c .before .before .loop .rest) ≢ 0
 some-left c = is-some _ (c .before .is-empty .ensures) (c .if1 .taken)
@@ -60,13 +61,19 @@ lower-requires c κs =
     let r = home-read _ _ _ _ (p .0) _ (p .1) in
     (r .0, homing-in _ _ _ _ (p .0) _ (p .1) _ (l .loop .inv) (some-left (c .before)) _ (c .lowest .ensures), r .3, r .2)
 
-alike-requires : tie.Need-alike-requires Inv-loop μ-loop
-alike-requires c κs =
+alike-in-requires : tie.Need-alike-in-requires Inv-loop μ-loop
+alike-in-requires c κs =
     let l = c .before .before .before .before in
     let v = l .before .before .before .before in
     let p = v .before .before .before .pre in
-    let r = home-read _ _ _ _ (p .0) _ (p .1) in
-    (r .0, r .3, r .2, homing-within _ _ _ _ (p .0) _ (p .1) _ (l .loop .inv))
+    let r = home-read _ _ _ _ (p .0) _ (p .1) in (
+      r .0,
+      r .3,
+      r .2,
+      homing-within _ _ _ _ (p .0) _ (p .1) _ (l .loop .inv),
+      p .4,
+      homing-inner _ _ _ _ (p .0) _ (p .1) _ (l .loop .inv),
+    )
 
 nearest-requires : tie.Need-nearest-requires Inv-loop μ-loop
 nearest-requires c κs =
@@ -109,7 +116,7 @@ loop-less c =
     let v = l .before .before .before .before in
     let p = v .before .before .before .pre in
     homing-falls _ _ _ _ (p .0) _ (p .1) _ (l .loop .inv) (some-left (o .before)) _ (o .lowest .ensures) _ _ _ (x .before .before .lower .ensures)
-    (x .before .alike .ensures) (c .difference .ensures)
+    (x .before .alike-in .ensures) (c .difference .ensures)
 
 loop-again : tie.Need-loop-again Inv-loop μ-loop
 loop-again c =
@@ -123,7 +130,7 @@ loop-again c =
     let near = near-of _ _ (p .0 .sized) _ _ _ refl (x .nearest .ensures) in
     homing-next _ _ _ _ (p .0) _ (p .1) _ (l .loop .inv) _ _ (c .difference .ensures)
     (group-filled _ _ _ _ (p .0) _ (p .1) _ (v .layout-of .ensures) _ _ (bitsOf (l .loop .rest)) near (p .3) _ _
-    (λ j h. l .loop .inv .inputs j h .1) (x .before .alike .ensures) (k .columns-of .ensures) (a .approach .ensures))
+    (λ j h. l .loop .inv .inputs j h .1) (x .before .alike-in .ensures) (k .columns-of .ensures) (a .approach .ensures))
     refl
 
 same-length : tie.Need-same-length Inv-loop μ-loop
@@ -148,7 +155,7 @@ approach-spec =
     is-empty-requires
     lowest-requires
     lower-requires
-    alike-requires
+    alike-in-requires
     nearest-requires
     columns-of-requires
     approach-requires

@@ -1,11 +1,7 @@
--- `residents`: what is in reach is what o reaches.
-use Prim.Native.Nat.{ℕ}
-use mathlib.Core.Path.{_∙_, ap}
-use Rattle.bits.specs.Member.{pack}
-use Rattle.sets.specs.Words.{bitsOf, setsIn}
-use Rattle.controller_homeward.specs.Homes.{settledAt}
-use Rattle.controller_homeward.proofs.Lowest.{resides-all}
+-- `residents`: what is in reach is what o reaches, and a run has its home where its first input has it.
 use borrow.Author.Needs.{needs}
+use native.Mathlib.Omega.{arith}
+use Rattle.controller_homeward.proofs.Lowest.{settled-part, resides-spread}
 use Rattle.controller_homeward.proofs.residents.Statement.{statement}
 use Rattle.controller_homeward.proofs.residents.Tie as tie
 
@@ -15,12 +11,16 @@ out-reach-requires c κs = search needs
 settled-requires : tie.Need-settled-requires
 settled-requires c κs = search needs
 
+spread-requires : tie.Need-spread-requires
+spread-requires c κs =
+    let p = c .before .before .before .pre in
+    (p .0, p .3 .below, settled-part _ _ _ _ _ _ (c .settled .ensures))
+
 returns : tie.Need-returns
 returns c =
-    let r = c .before in
-    let a = r .before .before .args in
-    let found = ap (λ (x : ℕ). pack (a .n) (settledAt (setsIn (a .s .now)) (a .n) (bitsOf (a .c .0)) x (a .d .0))) (r .out-reach .ensures) in
-    resides-all _ _ _ _ _ (c .settled .ensures ∙ found)
+    let x = c .before in
+    let r = x .before in
+    resides-spread _ _ _ _ _ _ (x .settled .ensures) _ _ (r .before .before .pre .3) (r .out-reach .ensures) (c .spread .ensures)
 
 pub residents-spec : {M : Type 1} → statement M
-residents-spec = tie.close (tie.spec out-reach-requires settled-requires returns)
+residents-spec = tie.close (tie.spec out-reach-requires settled-requires spread-requires returns)

@@ -8,7 +8,7 @@ use Rattle.sets.specs.Words.{capacity, bitsOf, setsIn}
 use Rattle.sets.proofs.Rows.{is-some, is-none}
 use Rattle.scratch.specs.Stored.{rowAt}
 use Rattle.controller_homeward.specs.Homes.{lowestIs, settledAt}
-use Rattle.controller_homeward.proofs.Lowest.{visit-start, visit-end}
+use Rattle.region_runs.proofs.Visits.{visit-start, visit-end}
 use native.Mathlib.Omega.{arith}
 use borrow.Author.Needs.{needs}
 use Rattle.controller_homeward.proofs.settled.Statement.{statement}

@@ -1,30 +1,27 @@
 -- `plain_row`: nothing where a home is in reach, else the lowest move.
 use Prim.Native.Nat.{ℕ}
-use mathlib.Core.Path.{refl, sym, _∙_, ap, ap₂}
+use mathlib.Core.Path.{refl, sym, _∙_, ap}
 use native.Mathlib.Omega.{arith}
 use borrow.Author.Needs.{needs}
 use Rattle.finite.specs.Bounded.{least}
 use Rattle.finite.proofs.Truth.{clash}
 use Rattle.bits.specs.Member.{both}
 use Rattle.sets.specs.Words.{capacity, bitsOf}
-use Rattle.controller_rows.specs.Writes.{settlesAt}
 use Rattle.controller_rows.proofs.Writes.{row-at, lowest-both}
 use Rattle.controller_opening.proofs.unsettled.plain_row.Statement.{statement}
 use Rattle.controller_opening.proofs.unsettled.plain_row.Tie as tie
 
-region-row-requires : tie.Need-region-row-requires
-region-row-requires c κs = omega arith
-
-settles-requires : tie.Need-settles-requires
-settles-requires c κs = omega arith
+member-requires : tie.Need-member-requires
+member-requires c κs = omega arith
 
 returns : tie.Need-returns
-returns c =
-    let t = c .before in
-    let r = t .before in
-    let b = r .before .before .before in
-    let test = t .settles .ensures ∙ ap₂ (λ (x y : ℕ). settlesAt (bitsOf (b .args .c .0)) (b .args .j .0) x y) (r .region-row .ensures) (b .pre .5) in
-    record { written = λ h. clash (sym test ∙ c .if1 .taken) h; kept = λ h. refl }
+returns c = (
+  λ k e. record { written = λ h. clash (sym e ∙ sym (c .before .member .ensures) ∙ c .if1 .taken) h; kept = λ h. refl },
+  refl,
+)
+
+region-row-requires : tie.Need-region-row-requires
+region-row-requires c κs = omega arith
 
 intersection-requires : tie.Need-intersection-requires
 intersection-requires c κs = search needs
@@ -34,8 +31,8 @@ lowest-requires c κs = search needs
 
 write-row-requires : tie.Need-write-row-requires
 write-row-requires c κs =
-    let r = c .before .before .before .before .before in
-    let b = r .before .before .before in
+    let m = c .before .before .before .before .before in
+    let b = m .before .before .before in
     (b .pre .0, b .pre .1, b .pre .3)
 
 same-length : tie.Need-same-length
@@ -46,24 +43,24 @@ returns-2 c =
     let w = c .before .before in
     let low = w .before .before in
     let cut = low .before in
-    let e = cut .before in
-    let t = e .before in
-    let r = t .before in
-    let b = r .before .before .before in
-    let test = t .settles .ensures ∙ ap₂ (λ (x y : ℕ). settlesAt (bitsOf (b .args .c .0)) (b .args .j .0) x y) (r .region-row .ensures) (b .pre .5) in
-    let moved = ap (λ (x : ℕ). least capacity (both (bitsOf (b .args .moves .0)) x)) (r .region-row .ensures) in
-    record {
-      written = λ h. row-at (lowest-both _ _ _ (cut .intersection .ensures) (low .lowest .ensures) ∙ moved) (w .write-row .ensures);
-      kept = λ h. clash h (sym test ∙ e .if1 .left);
-    }
+    let r = cut .before in
+    let e = r .before in
+    let b = e .before .before .before .before in
+    let moved = ap (λ (x : ℕ). least capacity (both (bitsOf (b .args .moves .0)) x)) (r .region-row .ensures) in (
+      λ k h. record {
+        written = λ f. row-at (lowest-both _ _ _ (cut .intersection .ensures) (low .lowest .ensures) ∙ moved) (w .write-row .ensures);
+        kept = λ f. clash f (sym h ∙ sym (e .before .member .ensures) ∙ e .if1 .left);
+      },
+      w .write-row .ensures .column .long,
+    )
 
 pub plain-row-spec : {M : Type 1} → statement M
 plain-row-spec =
     tie.close
     (tie.spec
-    region-row-requires
-    settles-requires
+    member-requires
     returns
+    region-row-requires
     intersection-requires
     lowest-requires
     write-row-requires

@@ -11,10 +11,10 @@ use Rattle.controller_opening.proofs.unsettled.plains.Statement.{statem
 use Rattle.controller_opening.proofs.unsettled.plains.Tie as tie
 
 abbrev Inv-loop : tie.InvT-loop
-Inv-loop room₀ s z c moves m o₀ room o = (o ≤ m) × Plains z (setsIn s) (bitsOf (c .0)) (setsIn moves) o room₀ room
+Inv-loop room₀ s z c firsts moves m o₀ room o = (o ≤ m) × Plains z (setsIn s) (bitsOf (c .0)) (setsIn moves) o room₀ room
 
 abbrev μ-loop : tie.MeasureT-loop
-μ-loop room₀ s z c moves m o₀ room o = m - o
+μ-loop room₀ s z c firsts moves m o₀ room o = m - o
 
 loop-holds : tie.Need-loop-holds Inv-loop μ-loop
 loop-holds c = (omega arith, record { each = none })
@@ -25,7 +25,7 @@ row-of-requires c κs = omega arith
 plain-requires : tie.Need-plain-requires Inv-loop μ-loop
 plain-requires c κs =
     let b = c .before .before .before in
-    (table-long (b .before .before .before .pre .0) (long-plains (b .loop .inv .1)), omega arith, omega arith)
+    (table-long (b .before .before .before .pre .0) (long-plains (b .loop .inv .1)), omega arith, omega arith, b .before .before .before .pre .2)
 
 add-o : tie.Need-add-o Inv-loop μ-loop
 add-o c = omega arith

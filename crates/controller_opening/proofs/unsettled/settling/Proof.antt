@@ -1,0 +1,111 @@
+-- `settling` collects the inputs with a home in reach.
+use Prim.Native.Nat.{ℕ}
+use mathlib.Core.Path.{_∙_, ap}
+use Rattle.finite.specs.Bounded.{count}
+use Rattle.bits.specs.Member.{has, setsMeet}
+use Rattle.bits.proofs.Visit.{Collected, collected-below, collected-falls, collected-next}
+use Rattle.sets.specs.Words.{capacity, bitsOf, setsIn}
+use Rattle.sets.proofs.Rows.{is-some, is-none}
+use Rattle.scratch.specs.Stored.{rowAt}
+use Rattle.controller_rows.specs.Writes.{settlesAt}
+use Rattle.region_runs.proofs.Visits.{visit-start, visit-end}
+use native.Mathlib.Omega.{arith}
+use borrow.Author.Needs.{needs}
+use Rattle.controller_opening.proofs.unsettled.settling.Statement.{statement}
+use Rattle.controller_opening.proofs.unsettled.settling.Tie as tie
+
+abbrev Inv-loop : tie.InvT-loop
+Inv-loop s n reach y₀ rest₀ y rest =
+    Collected capacity (bitsOf rest₀) n (λ j. setsMeet capacity (rowAt (setsIn s) n j) (bitsOf (reach .0))) (bitsOf rest) (bitsOf y)
+
+abbrev μ-loop : tie.MeasureT-loop
+μ-loop s n reach y₀ rest₀ y rest = count capacity (has (bitsOf rest))
+
+empty-requires : tie.Need-empty-requires Inv-loop μ-loop
+empty-requires c κs = search needs
+
+below-requires : tie.Need-below-requires Inv-loop μ-loop
+below-requires c κs = omega arith
+
+intersection-requires : tie.Need-intersection-requires Inv-loop μ-loop
+intersection-requires c κs = search needs
+
+loop-holds : tie.Need-loop-holds Inv-loop μ-loop
+loop-holds c =
+    rw (c .before .before .empty .ensures .1) (visit-start _ _ _ _ (c .before .below .ensures) (c .intersection .ensures) _ (omega arith))
+
+is-empty-requires : tie.Need-is-empty-requires Inv-loop μ-loop
+is-empty-requires c κs = search needs
+
+lowest-requires : tie.Need-lowest-requires Inv-loop μ-loop
+lowest-requires c κs = search needs
+
+region-row-requires : tie.Need-region-row-requires Inv-loop μ-loop
+region-row-requires c κs =
+    let e = c .before .before in
+    let b = e .before in
+    let p = b .before .before .before .before .before .pre in
+    let below = collected-below capacity _ _ _ _ _ (b .loop .inv) (is-some _ (e .is-empty .ensures) (c .before .if1 .taken)) _ (c .lowest .ensures) in
+    (p .0, below, p .1)
+
+meets-requires : tie.Need-meets-requires Inv-loop μ-loop
+meets-requires c κs = search needs
+
+insert-if-requires : tie.Need-insert-if-requires Inv-loop μ-loop
+insert-if-requires c κs =
+    let l = c .before .before in
+    let e = l .before .before in
+    let b = e .before in
+    let p = b .before .before .before .before .before .pre in
+    omega (arith, p .0, collected-below capacity _ _ _ _ _ (b .loop .inv) (is-some _ (e .is-empty .ensures) (l .before .if1 .taken)) _ (l .lowest .ensures))
+
+without-lowest-requires : tie.Need-without-lowest-requires Inv-loop μ-loop
+without-lowest-requires c κs =
+    let l = c .before .before .before in
+    is-some _ (l .before .before .is-empty .ensures) (l .before .if1 .taken)
+
+loop-less : tie.Need-loop-less Inv-loop μ-loop
+loop-less c =
+    let l = c .before .before .before .before in
+    let e = l .before .before in
+    let ne = is-some _ (e .is-empty .ensures) (l .before .if1 .taken) in
+    collected-falls capacity _ _ _ _ _ (e .before .loop .inv) ne _ (l .lowest .ensures) _ (c .without-lowest .ensures)
+
+loop-again : tie.Need-loop-again Inv-loop μ-loop
+loop-again c =
+    let h = c .before .before in
+    let l = h .before .before in
+    let e = l .before .before in
+    let b = e .before in
+    let a = b .before .before .before .before .before .args in
+    let ne = is-some _ (e .is-empty .ensures) (l .before .if1 .taken) in
+    let test = h .meets .ensures ∙ ap (λ (x : ℕ). setsMeet capacity x (bitsOf (a .reach .0))) (h .before .region-row .ensures) in
+    collected-next capacity _ _ _ _ _ (b .loop .inv) ne _ (l .lowest .ensures) _ (c .without-lowest .ensures) test (c .before .insert-if .ensures)
+
+returns : tie.Need-returns Inv-loop μ-loop
+unfolding settlesAt
+returns c =
+    let e = c .before in
+    let b = e .before in
+    let i = b .before in
+    visit-end _ _ _ _ (i .before .below .ensures) (i .intersection .ensures) _ _ _ (b .loop .inv) (is-none _ (e .is-empty .ensures) (c .if1 .left))
+
+pub settling-spec : {M : Type 1} → statement M
+settling-spec =
+    tie.close
+    (tie.spec
+    Inv-loop
+    μ-loop
+    empty-requires
+    below-requires
+    intersection-requires
+    loop-holds
+    is-empty-requires
+    lowest-requires
+    region-row-requires
+    meets-requires
+    insert-if-requires
+    without-lowest-requires
+    loop-less
+    loop-again
+    returns)

@@ -1,0 +1,2 @@
+-- Runs of inputs with the same row.
+pub mod Runs
