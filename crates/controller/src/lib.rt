@@ -6,6 +6,7 @@ use controller_rows::Home;
 use controller_rows::Size;
 use game::Game;
 use game::InSet;
+use game::OutSet;
 use game::OutState;
 use table_sizes::Outline;
 ghost use mathlib.Core.Path.{_≡_};
@@ -51,7 +52,13 @@ fn settle(
     if sets::is_empty(inputs.0) {
         return;
     }
-    let component = scratch::out_component(s, z.inputs, z.outputs, d);
+    let component = scratch::out_component(
+        s,
+        z.inputs,
+        z.outputs,
+        d,
+        OutSet(sets::row_of(outs, d.0)),
+    );
     let w = Home {
         state: d,
         component,

@@ -38,7 +38,7 @@ fn component_rows<'a>(
     if !sets::member(inner.0, i.0) {
         return;
     }
-    let c = scratch::in_component(s, g.input.states, i);
+    let c = scratch::in_component(s, g.input.states, i, InSet(sets::row_of(ins, i.0)));
     if sets::lowest(c.0) != i.0 {
         return;
     }

@@ -1,5 +1,6 @@
 -- Where the rows are the closure's, the sets are the graph's own components.
 --
+--   closed-transitive   : the rows are transitive
 --   component-closed    : the component of s
 --   nontrivial-closed   : the states of nontrivial components
 --   leaving-closed      : the states entered by a move out of a component
@@ -20,11 +21,12 @@ use Rattle.graphs.specs.Rows.{rel}
 use Rattle.graphs.specs.Closure.{reaches}
 use Rattle.graphs.specs.Component.{joined, nontrivial, leaves}
 use Rattle.graphs.proofs.Graph.{edge-intro, edge-to, edge-moves}
+use Rattle.graphs.proofs.Closure.{reaches-trans}
 use Rattle.graphs.proofs.Component.{joined-back, joined-to, nontrivial-intro, nontrivial-move}
 use Rattle.game.specs.declared.Graph.{Graph as Record}
 use Rattle.game.proofs.Laws.{GraphFits}
 use Rattle.play.specs.Play.{graphOf}
-use Rattle.graph_components.specs.Component.{together, nontrivialAt, enters}
+use Rattle.graph_components.specs.Component.{Transitive, together, nontrivialAt, enters}
 use Rattle.graph_components.specs.Closes.{Closes}
 
 module _ (h : Record) where
@@ -40,6 +42,12 @@ module _ (h : Record) (l : List ℕ) (C : Closes h l) where
   rel-closed : (s t : ℕ) → s < h .states → t < h .states → rel l s t ≡ reaches (graphOf h) s t
   unfolding rel
   rel-closed s t a b = ap (λ (x : ℕ). has x t) (C .row s a) ∙ has-pack-below (h .states) (reaches (graphOf h) s) t b
+
+  pub closed-transitive : Transitive l (h .states)
+  closed-transitive = record {
+    through = λ s t u a b d e f.
+        rel-closed s u a d ∙ reaches-trans (graphOf h) s t u (sym (rel-closed s t a b) ∙ e) (sym (rel-closed t u b d) ∙ f);
+  }
 
   together-closed : (s t : ℕ) → s < h .states → t < h .states → together l s t ≡ joined (graphOf h) s t
   unfolding together joined

@@ -28,6 +28,16 @@ both-true a b e h = rw h e
 pub both-false : (a b : Bool) → a ≡ false → false ≡ (a && b)
 both-false a b h = rw h refl
 
+pub spared-whole : (x y s t : ℕ) → has y s ≡ true → has x t ≡ (has x t && (has y s || not (has y t)))
+spared-whole x y s t h = rw h (same (has x t))
+  where
+    same : (b : Bool) → b ≡ (b && true)
+    same true = refl
+    same false = refl
+
+pub spared-less : (x y s t : ℕ) {r : Bool} → has y s ≡ false → r ≡ (has x t && not (has y t)) → r ≡ (has x t && (has y s || not (has y t)))
+spared-less x y s t h e = rw h e
+
 pub together-at : (rows : List ℕ) (s t : ℕ) {r : Bool} → r ≡ (has (getD rows s 0) t && has (getD rows t 0) s) → r ≡ together rows s t
 unfolding together rel
 together-at rows s t e = e

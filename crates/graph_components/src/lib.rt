@@ -1,10 +1,10 @@
 // Strongly connected components of a graph, in sets, from the rows of its closure.
 ghost use mathlib.Core.Path.{_≡_};
-ghost use mathlib.Core.Bool.{_&&_, not};
+ghost use mathlib.Core.Bool.{not, _&&_, _||_};
 ghost use Prim.Native.Nat.{ℕ, _≤_, _<_};
 ghost use Rattle.bits.specs.Member.{has, pack, setsMeet};
-ghost use Rattle.sets.specs.Words.{capacity, lowStates, bitsOf, setsIn, setCount};
-ghost use Rattle.graph_components.specs.Component.{together, nontrivialAt, enters};
+ghost use Rattle.sets.specs.Words.{capacity, bitsOf, setsIn, setCount};
+ghost use Rattle.graph_components.specs.Component.{Transitive, together, Pruned, nontrivialAt, enters};
 use game::Graph;
 use sets::Set;
 
@@ -19,46 +19,50 @@ fn both_ways(row: Set, other: Set, s: usize, t: usize) -> bool
     false
 }
 
-// The same of states of the low word.
-fn both_ways_low(row: Set, other: Set, s: usize, t: usize) -> bool
-    requires { ⌜ (s < lowStates) × (t < lowStates) ⌝ }
-    ensures { λ r. ⌜ r ≡ (has (bitsOf row) t && has (bitsOf other) s) ⌝ }
+// x itself where s belongs to `other`; or else x without the members of `other`.
+fn spared(x: Set, other: Set, s: usize) -> Set
+    requires { ⌜ s < capacity ⌝ }
+    ensures { λ r. ⌜ ((t : ℕ) → has (bitsOf r) t ≡ (has (bitsOf x) t && (has (bitsOf other) s || not (has (bitsOf other) t)))) ⌝ }
 {
-    if sets::member_low(row, t) {
-        return sets::member_low(other, s);
+    if sets::member(other, s) {
+        return x;
     }
-    false
+    sets::difference(x, other)
 }
 
-// The states that s reaches and that reach s, in a graph whose states are all of the low word.
-fn component_low(rows: &[u64], n: usize, s: usize) -> Set
-    requires { ⌜ (n ≤ lowStates) × (s < n) × (n ≤ setCount (now rows)) ⌝ }
-    ensures { λ r. ⌜ bitsOf r ≡ pack n (together (setsIn (now (rows .entry))) s) ⌝ }
+// The states that s reaches, without all that a state of `near` reaches which does not reach s itself: none of that reaches s.
+fn pruned(rows: &[u64], n: usize, s: usize, near: Set) -> Set
+    requires { ⌜ (n ≤ capacity) × (s < n) × (n ≤ setCount (now rows)) × Transitive (setsIn (now rows)) n ⌝ }
+    ensures { λ r. ⌜ Pruned (setsIn (now (rows .entry))) n s (bitsOf r) ⌝ }
 {
-    let row = sets::row(rows, s);
-    let mut c = sets::empty();
-    let mut t: usize = 0;
-    while t < n {
-        c = sets::insert_if(c, t, both_ways_low(row, sets::row(rows, t), s, t));
-        t += 1;
+    let mut x = sets::intersection(sets::row(rows, s), sets::below(n));
+    let mut rest = sets::intersection(x, near);
+    while !sets::is_empty(rest) {
+        let row = sets::row(rows, sets::lowest(rest));
+        x = spared(x, row, s);
+        rest = sets::without_lowest(rest);
     }
-    c
+    x
 }
 
-// The states that s reaches and that reach s.
-pub fn component(rows: &[u64], n: usize, s: usize) -> Set
-    requires { ⌜ (n ≤ capacity) × (s < n) × (n ≤ setCount (now rows)) ⌝ }
+// The states that s reaches and that reach s. `near` may be any set, and the moves of s serve best: where one of them does not lead back, nothing that it
+// reaches is looked at. The same goes for each state that is looked at then. Here the test is a branch and no call of `spared`, with which each turn would
+// wait for the row that the last has read.
+pub fn component(rows: &[u64], n: usize, s: usize, near: Set) -> Set
+    requires { ⌜ (n ≤ capacity) × (s < n) × (n ≤ setCount (now rows)) × Transitive (setsIn (now rows)) n ⌝ }
     ensures { λ r. ⌜ bitsOf r ≡ pack n (together (setsIn (now (rows .entry))) s) ⌝ }
 {
-    if n <= sets::LOW {
-        return component_low(rows, n, s);
-    }
-    let row = sets::row(rows, s);
     let mut c = sets::empty();
-    let mut t: usize = 0;
-    while t < n {
-        c = sets::insert_if(c, t, both_ways(row, sets::row(rows, t), s, t));
-        t += 1;
+    let mut rest = pruned(rows, n, s, near);
+    while !sets::is_empty(rest) {
+        let t = sets::lowest(rest);
+        let row = sets::row(rows, t);
+        rest = sets::without_lowest(rest);
+        if sets::member(row, s) {
+            c = sets::insert(c, t);
+        } else {
+            rest = sets::difference(rest, row);
+        }
     }
     c
 }

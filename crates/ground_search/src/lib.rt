@@ -91,7 +91,7 @@ fn exits(g: Game, s: &[u64], c: InSet, i: InState, o: OutState) -> InSet
 {
     let h = g.input;
     let n = h.states;
-    let inside = scratch::in_component(s, n, i);
+    let inside = scratch::in_component(s, n, i, game::in_moves(g, i));
     InSet(graph_components::leaving(h, &h.moves, inside.0))
 }
 
@@ -209,11 +209,11 @@ fn output_ground(g: Game, s: &[u64], c: InSet, i: InState, o: OutState) -> Expla
 {
     let n = g.input.states;
     let moves = game::out_moves(g, o);
-    let b = scratch::out_component(s, n, g.output.states, o);
+    let b = scratch::out_component(s, n, g.output.states, o, moves);
     if !sets::meets(moves.0, b.0) {
         return Explanation::PushedOn;
     }
-    let a = scratch::in_component(s, n, i);
+    let a = scratch::in_component(s, n, i, game::in_moves(g, i));
     let r = first_owed(g, a, b);
     Explanation::Unserved(r, first_missed(g, r, b))
 }

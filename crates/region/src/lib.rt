@@ -53,7 +53,7 @@ pub fn prepare<'a, 'b>(
 {
     scratch::close(g, ins, outs, s);
     let x = scratch::nontrivial_states(g, ins, outs, s);
-    let t = region_dues::served(g, l, guaranteed, s);
+    let t = region_dues::served(g, outs, l, guaranteed, s);
     fill(g, ins, outs, l, assumed, &t.first, &t.second, s, x);
     x
 }

@@ -102,8 +102,15 @@ fn mark(
     }
 }
 
-// The outputs whose components serve each requirement, from scratch that holds the outputs' closure. Each component is worked out once, for its first output.
-pub fn served(g: Game, l: &[u64; sets::ROW_WORDS], guaranteed: &[usize; 8], s: &[u64]) -> Servers
+// The outputs whose components serve each requirement, from scratch that holds the outputs' closure. Each component is worked out once, for its first output,
+// whose moves are read in `outs`, the rows of the output graph.
+pub fn served(
+    g: Game,
+    outs: &[u64; sets::ROW_WORDS],
+    l: &[u64; sets::ROW_WORDS],
+    guaranteed: &[usize; 8],
+    s: &[u64],
+) -> Servers
     requires { ⌜ Fits g × Laid g (now s) × Lists g (now l) × GuaranteedCounts g (now guaranteed) ⌝ }
     ensures { λ r. ⌜ Serving g (r .first) (r .second) ⌝ }
 {
@@ -115,7 +122,13 @@ pub fn served(g: Game, l: &[u64; sets::ROW_WORDS], guaranteed: &[usize; 8], s: &
     let mut rest = sets::below(g.output.states);
     while !sets::is_empty(rest) {
         let d = sets::lowest(rest);
-        let c = scratch::out_component(s, g.input.states, g.output.states, OutState(d));
+        let c = scratch::out_component(
+            s,
+            g.input.states,
+            g.output.states,
+            OutState(d),
+            OutSet(sets::row_of(outs, d)),
+        );
         mark(l, guaranteed, 0, few, c, &mut first);
         mark(l, guaranteed, 4, more, c, &mut second);
         rest = sets::difference(rest, c.0);

@@ -134,7 +134,7 @@ pub fn fill_component(
 {
     let n = g.input.states;
     let i = bottom(g, s, left);
-    let a = scratch::in_component(s, n, i);
+    let a = scratch::in_component(s, n, i, InSet(sets::row_of(ins, i.0)));
     let r = stored_row(g, ins, outs, l, assumed, first, second, s, x, a, i);
     put_rows(s, n, a, r);
     InSet(sets::difference(left.0, a.0))

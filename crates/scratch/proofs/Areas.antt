@@ -4,6 +4,7 @@
 --   laid-both, kept-both                 : both closures, one after the other
 --   row-put                              : a row of the region is written
 --   in-closes, out-closes                : the closures' rows where they are laid
+--   in-transitive, out-transitive        : so both areas are transitive
 use Prim.Native.Nat.{ℕ, _+_, _-_, _^_, _≤_, _<_}
 use native.Mathlib.Nat.{add-assoc}
 use mathlib.Core.Path.{_≡_, refl, sym, _∙_, ap}
@@ -24,6 +25,8 @@ use Rattle.game.specs.declared.Game.{Game}
 use Rattle.play.specs.Play.{graphOf}
 use Rattle.graph_closure.specs.Sweep.{Closed}
 use Rattle.graph_components.specs.Closes.{Closes}
+use Rattle.graph_components.specs.Component.{Transitive}
+use Rattle.graph_components.proofs.Closed.{closed-transitive}
 use Rattle.scratch.specs.Scratch.{scratchSets, scratchLength, Kept}
 use Rattle.scratch.specs.Stored.{inReachAt, rowAt, outReachAt, outArea, RowPut, Laid}
 use Rattle.scratch.specs.Areas.{ClosedAt}
@@ -161,3 +164,9 @@ module _ {g : Game} {s : List ℕ} (L : Laid g s) where
   pub area-closes : Closes (g .output) (outArea (setsIn s) (g .input .states))
   unfolding outArea
   area-closes = out-closes
+
+  pub in-transitive : Transitive (setsIn s) (g .input .states)
+  in-transitive = closed-transitive (g .input) (setsIn s) in-closes
+
+  pub out-transitive : Transitive (outArea (setsIn s) (g .input .states)) (g .output .states)
+  out-transitive = closed-transitive (g .output) (outArea (setsIn s) (g .input .states)) area-closes

@@ -8,7 +8,7 @@ ghost use Rattle.bits.specs.Member.{pack};
 ghost use Rattle.sets.specs.Words.{capacity, bitsOf, setsIn, setCount};
 ghost use Rattle.game.specs.declared.Graph.{Graph};
 ghost use Rattle.graph_closure.specs.Sweep.{Given};
-ghost use Rattle.graph_components.specs.Component.{together, nontrivialAt};
+ghost use Rattle.graph_components.specs.Component.{Transitive, together, nontrivialAt};
 ghost use Rattle.game.specs.Fits.{Fits};
 ghost use Rattle.scratch.specs.Scratch.{scratchSets, scratchLength, Kept};
 ghost use Rattle.scratch.specs.Stored.{inReachAt, rowAt, outReachAt, outArea, reachingAt, wonAt, someWonAt, WonKept, Reached, RowPut, NontrivialOf, Laid};
@@ -74,21 +74,21 @@ pub fn out_reach(s: &[u64], n: usize, o: OutState) -> OutSet
     OutSet(sets::row(s, n + n + o.0))
 }
 
-// The component of input i.
-pub fn in_component(s: &[u64], n: usize, i: InState) -> InSet
-    requires { ⌜ (n ≤ capacity) × (i .0 < n) × (n ≤ setCount (now s)) ⌝ }
+// The component of input i. `near` are the inputs to try first: its moves serve best.
+pub fn in_component(s: &[u64], n: usize, i: InState, near: InSet) -> InSet
+    requires { ⌜ (n ≤ capacity) × (i .0 < n) × (n ≤ setCount (now s)) × Transitive (setsIn (now s)) n ⌝ }
     ensures { λ r. ⌜ bitsOf (r .0) ≡ pack n (together (setsIn (now (s .entry))) (i .0)) ⌝ }
 {
-    InSet(graph_components::component(s, n, i.0))
+    InSet(graph_components::component(s, n, i.0, near.0))
 }
 
-// The component of output o, of m outputs.
-pub fn out_component(s: &[u64], n: usize, m: usize, o: OutState) -> OutSet
-    requires { ⌜ (n ≤ capacity) × (m ≤ capacity) × (o .0 < m) × (scratchSets n m ≤ setCount (now s)) ⌝ }
+// The component of output o, of m outputs. Here too its moves serve best as `near`.
+pub fn out_component(s: &[u64], n: usize, m: usize, o: OutState, near: OutSet) -> OutSet
+    requires { ⌜ (n ≤ capacity) × (m ≤ capacity) × (o .0 < m) × (scratchSets n m ≤ setCount (now s)) × Transitive (outArea (setsIn (now s)) n) m ⌝ }
     ensures { λ r. ⌜ bitsOf (r .0) ≡ pack m (together (outArea (setsIn (now (s .entry))) n) (o .0)) ⌝ }
 {
     let at = sets::words(n + n);
-    OutSet(graph_components::component(&s[at..], m, o.0))
+    OutSet(graph_components::component(&s[at..], m, o.0, near.0))
 }
 
 // The closure of a graph of k states with the rows `moves`, from set number at of s on. The graph is not passed itself, as it would be copied.

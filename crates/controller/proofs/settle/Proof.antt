@@ -1,6 +1,7 @@
 -- `settle`: no resident, or the way home and the tour.
 use Rattle.sets.specs.Words.{bitsOf}
 use Rattle.sets.proofs.Rows.{none, some}
+use Rattle.scratch.proofs.Areas.{out-transitive}
 use Rattle.controller_table.proofs.Setting.{table-of, scratch-long}
 use Rattle.controller_table.proofs.Homes.{no-home, home-given, settled-here}
 use native.Mathlib.Omega.{arith}
@@ -25,17 +26,25 @@ returns c =
     no-home (b .args .g) (b .args .z) (b .args .s .now) (bitsOf (b .args .c .0)) (b .pre .0) (b .args .d .0) (b .pre .1) (r .residents .result)
     (r .residents .ensures) (none _ (e .is-empty .ensures) (c .if1 .taken)) (b .args .room .now)
 
-out-component-requires : tie.Need-out-component-requires
-out-component-requires c κs =
+row-of-requires : tie.Need-row-of-requires
+row-of-requires c κs =
     let r = c .before .before in
     let b = r .before .before .before in
     let t = table-of (b .args .g) (b .args .z) (b .pre .0 .sized) _ (b .pre .2) in
-    (t .inputs, t .outputs, b .pre .1, scratch-long (b .pre .0))
+    omega (arith, b .pre .1, t .outputs)
+
+out-component-requires : tie.Need-out-component-requires
+out-component-requires c κs =
+    let r = c .before .before .before in
+    let b = r .before .before .before in
+    let t = table-of (b .args .g) (b .args .z) (b .pre .0 .sized) _ (b .pre .2) in
+    let Z = b .pre .0 .sized in
+    (t .inputs, t .outputs, b .pre .1, scratch-long (b .pre .0), rw (Z .inputs, Z .outputs) (out-transitive (b .pre .0 .ready .laid)))
 
 approach-requires : tie.Need-approach-requires
 approach-requires c κs =
     let k = c .before in
-    let t = k .before in
+    let t = k .before .before in
     let e = t .before in
     let r = e .before in
     let b = r .before .before .before in (
@@ -51,7 +60,7 @@ tour-requires : tie.Need-tour-requires
 tour-requires c κs =
     let n = c .before .before .before in
     let k = n .before .before in
-    let t = k .before in
+    let t = k .before .before in
     let e = t .before in
     let r = e .before in
     let b = r .before .before .before in (
@@ -80,6 +89,7 @@ settle-spec =
     residents-requires
     is-empty-requires
     returns
+    row-of-requires
     out-component-requires
     approach-requires
     tour-requires

@@ -1,11 +1,12 @@
 -- `served`. Invariant: the outputs outside `rest` are in the sets of the requirements that they serve.
+use Prim.Native.Nat.{_<_}
 use mathlib.Core.Path.{_∙_}
 use native.Mathlib.Omega.{arith}
 use Rattle.finite.specs.Bounded.{count}
 use Rattle.bits.specs.Member.{has}
 use Rattle.sets.specs.Words.{capacity, bitsOf}
 use Rattle.sets.proofs.Rows.{is-some, is-none}
-use Rattle.scratch.proofs.Areas.{area-closes}
+use Rattle.scratch.proofs.Areas.{area-closes, out-transitive}
 use Rattle.region_dues.proofs.Halves.{half-room, first-below, guaranteed-few, marked-both}
 use Rattle.region_dues.proofs.Meaning.{fits-few, Sorted, sorted-start, sorted-below, sorted-falls, sorted-next, sorted-end}
 use borrow.Author.Needs.{needs}
@@ -13,10 +14,10 @@ use Rattle.region_dues.proofs.served.Statement.{statement}
 use Rattle.region_dues.proofs.served.Tie as tie
 
 abbrev Inv-loop : tie.InvT-loop
-Inv-loop g l guaranteed s k few more first₀ second₀ rest₀ first second rest = Sorted g (bitsOf rest) first second
+Inv-loop g outs l guaranteed s k few more first₀ second₀ rest₀ first second rest = Sorted g (bitsOf rest) first second
 
 abbrev μ-loop : tie.MeasureT-loop
-μ-loop g l guaranteed s k few more first₀ second₀ rest₀ first second rest = count capacity (has (bitsOf rest))
+μ-loop g outs l guaranteed s k few more first₀ second₀ rest₀ first second rest = count capacity (has (bitsOf rest))
 
 first-four-requires : tie.Need-first-four-requires Inv-loop μ-loop
 first-four-requires c κs = c .before .pre .0 .few
@@ -36,20 +37,33 @@ is-empty-requires c κs = search needs
 lowest-requires : tie.Need-lowest-requires Inv-loop μ-loop
 lowest-requires c κs = search needs
 
-out-component-requires : tie.Need-out-component-requires Inv-loop μ-loop
-out-component-requires c κs =
+below : (c : tie.After-lowest Inv-loop μ-loop)
+    → let b = c .before .before .before in
+    c .lowest .result < b .before .before .before .before .args .g .output .states
+below c =
     let e = c .before .before in
     let b = e .before in
     let p = b .before .before .before .before .pre in
     let some = is-some _ (e .is-empty .ensures) (c .before .if1 .taken) in
-    (p .0 .input .most, p .0 .output .most, sorted-below _ (p .0) _ (area-closes (p .1)) _ _ _ (b .loop .inv) some _ (c .lowest .ensures), p .1 .long)
+    sorted-below _ (p .0) _ (area-closes (p .1)) _ _ _ (b .loop .inv) some _ (c .lowest .ensures)
+
+row-of-requires : tie.Need-row-of-requires Inv-loop μ-loop
+row-of-requires c κs =
+    let b = c .before .before .before in
+    omega (arith, below c, b .before .before .before .before .pre .0 .output .most)
+
+out-component-requires : tie.Need-out-component-requires Inv-loop μ-loop
+out-component-requires c κs =
+    let b = c .before .before .before .before in
+    let p = b .before .before .before .before .pre in
+    (p .0 .input .most, p .0 .output .most, below (c .before), p .1 .long, out-transitive (p .1))
 
 slice-aggregate-mark : tie.Need-slice-aggregate-mark Inv-loop μ-loop
 slice-aggregate-mark c = search needs
 
 mark-requires : tie.Need-mark-requires Inv-loop μ-loop
 mark-requires c κs =
-    let e = c .before .before .before .before in
+    let e = c .before .before .before .before .before in
     let b = e .before in
     let started = b .before .before in
     let p = started .before .before .pre in
@@ -65,7 +79,7 @@ slice-aggregate-mark-2 c = search needs
 mark-requires-2 : tie.Need-mark-requires-2 Inv-loop μ-loop
 mark-requires-2 c κs =
     let marked = c .before .before .before in
-    let e = marked .before .before .before .before in
+    let e = marked .before .before .before .before .before in
     let b = e .before in
     let started = b .before .before in
     let p = started .before .before .pre in
@@ -82,7 +96,7 @@ loop-less : tie.Need-loop-less Inv-loop μ-loop
 loop-less c =
     let marked = c .before .before .before .before .before in
     let o = marked .before .before in
-    let l = o .before in
+    let l = o .before .before in
     let e = l .before .before in
     let b = e .before in
     let p = b .before .before .before .before .pre in
@@ -94,7 +108,7 @@ loop-again c =
     let M = c .before .before .mark2 .ensures in
     let marked = c .before .before .before .before .before in
     let o = marked .before .before in
-    let l = o .before in
+    let l = o .before .before in
     let e = l .before .before in
     let b = e .before in
     let started = b .before .before in
@@ -122,6 +136,7 @@ served-spec =
     loop-holds
     is-empty-requires
     lowest-requires
+    row-of-requires
     out-component-requires
     slice-aggregate-mark
     mark-requires

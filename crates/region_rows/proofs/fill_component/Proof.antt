@@ -1,4 +1,5 @@
 -- `fill_component` works out the row of one input, which is that of its component.
+use Rattle.scratch.proofs.Areas.{in-transitive}
 use Rattle.region_rows.proofs.Order.{bottom-below, filling-ready, row-component, component-below, filling-falls, filling-next, kept-writes}
 use native.Mathlib.Omega.{arith}
 use borrow.Author.Needs.{needs}
@@ -10,16 +11,22 @@ bottom-requires c κs =
     let p = c .before .before .pre in
     (p .0 .fits .input .most, p .0 .laid, p .0 .inside, p .2)
 
-in-component-requires : tie.Need-in-component-requires
-in-component-requires c κs =
+row-of-requires : tie.Need-row-of-requires
+row-of-requires c κs =
     let b = c .before in
     let P = b .before .before .before .pre .0 in
-    (P .fits .input .most, bottom-below P (b .bottom .ensures), omega (arith, P .laid .long))
+    omega (arith, bottom-below P (b .bottom .ensures), P .fits .input .most)
+
+in-component-requires : tie.Need-in-component-requires
+in-component-requires c κs =
+    let b = c .before .before in
+    let P = b .before .before .before .pre .0 in
+    (P .fits .input .most, bottom-below P (b .bottom .ensures), omega (arith, P .laid .long), in-transitive (P .laid))
 
 stored-row-requires : tie.Need-stored-row-requires
 stored-row-requires c κs =
     let a = c .before in
-    let b = a .before .before in
+    let b = a .before .before .before in
     let p = b .before .before .before .pre in
     let R = filling-ready (p .0) (b .bottom .ensures) in
     (R, p .1, row-component R _ (a .in-component .ensures), p .3, p .4, p .5, p .6)
@@ -27,7 +34,7 @@ stored-row-requires c κs =
 put-rows-requires : tie.Need-put-rows-requires
 put-rows-requires c κs =
     let a = c .before .before .before in
-    let b = a .before .before in
+    let b = a .before .before .before in
     let P = b .before .before .before .pre .0 in
     (P .fits .input .most, component-below P (b .bottom .ensures) _ (a .in-component .ensures), omega (arith, P .laid .long))
 
@@ -42,7 +49,7 @@ returns c =
     let w = c .before .before .before in
     let r = w .before .before in
     let a = r .before .before in
-    let b = a .before .before in
+    let b = a .before .before .before in
     let P = b .before .before .before .pre .0 in
     let B = b .bottom .ensures in
     let e = a .in-component .ensures in
@@ -57,6 +64,7 @@ fill-component-spec =
     tie.close
     (tie.spec
     bottom-requires
+    row-of-requires
     in-component-requires
     stored-row-requires
     put-rows-requires

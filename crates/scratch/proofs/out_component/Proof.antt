@@ -31,9 +31,16 @@ part-component-end : tie.Need-part-component-end
 part-component-end c = search needs
 
 component-requires : tie.Need-component-requires
+unfolding outArea
 component-requires c κs =
-    let a = c .before .before .before .args in
-    (omega arith, omega arith, part-count (a .n + a .n) _ (a .m) (a .s .now) (c .before .words .ensures) (omega arith))
+    let b = c .before .before .before in
+    let a = b .args in
+    let w = c .before .words .ensures in (
+      omega arith,
+      omega arith,
+      part-count (a .n + a .n) _ (a .m) (a .s .now) w (omega arith),
+      rw (part-sets (a .n + a .n) _ (a .s .now) w) (b .pre .4),
+    )
 
 returns : tie.Need-returns
 unfolding outArea
