@@ -4,6 +4,7 @@
 --   bracket-length            : of items in brackets, the first of which has no blank before it
 --   listed n j ws             == of n sets of ws from j on with a blank before each
 --   listed-*, states-*, requirements-*    : one more at a time
+--   Listing n ws to j         == to is what has been counted of j of the first n sets of ws; listing-* are the turns of a loop that counts them
 --   header-counted, state-counted         : of lines
 use Prim.Native.Nat.{ℕ, zero, suc, _+_, _*_, _-_, _≤_, _<_}
 use native.Mathlib.Omega.{arith}
@@ -38,6 +39,7 @@ use Rattle.text_shape.specs.Text.{
 }
 use Rattle.text_shape.specs.Shape.{opening}
 use Rattle.text_shape.proofs.Members.{members-take, members-skip}
+use Rattle.text_put.proofs.Bounds.{set-few}
 use Rattle.text_put.proofs.Buffer.{digits-one, digits-two, digits-three}
 use Rattle.text_put.proofs.Pieces.{header-length, state-length, requirements-none, requirements-take, requirements-last, requirement-past}
 
@@ -109,10 +111,10 @@ bracket-length ws = omega (arith, length-append (items false ws) (41 ∷ []), it
 unfoldable pub listed : ℕ → ℕ → List ℕ → ℕ
 listed n j ws = length (items true (map setText (cells n j ws)))
 
-pub listed-all : (n : ℕ) (ws : List ℕ) → 0 + listed (n - 0) 0 ws ≡ listed n 0 ws
+listed-all : (n : ℕ) (ws : List ℕ) → 0 + listed (n - 0) 0 ws ≡ listed n 0 ws
 listed-all n ws = let all : n - 0 ≡ n = omega arith in omega (arith, ap (λ (k : ℕ). listed k 0 ws) all)
 
-pub listed-next : (n j : ℕ) (ws : List ℕ) (x r : ℕ) → j < n → x ≡ getD ws j 0 → r ≡ length (setText x)
+listed-next : (n j : ℕ) (ws : List ℕ) (x r : ℕ) → j < n → x ≡ getD ws j 0 → r ≡ length (setText x)
     → listed (n - j) j ws ≡ 1 + r + listed (n - (j + 1)) (j + 1) ws
 unfolding listed cells items gapText
 listed-next n j ws x r l e h =
@@ -126,9 +128,28 @@ listed-next n j ws x r l e h =
       ap (λ (i : ℕ). listed (n - (j + 1)) i ws) (add-one j),
     )
 
-pub listed-end : (n j : ℕ) (ws : List ℕ) → n ≤ j → listed (n - j) j ws ≡ 0
+listed-end : (n j : ℕ) (ws : List ℕ) → n ≤ j → listed (n - j) j ws ≡ 0
 unfolding listed cells items
 listed-end n j ws l = let none : n - j ≡ 0 = omega arith in ap (λ (k : ℕ). listed k j ws) none
+
+pub record Listing (n : ℕ) (ws : List ℕ) (to j : ℕ) : Type 0 where
+  pub within : j ≤ n
+  pub short : to ≤ 515 * j
+  pub whole : to + listed (n - j) j ws ≡ listed n 0 ws
+
+pub listing-start : (n : ℕ) (ws : List ℕ) → Listing n ws 0 0
+listing-start n ws = record { within = omega arith; short = omega arith; whole = listed-all n ws }
+
+pub listing-next : {n : ℕ} {ws : List ℕ} {to j : ℕ} (x r : ℕ) → Listing n ws to j → j < n → x ≡ getD ws j 0 → r ≡ length (setText x)
+    → Listing n ws (to + (1 + r)) (j + 1)
+listing-next {n} {ws} {to} {j} x r L l e h = record {
+  within = omega arith;
+  short = omega (arith, L .short, set-few x h);
+  whole = omega (arith, L .whole, listed-next n j ws x r l e h);
+}
+
+pub listing-end : {n : ℕ} {ws : List ℕ} {to j : ℕ} → Listing n ws to j → n ≤ j → to ≡ listed n 0 ws
+listing-end {n} {ws} {to} {j} L l = omega (arith, L .whole, listed-end n j ws l)
 
 -- lines
 pub header-counted : (i o k : ℕ) → length (headerLine i o k) ≡ length (opening 0) + length (decimal i) + length (decimal o) + length (decimal k) + 4

@@ -50,7 +50,7 @@ use Rattle.text_shape.specs.Shape.{opening}
 use Rattle.text_shape.proofs.SetLists.{part-cons, item-text}
 use Rattle.text_put.specs.Put.{Puts}
 use Rattle.text_put.proofs.Lowest.{members-none, members-lowest}
-use Rattle.text_put.proofs.Buffer.{Remains, remains-step, remains-none, remains-room}
+use Rattle.text_put.proofs.Buffer.{Remains, remains-all, remains-step, remains-none, remains-room, puts-then, puts-as}
 
 -- fixed bytes, one at a time
 pub bytes-step : {d : List ℕ} {i : ℕ} {e : List ℕ} {at : ℕ} (l : List ℕ) (k b : ℕ) {r : ℕ} {f : List ℕ} → Remains d i l e at (drop k l) → k < length l
@@ -111,7 +111,7 @@ unfolding setsRest setsText bracket
 sets-open n ws = let all : n - 0 ≡ n = omega arith in ap (λ (k : ℕ). 40 ∷ (items false (map setText (cells k 0 ws)) ++ 41 ∷ [])) all
 
 module _ (gap : Bool) (j n : ℕ) (ws : List ℕ) where
-  pub sets-take : (x : ℕ) → j < n → x ≡ getD ws j 0 → setsRest gap j n ws ≡ (gapText gap ++ setText x) ++ setsRest true (j + 1) n ws
+  sets-take : (x : ℕ) → j < n → x ≡ getD ws j 0 → setsRest gap j n ws ≡ (gapText gap ++ setText x) ++ setsRest true (j + 1) n ws
   unfolding setsRest
   sets-take x l h =
       let split : n - j ≡ suc (n - (j + 1)) = omega arith in
@@ -121,20 +121,21 @@ module _ (gap : Bool) (j n : ℕ) (ws : List ℕ) where
       ∙ ap (λ (i : ℕ). items gap (map setText (x ∷ cells (n - (j + 1)) i ws)) ++ 41 ∷ []) (sym (add-one j))
       ∙ item-text gap (setText x) (map setText (cells (n - (j + 1)) (j + 1) ws)) ∙ sym (append-assoc (gapText gap) (setText x) _)
 
-  pub sets-last : n ≤ j → setsRest gap j n ws ≡ 41 ∷ []
+  sets-last : n ≤ j → setsRest gap j n ws ≡ 41 ∷ []
   unfolding setsRest items cells
   sets-last l = let none : n - j ≡ 0 = omega arith in ap (λ (k : ℕ). items gap (map setText (cells k j ws)) ++ 41 ∷ []) none
 
 -- the number of a set among others
+word-at : {A : Type 0} (f : A → ℕ) (none : A) → f none ≡ 0 → (xs : List A) (j : ℕ) → f (getD xs j none) ≡ getD (map f xs) j 0
+word-at f none e [] j = e
+word-at f none e (x ∷ xs) zero = refl
+word-at f none e (x ∷ xs) (suc j) = word-at f none e xs j
+
 pub in-word : (xs : List InSet) (j : ℕ) → bitsOf (getD xs j (record { 0 = noStates }) .0) ≡ getD (inWords xs) j 0
-in-word [] j = no-bits
-in-word (x ∷ xs) zero = refl
-in-word (x ∷ xs) (suc j) = in-word xs j
+in-word = word-at (λ x. bitsOf (x .0)) (record { 0 = noStates }) no-bits
 
 pub out-word : (xs : List OutSet) (j : ℕ) → bitsOf (getD xs j (record { 0 = noStates }) .0) ≡ getD (outWords xs) j 0
-out-word [] j = no-bits
-out-word (x ∷ xs) zero = refl
-out-word (x ∷ xs) (suc j) = out-word xs j
+out-word = word-at (λ x. bitsOf (x .0)) (record { 0 = noStates }) no-bits
 
 -- lines
 pub header-pieces : (i o k : ℕ)
@@ -217,10 +218,6 @@ module _ {d : List ℕ} {i : ℕ} {all e : List ℕ} {at : ℕ} where
   member-room x v small some low y less gap n R g =
       remains-room (gapText gap ++ decimal v) (setRest true y) n R (set-take x v small some low y less gap) g
 
-  pub item-room : (gap : Bool) (j k : ℕ) (ws : List ℕ) (x n : ℕ) → Remains d i all e at (setsRest gap j k ws) → j < k → x ≡ getD ws j 0 → i + length all ≤ n
-      → at + length (gapText gap ++ setText x) ≤ n
-  item-room gap j k ws x n R l h g = remains-room (gapText gap ++ setText x) (setsRest true (j + 1) k ws) n R (sets-take gap j k ws x l h) g
-
   pub state-room : (w k s : ℕ) (h : Graph) (f x n : ℕ) → Remains d i all e at (stateLines w (k - s) s (plain h)) → s < k
       → f ≡ one (has (bitsOf (h .initial)) s) → x ≡ getD (setsIn (h .moves)) s 0
       → i + length all ≤ n → at + length (stateLine w s f x) ≤ n
@@ -230,6 +227,30 @@ module _ {d : List ℕ} {i : ℕ} {all e : List ℕ} {at : ℕ} where
       → requirementLine q ≡ requirementLine (getD qs r emptyRequirement) → i + length all ≤ n → at + length (requirementLine q) ≤ n
   requirement-room k r qs q n R l h g =
       remains-room (requirementLine q) (requirementLines (k - (r + 1)) (r + 1) qs) n R (requirements-take k r qs q l h) g
+
+-- the sets of a list are written one by one: those from j on are left, and there is room for them
+pub record SetsLeft (d : List ℕ) (i n : ℕ) (ws e : List ℕ) (at : ℕ) (gap : Bool) (j : ℕ) : Type 0 where
+  pub rest : Remains d i (setsRest false 0 n ws) e at (setsRest gap j n ws)
+  pub room : i + length (setsRest false 0 n ws) ≤ 2 ^ 32
+
+-- behind the opening bracket all are left
+pub sets-begin : {d : List ℕ} {at n : ℕ} {ws e : List ℕ} {i : ℕ} → Puts d at (40 ∷ []) i e → at + length (setsText n ws) ≤ 2 ^ 32
+    → SetsLeft e i n ws e i false 0
+sets-begin {at = at} {n} {ws} {e} {i} P l = record { rest = remains-all e i _; room = omega (arith, P .next, sets-room at n (2 ^ 32) ws l) }
+
+module _ {d : List ℕ} {i n : ℕ} {ws e : List ℕ} {at : ℕ} {gap : Bool} {j : ℕ} (S : SetsLeft d i n ws e at gap j) where
+  pub item-room : (x : ℕ) → j < n → x ≡ getD ws j 0 → at + length (gapText gap ++ setText x) ≤ 2 ^ 32
+  item-room x l h = remains-room (gapText gap ++ setText x) (setsRest true (j + 1) n ws) (2 ^ 32) (S .rest) (sets-take gap j n ws x l h) (S .room)
+
+  pub sets-next : (x : ℕ) {r : ℕ} {f : List ℕ} → j < n → x ≡ getD ws j 0 → Puts e at (gapText gap ++ setText x) r f → SetsLeft d i n ws f r true (j + 1)
+  sets-next x l h P = record { rest = remains-step _ _ (S .rest) (sets-take gap j n ws x l h) P; room = S .room }
+
+  pub last-room : n ≤ j → at + 1 ≤ 2 ^ 32
+  last-room l = remains-room (41 ∷ []) [] (2 ^ 32) (S .rest) (sets-last gap j n ws l) (S .room)
+
+  -- the list is written with its closing bracket
+  pub sets-end : {b : List ℕ} {o r : ℕ} {f : List ℕ} → Puts b o (40 ∷ []) i d → n ≤ j → Puts e at (41 ∷ []) r f → Puts b o (setsText n ws) r f
+  sets-end P l Q = puts-as (sets-open n ws) (puts-then P (remains-none (remains-step (41 ∷ []) [] (S .rest) (sets-last gap j n ws l) Q)))
 
 -- the lengths of lines
 pub header-length : (i o k : ℕ)
