@@ -1,43 +1,33 @@
 -- `meet`.
-use Prim.Native.Nat.{_+_, _-_, _≤_, _<_}
-use mathlib.Core.Path.{_≡_, refl, _∙_, ap}
+use Prim.Native.Nat.{_-_}
 use mathlib.Core.Logic.{⊎-elim}
-use lib.ListN.{length}
 use native.Mathlib.Omega.{arith}
-use Rattle.sets.specs.Words.{setsIn}
-use Rattle.sets.proofs.Rows.{count-same, sets-long, is-some, is-none}
+use Rattle.sets.proofs.Rows.{is-some, is-none}
 use borrow.Author.Needs.{needs}
-use Rattle.barred_rows.specs.Areas.{Met}
-use Rattle.barred_rows.proofs.Rows.{met-none, met-skip, met-next}
+use Rattle.barred_rows.proofs.Merging.{Merging, merging-start, merging-skip, merging-next, merging-end, lost, and-same, met}
 use Rattle.barred_rows.proofs.meet.Statement.{statement}
 use Rattle.barred_rows.proofs.meet.Tie as tie
 
 abbrev Inv-loop : tie.InvT-loop
-Inv-loop s₀ n from to shrank₀ i₀ s shrank i = (i ≤ n) × (length s ≡ length s₀) × Met i from to (setsIn s₀) (setsIn s) shrank
+Inv-loop s₀ n from to shrank₀ i₀ s shrank i = Merging lost lost n from to s₀ s i shrank
 
 abbrev μ-loop : tie.MeasureT-loop
 μ-loop s₀ n from to shrank₀ i₀ s shrank i = n - i
 
 loop-holds : tie.Need-loop-holds Inv-loop μ-loop
-loop-holds c = (omega arith, refl, met-none _ _ _ (c .before .pre .3) _)
+loop-holds c = merging-start and-same _ _ _ _ (c .before .pre .0)
 
 add-row : tie.Need-add-row Inv-loop μ-loop
 add-row c = omega arith
 
 row-requires : tie.Need-row-requires Inv-loop μ-loop
-row-requires c κs =
-    let l = c .before .before in
-    let b = l .before .before in
-    omega (arith, b .pre .0, b .pre .2, count-same (l .loop .s) (b .args .s .now) (l .loop .inv .1))
+row-requires c κs = omega arith
 
 add-row-2 : tie.Need-add-row-2 Inv-loop μ-loop
 add-row-2 c = omega arith
 
 row-requires-2 : tie.Need-row-requires-2 Inv-loop μ-loop
-row-requires-2 c κs =
-    let l = c .before .before .before .before in
-    let b = l .before .before in
-    omega (arith, b .pre .0, b .pre .1, count-same (l .loop .s) (b .args .s .now) (l .loop .inv .1))
+row-requires-2 c κs = omega arith
 
 difference-requires : tie.Need-difference-requires Inv-loop μ-loop
 difference-requires c κs = search needs
@@ -52,12 +42,7 @@ difference-requires-2 : tie.Need-difference-requires-2 Inv-loop μ-loop
 difference-requires-2 c κs = search needs
 
 put-requires : tie.Need-put-requires Inv-loop μ-loop
-put-requires c κs =
-    let t = c .before .before .before in
-    let l = t .before .before .before .before .before in
-    let r = l .before .before in
-    let b = r .before .before in
-    omega (arith, b .pre .0, b .pre .2, count-same (r .loop .s) (b .args .s .now) (r .loop .inv .1))
+put-requires c κs = omega arith
 
 add-i : tie.Need-add-i Inv-loop μ-loop
 add-i c = omega arith
@@ -73,32 +58,20 @@ loop-again c =
     let old = other .before .before in
     let l = old .before .before .before in
     let b = l .before .before in
-    let fits : b .args .to + l .loop .i < length (setsIn (l .loop .s)) = omega
-    (arith, b .pre .0, b .pre .2, count-same (l .loop .s) (b .args .s .now) (l .loop .inv .1), sets-long (l .loop .s)) in
     ⊎-elim
-    (λ w. (
-      omega arith,
-      ap length (w .6) ∙ w .3 .kept .0 ∙ l .loop .inv .1,
-      rw (w .6, w .3 .ensures, w .7)
-          (met-next (b .args .n) _ _ (b .pre .3) _ (l .loop .i) _ _ (l .loop .inv .2) (omega arith) _ _ _ (old .row .ensures) (other .row2 .ensures)
-          (d .difference .ensures) _ (w .2 .ensures) (is-some _ (t .is-empty .ensures) (w .0 .taken)) fits),
-    ))
-    (λ w. (
-      omega arith,
-      ap length (w .1) ∙ l .loop .inv .1,
-      rw (w .1, w .2) (met-skip (b .args .n) _ _ (b .pre .3) _ (l .loop .i) _ _ (l .loop .inv .2) (omega arith) _ _ _ (old .row .ensures) (other .row2 .ensures)
-          (d .difference .ensures) (is-none _ (t .is-empty .ensures) (w .0 .left))),
-    ))
+    (λ w.
+    rw (w .6, w .7) (merging-next and-same (l .loop .inv) (b .pre .3) (omega arith) (old .row .ensures) (other .row2 .ensures) (d .difference .ensures) _ _
+    (w .2 .ensures) (is-some _ (t .is-empty .ensures) (w .0 .taken)) (b .pre .2) (w .3 .kept .0) (w .3 .ensures)))
+    (λ w.
+    rw (w .1, w .2) (merging-skip and-same (l .loop .inv) (b .pre .3) (omega arith) (old .row .ensures) (other .row2 .ensures) (d .difference .ensures)
+    (is-none _ (t .is-empty .ensures) (w .0 .left))))
     (c .if1 .came)
 
 same-length : tie.Need-same-length Inv-loop μ-loop
-same-length c = c .before .loop .inv .1
+same-length c = c .before .loop .inv .long
 
 returns : tie.Need-returns Inv-loop μ-loop
-returns c =
-    let l = c .before in
-    let e : l .loop .i ≡ l .before .before .args .n = omega arith in
-    rw e at (l .loop .inv .2)
+returns c = met (merging-end (c .before .loop .inv) (c .loop-test .left))
 
 pub meet-spec : {M : Type 1} → statement M
 meet-spec =
