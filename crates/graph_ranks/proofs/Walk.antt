@@ -4,21 +4,22 @@
 --   leads-now        : which input is the smallest of its component
 --   left-inputs      : what is left are inputs
 --   left-reduced     : the walk goes one input on
---   members-fit      : the places of a component's ranks lie in a list that has all ranks
 --   counted          : the count of the smallest states is that of the components
---   Walked, walked-start, -rank, -next, -skip     : the walk, with the rank that comes next
+--   Walked, walked-start, -small, -rank, -next, -skip    : the walk, with the rank that comes next
+--   around-ready     : what the search for the next component asks
+--   members-fit      : the places of a component's ranks lie in a list that has all ranks
 --   written-next, -skip, -end                     : the ranks written on it
 --   read-next, -skip, -end, -fails                : the ranks read on it
 use Prim.Native.Nat.{ℕ, _+_, _≤_, _<_}
 use mathlib.Core.Path.{_≡_, refl, sym, _∙_, ap}
 use lib.Dec.{ltb}
 use borrow.Author.Tests.{ltb-true, lt-ltb, le-ltb}
-use mathlib.Core.Bool.{true, false, _&&_, not}
+use mathlib.Core.Bool.{Bool, true, false, _&&_, not}
 use mathlib.Core.List.{List}
 use mathlib.Core.Logic.{inl, inr}
 use native.Mathlib.Omega.{arith}
 use Rattle.finite.specs.Bounded.{count}
-use Rattle.finite.proofs.Truth.{decide, and-intro, and-left}
+use Rattle.finite.proofs.Truth.{decide, and-intro, and-left, not-true, not-false}
 use Rattle.finite.proofs.Bounded.{count-le, count-same, count-wide}
 use Rattle.bits.specs.Member.{has, pack}
 use Rattle.bits.proofs.Membership.{has-pack-below, has-pack-past}
@@ -33,7 +34,7 @@ use Rattle.game.proofs.Laws.{accepted-fits}
 use Rattle.play.specs.Play.{graphOf, separatedOf}
 use Rattle.compact.specs.Rank.{leads, componentCount}
 use Rattle.compact.specs.Moving.{ranksFit}
-use Rattle.graph_ranks.specs.Search.{Narrow, Component, Reduced}
+use Rattle.graph_ranks.specs.Search.{Narrow, Crossed, Component, Reduced}
 use Rattle.graph_ranks.specs.Ranks.{Put, ranked, RanksWritten}
 use Rattle.graph_ranks.proofs.Found.{narrow, component-found}
 use Rattle.graph_ranks.proofs.Ranks.{
@@ -59,11 +60,6 @@ use Rattle.graph_ranks.proofs.Ranks.{
   ranked-elim,
   ranked-fails,
 }
-
-pub record Walked (g : Game) (j left rank : ℕ) : Type 0 where
-  pub most : j ≤ g .input .states
-  pub remains : Left (separatedOf g) j left
-  pub counted : rank ≡ count j (leads (separatedOf g))
 
 module _ (g : Game) (A : acceptance g ≡ Accepted) where
   pub moves-narrow : Narrow (setsIn (g .input .moves))
@@ -127,79 +123,109 @@ module _ (g : Game) (A : acceptance g ≡ Accepted) where
       ∙ count-same (g .input .states) (has x) (leads (separatedOf g))
       (λ s b. ap (λ (y : ℕ). has y s) e ∙ has-pack-below (g .input .states) (leads (separatedOf g)) s b)
 
-  -- ---- the ranks of the inputs passed, written or read
+-- ---- the ranks of the inputs passed, written or read
 
-  pub walked-start : (left : ℕ) → ((t : ℕ) → has left t ≡ ltb t (g .input .states)) → Walked g 0 left 0
-  unfolding count
-  walked-start left d = record { most = omega arith; remains = left-all left d; counted = refl }
+-- inputs below j have been passed; left is what is left of the inputs, rank the rank that comes next
+pub record Walked (g : Game) (places j left rank : ℕ) : Type 0 where
+  pub accepted : acceptance g ≡ Accepted
+  pub crossed : Crossed (setsIn (g .input .moves)) (g .input .states) places
+  pub remains : Left (separatedOf g) j left
+  pub counted : rank ≡ count j (leads (separatedOf g))
 
-  module _ (j left rank : ℕ) (W : Walked g j left rank) (b : j < g .input .states) where
-    pub walked-rank : rank < capacity
-    walked-rank = omega (arith, W .counted, count-le j (leads (separatedOf g)), input-small j b)
+pub walked-start : (g : Game) (places left : ℕ) → acceptance g ≡ Accepted → Crossed (setsIn (g .input .moves)) (g .input .states) places
+    → ((t : ℕ) → has left t ≡ ltb t (g .input .states)) → Walked g places 0 left 0
+unfolding count
+walked-start g places left A X d = record { accepted = A; crossed = X; remains = left-all g A left d; counted = refl }
 
-    leads-left : has left j ≡ true → leads (separatedOf g) j ≡ true
-    leads-left m = sym (leads-now j left (W .remains) b) ∙ m
+module _ {g : Game} {places j left rank : ℕ} (W : Walked g places j left rank) (b : j < g .input .states) where
+  pub walked-small : j < capacity
+  walked-small = input-small g (W .accepted) j b
 
-    leads-not : has left j ≡ false → leads (separatedOf g) j ≡ false
-    leads-not m = sym (leads-now j left (W .remains) b) ∙ m
+  pub walked-rank : rank < capacity
+  walked-rank = omega (arith, W .counted, count-le j (leads (separatedOf g)), walked-small)
 
-    pub walked-skip : has left j ≡ false → Walked g (j + 1) left rank
-    walked-skip m = record {
-      most = omega arith;
-      remains = left-skip (separatedOf g) j left (W .remains) (leads-not m);
-      counted = count-skip (separatedOf g) j rank (W .counted) (leads-not m);
+  -- j is not left
+  module _ {r : Bool} (e : r ≡ has left j) (f : r ≡ false) where
+    leads-not : leads (separatedOf g) j ≡ false
+    leads-not = sym (leads-now g (W .accepted) j left (W .remains) b) ∙ sym e ∙ f
+
+    pub walked-skip : Walked g places (j + 1) left rank
+    walked-skip = record {
+      accepted = W .accepted;
+      crossed = W .crossed;
+      remains = left-skip (separatedOf g) j left (W .remains) leads-not;
+      counted = count-skip (separatedOf g) j rank (W .counted) leads-not;
     }
 
-    pub written-skip : (l m : List ℕ) → Ranking (separatedOf g) j l m → has left j ≡ false → Ranking (separatedOf g) (j + 1) l m
-    written-skip l m R e = ranking-skip (separatedOf g) j l m (leads-not e) R
+    pub written-skip : {l m : List ℕ} → Ranking (separatedOf g) j l m → Ranking (separatedOf g) (j + 1) l m
+    written-skip {l} {m} = ranking-skip (separatedOf g) j l m leads-not
 
-    pub read-skip : (l : List ℕ) → Reading (separatedOf g) j l → has left j ≡ false → Reading (separatedOf g) (j + 1) l
-    read-skip l R e = reading-skip (separatedOf g) j l (leads-not e) R
+    pub read-skip : (l : List ℕ) → Reading (separatedOf g) j l → Reading (separatedOf g) (j + 1) l
+    read-skip l = reading-skip (separatedOf g) j l leads-not
 
-    -- the component of j, which is left
-    module _ (c : ℕ) (m : has left j ≡ true) (C : Component (setsIn (g .input .moves)) left j c) where
+  -- j is left
+  module _ {r : Bool} (e : r ≡ has left j) (f : r ≡ true) where
+    leads-left : leads (separatedOf g) j ≡ true
+    leads-left = sym (leads-now g (W .accepted) j left (W .remains) b) ∙ sym e ∙ f
+
+    -- what the search for its component asks
+    pub around-ready : Narrow (setsIn (g .input .moves)) × (g .input .states ≤ capacity) × ((t : ℕ) → has left t ≡ true → t < g .input .states)
+        × (has left j ≡ true) × Crossed (setsIn (g .input .moves)) (g .input .states) places
+    around-ready = (
+      moves-narrow g (W .accepted),
+      accepted-fits g (W .accepted) .input .most,
+      left-inputs g (W .accepted) j left (W .remains),
+      sym e ∙ f,
+      W .crossed,
+    )
+
+    -- its component c
+    module _ {c : ℕ} (C : Component (setsIn (g .input .moves)) left j c) where
       found : c ≡ pack (g .input .states) (joined (graphOf (g .input)) j)
-      found = around-joined j left c b (W .remains) (leads-left m) C
+      found = around-joined g (W .accepted) j left c b (W .remains) leads-left C
 
       pub members-fit : (k : ℕ) → g .input .states + g .input .states ≤ k → (t : ℕ) → has c t ≡ true → (t < capacity) × (g .input .states + t < k)
       unfolding separatedOf graphOf
-      members-fit k f t i =
+      members-fit k h t i =
           let l = members-below (separatedOf g) j c found t i in
-          (input-small t l, omega arith)
+          (input-small g (W .accepted) t l, omega arith)
 
-      pub walked-next : (r : Set) → ((t : ℕ) → has (bitsOf r) t ≡ (has left t && not (has c t))) → Walked g (j + 1) (bitsOf r) (rank + 1)
+      pub walked-next : (v : Set) → ((t : ℕ) → has (bitsOf v) t ≡ (has left t && not (has c t))) → Walked g places (j + 1) (bitsOf v) (rank + 1)
       unfolding separatedOf graphOf
-      walked-next r d = record {
-        most = omega arith;
-        remains = left-next (separatedOf g) j left c (bitsOf r) (W .remains) (leads-left m) found d;
-        counted = count-next (separatedOf g) j rank (W .counted) (leads-left m);
+      walked-next v d = record {
+        accepted = W .accepted;
+        crossed = W .crossed;
+        remains = left-next (separatedOf g) j left c (bitsOf v) (W .remains) leads-left found d;
+        counted = count-next (separatedOf g) j rank (W .counted) leads-left;
       }
 
-      pub written-next : (l q r : List ℕ) → Ranking (separatedOf g) j l q → Put (g .input .states) c rank q r → Ranking (separatedOf g) (j + 1) l r
+      pub written-next : {l m n : List ℕ} → Ranking (separatedOf g) j l m → Put (g .input .states) c rank m n → Ranking (separatedOf g) (j + 1) l n
       unfolding separatedOf graphOf
-      written-next l q r R P = ranking-next (separatedOf g) j c found rank l q r (leads-left m) (W .counted) R P
+      written-next {l} {m} {n} R P = ranking-next (separatedOf g) j c found rank l m n leads-left (W .counted) R P
 
-      pub read-next : (l : List ℕ) → Reading (separatedOf g) j l → ranked (g .input .states) c rank l ≡ true → Reading (separatedOf g) (j + 1) l
+      pub read-next : {x : Bool} (l : List ℕ) → Reading (separatedOf g) j l → x ≡ ranked (g .input .states) c rank l → not x ≡ false
+          → Reading (separatedOf g) (j + 1) l
       unfolding separatedOf graphOf
-      read-next l R q =
-          reading-next (separatedOf g) j c rank l found (leads-left m) (W .counted) R
-          (ranked-elim (g .input .states) c rank l (λ t i. input-small t (members-below (separatedOf g) j c found t i)) q)
+      read-next {x} l R q h =
+          reading-next (separatedOf g) j c rank l found leads-left (W .counted) R
+          (ranked-elim (g .input .states) c rank l (λ t i. input-small g (W .accepted) t (members-below (separatedOf g) j c found t i))
+          (sym q ∙ not-false x h))
 
-      pub read-fails : (l : List ℕ) → ranked (g .input .states) c rank l ≡ false → false ≡ ranksFit (separatedOf g) l
+      pub read-fails : {x : Bool} (l : List ℕ) → x ≡ ranked (g .input .states) c rank l → not x ≡ true → false ≡ ranksFit (separatedOf g) l
       unfolding separatedOf graphOf
-      read-fails l q =
-          let x = ranked-fails (g .input .states) c rank l q in
-          sym (reading-fails (separatedOf g) j c rank l found (leads-left m) (W .counted) (x .0) (x .1) (x .2))
+      read-fails {x} l q h =
+          let w = ranked-fails (g .input .states) c rank l (sym q ∙ not-true x h) in
+          sym (reading-fails (separatedOf g) j c rank l found leads-left (W .counted) (w .0) (w .1) (w .2))
 
-  pub read-end : (j : ℕ) (l : List ℕ) → g .input .states ≤ j → Reading (separatedOf g) j l → true ≡ ranksFit (separatedOf g) l
-  unfolding separatedOf graphOf
-  read-end j l b R = sym (reading-end (separatedOf g) j l b R)
+pub read-end : (g : Game) (j : ℕ) (l : List ℕ) → g .input .states ≤ j → Reading (separatedOf g) j l → true ≡ ranksFit (separatedOf g) l
+unfolding separatedOf graphOf
+read-end g j l b R = sym (reading-end (separatedOf g) j l b R)
 
-  pub written-end : (j : ℕ) (l m : List ℕ) → g .input .states ≤ j → Ranking (separatedOf g) j l m → RanksWritten g l m
-  unfolding separatedOf graphOf
-  written-end j l m b R = record {
-    long = R .long;
-    rank = λ t a. R .rank t a (omega (arith, number-below (graphOf (g .input)) t a));
-    front = R .front;
-    rest = R .rest;
-  }
+pub written-end : {g : Game} {j : ℕ} {l m : List ℕ} → g .input .states ≤ j → Ranking (separatedOf g) j l m → RanksWritten g l m
+unfolding separatedOf graphOf
+written-end {g} {j} b R = record {
+  long = R .long;
+  rank = λ t a. R .rank t a (omega (arith, number-below (graphOf (g .input)) t a));
+  front = R .front;
+  rest = R .rest;
+}
