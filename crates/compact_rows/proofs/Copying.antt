@@ -99,7 +99,7 @@ module _ (T : List ℕ) (from I cells : ℕ) where
 
 -- ---- places
 
-next-row : (x y : ℕ) → x * y + y ≡ (x + 1) * y
+pub next-row : (x y : ℕ) → x * y + y ≡ (x + 1) * y
 next-row x y = omega (arith, add-mul x 1 y, one-mul y)
 
 -- a row number below R ends where all do, or before

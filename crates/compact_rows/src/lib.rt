@@ -11,8 +11,8 @@ fn wide(x: u16) -> usize
     x as usize
 }
 
-// The starts are the same in both layouts.
-fn starts(inputs: usize, table: &[u16], room: &mut [u16])
+// The starts are the same in both layouts. Another table that begins with the starts of this one gets them here too.
+pub fn starts(inputs: usize, table: &[u16], room: &mut [u16])
     requires { ⌜ (inputs ≤ length (now table)) × (inputs ≤ length (now room)) ⌝ }
     ensures { λ r. ⌜ Started (now (table .entry)) inputs inputs (now (room .entry)) (now (room .exit)) ⌝ }
 {

@@ -1,12 +1,13 @@
 -- Entries written one after the other.
 --
 --   into-none, into-next, into-join, into-done    : none, one more, one writing after the other, all of them
+--   into-front                                    : the first ones
 --   CountSays E n I U to T first                  == E has the rows of one output and counter, as the controller's say them
 --   Rounds d M o to T done l m                    == the rows of output o and the first `done` counters were written
---   started-*, moded-*, counted-*, rounds-*       : the turns and the ends of the loops
+--   moded-*, counted-*, rounds-*                  : the turns and the ends of the loops
 --   mode-fits, block-small                        : what the rows of one old mode ask
 use Prim.Native.Nat.{ℕ, _+_, _*_, _≤_, _<_}
-use native.Mathlib.Nat.{add-mul, one-mul, add-zero, add-assoc, mul-le-mul, mul-le-mul-right}
+use native.Mathlib.Nat.{add-zero, add-assoc, mul-le-mul, mul-le-mul-right}
 use mathlib.Core.Path.{_≡_, refl, sym, _∙_, ap, subst}
 use mathlib.Core.List.{List, _++_}
 use mathlib.Core.Logic.{_≢_}
@@ -15,9 +16,11 @@ use native.Mathlib.Decide.{decLt}
 use lib.ListN.{length, getD, drop, set, length-set}
 use Rattle.table_filling.specs.Grows.{Right}
 use Rattle.table_filling.proofs.Grows.{grows-none, grows-more, grows-set, right-set, grows-done}
+use Rattle.compact_rows.specs.Copying.{PutAt}
+use Rattle.compact_rows.proofs.Copying.{next-row}
 use Rattle.kit_drives.specs.declared.Drive.{Drive}
 use Rattle.kit_drives.specs.Drive.{nextIn}
-use Rattle.kit_rows.specs.Writing.{commandRow, Said, told, Into, ModeFits, ModeAgrees, Moded, CountFits, CountAgrees, Counted, Started}
+use Rattle.kit_rows.specs.Writing.{commandRow, Said, told, Into, ModeFits, ModeAgrees, Moded, CountFits, CountAgrees, Counted}
 use Rattle.kit_rows.proofs.Search.{told-said}
 
 module _ (E : List ℕ) where
@@ -48,26 +51,12 @@ module _ (E : List ℕ) where
   into-next : {l m : List ℕ} {a b : ℕ} (c v : ℕ) → c ≡ b + 1 → b < length E → b < length m → v ≡ getD E b 0 → Into E l m a b → Into E l (set m b v) a c
   into-next {l} {m} {a} {b} c v d s t e p = into-join p (into-one m b c v d s t e)
 
+  -- the entries at the front
+  pub into-front : {l m : List ℕ} {b : ℕ} → b ≤ length E → PutAt E l m (λ i. i) b → Into E l m 0 b
+  into-front b p = record { grows = p .grows; below = b; right = λ k x y. p .right k y }
+
   pub into-done : (l m : List ℕ) → length E ≤ length l → Into E l m 0 (length E) → m ≡ E ++ drop (length E) l
   into-done l m b p = grows-done E l m b (p .grows) (λ k c. p .right k (omega arith) c)
-
-pub next-row : (x y : ℕ) → x * y + y ≡ (x + 1) * y
-next-row x y = omega (arith, add-mul x 1 y, one-mul y)
-
--- the starts
-
-module _ (T : List ℕ) (I : ℕ) where
-  pub started-none : (l : List ℕ) → Started T I 0 l l
-  started-none l = record { long = refl; fills = λ E b f. into-none E l 0 (omega arith) }
-
-  pub started-next : (i : ℕ) {l m : List ℕ} {v : ℕ} → i < I → i < length m → v ≡ getD T i 0 → Started T I i l m → Started T I (i + 1) l (set m i v)
-  started-next i {l} {m} {v} b c e D = record {
-    long = length-set m i v ∙ D .long;
-    fills = λ E s f. into-next E (i + 1) v refl (omega arith) c (e ∙ f i b) (D .fills E s f);
-  }
-
-  pub started-end : (i : ℕ) {l m : List ℕ} → i ≤ I → I ≤ i → Started T I i l m → Started T I I l m
-  started-end i {l} {m} a b D = subst (λ (k : ℕ). Started T I k l m) (omega arith) D
 
 -- the rows of one old mode
 

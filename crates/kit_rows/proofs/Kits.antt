@@ -21,12 +21,14 @@ use Rattle.finite.proofs.Truth.{decide, clash}
 use Rattle.finite.proofs.Tabulate.{length-tabulate, getD-tabulate}
 use Rattle.sets.specs.Words.{capacity}
 use Rattle.theory.specs.Entries.{stride, answer, controllerTable}
+use Rattle.compact_rows.specs.Copying.{Started}
+use Rattle.compact_rows.proofs.Copying.{next-row}
 use Rattle.kit_drives.specs.declared.Drive.{Drive}
 use Rattle.kit_drives.specs.declared.Kit.{Kit}
 use Rattle.kit_drives.specs.Drive.{nextIn, commandFor}
 use Rattle.kit_rows.specs.Rows.{counters, kitLength, commanded, kitRow, kitEntries, KitReady}
-use Rattle.kit_rows.specs.Writing.{lowestIn, commandsOf, translated, commandRow, Said, Into, CountFits, Outputs, Started}
-use Rattle.kit_rows.proofs.Blocks.{CountSays, Rounds, next-row, into-none, into-join, into-done}
+use Rattle.kit_rows.specs.Writing.{lowestIn, commandsOf, translated, commandRow, Said, Into, CountFits, Outputs}
+use Rattle.kit_rows.proofs.Blocks.{CountSays, Rounds, into-none, into-join, into-front, into-done}
 
 -- within a list, the value for places past its end is never seen
 inside : (l : List ℕ) (k d e : ℕ) → k < length l → getD l k d ≡ getD l k e
@@ -230,7 +232,7 @@ module _ (k : Kit) (T : List ℕ) (M n : ℕ) (R : KitReady k M (length T) n) wh
       (into-join (kitEntries k T) begun (D .into))))
     where
       begun : Into (kitEntries k T) l m 0 (k .old .modes + 0 * counters k * k .old .modes * k .old .commands)
-      begun = rw (q, rows-begin) (S .fills (kitEntries k T) modes-below (start-in k T modes-in 0))
+      begun = rw (q, rows-begin) (into-front (kitEntries k T) modes-below (S .fills (kitEntries k T) modes-below (start-in k T modes-in 0)))
 
       last : k .old .modes + o * counters k * k .old .modes * k .old .commands ≡ length (kitEntries k T)
       last =

@@ -20,7 +20,6 @@
 --   CountAgrees E n I U S first         == E has them there
 --   Counted n I U S first done l m      == from l to m those of the first `done` old modes were written, for every such E
 -- of the whole table:
---   Started T I done l m         == from l to m the first `done` starts were written, for every list E that begins with all of them
 --   Outputs k T a b l m          == from l to m the rows of the outputs from a up to b were written
 use Prim.Native.Nat.{ℕ, _+_, _*_, _/_, _%_, _≤_, _<_}
 use mathlib.Core.Path.{_≡_}
@@ -101,10 +100,6 @@ pub record CountAgrees (E n : List ℕ) (I U : ℕ) (S : List ℕ) (first : ℕ)
 pub record Counted (n : List ℕ) (I U : ℕ) (S : List ℕ) (first done : ℕ) (l m : List ℕ) : Type 0 where
   pub long : length m ≡ length l
   pub fills : (E : List ℕ) → CountAgrees E n I U S first → Into E l m (I + first * U) (I + (first + done) * U)
-
-pub record Started (T : List ℕ) (I done : ℕ) (l m : List ℕ) : Type 0 where
-  pub long : length m ≡ length l
-  pub fills : (E : List ℕ) → I ≤ length E → ((i : ℕ) → i < I → getD T i 0 ≡ getD E i 0) → Into E l m 0 done
 
 pub record Outputs (k : Kit) (T : List ℕ) (a b : ℕ) (l m : List ℕ) : Type 0 where
   pub into :

@@ -9,7 +9,7 @@ ghost use lib.ListN.{length, drop};
 ghost use Rattle.sets.specs.Words.{capacity};
 ghost use Rattle.kit_rows.specs.Rows.{kitLength, kitEntries, KitReady};
 ghost use Rattle.kit_rows.specs.Writing.{lowestIn, commandsOf, translated as translatedOf, Said, told, ReadsIn, ModeFits};
-ghost use Rattle.kit_rows.specs.Writing.{Moded, CountFits, Counted, Outputs, Lent, Started};
+ghost use Rattle.kit_rows.specs.Writing.{Moded, CountFits, Counted, Outputs, Lent};
 ghost use Rattle.scratch_clearing.specs.Clearing.{cleared};
 
 // The new drive at one output: the mode that it is in, and how many commands it has.
@@ -159,25 +159,13 @@ fn output_rows(
     }
 }
 
-// The starts are the controller's.
-fn starts(modes: usize, controller: &[u16], room: &mut [u16])
-    requires { ⌜ (modes ≤ length (now controller)) × (modes ≤ length (now room)) ⌝ }
-    ensures { λ r. ⌜ Started (now (controller .entry)) modes modes (now (room .entry)) (now (room .exit)) ⌝ }
-{
-    let mut i: usize = 0;
-    while i < modes {
-        room[i] = controller[i];
-        i += 1;
-    }
-}
-
 // The front of room becomes the kit's table; the rest stays. The front of scratch is used, and cleared.
 pub fn fill(k: Kit, counters: usize, controller: &[u16], scratch: &mut [u64], room: &mut [u16])
     requires { ⌜ KitReady k counters (length (now controller)) (length (now room)) × (k .old .modes ≤ length (now scratch)) ⌝ }
     ensures { λ r. ⌜ (now (room .exit) ≡ kitEntries k (now (controller .entry)) ++ drop (kitLength k) (now (room .entry)))
         × (now (scratch .exit) ≡ cleared (k .old .modes) (now (scratch .entry))) ⌝ }
 {
-    starts(k.old.modes, controller, room);
+    compact_rows::starts(k.old.modes, controller, room);
     let outputs = k.new.modes;
     let mut o: usize = 0;
     while o < outputs {
