@@ -89,10 +89,10 @@ loop-again c =
     (growing-same _ (b .pre .0) _ (l .loop .i) _ _ (l .loop .inv .3) (t .if1 .taken) (f .result .0) (d .result) (f .ensures) (d .ensures)
     (w .0 .left)))
     (c .if2 .came) in
-    (omega (arith, t .if1 .taken), l .loop .inv .1, omega (arith, u .kept .long, b .pre .1), u)
+    (omega (arith, t .if1 .taken), l .loop .inv .1, omega (arith, u .swept .kept .long, b .pre .1), u)
 
 same-length : tie.Need-same-length Inv-loop μ-loop
-same-length c = c .before .before .loop .inv .3 .kept .long
+same-length c = c .before .before .loop .inv .3 .swept .kept .long
 
 returns : tie.Need-returns Inv-loop μ-loop
 returns c = growing-end _ (c .before .before .before .before .pre .0) _ (c .before .before .loop .i) _ _ (omega arith) (c .before .before .loop .inv .3)

@@ -93,10 +93,10 @@ loop-again c =
     (shrinking-same _ (b .pre .0) _ (l .loop .i) _ _ (l .loop .inv .3) (i .if1 .taken) (d .result) (x .result) (y .result .0) (x .ensures) (y .ensures)
     (d .ensures) (w .0 .left)))
     (c .if2 .came) in
-    (omega (arith, i .if1 .taken), l .loop .inv .1, omega (arith, t .kept .long, b .pre .1), t)
+    (omega (arith, i .if1 .taken), l .loop .inv .1, omega (arith, t .swept .kept .long, b .pre .1), t)
 
 same-length : tie.Need-same-length Inv-loop μ-loop
-same-length c = c .before .before .loop .inv .3 .kept .long
+same-length c = c .before .before .loop .inv .3 .swept .kept .long
 
 returns : tie.Need-returns Inv-loop μ-loop
 returns c = shrinking-end _ (c .before .before .before .before .pre .0) _ (c .before .before .loop .i) _ _ (omega arith) (c .before .before .loop .inv .3)
