@@ -6,6 +6,7 @@
 --   accepts-means              : the requirements, told of the component's inputs and outputs
 --   enters, misses             == whether a row of a set has one of the outputs y, or none
 --   moved                      : such a row is a next input that has an answer
+--   all-left                   : before the first test all next inputs are left
 --   entered, not-entered       : whether a joint move enters the component
 use Prim.Native.Nat.{ℕ, _+_, _≤_, _<_}
 use native.Mathlib.Numerals.{add-one}
@@ -25,7 +26,7 @@ use Rattle.bits.specs.Member.{has, pack, setsMeet}
 use Rattle.sets.specs.Words.{capacity, bitsOf}
 use Rattle.bits.proofs.Membership.{ext, has-zero, has-pack-below, has-pack-past, has-lt, pack-lt}
 use Rattle.bits.proofs.Compare.{member-nonzero, nonzero-member, meets-intro, meets-elim}
-use Rattle.bits.proofs.Passing.{Passing, passing-end}
+use Rattle.bits.proofs.Passing.{Passing, passing-whole, passing-end}
 use Rattle.graphs.specs.Graph.{edge}
 use Rattle.graphs.proofs.Graph.{edge-to}
 use Rattle.theory.specs.Region.{answers}
@@ -35,7 +36,7 @@ use Rattle.game.specs.declared.Game.{Game}
 use Rattle.game.specs.Access.{requirementAt, assumptionAt, guaranteeAt}
 use Rattle.play.specs.Play.{graphOf, requirementOf, requirementsOf, separatedOf}
 use Rattle.joined_reach.specs.Words.{belongs, Small}
-use Rattle.joined_reach.proofs.Words.{belongs-has}
+use Rattle.joined_reach.proofs.Words.{belongs-has, move-below}
 use Rattle.joined_component.specs.Component.{component, dueAt, dueOn, servedAt, servedOn, acceptsAt, acceptsOn, Rows}
 
 -- ---- inputs and outputs
@@ -178,6 +179,10 @@ entered-row l a y j e h = sym e ∙ h
 pub missed-row : (l : List ℕ) (a y j : ℕ) {t : Bool} → t ≡ setsMeet 64 (getD l (a + j) 0) y → t ≡ false → misses l a y j ≡ true
 unfolding misses enters
 missed-row l a y j e h = ap not (sym e ∙ h)
+
+-- before the first test all moves x of input i are left
+pub all-left : (g : Game) (i x : ℕ) (p : ℕ → Bool) → Small g → ((j : ℕ) → has x j ≡ edge (graphOf (g .input)) i j) → Passing 64 x 32 p x
+all-left g i x p S e = passing-whole 64 x 32 p (omega arith) (λ j h. omega (arith, move-below g x i e j h, S .inputs))
 
 -- x are the moves of input i, y those of output o
 module _ (g : Game) (S : Small g) (a : ℕ) (l : List ℕ) (i o x y : ℕ) (e : (j : ℕ) → has x j ≡ edge (graphOf (g .input)) i j)
