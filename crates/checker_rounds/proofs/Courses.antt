@@ -28,7 +28,7 @@ pub record Going (I N : ℕ) (rows to : List ℕ) (q : Requirement) (X : List �
   pub less : (a : ℕ) → marked mark a ≡ true → marked mark₀ a ≡ true
   pub visits : (i : ℕ) → i < j → (k : ℕ) × (k < n) × (has (assumption q i) (at walk k % I) ≡ true)
 
-module _ (I N : ℕ) (rows to : List ℕ) (q : Requirement) (X : List ℕ) (v : ℕ) (mark₀ queue₀ from₀ way₀ walk₀ : List ℕ) (n₀ : ℕ)
+module _ {I N : ℕ} {rows to : List ℕ} {q : Requirement} {X : List ℕ} {v : ℕ} {mark₀ queue₀ from₀ way₀ walk₀ : List ℕ} {n₀ : ℕ}
     (F : LegsFit I N rows to q X mark₀ queue₀ from₀ way₀ walk₀ n₀ v) where
   pub going-start : Going I N rows to q X v mark₀ mark₀ queue₀ from₀ way₀ walk₀ v n₀ 1 0
   going-start = record {
@@ -41,13 +41,13 @@ module _ (I N : ℕ) (rows to : List ℕ) (q : Requirement) (X : List ℕ) (v : 
     visits = λ i b. absurd (omega (arith, b));
   }
 
-  module _ (mark queue from way walk : List ℕ) (end found n j : ℕ) (S : Going I N rows to q X v mark₀ mark queue from way walk end found n j) where
+  module _ {mark queue from way walk : List ℕ} {end found n j : ℕ} (S : Going I N rows to q X v mark₀ mark queue from way walk end found n j) where
     pub going-found : found ≤ 4096
     going-found = omega (arith, reach-short I N rows to X end mark queue from found (F .grid) (S .reach), F .grid .places)
 
-    pub going-missed : j < q .assumed → (k x : ℕ) → x ≡ assumption q j → FirstIn I queue found x k → k ≡ found
+    pub going-missed : j < q .assumed → {k x : ℕ} → x ≡ assumption q j → FirstIn I queue found x k → k ≡ found
         → Legs I N rows to q X v mark₀ mark queue from way walk (record { end = end; found = found; length = n; missed = true })
-    going-missed b k x e f z = record {
+    going-missed b e f z = record {
       reach = S .reach;
       way-long = S .way-long;
       walking = S .walking;
@@ -68,8 +68,8 @@ module _ (I N : ℕ) (rows to : List ℕ) (q : Requirement) (X : List ℕ) (v : 
       visits = λ m i l. S .visits i (omega (arith, l, b));
     }
 
-    module _ (b : j < q .assumed) (k x : ℕ) (e : x ≡ assumption q j) (f : FirstIn I queue found x k) (ne : k ≢ found) where
-      pub going-place : k < found
+    module _ (b : j < q .assumed) {k x : ℕ} (e : x ≡ assumption q j) (f : FirstIn I queue found x k) (ne : k ≢ found) where
+      going-place : k < found
       going-place = omega (arith, f .bound, ne)
 
       pub going-leg : LegFits from k way walk n
@@ -84,10 +84,10 @@ module _ (I N : ℕ) (rows to : List ℕ) (q : Requirement) (X : List ℕ) (v : 
       pub going-below : at queue k < N
       going-below = reach-below I N rows to X end mark queue from found (F .grid) (S .reach) k going-place
 
-      pub going-next : (way′ walk′ : List ℕ) (n′ : ℕ) → Leg queue from k walk n way′ walk′ n′ → (c : ℕ) → c ≡ at queue k
-          → (mark′ queue′ from′ : List ℕ) (found′ : ℕ) → Reach I N rows to X c mark′ queue′ from′ found′
+      pub going-next : {way′ walk′ : List ℕ} {n′ : ℕ} → Leg queue from k walk n way′ walk′ n′ → {c : ℕ} → c ≡ at queue k
+          → {mark′ queue′ from′ : List ℕ} {found′ : ℕ} → Reach I N rows to X c mark′ queue′ from′ found′
           → Going I N rows to q X v mark₀ mark′ queue′ from′ way′ walk′ c found′ n′ (j + 1)
-      going-next way′ walk′ n′ L c z mark′ queue′ from′ found′ R = record {
+      going-next {way′} {walk′} {n′} L {c} z {mark′} {queue′} {from′} {found′} R = record {
         upto = omega (arith, b);
         reach = R;
         way-long = L .way-long;

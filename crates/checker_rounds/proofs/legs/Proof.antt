@@ -1,6 +1,6 @@
 -- `legs` meets its contract.
 use Prim.Native.Nat.{_-_}
-use Rattle.checker_rounds.proofs.Courses.{Going, going-start, going-found, going-missed, going-end, going-place, going-leg, going-below, going-next}
+use Rattle.checker_rounds.proofs.Courses.{Going, going-start, going-found, going-missed, going-end, going-leg, going-below, going-next}
 use Rattle.checker_rounds.proofs.Walking.{reach-held}
 use borrow.Author.Needs.{needs}
 use mathlib.Core.Path.{refl}
@@ -16,7 +16,7 @@ abbrev μ-loop : tie.MeasureT-loop
 μ-loop inputs places moves to kept mark₀ queue₀ from₀ way₀ walk₀ n v q end₀ found₀ length₀ j₀ mark queue from way walk end found length j = q .assumed - j
 
 loop-holds : tie.Need-loop-holds Inv-loop μ-loop
-loop-holds c = going-start _ _ _ _ _ _ _ _ _ _ _ _ _ (c .pre)
+loop-holds c = going-start (c .pre)
 
 mul-x : tie.Need-mul-x Inv-loop μ-loop
 mul-x c = omega (arith, c .before .before .pre .few)
@@ -26,85 +26,51 @@ element-copy-out-x c = omega (arith, c .before .before .pre .few)
 
 first-in-requires : tie.Need-first-in-requires Inv-loop μ-loop
 first-in-requires c κs =
-    let P = c .before .before .before .before .pre in (
-      P .grid .some,
-      P .grid .few,
-      going-found _ _ _ _ _ _ _ _ _ _ _ _ _ P _ _ _ _ _ _ _ _ _
-          (c .before .before .before .loop .inv),
-    )
+    let l = c .before .before .before in
+    let P = l .before .pre in
+    (P .grid .some, P .grid .few, going-found P (l .loop .inv))
 
 returns : tie.Need-returns Inv-loop μ-loop
 returns c =
-    let b1 = c .before .before .before .before .before in
-    going-missed _ _ _ _ _ _ _ _ _ _ _ _ _ (b1 .before .pre) _ _ _ _ _ _ _ _ _
-    (c .before .before .before .before .before .loop .inv) (c .before .before .before .before .loop-test .taken) _ _ refl
-    (c .before .first-in .ensures) (c .if1 .taken)
+    let t = c .before .before .before .before in
+    let l = t .before in
+    going-missed (l .before .pre) (l .loop .inv) (t .loop-test .taken) refl (c .before .first-in .ensures) (c .if1 .taken)
 
 leg-requires : tie.Need-leg-requires Inv-loop μ-loop
 leg-requires c κs =
-    let b1 = c .before .before .before .before .before in
-    let b2 = b1 .before .before .before .before .before in
-    going-leg _ _ _ _ _ _ _ _ _ _ _ _ _ (b2 .pre) _ _ _ _ _ _ _ _ _
-    (b1 .before .before .before .before .loop .inv)
-    (b1 .before .before .before .loop-test .taken) _ _ refl
-    (c .before .before .before .before .before .first-in .ensures) (c .before .before .before .before .if1 .left)
-
-mul-wide : tie.Need-mul-wide Inv-loop μ-loop
-mul-wide c =
-    let b1 = c .before .before .before .before .before in
-    let b2 = b1 .before .before .before .before .before in
-    omega (
-      arith,
-      going-place _ _ _ _ _ _ _ _ _ _ _ _ _
-          (b2 .before .pre) _ _ _ _ _ _ _ _ _
-          (b2 .loop .inv)
-          (b1 .before .before .before .before .loop-test .taken) _ _ refl
-          (b1 .before .first-in .ensures)
-          (c .before .before .before .before .before .if1 .left),
-      going-found _ _ _ _ _ _ _ _ _ _ _ _ _
-          (b2 .before .pre) _ _ _ _ _ _ _ _ _
-          (b2 .loop .inv),
-    )
+    let i = c .before .before .before .before in
+    let t = i .before .before .before .before in
+    let l = t .before in
+    going-leg (l .before .pre) (l .loop .inv) (t .loop-test .taken) refl (i .before .first-in .ensures) (i .if1 .left)
 
 element-copy-out-wide : tie.Need-element-copy-out-wide Inv-loop μ-loop
 element-copy-out-wide c =
-    let b1 = c .before .before .before .before .before in
-    let b2 = b1 .before .before .before .before .before in
-    omega (
-      arith,
-      going-place _ _ _ _ _ _ _ _ _ _ _ _ _
-          (b2 .before .pre) _ _ _ _ _ _ _ _ _
-          (b2 .loop .inv)
-          (b1 .before .before .before .before .loop-test .taken) _ _ refl
-          (b1 .before .first-in .ensures)
-          (c .before .before .before .before .before .if1 .left),
-      going-found _ _ _ _ _ _ _ _ _ _ _ _ _
-          (b2 .before .pre) _ _ _ _ _ _ _ _ _
-          (b2 .loop .inv),
-    )
+    let i = c .before .before .before .before .before in
+    let t = i .before .before .before .before in
+    let l = t .before in
+    going-leg (l .before .pre) (l .loop .inv) (t .loop-test .taken) refl (i .before .first-in .ensures) (i .if1 .left) .place
+
+mul-wide : tie.Need-mul-wide Inv-loop μ-loop
+mul-wide c = omega (arith, element-copy-out-wide c)
 
 wide-requires : tie.Need-wide-requires Inv-loop μ-loop
 wide-requires c κs = search needs
 
 reach-requires : tie.Need-reach-requires Inv-loop μ-loop
 reach-requires c κs =
-    let b1 = c .before .before .before .before .before in
-    let b2 = b1 .before .before .before .before .before in
-    let b3 = b2 .before .before .before .before .before in
-    let P = b3 .before .pre in
-    let R = b3 .loop .inv .reach in (
+    let w = c .before .before .before .before .before in
+    let i = w .before .before .before .before .before in
+    let t = i .before .before .before .before in
+    let l = t .before in
+    let P = l .before .pre in
+    let R = l .loop .inv .reach in (
       P .grid,
       R .sized,
       reach-held _ _ _ _ _ _ _ _ _ _ (P .grid) R,
       omega (
         arith,
         c .before .before .before .wide .ensures,
-        going-below _ _ _ _ _ _ _ _ _ _ _ _ _
-            (b3 .before .pre) _ _ _ _ _ _ _ _ _
-            (b3 .loop .inv)
-            (b2 .before .before .before .before .loop-test .taken) _ _ refl
-            (b2 .before .first-in .ensures)
-            (b2 .if1 .left),
+        going-below P (l .loop .inv) (t .loop-test .taken) refl (i .before .first-in .ensures) (i .if1 .left),
       ),
     )
 
@@ -113,28 +79,23 @@ add-j c =
     let b1 = c .before .before .before .before .before in
     let b2 = b1 .before .before .before .before .before in
     let b3 = b2 .before .before .before .before .before in
-    omega
-    (arith, b3 .before .before .pre .few)
+    omega (arith, b3 .before .before .pre .few)
 
 loop-less : tie.Need-loop-less Inv-loop μ-loop
 loop-less c = omega arith
 
 loop-again : tie.Need-loop-again Inv-loop μ-loop
 loop-again c =
-    let b1 = c .before .before .before .before .before in
-    let b2 = b1 .before .before .before .before .before in
-    let b3 = b2 .before .before .before .before .before in
-    going-next _ _ _ _ _ _ _ _ _ _ _ _ _
-    (b3 .before .before .pre) _ _ _ _ _ _ _ _ _
-    (b3 .before .loop .inv)
-    (b3 .loop-test .taken) _ _ refl
-    (b2 .before .before .first-in .ensures)
-    (b2 .before .if1 .left) _ _ _
-    (b1 .before .leg .ensures) _ (c .before .before .before .before .wide .ensures .0) _ _ _ _
-    (c .reach .ensures)
+    let w = c .before .before .before .before in
+    let g = w .before .before in
+    let i = g .before .before .before .before .before in
+    let t = i .before .before .before .before in
+    let l = t .before in
+    going-next (l .before .pre) (l .loop .inv) (t .loop-test .taken) refl (i .before .first-in .ensures) (i .if1 .left) (g .leg .ensures)
+    (w .wide .ensures .0) (c .reach .ensures)
 
 returns-2 : tie.Need-returns-2 Inv-loop μ-loop
-returns-2 c = going-end _ _ _ _ _ _ _ _ _ _ _ _ _ (c .before .before .pre) _ _ _ _ _ _ _ _ _ (c .before .loop .inv) (c .loop-test .left)
+returns-2 c = going-end (c .before .before .pre) (c .before .loop .inv) (c .loop-test .left)
 
 pub legs-spec : {M : Type 1} → statement M
 legs-spec =
