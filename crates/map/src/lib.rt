@@ -91,9 +91,11 @@ fn map_accepted<'a>(
 pub fn won_map(g: Game, scratch: &mut [u64], map: &mut [u64]) -> Mapped
     ensures { λ r. ⌜ MapMade g (now (scratch .entry)) (now (scratch .exit)) (now (map .entry)) (now (map .exit)) r ⌝ }
 {
-    let accepted = acceptance::accept_lent(g, &g.input.moves, &g.output.moves);
+    let ins = g.input.moves;
+    let outs = g.output.moves;
+    let accepted = acceptance::accept_lent(g, &ins, &outs);
     match accepted {
         Acceptance::Refused(n) => Mapped::Refused(n),
-        Acceptance::Accepted => map_accepted(g, &g.input.moves, &g.output.moves, scratch, map),
+        Acceptance::Accepted => map_accepted(g, &ins, &outs, scratch, map),
     }
 }

@@ -53,7 +53,8 @@ fn solve_accepted<'a>(
     Verdict::Environment(e)
 }
 
-// Names the side that wins and writes its table into the front of its buffer.
+// Names the side that wins and writes its table into the front of its buffer. The rows of the graphs are copied to be lent: a part of the game that is lent
+// would have all of it copied.
 pub fn solve_into(
     g: Game,
     scratch: &mut [u64],
@@ -63,7 +64,9 @@ pub fn solve_into(
     ensures { λ r. ⌜ Solved g (now (scratch .entry)) (now (scratch .exit)) (now (controller .entry)) (now (controller .exit)) (now (panel .entry))
         (now (panel .exit)) r ⌝ }
 {
-    let accepted = acceptance::accept_lent(g, &g.input.moves, &g.output.moves);
+    let ins = g.input.moves;
+    let outs = g.output.moves;
+    let accepted = acceptance::accept_lent(g, &ins, &outs);
     match accepted {
         Acceptance::Refused(n) => Verdict::Refused(n),
         Acceptance::Accepted => {
@@ -73,8 +76,8 @@ pub fn solve_into(
                 g,
                 given,
                 &wanted.sets,
-                &g.input.moves,
-                &g.output.moves,
+                &ins,
+                &outs,
                 scratch,
                 controller,
                 panel,
@@ -93,7 +96,9 @@ pub fn solve_compact_into(
     ensures { λ r. ⌜ SolvedCompact g (now (scratch .entry)) (now (scratch .exit)) (now (controller .entry)) (now (controller .exit)) (now (panel .entry))
         (now (panel .exit)) r ⌝ }
 {
-    let accepted = acceptance::accept_lent(g, &g.input.moves, &g.output.moves);
+    let ins = g.input.moves;
+    let outs = g.output.moves;
+    let accepted = acceptance::accept_lent(g, &ins, &outs);
     match accepted {
         Acceptance::Refused(n) => Verdict::Refused(n),
         Acceptance::Accepted => {
@@ -103,8 +108,8 @@ pub fn solve_compact_into(
                 g,
                 given,
                 &wanted.sets,
-                &g.input.moves,
-                &g.output.moves,
+                &ins,
+                &outs,
                 scratch,
                 controller,
                 panel,

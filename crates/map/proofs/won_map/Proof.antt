@@ -16,7 +16,7 @@ enum-told c = search needs
 
 map-accepted-requires : tie.Need-map-accepted-requires
 map-accepted-requires c κs =
-    let t = c .before .before .before .before .before in
+    let t = c .before .before .before .before in
     (sym (t .before .before .accept-lent .ensures .answer) ∙ t .enum-told .given .1, refl, refl)
 
 returns : tie.Need-returns

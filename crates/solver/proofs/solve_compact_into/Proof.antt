@@ -27,7 +27,7 @@ outline-of-requires c κs =
 solve-accepted-requires : tie.Need-solve-accepted-requires
 solve-accepted-requires c κs =
     let r = c .before .before .before .before in
-    let o = r .before .before .before .before in
+    let o = r .before .before .before in
     let l = o .before .before .before in
     let t = l .before in
     (sym (t .before .before .accept-lent .ensures .answer) ∙ t .enum-told .given .1, o .outline-of .ensures, refl, refl, l .list-of .ensures .0)
