@@ -6,7 +6,7 @@ use table_sizes::Outline;
 ghost use mathlib.Core.Path.{_≡_};
 ghost use mathlib.Core.Bool.{false};
 ghost use mathlib.Core.List.{_++_};
-ghost use Prim.Native.Nat.{_<_};
+ghost use Prim.Native.Nat.{_+_, _<_};
 ghost use lib.ListN.{length, drop};
 ghost use Rattle.sets.specs.Words.{bitsOf};
 ghost use Rattle.graphs.specs.Component.{number};
@@ -15,10 +15,12 @@ ghost use Rattle.theory.specs.Entries.{environmentEntries};
 ghost use Rattle.game_sets.specs.Lists.{Lists};
 ghost use Rattle.table_sizes.specs.Outlined.{Outlined};
 ghost use Rattle.environment_table.specs.Table.{Solved, Known, Roomy, EnvironmentFilled};
+ghost use Rattle.environment_table.specs.Pressing.{Ahead};
 ghost use Rattle.environment_table.specs.Reading.{plain};
 
-// The rows of the component whose number is i, where it is nontrivial and i its number. Here and below the rows of both graphs, `ins` and `outs`, are read
-// where they stand, and the requirements in the outline, `given`: a game goes by value, and of it only counts and initial states are read.
+// The rows of the component whose number is i, where there is a nontrivial one. `ahead` are the inputs of those whose number is not below i, and the answer
+// those of the others: each component is looked for once. Here and below the rows of both graphs, `ins` and `outs`, are read where they stand, the counts of
+// sets in the outline, `given`, and the sets in the list l: a game goes by value, and of it only counts and initial states are read.
 fn component_rows<'a>(
     g: Game,
     given: Outline,
@@ -28,22 +30,22 @@ fn component_rows<'a>(
     s: &[u64],
     inner: InSet,
     counters: usize,
+    ahead: InSet,
     i: InState,
     room: &mut [u16],
-)
+) -> InSet
     requires { ⌜ Known g (now s) (bitsOf (inner .0)) × Roomy g counters (length (now room)) × (i .0 < g .input .states)
-        × Outlined g given × (now ins ≡ g .input .moves) × (now outs ≡ g .output .moves) × Lists g (now l) ⌝ }
-    ensures { λ r. ⌜ EnvironmentFilled g (λ a h b. (number (graphOf (g .input)) a ≡ i .0) × (plain g a b ≡ false)) (now (room .entry)) (now (room .exit)) ⌝ }
+        × Outlined g given × (now ins ≡ g .input .moves) × (now outs ≡ g .output .moves) × Lists g (now l) × Ahead g (i .0) (bitsOf (ahead .0)) ⌝ }
+    ensures { λ r. ⌜ EnvironmentFilled g (λ a h b. (number (graphOf (g .input)) a ≡ i .0) × (plain g a b ≡ false)) (now (room .entry)) (now (room .exit))
+        × Ahead g (i .0 + 1) (bitsOf (r .0)) ⌝ }
 {
-    if !sets::member(inner.0, i.0) {
-        return;
+    if !sets::member(ahead.0, i.0) {
+        return ahead;
     }
     let c = scratch::in_component(s, g.input.states, i, InSet(sets::row_of(ins, i.0)));
-    if sets::lowest(c.0) != i.0 {
-        return;
-    }
     let over = environment_escape::escapes(g, ins, outs, s, inner, counters, c, i, room);
     environment_tour::tours(g, given, l, ins, counters, c, over, room);
+    InSet(sets::difference(ahead.0, c.0))
 }
 
 // The rows of all nontrivial components.
@@ -63,9 +65,22 @@ fn walked_rows<'a>(
     ensures { λ r. ⌜ EnvironmentFilled g (λ a h b. plain g a b ≡ false) (now (room .entry)) (now (room .exit)) ⌝ }
 {
     let n = g.input.states;
+    let mut ahead = inner;
     let mut i: usize = 0;
     while i < n {
-        component_rows(g, given, l, ins, outs, s, inner, counters, InState(i), room);
+        ahead = component_rows(
+            g,
+            given,
+            l,
+            ins,
+            outs,
+            s,
+            inner,
+            counters,
+            ahead,
+            InState(i),
+            room,
+        );
         i += 1;
     }
 }

@@ -1,6 +1,7 @@
 -- The rows of a nontrivial component.
 --
 --   Whole g c first                 == the set c is the nontrivial component with the number first
+--   Ahead g i x                     == x are the inputs in nontrivial components whose number is not below i
 --   Leaves g c x                    == the set x has the inputs that moves out of the set c enter
 --   lostIn l n inner x o j          == j is in the set x, and (j, o) is not won
 --   exitsAt moves c out k           == k is in the set c, and a move of k enters the set out
@@ -12,6 +13,7 @@ use Prim.Native.Nat.{ℕ, _<_}
 use mathlib.Core.Path.{_≡_}
 use mathlib.Core.Bool.{Bool, true, _&&_, not}
 use mathlib.Core.List.{List}
+use lib.Dec.{leb}
 use lib.ListN.{getD}
 use Rattle.bits.specs.Member.{has, pack, setsMeet}
 use Rattle.sets.specs.Words.{capacity, setsIn}
@@ -30,6 +32,9 @@ pub record Whole (g : Game) (c k : ℕ) : Type 0 where
   pub first : number (graphOf (g .input)) k ≡ k
   pub core : nontrivial (graphOf (g .input)) k ≡ true
   pub word : c ≡ pack (g .input .states) (joined (graphOf (g .input)) k)
+
+pub record Ahead (g : Game) (i x : ℕ) : Type 0 where
+  pub is : (a : ℕ) → a < g .input .states → has x a ≡ (nontrivial (graphOf (g .input)) a && leb i (number (graphOf (g .input)) a))
 
 pub record Leaves (g : Game) (c x : ℕ) : Type 0 where
   pub entered : (t : ℕ) → has x t ≡ (enters (setsIn (g .input .moves)) c (g .input .states) t && not (has c t))
