@@ -106,7 +106,7 @@ module _ (rows : List ℕ) (j r w x : ℕ) (l : List ℕ) where
 
   module _ (i y : ℕ) (m : List ℕ) (T : Shrunk rows i j r w x y l m) where
     -- the rows from i on are as they were
-    pub shrunk-later : (k o : ℕ) → i ≤ k → stayingPairs m k o ≡ stayingPairs l k o
+    shrunk-later : (k o : ℕ) → i ≤ k → stayingPairs m k o ≡ stayingPairs l k o
     shrunk-later k o b = ap (λ (a : ℕ). has a o) (T .apart .high (stayingAt + k) (omega arith))
 
     pub shrunk-skip : has (getD rows i 0) j ≡ false → Shrunk rows (i + 1) j r w x y l m

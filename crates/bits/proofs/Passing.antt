@@ -37,7 +37,7 @@ module _ (w x n : ℕ) (p : ℕ → Bool) where
     small : rest < 2 ^ w
     small = small-word w rest (λ s a. omega (arith, P .bound, P .inside s a .0))
 
-    pub passing-small : j < w
+    passing-small : j < w
     passing-small = lowest-below w rest j small ne e
 
     here : (j < n) × (has x j ≡ true)

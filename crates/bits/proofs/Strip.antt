@@ -57,7 +57,7 @@ module _ (x h : ℕ) (m : has x h ≡ true) (f : (s : ℕ) → s < h → has x s
       ∙ sym (has-block-high h (x / 2 ^ h) (x % 2 ^ h) (suc (s - h - 1)) (mod-lt x (pow-pos h)))
       ∙ ap₂ has (split x h) (sym z)
 
-  pub strip-at : (s : ℕ) → has (bitAnd x (x - 1)) s ≡ (has x s && not (eqb s h))
+  strip-at : (s : ℕ) → has (bitAnd x (x - 1)) s ≡ (has x s && not (eqb s h))
   strip-at s = has-and x (x - 1) s ∙ go (ℕ-discrete s h) (decLt s h)
     where
       go : Dec (s ≡ h) → Dec (s < h) → (has x s && has (x - 1) s) ≡ (has x s && not (eqb s h))

@@ -61,9 +61,6 @@ module _ (w x n : ℕ) (p : ℕ → Bool) where
     all = λ s l e r q. clash (g s l e) r;
   }
 
-  pub collected-start : (b y : ℕ) → n ≤ w → ((s : ℕ) → has b s ≡ ltb s n) → ((s : ℕ) → has y s ≡ (has x s && has b s)) → Collected w x n p y 0
-  collected-start b y l f i = all-left y l (cut-in x b y n f i) (cut-all x b y n f i)
-
   pub whole-start : n ≤ w → ((s : ℕ) → has x s ≡ true → s < n) → Collected w x n p x 0
   whole-start l b = all-left x l (λ s e. (b s e, e)) (λ s l e. e)
 

@@ -175,7 +175,7 @@ module _ {s l d : List ℕ} {n : ℕ} {e : List ℕ} where
       ]
 
 -- the print for what is kept of a list is the print for the list
-pub kept-printed : (s : List ℕ) (m : ℕ) {d : List ℕ} {n : ℕ} {e : List ℕ} → 257000 < m → Printed (take m (cut 0 s)) d n e → Printed s d n e
+kept-printed : (s : List ℕ) (m : ℕ) {d : List ℕ} {n : ℕ} {e : List ℕ} → 257000 < m → Printed (take m (cut 0 s)) d n e → Printed s d n e
 kept-printed s m h P = elim (kept-names s m h) [ inl q ↦ printed-short q P | inr q ↦ printed-many (q .0) (q .1) P ]
 
 -- standard input, part by part

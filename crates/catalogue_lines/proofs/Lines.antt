@@ -45,7 +45,7 @@ number-unmet d at r n h =
     let empty : numberLine r n ≡ [] = rw (eq-eqb n 0 h, numberLine) refl in
     puts-as (sym empty) (puts-nothing d at)
 
-pub pair-short : (m n : ℕ) → m < 18446744073709551616 → n < 18446744073709551616 → length (pairText m n) ≤ 43
+pair-short : (m n : ℕ) → m < 18446744073709551616 → n < 18446744073709551616 → length (pairText m n) ≤ 43
 unfolding pairText
 pair-short m n h k =
     omega (
@@ -96,7 +96,7 @@ module _ (n r : ℕ) (ns : List ℕ) where
   numbers-last l = let none : n - r ≡ 0 = omega arith in ap (λ (k : ℕ). numberLines k r ns) none
 
 module _ (ns : List ℕ) (small : (r : ℕ) → getD ns r 0 < 18446744073709551616) where
-  pub numbers-short : (k r : ℕ) → r + k ≤ 256 → length (numberLines k r ns) ≤ 60 * k
+  numbers-short : (k r : ℕ) → r + k ≤ 256 → length (numberLines k r ns) ≤ 60 * k
   unfolding numberLines
   numbers-short zero r h = omega arith
   numbers-short (suc k) r h =

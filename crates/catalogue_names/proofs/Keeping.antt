@@ -164,7 +164,7 @@ module _ {d : List ℕ} {k : Kept} {l : List ℕ} {r : Kept} {e m : List ℕ} {s
             )
       ]
 
-  pub keeps-join : Keeps d k (l ++ m) s f
+  keeps-join : Keeps d k (l ++ m) s f
   keeps-join =
       record {
         bytes =

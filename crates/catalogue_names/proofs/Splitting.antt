@@ -78,7 +78,7 @@ names-first : (b : ℕ) (l : List ℕ) → eqb b 10 ≡ true → names (b ∷ l)
 names-first b l h = names-stop b l h ∙ rw (front-stop b l h) refl
 
 -- a list that has a byte has a name
-pub names-cons : (b : ℕ) (l : List ℕ) → names (b ∷ l) ≡ front (b ∷ l) ∷ names (drop (suc (length (front (b ∷ l)))) (b ∷ l))
+names-cons : (b : ℕ) (l : List ℕ) → names (b ∷ l) ≡ front (b ∷ l) ∷ names (drop (suc (length (front (b ∷ l)))) (b ∷ l))
 unfolding names pushByte front
 names-cons b [] = elim (decide (eqb b 10)) [ inl h ↦ names-first b [] h | inr h ↦ names-on b [] h ∙ rw (front-on b [] h) refl ]
 names-cons b (d ∷ k) =
@@ -90,7 +90,7 @@ names-some [] h = absurd (omega arith)
 names-some (b ∷ l) h = names-cons b l
 
 module _ (l : List ℕ) (a : ℕ) (h : a < length l) where
-  pub names-drop : names (drop a l) ≡ front (drop a l) ∷ names (drop (a + length (front (drop a l)) + 1) l)
+  names-drop : names (drop a l) ≡ front (drop a l) ∷ names (drop (a + length (front (drop a l)) + 1) l)
   names-drop =
       let s : a + suc (length (front (drop a l))) ≡ a + length (front (drop a l)) + 1 = omega arith in
       names-some (drop a l) (omega (arith, length-drop a l))

@@ -269,7 +269,7 @@ at f g (b ∷ l) h c m = elim (List·Memᴰ·cases-cons m) [ inl e ↦ ap f e �
     rest = cc
 
 -- The table, proved of the definitions.
-pub proved : (c : Case) → List·Memᴰ c table → Proved c
+proved : (c : Case) → List·Memᴰ c table → Proved c
 unfolding readingPrint answerPrint
 proved c m =
     let arrays = are-arrays (c .game) (allOf-elim (λ (d : Case). lengths (d .game) && narrowWords (d .game)) table records c m) in

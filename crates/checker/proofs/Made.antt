@@ -52,7 +52,7 @@ module _ (g : Game) where
   unfolding placeCount playOf arenaOf separatedOf graphOf
   entries-counted = controller-long (separatedOf g)
 
-  pub places-counted : {n : ℕ} → n ≡ length (controllerEntries (separatedOf g))
+  places-counted : {n : ℕ} → n ≡ length (controllerEntries (separatedOf g))
       → n - g .input .states ≡ placeCount (playOf g) (controllerCounters (separatedOf g))
   places-counted e = omega (arith, e, entries-counted)
 

@@ -129,7 +129,7 @@ module _ (g : Game) (M N : ℕ) (l : List ℕ) (R : Ready g M l) (e : N ≡ plac
       listed : InQueue (starts g l) (enters (g .input .states) (g .input .moves) to (replicate 4096 1)) N mark queue from n
       listed = E .listed (starts g l) (O .listed (enters (g .input .states) (g .input .moves) to (replicate 4096 1)))
 
-      pub queue-few : n ≤ 4096
+      queue-few : n ≤ 4096
       queue-few = omega (arith, E .grown .queued .few, count-le N (marked mark), few)
 
       pub scan-fits : Grid (g .input .states) N (g .input .moves) to × ScanFits N queue n

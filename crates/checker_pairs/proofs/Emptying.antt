@@ -22,7 +22,7 @@ use Rattle.checker_rounds.specs.declared.Tried.{Tried}
 use Rattle.checker_pairs.specs.Pairs.{Removals, whole, next, PairFits, Left, Emptied}
 
 module _ (I N : ℕ) (rows to : List ℕ) (q : Requirement) where
-  pub removals-only : {X Y : List ℕ} → Removals I N rows to q X Y → (k : ℕ) → marked Y k ≡ true → marked X k ≡ true
+  removals-only : {X Y : List ℕ} → Removals I N rows to q X Y → (k : ℕ) → marked Y k ≡ true → marked X k ≡ true
   removals-only whole k h = h
   removals-only (next R S) k h = removals-only R k (S .only k h)
 

@@ -51,7 +51,7 @@ module _ (A : Arena) (T : ControllerTable) (B : Bounded A) (few : placeCount A (
   Turn = ControllerTurn A T
 
   module _ (F : ℕ → Bool) (K : Marked A T F) where
-    pub marked-starts : (i : ℕ) → A .inInitial i ≡ true → Some (T .memories) (A .opening i) (T .start i)
+    marked-starts : (i : ℕ) → A .inInitial i ≡ true → Some (T .memories) (A .opening i) (T .start i)
     unfolding starting
     marked-starts i h =
         lead-good A M (A .opening i) i (B .opening i) few (B .initial i h) (T .start i)
@@ -72,12 +72,12 @@ module _ (A : Arena) (T : ControllerTable) (B : Bounded A) (few : placeCount A (
         ∙ lead-named A M (A .reply j (c .output)) j (T .step (c .memory) (c .output) j) (d .memory) (d .output) (t .step) in
         ap F (sym there) ∙ row-marked c j C h (t .move)
 
-    pub marked-all : (c : Configuration) → Reachable (ControllerFirst A T) (ControllerTurn A T) c → F (place (A .inputs) (T .memories) c) ≡ true
+    marked-all : (c : Configuration) → Reachable (ControllerFirst A T) (ControllerTurn A T) c → F (place (A .inputs) (T .memories) c) ≡ true
     marked-all c r =
         keep (λ (d : Configuration). Inside A M d × (F (at d) ≡ true)) (λ d e i t. (turn-inside A T B t, marked-turn d e (i .0) (i .1) t)) (r .walk)
         (inside-controller B T (r .origin) (reached-first First Turn (r .first)), marked-first (r .origin) (r .first)) .1
 
-    pub marked-steps : (c : Configuration) → Reachable (ControllerFirst A T) (ControllerTurn A T) c → (j : ℕ) → A .inMove (c .input) j ≡ true
+    marked-steps : (c : Configuration) → Reachable (ControllerFirst A T) (ControllerTurn A T) c → (j : ℕ) → A .inMove (c .input) j ≡ true
         → Some (T .memories) (A .reply j (c .output)) (T .step (c .memory) (c .output) j)
     marked-steps c r j m =
         let C = inside-controller B T c r in

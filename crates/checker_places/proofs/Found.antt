@@ -27,7 +27,7 @@ use Rattle.checker_places.proofs.Stretch.{entry-in, entry-of}
 use Rattle.checker_places.proofs.OnPlaces.{turn-placed}
 
 -- the entries number b to b + m - 1 of a walk
-pub breaks-found : (at : ℕ → Configuration) (b m : ℕ) (q : Requirement) (Q : ℕ → Bool) → List·Memᴰ Q (q .guarantees)
+breaks-found : (at : ℕ → Configuration) (b m : ℕ) (q : Requirement) (Q : ℕ → Bool) → List·Memᴰ Q (q .guarantees)
     → ((k : ℕ) → b ≤ k → k < b + m → Q (at k .output) ≡ false)
     → ((s : ℕ → Bool) → List·Memᴰ s (q .assumptions) → (k : ℕ) × (b ≤ k) × (k < b + m) × (s (at k .input) ≡ true))
     → breaks q (tabulateFrom b m at) ≡ true
@@ -63,7 +63,7 @@ module _ (A : Arena) (T : ControllerTable) (B : Bounded A) (few : placeCount A (
   found-start i h e = record { initial = h; bad = lead-bad A M (A .opening i) i (B .opening i) few (B .initial i h) (T .start i) e }
 
   module _ (w : ℕ → ℕ) (n : ℕ) (W : Stepped A T w n) where
-    pub stepped-walked : Walked A T (λ k. placed (A .inputs) (T .memories) (w k)) n
+    stepped-walked : Walked A T (λ k. placed (A .inputs) (T .memories) (w k)) n
     unfolding placed
     stepped-walked = record {
       some = W .some;

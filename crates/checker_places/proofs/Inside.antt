@@ -28,7 +28,7 @@ module _ {A : Type 0} (R : A → A → Type 0) (X : A → Bool) (u : A) (F : A �
       go (inl e) rec = ap F e ∙ h
       go (inr n) rec = rec n
 
-  pub to-end : {a b : A} (w : Walk R a b) → ((c : A) → List·Memᴰ c (passed w) → X c ≡ true) → (c : A) → List·Memᴰ c (passed w)
+  to-end : {a b : A} (w : Walk R a b) → ((c : A) → List·Memᴰ c (passed w) → X c ≡ true) → (c : A) → List·Memᴰ c (passed w)
       → (F c ≡ true) ⊎ (c ≡ u) → (F b ≡ true) ⊎ (b ≡ u)
   unfolding passed
   to-end (stay {a = a}) x c m h =
@@ -42,7 +42,7 @@ module _ {A : Type 0} (R : A → A → Type 0) (X : A → Bool) (u : A) (F : A �
       go (inr n) rec = rec n
 
   -- From what it passes of F the round goes on to its end, which is its beginning, and from there to all of it.
-  pub round-inside : {a b e : A} → R a b → (w : Walk R b e) → e ≡ a → ((c : A) → List·Memᴰ c (passed w) → X c ≡ true)
+  round-inside : {a b e : A} → R a b → (w : Walk R b e) → e ≡ a → ((c : A) → List·Memᴰ c (passed w) → X c ≡ true)
       → (c : A) → List·Memᴰ c (passed w) → (F c ≡ true) ⊎ (c ≡ u) → (d : A) → List·Memᴰ d (passed w) → F d ≡ true
   round-inside {a} {b} r w e x c m h d n =
       let begin = subst (λ (z : A). (F z ≡ true) ⊎ (z ≡ u)) e (to-end w x c m h) in

@@ -2,8 +2,6 @@
 --
 --   listed-none        : nothing is found yet
 --   listed-add         : one number more is found
---   listed-fits        : as long as a number is not marked, the queue is shorter than N
---   listed-searched    : where every step inside X from u and from what is marked ends in a marked one, the search is done
 use Prim.Native.Nat.{ℕ, zero, suc, _≤_, _<_}
 use mathlib.Core.Path.{_≡_, refl, sym, _∙_, ap, subst}
 use mathlib.Core.Bool.{Bool, true, false, _||_}
@@ -13,9 +11,9 @@ use lib.Dec.{eqb}
 use borrow.Author.Tests.{eqb-true, eq-eqb}
 use Rattle.finite.specs.Bounded.{count}
 use Rattle.finite.proofs.Truth.{clash, or-left, or-right, or-cases}
-use Rattle.finite.proofs.Bounded.{below-suc, count-le, count-less}
-use Rattle.checker_places.specs.Search.{Within, Listed, Searched}
-use Rattle.checker_places.proofs.Search.{queue-none, queue-add, queue-searched}
+use Rattle.finite.proofs.Bounded.{below-suc, count-less}
+use Rattle.checker_places.specs.Search.{Listed}
+use Rattle.checker_places.proofs.Search.{queue-none, queue-add}
 
 module _ (P : ℕ → Type 0) (R : ℕ → ℕ → Type 0) (N : ℕ) where
   pub listed-none : (q from : ℕ → ℕ) (mark : ℕ → Bool) → ((a : ℕ) → mark a ≡ false) → Listed P R N zero q from mark
@@ -28,9 +26,6 @@ module _ (P : ℕ → Type 0) (R : ℕ → ℕ → Type 0) (N : ℕ) where
   }
 
   module _ (n : ℕ) (q from : ℕ → ℕ) (mark : ℕ → Bool) (L : Listed P R N n q from mark) where
-    pub listed-fits : (a : ℕ) → a < N → mark a ≡ false → n < N
-    listed-fits a b h = omega (arith, L .few, count-less N mark (λ k. true) (λ k l m. refl) a b h refl, count-le N (λ k. true))
-
     -- the number a is marked and put behind the others, with its finder
     pub listed-add : (a : ℕ) → a < N → mark a ≡ false → (p since : ℕ → ℕ) (next : ℕ → Bool)
         → ((k : ℕ) → k < n → p k ≡ q k) → p n ≡ a → ((k : ℕ) → k < n → since k ≡ from k) → since n ≤ n
@@ -57,14 +52,3 @@ module _ (P : ℕ → Type 0) (R : ℕ → ℕ → Type 0) (N : ℕ) where
 
         more : count N mark < count N next
         more = count-less N mark next (λ k c i. m k ∙ or-left (eqb k a) i) a b h (m a ∙ or-right (mark a) (eq-eqb a a refl))
-
-pub listed-searched : (R : ℕ → ℕ → Type 0) (X : ℕ → Bool) (u N n : ℕ) (q from : ℕ → ℕ) (mark : ℕ → Bool)
-    → Listed (Within R X u) (Within R X) N n q from mark → ((a : ℕ) → Within R X u a → mark a ≡ true)
-    → ((k : ℕ) → k < n → (a : ℕ) → Within R X (q k) a → mark a ≡ true) → Searched R X u mark
-listed-searched R X u N n q from mark L enter on =
-    queue-searched R X u n q from mark (L .queue)
-    (record {
-      enter = enter;
-      on = λ a b h t. let v = L .found a h in on (v .0) (v .1) b (subst (λ (x : ℕ). Within R X x b) (sym (v .2)) t);
-    })
-    (L .found)

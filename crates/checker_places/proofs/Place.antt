@@ -40,11 +40,11 @@ module _ (A : Arena) (M : ℕ) where
     place-input = digits-mod (c .output * M + c .memory) (C .input)
 
     -- the row without its input
-    pub place-row : place (A .inputs) M c / A .inputs ≡ c .output * M + c .memory
+    place-row : place (A .inputs) M c / A .inputs ≡ c .output * M + c .memory
     unfolding place
     place-row = digits-div (c .output * M + c .memory) (C .input)
 
-    pub place-memory : place (A .inputs) M c / A .inputs % M ≡ c .memory
+    place-memory : place (A .inputs) M c / A .inputs % M ≡ c .memory
     place-memory = ap (λ (x : ℕ). x % M) place-row ∙ digits-mod (c .output) (C .memory)
 
     pub place-output : place (A .inputs) M c / A .inputs / M ≡ c .output
@@ -79,7 +79,7 @@ module _ (A : Arena) (M : ℕ) where
     place-placed = ap (λ (x : ℕ). x * A .inputs + k % A .inputs) (div-add-mod' (k / A .inputs) M) ∙ div-add-mod' k (A .inputs)
 
   -- one place for each configuration
-  pub place-same : (c d : Configuration) → Inside A M c → Inside A M d → place (A .inputs) M c ≡ place (A .inputs) M d → c ≡ d
+  place-same : (c d : Configuration) → Inside A M c → Inside A M d → place (A .inputs) M c ≡ place (A .inputs) M d → c ≡ d
   place-same c d C D e = sym (placed-place c C) ∙ ap (placed (A .inputs) M) e ∙ placed-place d D
 
   module _ (ok : ℕ → Bool) (j : ℕ) where
@@ -129,13 +129,6 @@ module _ (A : Arena) (M : ℕ) where
 
       pub lead-good : (a : Answer) → lead (A .inputs) M ok j a < 65535 → Some M ok a
       lead-good a h = elim (lead-cases a) [ inl x ↦ x .0 | inr e ↦ absurd (omega (arith, h, e)) ]
-
-      pub lead-below : (a : Answer) → lead (A .inputs) M ok j a < 65535 → lead (A .inputs) M ok j a < placeCount A M
-      lead-below a h =
-          elim (lead-cases a) [
-            | inl x ↦ let l = place-below (next (x .0 .memory) (x .0 .state)) (named-inside (x .0 .names)) in rw (x .1) l
-            | inr e ↦ absurd (omega (arith, h, e))
-          ]
 
 module _ (A : Arena) (T : ControllerTable) (B : Bounded A) where
   abbrev M : ℕ

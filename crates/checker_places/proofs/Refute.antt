@@ -42,7 +42,7 @@ module _ (A : Arena) (T : ControllerTable) where
         reachable = walked-reachable b (omega arith);
       }
 
-      pub closing-passes : configurations (ControllerFirst A T) (ControllerTurn A T) closing ≡ tabulateFrom b (n - b) at
+      closing-passes : configurations (ControllerFirst A T) (ControllerTurn A T) closing ≡ tabulateFrom b (n - b) at
       unfolding configurations closing tabulateFrom
       closing-passes =
           let h = part (suc b) (n - suc (suc b)) (n - 1) (omega arith) (omega arith) .1 in

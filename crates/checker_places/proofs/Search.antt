@@ -3,7 +3,6 @@
 --   length-extend            : one step more is one longer
 --   leg                      : what is found as number k is reached, by at most k steps from what has P
 --   queue-none, queue-add    : an empty queue, and one thing more
---   queue-searched           : a queue with a closed set of marks is a search
 --   searched-on              : a search from a member of a closed set finds members of it alone
 --   pivot-falls              : and fewer of them, where it misses one
 use Prim.Native.Nat.{ℕ, zero, suc, _≤_, _<_}
@@ -17,9 +16,9 @@ use Rattle.finite.proofs.Bounded.{below-suc, count-less}
 use Rattle.graphs.specs.Walk.{Walk, stay, step}
 use Rattle.graphs.proofs.Walk.{extend, keep}
 use Rattle.graphs.proofs.Measure.{targets}
-use Rattle.checker_places.specs.Search.{Within, Closed, Reached, Queue, Searched}
+use Rattle.checker_places.specs.Search.{Closed, Reached, Queue, Searched}
 
-pub length-extend : {A : Type 0} {R : A → A → Type 0} {a b c : A} (w : Walk R a b) (r : R b c) → length (targets (extend w r)) ≡ suc (length (targets w))
+length-extend : {A : Type 0} {R : A → A → Type 0} {a b c : A} (w : Walk R a b) (r : R b c) → length (targets (extend w r)) ≡ suc (length (targets w))
 unfolding targets extend
 length-extend stay r = refl
 length-extend (step q w) r = ap suc (length-extend w r)
@@ -67,14 +66,7 @@ module _ {A : Type 0} (P : A → Type 0) (R : A → A → Type 0) where
   }
 
 module _ {A : Type 0} (R : A → A → Type 0) (X : A → Bool) where
-  pub queue-searched : (u : A) (n : ℕ) (q : ℕ → A) (from : ℕ → ℕ) (F : A → Bool) → Queue (Within R X u) (Within R X) n q from → Closed R X u F
-      → ((a : A) → F a ≡ true → (k : ℕ) × (k < n) × (q k ≡ a)) → Searched R X u F
-  queue-searched u n q from F Q C f = record {
-    closed = C;
-    reached = λ a h. let v = f a h in subst (Reached (Within R X u) (Within R X)) (v .2) (leg (Within R X u) (Within R X) n q from Q (v .0) (v .1) .0);
-  }
-
-  pub searched-on : (u v : A) (F G : A → Bool) → Searched R X u F → Closed R X v G → G u ≡ true → (a : A) → F a ≡ true → G a ≡ true
+  searched-on : (u v : A) (F G : A → Bool) → Searched R X u F → Closed R X v G → G u ≡ true → (a : A) → F a ≡ true → G a ≡ true
   searched-on u v F G S C g a h =
       let r = S .reached a h in
       keep (λ (z : A). G z ≡ true) (λ x y i t. C .on x y i t) (r .rest) (C .on u (r .origin) g (r .begins))

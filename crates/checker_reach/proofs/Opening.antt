@@ -35,7 +35,7 @@ pub states : (g : Game) → playOf g .inputs ≡ g .input .states
 unfolding playOf arenaOf separatedOf graphOf
 states g = refl
 
-pub initially : (g : Game) (i : ℕ) → playOf g .inInitial i ≡ begins (graphOf (g .input)) i
+initially : (g : Game) (i : ℕ) → playOf g .inInitial i ≡ begins (graphOf (g .input)) i
 unfolding playOf arenaOf separatedOf
 initially g i = refl
 
@@ -66,7 +66,7 @@ module _ (g : Game) (M N : ℕ) (l all mark₀ queue₀ from₀ : List ℕ) (F :
           | inr e ↦ absurd (d e)
         ]
 
-    pub start-starts : playOf g .inInitial i ≡ true → starts g l (starting (playOf g) (controllerOf g l) i) ≡ true
+    start-starts : playOf g .inInitial i ≡ true → starts g l (starting (playOf g) (controllerOf g l) i) ≡ true
     unfolding starts
     start-starts h =
         let s : ℕ = starting (playOf g) (controllerOf g l) i in

@@ -146,7 +146,7 @@ module _ (I N : ℕ) (rows to : List ℕ) (q : Requirement) (X : List ℕ) (mark
       module _ (visited : r .missed ≡ false) where
         -- the pivot is reached again
         module _ (m : at mark′ u ≡ 1) (k : ℕ) (A : FirstAt queue′ (r .found) u k) where
-          pub closing-place : k < r .found
+          closing-place : k < r .found
           closing-place =
               let w = L .reach .listed .found u (marked-is mark′ u m) in
               elim (decLt k (r .found)) [

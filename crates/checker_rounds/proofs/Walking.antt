@@ -79,7 +79,7 @@ module _ (I N : ℕ) (rows to X : List ℕ) (u : ℕ) (mark queue from : List �
   inside-by k b zero e = enters-in I N rows to X u (at queue k) (R .listed .queue .first k b e)
   inside-by k b (suc m) e = enters-in I N rows to X (at queue m) (at queue k) (R .listed .queue .later k m b e)
 
-  pub reach-inside : (k : ℕ) → k < n → marked X (at queue k) ≡ true
+  reach-inside : (k : ℕ) → k < n → marked X (at queue k) ≡ true
   reach-inside k b = inside-by k b (at from k) refl
 
   -- mark₀ is closed, and u belongs to it

@@ -46,7 +46,7 @@ unfoldable pub placeOf : ℕ → ℕ → Played → ℕ
 placeOf I M (At p) = (p .output .0 * M + p .counter) * I + p .input .0
 placeOf I M (Refused n) = 65535
 
-pub placeOf-lead : (I M : ℕ) (ok : ℕ → Bool) (j : InState) (a : Answer) → placeOf I M (arrives M ok j a) ≡ lead I M ok (j .0) a
+placeOf-lead : (I M : ℕ) (ok : ℕ → Bool) (j : InState) (a : Answer) → placeOf I M (arrives M ok j a) ≡ lead I M ok (j .0) a
 unfolding placeOf arrives provided lead place
 placeOf-lead I M ok j none = refl
 placeOf-lead I M ok j (gives m p) = go (ltb m M && ok p) refl
@@ -55,7 +55,7 @@ placeOf-lead I M ok j (gives m p) = go (ltb m M && ok p) refl
     go true e = rw (sym e, arrives, lead, provided, placeOf) refl
     go false e = rw (sym e, arrives, lead, provided, placeOf) refl
 
-pub product-fits : (y I i b : ℕ) → 0 < I → y * I + i ≤ b → (y ≤ b) × (y * I ≤ b)
+product-fits : (y I i b : ℕ) → 0 < I → y * I + i ≤ b → (y ≤ b) × (y * I ≤ b)
 product-fits y zero i b l h = absurd (omega (arith, l))
 product-fits y (suc I) i b l h = (omega (arith, h, mul-suc y I), omega (arith, h))
 
@@ -118,7 +118,7 @@ module _ (g : Game) where
     row-below n r e b = omega (arith, e, b, ap (placeCount (playOf g)) (R .counters))
 
     module _ (i : ℕ) (b : i < g .input .states) where
-      pub start-lead : lead (g .input .states) M (has (bitsOf (g .output .initial))) i (answer (getD l i 0)) ≡ starting (playOf g) (controllerOf g l) i
+      start-lead : lead (g .input .states) M (has (bitsOf (g .output .initial))) i (answer (getD l i 0)) ≡ starting (playOf g) (controllerOf g l) i
       unfolding starting playOf arenaOf separatedOf graphOf controllerOf controllerTable
       start-lead k =
           lead (g .input .states) (R .counters k) (initial-outputs g (R .accepted) k) i
@@ -156,7 +156,7 @@ module _ (g : Game) where
       unfolding place placed playOf arenaOf separatedOf graphOf
       back = place-placed A N r b
 
-      pub row-lead : lead (g .input .states) M (has (bitsOf (setAt (g .output .moves) (r / g .input .states / M)))) (r % g .input .states)
+      row-lead : lead (g .input .states) M (has (bitsOf (setAt (g .output .moves) (r / g .input .states / M)))) (r % g .input .states)
           (answer (getD l (g .input .states + r) 0)) ≡ leads (playOf g) (controllerOf g l) r
       unfolding leads playOf arenaOf separatedOf graphOf controllerOf controllerTable
       row-lead =

@@ -33,7 +33,7 @@ use Rattle.checker_search.proofs.Turns.{marked-new, marked-more, marked
 pub grown-none : (N : ℕ) (mark queue from : List ℕ) (n : ℕ) → Queued N mark queue from n → Grown N mark queue from n mark queue from n
 grown-none N mark queue from n Q = record { queued = Q; more = omega arith; marks = λ a h. h; front = λ k b. refl }
 
-pub grown-join : {N : ℕ} {a b c a′ b′ c′ a″ b″ c″ : List ℕ} {n n′ n″ : ℕ} → Grown N a b c n a′ b′ c′ n′ → Grown N a′ b′ c′ n′ a″ b″ c″ n″
+grown-join : {N : ℕ} {a b c a′ b′ c′ a″ b″ c″ : List ℕ} {n n′ n″ : ℕ} → Grown N a b c n a′ b′ c′ n′ → Grown N a′ b′ c′ n′ a″ b″ c″ n″
     → Grown N a b c n a″ b″ c″ n″
 grown-join G H = record {
   queued = H .queued;
@@ -154,7 +154,7 @@ module _ (I N : ℕ) (rows to X : List ℕ) (f c : ℕ) (mark queue from : List 
       move : has (getD (setsIn rows) (c % I) 0) h ≡ true
       move = S .inside h taken
 
-      pub spreading-input : h < I
+      spreading-input : h < I
       spreading-input = G .move (c % I) h (mod-lt c (G .some)) move
 
       pub spreading-row : c / I * I + h < 4096

@@ -83,7 +83,7 @@ module _ (queue from : List ℕ) (k : ℕ) where
       pub chaining-finder : at from m - 1 < m
       chaining-finder = omega (arith, F .earlier m (C .below), ne)
 
-      pub chaining-next : Chaining queue from k (set out (i - 1) (at queue (at from m - 1))) (at from m - 1) (i - 1)
+      chaining-next : Chaining queue from k (set out (i - 1) (at queue (at from m - 1))) (at from m - 1) (i - 1)
       chaining-next = record {
         long = length-set out (i - 1) v ∙ C .long;
         some = omega (arith, C .some);

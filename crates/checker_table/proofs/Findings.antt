@@ -92,7 +92,7 @@ module _ (g : Game) (M N : ℕ) (l to : List ℕ) (R : Ready g M l) (e : N ≡ p
         let r = S .first in
         ap (starts g l) (r .here) ∙ L .queue .first (r .found) (omega (arith, r .below, b)) (r .by)
 
-    pub stem-stepped : Stepped (playOf g) (controllerOf g l) (at room′) m
+    stem-stepped : Stepped (playOf g) (controllerOf g l) (at room′) m
     unfolding starts
     stem-stepped = record {
       some = S .some;
@@ -176,7 +176,7 @@ module _ (g : Game) (M N : ℕ) (l to : List ℕ) (R : Ready g M l) (e : N ≡ p
               ∙ sym (follows-turns g M N l to R e F (at walk (i + 1 - m)) (at walk (suc (i + 1 - m))) (W .below (i + 1 - m) (omega (arith, a, d))))
               ∙ W .turn (i + 1 - m) (omega (arith, a, d))
 
-      pub round-stepped : Stepped (playOf g) (controllerOf g l) (at room″) (m + c - 1)
+      round-stepped : Stepped (playOf g) (controllerOf g l) (at room″) (m + c - 1)
       round-stepped =
           let zeroth = C .before 0 (S .some) in
           record {

@@ -56,7 +56,7 @@ module _ (g : Game) (M N : ℕ) (l to : List ℕ) (R : Ready g M l) (e : N ≡ p
     unfolding playOf arenaOf separatedOf graphOf
     inside = b
 
-    pub leads-input : leads (playOf g) (controllerOf g l) r < N → leads (playOf g) (controllerOf g l) r % g .input .states ≡ r % g .input .states
+    leads-input : leads (playOf g) (controllerOf g l) r < N → leads (playOf g) (controllerOf g l) r % g .input .states ≡ r % g .input .states
     unfolding leads
     leads-input h =
         let I : ℕ = playOf g .inputs in

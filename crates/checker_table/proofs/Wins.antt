@@ -106,7 +106,7 @@ module _ (g : Game) (M N : ℕ) (l to : List ℕ) (R : Ready g M l) (e : N ≡ p
             places-drop (playOf g) T (playing g) few (requirementOf q) Q (marked X) (marked Y) (D .found) (D .pivot) H pivot-below enter on (w .0)
             (λ k b. w .1 k (within-count k b))
 
-    pub removals-hold : {X Y : List ℕ} → Free X → Removals (g .input .states) N (g .input .moves) to q X Y → Free Y
+    removals-hold : {X Y : List ℕ} → Free X → Removals (g .input .states) N (g .input .moves) to q X Y → Free Y
     removals-hold H whole = H
     removals-hold H (next S D) = removed-hold (removals-hold H S) D
 
@@ -118,7 +118,7 @@ module _ (g : Game) (M N : ℕ) (l to : List ℕ) (R : Ready g M l) (e : N ≡ p
     pub listed : InQueue (starts g l) (enters (g .input .states) (g .input .moves) to all) N mark queue from n
     listed = E .listed (starts g l) (O .listed (enters I (g .input .moves) to all))
 
-    pub reached-marked : Marked (playOf g) (controllerOf g l) (marked mark)
+    reached-marked : Marked (playOf g) (controllerOf g l) (marked mark)
     reached-marked = record {
       below = λ k h. omega (arith, listed .below k h, count-places g M N l to R e F);
       first = λ i h. E .grown .marks (starting (playOf g) T i) (O .first good i h);

@@ -51,7 +51,7 @@ module _ (S : Separated) where
   unfolding controllerEntries fullList rowOf cellOf startEntry rowEntry
   entries-listed = refl
 
-  pub row-of-first : (o g j : ℕ) → o < S .output .states → j < S .input .states
+  row-of-first : (o g j : ℕ) → o < S .output .states → j < S .input .states
       → controllerRow S o g (leaderOf S (rankOf S j)) ≡ controllerRow S o g j
   row-of-first o g j lo lj =
       ap (controllerRow S o g) (rank-first S j lj)
@@ -62,7 +62,7 @@ module _ (S : Separated) where
   pub entries-length : length (controllerEntries S) ≡ fullLength S
   entries-length = rw entries-listed (full-length S startEntry rowEntry)
 
-  pub full-start : (i : ℕ) → i < S .input .states → getD (controllerEntries S) i 65535 ≡ entry (controllerStart S i)
+  full-start : (i : ℕ) → i < S .input .states → getD (controllerEntries S) i 65535 ≡ entry (controllerStart S i)
   unfolding startEntry
   full-start i b = rw entries-listed (full-start-of S startEntry rowEntry i b)
 

@@ -162,7 +162,7 @@ module _ (S : Separated) where
       ∙ ap entry (rows-agree S j k e o g lo)
       ∙ sym (full-entries S o g k lo lg (joined-to (S .input) j k e))
 
-  pub entries-rows : rowsFit S (controllerEntries S) ≡ true
+  entries-rows : rowsFit S (controllerEntries S) ≡ true
   entries-rows = rows-fit-intro S (controllerEntries S) entries-agree
 
   pub compact-entries-fit : compactFits S (compactEntries S) ≡ true

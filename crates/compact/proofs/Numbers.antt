@@ -61,7 +61,7 @@ module _ (S : Separated) (l : List ℕ) (n : ℕ) where
 module _ (S : Separated) (l : List ℕ) (n : ℕ) where
   -- no number is given only where no test fails
 
-  pub over-passes : overNumber S l n ≡ 0 → (fullFits S l ≡ true) × (rowsFit S l ≡ true) × (compactLength S ≤ n)
+  over-passes : overNumber S l n ≡ 0 → (fullFits S l ≡ true) × (rowsFit S l ≡ true) × (compactLength S ≤ n)
   over-passes e = go (decide (fullFits S l)) (decide (rowsFit S l)) (decLt n (compactLength S))
     where
       go : (fullFits S l ≡ true) ⊎ (fullFits S l ≡ false) → (rowsFit S l ≡ true) ⊎ (rowsFit S l ≡ false) → Dec (n < compactLength S)
@@ -71,7 +71,7 @@ module _ (S : Separated) (l : List ℕ) (n : ℕ) where
       go (inl a) (inl b) (yes c) = absurd (omega (arith, over-room S l n a b c))
       go (inl a) (inl b) (no c) = (a, b, omega arith)
 
-  pub back-passes : backNumber S l n ≡ 0 → (compactFits S l ≡ true) × (ranksFit S l ≡ true) × (fullLength S ≤ n)
+  back-passes : backNumber S l n ≡ 0 → (compactFits S l ≡ true) × (ranksFit S l ≡ true) × (fullLength S ≤ n)
   back-passes e = go (decide (compactFits S l)) (decide (ranksFit S l)) (decLt n (fullLength S))
     where
       go : (compactFits S l ≡ true) ⊎ (compactFits S l ≡ false) → (ranksFit S l ≡ true) ⊎ (ranksFit S l ≡ false) → Dec (n < fullLength S)

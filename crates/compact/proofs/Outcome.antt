@@ -54,10 +54,10 @@ module _ (S : Separated) where
   pub same-table : Same (arenaOf S) (oldTable (controllerEntries S)) (compactTable S (compactEntries S))
   same-table = same-lists (controllerEntries S) (compactEntries S) (starts-equal S) (rows-equal S)
 
-  pub same-over : (l : List ℕ) → rowsFit S l ≡ true → Same (arenaOf S) (oldTable l) (compactTable S (toCompact S l))
+  same-over : (l : List ℕ) → rowsFit S l ≡ true → Same (arenaOf S) (oldTable l) (compactTable S (toCompact S l))
   same-over l h = same-lists l (toCompact S l) (start-over S l) (row-over S l h)
 
-  pub same-back : (l : List ℕ) → Same (arenaOf S) (oldTable (fromCompact S l)) (compactTable S l)
+  same-back : (l : List ℕ) → Same (arenaOf S) (oldTable (fromCompact S l)) (compactTable S l)
   same-back l =
       same-lists (fromCompact S l) l (λ i b. sym (start-back S l i b)) (λ o g j lo lg lj. sym (row-back S l o g j lo lg lj))
 

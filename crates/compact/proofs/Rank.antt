@@ -50,7 +50,7 @@ module _ (S : Separated) where
   rank-same j k h = ap (λ (s : ℕ). count s (leads S)) (number-same (S .input) j k h)
 
   -- a smaller smallest state, a smaller rank
-  pub rank-rises : (j k : ℕ) → j < S .input .states → number (S .input) j < number (S .input) k → rankOf S j < rankOf S k
+  rank-rises : (j k : ℕ) → j < S .input .states → number (S .input) j < number (S .input) k → rankOf S j < rankOf S k
   unfolding rankOf
   rank-rises j k b h = count-past (leads S) (number (S .input) j) (number (S .input) k) (leads-number j b) h
 
@@ -63,7 +63,7 @@ module _ (S : Separated) where
       go (no l) (yes m) = absurd (omega (arith, rank-rises k j c m))
       go (no l) (no m) = omega arith
 
-  pub rank-apart : (j k : ℕ) → j < S .input .states → k < S .input .states → rankOf S j ≡ rankOf S k → joined (S .input) j k ≡ true
+  rank-apart : (j k : ℕ) → j < S .input .states → k < S .input .states → rankOf S j ≡ rankOf S k → joined (S .input) j k ≡ true
   rank-apart j k b c e =
       joined-trans (S .input) j (number (S .input) j) k (number-joined (S .input) j b)
       (joined-sym (S .input) k (number (S .input) j)
@@ -92,7 +92,7 @@ module _ (S : Separated) where
   first-below c h = first-found c h
 
   -- it is the smallest of its component
-  pub first-number : (c : ℕ) → c < componentCount S → number (S .input) (leaderOf S c) ≡ leaderOf S c
+  first-number : (c : ℕ) → c < componentCount S → number (S .input) (leaderOf S c) ≡ leaderOf S c
   unfolding ranked
   first-number c h =
       number-leads (leaderOf S c) (and-left (leads S (leaderOf S c)) (eqb (count (leaderOf S c) (leads S)) c) (first-ranked c h))

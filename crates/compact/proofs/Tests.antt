@@ -97,7 +97,7 @@ module _ (S : Separated) (l : List ℕ) where
       (λ g lg. all-intro I (pairsOf o g)
       (λ j lj. all-intro I (pairFits S l o g j) (λ k lk. pair-intro o g j k (h o g j k lo lg)))))
 
-  pub rows-fit-elim : rowsFit S l ≡ true → (o g j k : ℕ) → o < O → g < M → j < I → k < I → joined (S .input) j k ≡ true
+  rows-fit-elim : rowsFit S l ≡ true → (o g j k : ℕ) → o < O → g < M → j < I → k < I → joined (S .input) j k ≡ true
       → fullRow S l o g j ≡ fullRow S l o g k
   unfolding rowsFit pairsOf rowsOf
   rows-fit-elim h o g j k lo lg lj lk e =

@@ -29,8 +29,9 @@ ghost use Rattle.bits.specs.Member.{pack};
 ghost use Rattle.compact.specs.Rank.{leads};
 ghost use Rattle.compact.specs.Compact.{compactLength, compactEntries};
 
-// The rows whose home is d; c are the inputs in nontrivial components, of which `firsts` begin a run of equal rows. Here and below the rows of the output graph, `outs`, are read where they stand, and the
-// requirements in the outline, `given`: a game goes by value, and of it only counts are read.
+// The rows whose home is d; c are the inputs in nontrivial components, of which `firsts` begin a run of equal rows. Here and below the rows of the output
+// graph, `outs`, are read where they stand, the counts of sets in the outline, `given`, and the sets in the list l: a game goes by value, and of it only
+// counts are read.
 fn settle(
     g: Game,
     given: Outline,

@@ -46,7 +46,7 @@ module _ (z : Size) where
     -- the leader of a column
 
     module _ (b : ℕ) (l : b < z .width) where
-      pub input-below : inputOf z b < z .inputs
+      input-below : inputOf z b < z .inputs
       unfolding inputOf columnOf picks
       input-below =
           let w = count-reached (leading z) (z .inputs) b (rw e at l) in

@@ -80,7 +80,7 @@ exits-entering rows n c out gates e = record {
 
 module _ (g : Game) (M n : ℕ) (z : Layout) (R : Roomy g M n) (Z : EnvironmentLayout (g .input .states) M (g .output .states) z) (c k : ℕ)
     (W : Whole g c k) where
-  pub way-filled : (gates over : ℕ) {l m : List ℕ} → Gated g k gates over → Approaches (setsIn (g .input .moves)) z c gates over l m
+  way-filled : (gates over : ℕ) {l m : List ℕ} → Gated g k gates over → Approaches (setsIn (g .input .moves)) z c gates over l m
       → EnvironmentFilled g (λ a h b. (joined (graphOf (g .input)) k a ≡ true) × (has over b ≡ true) × (has gates a ≡ false)) l m
   way-filled gates over G A =
       filled-same g

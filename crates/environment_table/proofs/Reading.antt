@@ -48,7 +48,7 @@ module _ (l : List ℕ) (n m y : ℕ) where
     at : has rest p ≡ true
     at = lowest-in capacity rest p small ne e
 
-    pub reaching-small : p < capacity
+    reaching-small : p < capacity
     reaching-small = lowest-below capacity rest p small ne e
 
     pub reaching-below : p < m

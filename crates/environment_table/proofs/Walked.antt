@@ -158,8 +158,9 @@ module _ (g : Game) (i : ℕ) (li : i < g .input .states) (x : ℕ) (A : Ahead g
         to a l h =
             let left = sym (A .is a l) ∙ and-left (has x a) (not (has c a)) h in
             let out = not-true (has c a) (and-right (has x a) (not (has c a)) h) in
-            let from = leb-true i (number (graphOf (g .input)) a) (and-right (nontrivial (graphOf (g .input)) a) (leb i (number (graphOf (g .input)) a)) left) in
-            and-intro (and-left (nontrivial (graphOf (g .input)) a) (leb i (number (graphOf (g .input)) a)) left) (past out from (ℕ-discrete (number (graphOf (g .input)) a) i))
+            let n = and-left (nontrivial (graphOf (g .input)) a) (leb i (number (graphOf (g .input)) a)) left in
+            let from = and-right (nontrivial (graphOf (g .input)) a) (leb i (number (graphOf (g .input)) a)) left in
+            and-intro n (past out (leb-true i (number (graphOf (g .input)) a) from) (ℕ-discrete (number (graphOf (g .input)) a) i))
           where
             past : has c a ≡ false → i ≤ number (graphOf (g .input)) a → Dec (number (graphOf (g .input)) a ≡ i)
                 → leb (i + 1) (number (graphOf (g .input)) a) ≡ true

@@ -32,7 +32,7 @@ use Rattle.environment_table.proofs.Laid.{laid-table, laid-filled}
 use Rattle.environment_table.proofs.Toured.{goals-pack, tour-row, aims-goals, some-goal}
 
 module _ (g : Game) (M n : ℕ) (z : Layout) (R : Roomy g M n) (Z : EnvironmentLayout (g .input .states) M (g .output .states) z) where
-  pub tour-course : (c over q : ℕ) → Left g c over
+  tour-course : (c over q : ℕ) → Left g c over
       → q ≡ pack (length (assumptions (separatedOf g))) (metIn (assumptions (separatedOf g)) c) → Course z (setsIn (g .input .moves)) c over q
   unfolding graphOf environmentCounters
   tour-course c over q L e = record {
@@ -55,7 +55,7 @@ module _ (g : Game) (M n : ℕ) (z : Layout) (R : Roomy g M n) (Z : EnvironmentL
   }
 
   module _ (c q over : ℕ) (A : Aims g c q over M) where
-    pub aims-course : Course z (setsIn (g .input .moves)) c over q
+    aims-course : Course z (setsIn (g .input .moves)) c over q
     aims-course = tour-course c over q (A .left) (A .goals ∙ ap (λ (k : ℕ). pack k (metIn (assumptions (separatedOf g)) c)) (A .count .all))
 
     pub aims-counted : Goals q (z .counters) 0

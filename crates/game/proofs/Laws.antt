@@ -42,7 +42,7 @@ use Rattle.game.specs.Acceptance.{
   acceptance,
 }
 use Rattle.game.proofs.Steps
-use Rattle.game.proofs.Steps.{limit-in, limit-out, counts-next, states-next, initials-next, few-below, accept-all}
+use Rattle.game.proofs.Steps.{limit-in, limit-out}
 use Rattle.game.proofs.Refusals.{accepted-tests}
 pub use Rattle.game.specs.Fits.{GraphFits, RequirementFits, Fits}
 
@@ -273,19 +273,3 @@ module _ (g : Game) where
   of-sets : ((r : ℕ) → r < 8 → requirementFits g r (requirementAt g r) ≡ true) → setsFit g ≡ true
   unfolding setsFit requirementFitsAt
   of-sets h = all-intro 8 (requirementFitsAt g) h
-
-  pub fits-accepted : Fits g → acceptance g ≡ Accepted
-  fits-accepted f =
-      sym
-      (accept-all g
-      (sym (counts-next g true (fits-count (g .input) (f .input)) (sym (fits-count (g .output) (f .output)))))
-      (sym (states-next g true (fits-states (g .input) (f .input)) (sym (fits-states (g .output) (f .output)))))
-      (sym (initials-next g true (fits-initial (g .input) (f .input)) (sym (fits-initial (g .output) (f .output)))))
-      (few-below g (f .few))
-      (of-lengths (λ r l. fits-few (requirementAt g r) (g .input .states) (g .output .states) (f .requirement r l)))
-      (of-sets
-      (λ r l.
-      of-parts r (requirementAt g r)
-      (use-of r (requirementAt g r) (λ k. f .unused r k l))
-      (fits-in (requirementAt g r) (g .input .states) (g .output .states) (f .requirement r l))
-      (fits-out (requirementAt g r) (g .input .states) (g .output .states) (f .requirement r l)))))

@@ -32,12 +32,10 @@ use Rattle.game.specs.Acceptance.{
   countsFit,
   statesInCount,
   initialsExist,
-  fewRequirements,
   lengthsFit,
   setsFit,
   tests,
   firstFailing,
-  acceptance,
 }
 
 -- ---- a graph
@@ -175,10 +173,6 @@ module _ (g : Game) where
   unfolding setsFit
   sets-end r l m e = all-end 8 r (requirementFitsAt g) l m e
 
-  pub few-below : g .k ≤ 8 → fewRequirements g ≡ true
-  unfolding fewRequirements
-  few-below l = le-leb (g .k) 8 l
-
 -- ---- the first test that fails
 
 pub first-stop : (n : ℕ) (ts : List Bool) {b : Bool} → b ≡ false → Refused n ≡ firstFailing n (b ∷ ts)
@@ -192,10 +186,3 @@ first-next n ts r e q = q ∙ sym (ap (λ (t : Bool). firstFailing n (t ∷ ts))
 pub first-none : (n : ℕ) → Accepted ≡ firstFailing n []
 unfolding firstFailing
 first-none n = refl
-
-pub accept-all : (g : Game) → countsFit g ≡ true → statesInCount g ≡ true → initialsExist g ≡ true
-    → fewRequirements g ≡ true → lengthsFit g ≡ true → setsFit g ≡ true → Accepted ≡ acceptance g
-unfolding acceptance tests
-accept-all g a b c e f s =
-    first-next 1 _ _ a
-    (first-next 2 _ _ b (first-next 3 _ _ c (first-next 4 _ _ refl (first-next 5 _ _ e (first-next 6 _ _ f (first-next 7 _ _ s (first-none 8)))))))

@@ -42,7 +42,7 @@ module _ (G : Graph) where
     pub sound : (a u : ℕ) → a < G .states → rel m a u ≡ true → reaches G a u ≡ true
     pub self : (a : ℕ) → a < G .states → rel m a a ≡ true
     pub moves : (a u : ℕ) → edge G a u ≡ true → rel m a u ≡ true
-    pub ways : (a u : ℕ) → way u k a ≡ true → rel m a u ≡ true
+    ways : (a u : ℕ) → way u k a ≡ true → rel m a u ≡ true
 
   -- ---- before the first sweep
 

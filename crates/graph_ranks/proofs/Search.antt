@@ -64,7 +64,7 @@ module _ (w h r : ℕ) (small : (t : ℕ) → has w t ≡ true → t < capacity)
 
 pub record Going (rows : List ℕ) (inside s found waiting : ℕ) : Type 0 where
   pub own : has found s ≡ true
-  pub seen : (t : ℕ) → has waiting t ≡ true → has found t ≡ true
+  seen : (t : ℕ) → has waiting t ≡ true → has found t ≡ true
   pub small : Small found
   pub moves : (t u : ℕ) → has found t ≡ true → has waiting t ≡ false → has (getD rows t 0) u ≡ true → has inside u ≡ true → has found u ≡ true
   pub least : (p : ℕ → Bool) → p s ≡ true → Onward rows inside p → (t : ℕ) → has found t ≡ true → p t ≡ true
@@ -221,7 +221,7 @@ module _ (rows : List ℕ) (left found : ℕ) where
     rest-small : (t : ℕ) → has rest t ≡ true → t < capacity
     rest-small t m = small t (W .inside t m)
 
-    pub sweeping-in : has rest h ≡ true
+    sweeping-in : has rest h ≡ true
     sweeping-in = lowest-in capacity rest h (small-word capacity rest rest-small) some e
 
     pub sweeping-below : h < capacity

@@ -66,7 +66,7 @@ module _ (g : Game) (A : acceptance g ≡ Accepted) where
   moves-narrow = narrow (g .input) (accepted-fits g A .input)
 
   -- the component of an input that leads it, found among the inputs that are left
-  pub around-joined : (j left c : ℕ) → j < g .input .states → Left (separatedOf g) j left → leads (separatedOf g) j ≡ true
+  around-joined : (j left c : ℕ) → j < g .input .states → Left (separatedOf g) j left → leads (separatedOf g) j ≡ true
       → Component (setsIn (g .input .moves)) left j c → c ≡ pack (g .input .states) (joined (graphOf (g .input)) j)
   unfolding separatedOf graphOf
   around-joined j left c b L l C =
@@ -129,7 +129,7 @@ module _ (g : Game) (A : acceptance g ≡ Accepted) where
 pub record Walked (g : Game) (places j left rank : ℕ) : Type 0 where
   pub accepted : acceptance g ≡ Accepted
   pub crossed : Crossed (setsIn (g .input .moves)) (g .input .states) places
-  pub remains : Left (separatedOf g) j left
+  remains : Left (separatedOf g) j left
   pub counted : rank ≡ count j (leads (separatedOf g))
 
 pub walked-start : (g : Game) (places left : ℕ) → acceptance g ≡ Accepted → Crossed (setsIn (g .input .moves)) (g .input .states) places

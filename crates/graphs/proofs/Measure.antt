@@ -2,7 +2,6 @@
 --
 --   targets w       == what the walk enters, its beginning left out
 --   lands           : such a walk enters the set, or has at most as many moves as the number it began with
---   closed-lands    : a closed walk of one move or more enters the set
 --   finds           : what holds where the walk begins and is kept by its moves holds of whatever it passes
 use Prim.Native.Nat.{ℕ, suc, _+_, _≤_, _<_}
 use mathlib.Core.Path.{_≡_, refl, ap}
@@ -44,14 +43,6 @@ module _ {A : Type 0} {R : A → A → Type 0} where
               | inl h ↦ inl (or-left (anyOf p (targets w)) h)
               | inr h ↦ elim rec [ inl k ↦ inl (or-right (p b) k) | inr k ↦ inr (omega arith) ]
             ]
-
-    pub closed-lands : {b : A} → R e b → (w : Walk R b e) → I e → anyOf p (passed w) ≡ true
-    unfolding targets
-    closed-lands {b} r w i =
-        elim (lands (step r w) i) [
-          | inl h ↦ rw (passed-targets w) h
-          | inr h ↦ absurd (omega arith)
-        ]
 
   module _ (e : A) (I : A → Type 0) (turn : (a b : A) → I a → R a b → Walk R b e → I b) where
     pub finds : (p : A → Bool) {a : A} (w : Walk R a e) → I a → anyOf p (passed w) ≡ true → (c : A) × I c × (p c ≡ true)

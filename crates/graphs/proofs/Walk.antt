@@ -62,7 +62,7 @@ module _ {A : Type 0} {R : A → A → Type 0} where
   around {a} {b} w e c d m n = join (subst (Walk R c) e (after w c m)) (before w d n)
 
   -- what joined walks pass
-  pub any-join : (p : A → Bool) {a b c : A} (v : Walk R a b) (w : Walk R b c)
+  any-join : (p : A → Bool) {a b c : A} (v : Walk R a b) (w : Walk R b c)
       → anyOf p (passed (join v w)) ≡ (anyOf p (passed v) || anyOf p (passed w))
   unfolding passed join anyOf
   any-join p (stay {a = a}) w = sym (absorb (p a) (anyOf p (passed w)) (λ e. anyOf-intro p (passed-first w) e))
@@ -73,7 +73,7 @@ module _ {A B : Type 0} {R : A → A → Type 0} (S : B → B → Type 0) (f : A
   image stay = stay
   image (step {a = a} {b = b} r w) = step (g a b r) (image w)
 
-  pub passed-image : {a b : A} (w : Walk R a b) → passed (image w) ≡ map f (passed w)
+  passed-image : {a b : A} (w : Walk R a b) → passed (image w) ≡ map f (passed w)
   unfolding passed image
   passed-image (stay {a = a}) = refl
   passed-image (step {a = a} r w) = ap (_∷_ (f a)) (passed-image w)

@@ -49,7 +49,7 @@ module _ (S : Separated) where
       (λ q m. ap (λ (b : Bool). not (due S i q) || b)
       (allOf-same (meetsAt (S .output) d) (meetsAt (S .output) e) (q .guarantees) (λ p n. meetsAt-same (S .output) d e p h)))
 
-  pub homeFor-joined : (i d e : ℕ) → joined (S .output) d e ≡ true → homeFor S (region S) i d ≡ true → homeFor S (region S) i e ≡ true
+  homeFor-joined : (i d e : ℕ) → joined (S .output) d e ≡ true → homeFor S (region S) i d ≡ true → homeFor S (region S) i e ≡ true
   homeFor-joined i d e h f =
       homeFor-intro S (region S) i e (sym (nontrivial-same (S .output) d e h) ∙ homeFor-nontrivial S (region S) i d f)
       (sym (accepting-joined i d e h) ∙ homeFor-accepting S (region S) i d f)

@@ -61,7 +61,7 @@ pub one-none : (g : Game) (b : List ℕ) → someBarred b ≡ false → true ≡
 unfolding oneRequirement
 one-none g b e = rw e refl
 
-pub unbarred-none : (b : List ℕ) → someBarred b ≡ false → (i o : ℕ) → bars b i o ≡ false
+unbarred-none : (b : List ℕ) → someBarred b ≡ false → (i o : ℕ) → bars b i o ≡ false
 unfolding someBarred
 unbarred-none b e i o = elim (decide (ltb i (length (setsIn b)))) [
   | inl h ↦ ap (λ (x : ℕ). has x o) (eqb-true (getD (setsIn b) i 0) 0

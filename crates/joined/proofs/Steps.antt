@@ -29,14 +29,14 @@ use Rattle.joined_settle.specs.Settle.{Unsettled, ComponentSettled}
 use Rattle.joined.specs.Order.{Backward, SettledWith}
 
 -- a set whose words are not changed
-pub set-same : (n a : ℕ) (l m : List ℕ) → ((i : ℕ) → i < n → getD m (a + i) 0 ≡ getD l (a + i) 0) → belongs n a m ≡ belongs n a l
+set-same : (n a : ℕ) (l m : List ℕ) → ((i : ℕ) → i < n → getD m (a + i) 0 ≡ getD l (a + i) 0) → belongs n a m ≡ belongs n a l
 set-same n a l m e = fun-ext (λ i. fun-ext (λ o. belongs-same n a l m e i o))
 
 at-once : {f h : ℕ → ℕ → Bool} → f ≡ h → (i o : ℕ) → f i o ≡ h i o
 at-once e i o = ap (λ (k : ℕ → ℕ → Bool). k i o) e
 
 -- the number of positions ahead, where it stands
-pub ranked-at : (g : Game) (l : List ℕ) → Ranked g (g .input .states * g .output .states) l → (j p : ℕ) → j < g .input .states → p < g .output .states
+ranked-at : (g : Game) (l : List ℕ) → Ranked g (g .input .states * g .output .states) l → (j p : ℕ) → j < g .input .states → p < g .output .states
     → getD l (1024 + (j * g .output .states + p)) 0 ≡ rankAt (separatedOf g) j p
 ranked-at g l R j p a b =
     R .ahead (j * g .output .states + p) (digits-lt a b)

@@ -151,7 +151,7 @@ pub record Entering (x y w rest w′ : ℕ) (l m : List ℕ) : Type 0 where
   pub small : rest < 2 ^ 64
   pub inside : (k : ℕ) → has rest k ≡ true → has x k ≡ true
   pub kept : ButFor 0 32 l m
-  pub untouched : (k : ℕ) → has rest k ≡ true → getD m k 0 ≡ getD l k 0
+  untouched : (k : ℕ) → has rest k ≡ true → getD m k 0 ≡ getD l k 0
   pub found : (k q : ℕ) → has rest k ≡ false → has (getD m k 0) q ≡ (has (getD l k 0) q || (has x k && has y q))
   pub waits : (k : ℕ) → has w′ k ≡ true → (has w k ≡ true) ⊎ ((q : ℕ) × (has (getD m k 0) q ≡ true) × (has (getD l k 0) q ≡ false))
   pub still : (k : ℕ) → has w′ k ≡ false → (has w k ≡ false) × ((q : ℕ) → has (getD m k 0) q ≡ true → has (getD l k 0) q ≡ true)

@@ -47,13 +47,13 @@ module _ (G H : Graph) where
   path-right : {c d : ℕ} → Path (joint G H) c d → Path H (c % H .states) (d % H .states)
   path-right w = image (λ (a b : ℕ). edge H a b ≡ true) (λ (c : ℕ). c % H .states) move-right w
 
-  pub reaches-left : (s t s′ t′ : ℕ) → s < G .states → t < H .states → t′ < H .states → reaches (joint G H) (at H s t) (at H s′ t′) ≡ true
+  reaches-left : (s t s′ t′ : ℕ) → s < G .states → t < H .states → t′ < H .states → reaches (joint G H) (at H s t) (at H s′ t′) ≡ true
       → reaches G s s′ ≡ true
   reaches-left s t s′ t′ a b b′ r =
       ap2 (reaches G) (sym (at-left s t b)) (sym (at-left s′ t′ b′))
       ∙ path-reaches G (at H s t / H .states) (at H s′ t′ / H .states) (rw (at-left s t b) a) (path-left (reaches-path (joint G H) (at H s t) (at H s′ t′) r))
 
-  pub reaches-right : (s t s′ t′ : ℕ) → t < H .states → t′ < H .states → reaches (joint G H) (at H s t) (at H s′ t′) ≡ true → reaches H t t′ ≡ true
+  reaches-right : (s t s′ t′ : ℕ) → t < H .states → t′ < H .states → reaches (joint G H) (at H s t) (at H s′ t′) ≡ true → reaches H t t′ ≡ true
   reaches-right s t s′ t′ b b′ r =
       ap2 (reaches H) (sym (at-right s t b)) (sym (at-right s′ t′ b′))
       ∙ path-reaches H (at H s t % H .states) (at H s′ t′ % H .states) (rw (at-right s t b) b) (path-right (reaches-path (joint G H) (at H s t) (at H s′ t′) r))

@@ -62,7 +62,7 @@ module _ (k : Kit) (F : Fitting k) (l t : List ℕ) (R : Reads k l t) (W : Contr
   module _ (i : ℕ) (b : startsIn (k .old) i ≡ true) (us : ℕ → ℕ) (a : (n : ℕ) → allows (k .old) (modeAt (k .old) i us n) (us n) ≡ true) where
     record At (n : ℕ) : Type 0 where
       pub here : Configuration
-      pub come : Come k F l t R W here
+      come : Come k F l t R W here
       pub mode : here .input ≡ modeAt (k .old) i us n
 
     allowed-at : (n : ℕ) (p : At n) → allows (k .old) (p .here .input) (us n) ≡ true

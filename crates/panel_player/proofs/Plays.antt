@@ -161,7 +161,7 @@ module _ (g : Game) (l : List ℕ) where
 
     -- The theorem over plays: begun with an initial output and stepped with moves, a play against a table that wins is never refused, and the positions that
     -- it passes are a walk of that table from a first configuration.
-    pub wins-play : (o : OutState) (qs : List OutState) → begins (graphOf (g .output)) (o .0) ≡ true → alongOutputs g (o .0) qs ≡ true → PanelRan g l o qs
+    wins-play : (o : OutState) (qs : List OutState) → begins (graphOf (g .output)) (o .0) ≡ true → alongOutputs g (o .0) qs ≡ true → PanelRan g l o qs
     wins-play o qs b h =
         let e = wins-begin o b in
         let s = began g l o (opened o) e in

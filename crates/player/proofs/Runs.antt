@@ -169,7 +169,7 @@ module _ (g : Game) (l : List ℕ) where
 
     -- The theorem over runs: begun with an initial input and stepped with moves, a player whose table wins is never refused, and the positions that it
     -- passes are a walk of that table from a first configuration.
-    pub wins-run : (i : InState) (js : List InState) → begins (graphOf (g .input)) (i .0) ≡ true → along g (i .0) js ≡ true → Ran g l i js
+    wins-run : (i : InState) (js : List InState) → begins (graphOf (g .input)) (i .0) ≡ true → along g (i .0) js ≡ true → Ran g l i js
     wins-run i js b h =
         let v = wins-begin i b in
         let s = began g l i (v .0) (v .1) in

@@ -45,11 +45,11 @@ use Rattle.region_dues.specs.Dues.{
 }
 
 module _ (f s : List ℕ) where
-  pub server-first : (r : ℕ) → r < 4 → getD (setsIn f) r 0 ≡ serversAt f s r
+  server-first : (r : ℕ) → r < 4 → getD (setsIn f) r 0 ≡ serversAt f s r
   unfolding serversAt
   server-first r b = rw (lt-ltb r 4 b, serversAt) refl
 
-  pub server-second : (r : ℕ) → 4 ≤ r → getD (setsIn s) (r - 4) 0 ≡ serversAt f s r
+  server-second : (r : ℕ) → 4 ≤ r → getD (setsIn s) (r - 4) 0 ≡ serversAt f s r
   unfolding serversAt
   server-second r b = rw (le-ltb r 4 b, serversAt) refl
 
@@ -85,7 +85,7 @@ module _ {g : Game} (F : Few g) where
     pub assumed-few : (i k : ℕ) → ((q : ℕ) → q < k → i + q < g .k) → FewSets n i k
     assumed-few i k h = record { at = λ q b. few-assumed (i + q) (h q b) }
 
-    pub due-listed : {l : List ℕ} → Lists g l → (a r : ℕ) → r < g .k → dueBy l n a r ≡ dueIn g a r
+    due-listed : {l : List ℕ} → Lists g l → (a r : ℕ) → r < g .k → dueBy l n a r ≡ dueIn g a r
     unfolding dueBy dueIn inMeets inMeetsBy inMeetsAt
     due-listed {l} L a r b =
         all-same (getD n r 0) (inMeetsBy l a r) (inMeetsAt (requirementAt g r) a)
@@ -99,7 +99,7 @@ module _ {g : Game} (F : Few g) where
     pub guaranteed-few : (i k : ℕ) → ((q : ℕ) → q < k → i + q < g .k) → FewSets n i k
     guaranteed-few i k h = record { at = λ q b. few-guaranteed (i + q) (h q b) }
 
-    pub served-listed : {l : List ℕ} → Lists g l → (c r : ℕ) → r < g .k → servedBy l n c r ≡ servedIn g c r
+    served-listed : {l : List ℕ} → Lists g l → (c r : ℕ) → r < g .k → servedBy l n c r ≡ servedIn g c r
     unfolding servedBy servedIn outMeets outMeetsBy outMeetsAt
     served-listed {l} L c r b =
         all-same (getD n r 0) (outMeetsBy l c r) (outMeetsAt (requirementAt g r) c)

@@ -87,7 +87,7 @@ module _ {g : Game} {s : List ℕ} {x : Nontrivial} {i : ℕ} (R : RowReady g s 
   row-component a e = e ∙ component-closed (g .input) (setsIn s) (in-closes (R .laid)) i (R .here)
 
 -- the rows of one component are the same
-pub stored-same : (S : Separated) (i f : ℕ) → joined (S .input) i f ≡ true → storedRow S f ≡ storedRow S i
+stored-same : (S : Separated) (i f : ℕ) → joined (S .input) i f ≡ true → storedRow S f ≡ storedRow S i
 stored-same S i f j = go (decide (nontrivial (S .input) i))
   where
     back : joined (S .input) f i ≡ true

@@ -54,7 +54,7 @@ latest-before : (f j : ℕ) → has f (suc j) ≡ false → latest f (suc j) ≡
 unfolding latest
 latest-before f j e = rw (e, latest) refl
 
-pub latest-le : (f j : ℕ) → latest f j ≤ j
+latest-le : (f j : ℕ) → latest f j ≤ j
 unfolding latest
 latest-le f zero = omega arith
 latest-le f (suc j) =
@@ -64,7 +64,7 @@ latest-le f (suc j) =
       | inr e ↦ omega (arith, latest-before f j e, before)
     ]
 
-pub latest-at : (f b t : ℕ) → has f b ≡ true → b ≤ t → ((u : ℕ) → b < u → u ≤ t → has f u ≡ false) → latest f t ≡ b
+latest-at : (f b t : ℕ) → has f b ≡ true → b ≤ t → ((u : ℕ) → b < u → u ≤ t → has f u ≡ false) → latest f t ≡ b
 unfolding latest
 latest-at f b zero e l h = omega arith
 latest-at f b (suc t) e l h = go (ℕ-discrete b (suc t)) (λ k. latest-at f b t e k (λ u a c. h u a (omega (arith, c))))
@@ -73,7 +73,7 @@ latest-at f b (suc t) e l h = go (ℕ-discrete b (suc t)) (λ k. latest-at f b t
     go (yes z) again = latest-here f t (rw z at e) ∙ sym z
     go (no z) again = latest-before f t (h (suc t) (omega (arith, z, l)) (omega arith)) ∙ again (omega (arith, z, l))
 
-pub latest-self : (f t : ℕ) → has f t ≡ true → latest f t ≡ t
+latest-self : (f t : ℕ) → has f t ≡ true → latest f t ≡ t
 latest-self f t e = latest-at f t t e (omega arith) (λ u a c. absurd (omega (arith, a, c)))
 
 -- ---- the test of one input

@@ -57,7 +57,7 @@ module _ (x y : ℕ) (h : x < 2 ^ 64) where
   pub pair-low : (s : ℕ) → s < 64 → has (value 64 (x ∷ y ∷ [])) s ≡ has x s
   pair-low s l = has-first 64 x (y ∷ []) s l
 
-  pub pair-high : (s : ℕ) → has (value 64 (x ∷ y ∷ [])) (64 + s) ≡ has y s
+  pair-high : (s : ℕ) → has (value 64 (x ∷ y ∷ [])) (64 + s) ≡ has y s
   pair-high s = has-later 64 x (y ∷ []) s h ∙ ap (λ (n : ℕ). has n s) (single y)
 
   pub pair-from : (s : ℕ) → 64 ≤ s → has (value 64 (x ∷ y ∷ [])) s ≡ has y (s - 64)

@@ -14,7 +14,6 @@
 --   sets-take, sets-drop, count-drop, sets-append : the sets in a part of the words
 --   rest-words                   : where the sets past the first k are the same, so are the words
 --   bits-of, set-is    : a set and its number
---   words-fit          : the words of the set with a number below 2 to the power of the capacity have 64 bits each
 --   sets-put, sets-all, words-sets, rows-put  : the rows of a graph, as words and as sets
 --   no-bits, no-states : the empty set has no members
 --   set-bits           : a set of the list as a record, and as a number
@@ -26,7 +25,6 @@ use mathlib.Core.Logic.{_≢_}
 use lib.Dec.{eqb}
 use lib.Seq.{getD-drop}
 use lib.ListN.{length, getD, set, replicate, take, drop, length-drop, drop-of-length-le}
-use native.Mathlib.Nat.{mod-lt, div-lt-iff-lt-mul}
 use native.Mathlib.Omega.{arith}
 use native.Mathlib.Numerals.{unary-clauses}
 use borrow.Author.Tests.{eqb-true, eqb-false}
@@ -37,7 +35,7 @@ use Rattle.finite.proofs.Truth.{clash, not-true, not-false}
 use Rattle.bits.specs.Member.{has}
 use Rattle.bits.proofs.Membership.{has-zero}
 use Rattle.sets.specs.declared.Set.{Set}
-use Rattle.sets.specs.Words.{capacity, rowWords, value, bitsOf, setOf, setsIn, setCount, wordsOf, putSet, wordsFor, WordsFit, noStates, setAt}
+use Rattle.sets.specs.Words.{capacity, rowWords, value, bitsOf, setOf, setsIn, setCount, wordsOf, putSet, wordsFor, noStates, setAt}
 
 pub none : {b : Bool} (x : ℕ) → b ≡ eqb x 0 → b ≡ true → x ≡ 0
 none x e q = eqb-true x 0 (sym e ∙ q)
@@ -70,7 +68,7 @@ count-room : (l : List ℕ) (n : ℕ) → n ≤ setCount l → 2 * n ≤ length 
 unfolding setCount
 count-room l n h = omega arith
 
-pub place-low : (l : List ℕ) (s : ℕ) → s < setCount l → 2 * s + 2 ≤ length l
+place-low : (l : List ℕ) (s : ℕ) → s < setCount l → 2 * s + 2 ≤ length l
 unfolding setCount
 place-low l s h = omega arith
 
@@ -226,10 +224,6 @@ no-states = refl
 pub bits-of : (x : ℕ) → bitsOf (setOf x) ≡ x
 unfolding bitsOf setOf
 bits-of x = parted x
-
-pub words-fit : (x : ℕ) → x < 2 ^ capacity → WordsFit (setOf x)
-unfolding setOf
-words-fit x h = (mod-lt x (omega arith), div-lt-iff-lt-mul {k = 2 ^ 64} {x = x} {y = 2 ^ 64} (omega arith) .1 h)
 
 -- of a parameter and of a call's result the premise is found by `omega`: a set's number tells its words where the low one has 64 bits
 pub set-is : (x : Set) → x .low < 2 ^ 64 → setOf (bitsOf x) ≡ x

@@ -37,7 +37,7 @@ pub data Linked (w : ℕ) (f : Bool → Bool → Bool) : List ℕ → List ℕ �
       → Linked w f (r ∷ c) (x ∷ a) (y ∷ b)
 
 -- a state is one of the first word, or one of the words after it
-pub first-or-later : (w s : ℕ) → (s < w) ⊎ ((t : ℕ) × (s ≡ w + t))
+first-or-later : (w s : ℕ) → (s < w) ⊎ ((t : ℕ) × (s ≡ w + t))
 first-or-later w s = elim (decLt s w) [ yes l ↦ inl l | no l ↦ inr (s - w, omega arith) ]
 
 pub subset-at : (n x y : ℕ) → subset n x y ≡ true → (s : ℕ) → s < n → has x s ≡ true → has y s ≡ true
@@ -53,11 +53,11 @@ module _ (w : ℕ) where
   unfolding value
   has-later x l s h = has-block-high w (value w l) x s h
 
-  pub has-none : (s : ℕ) → has (value w []) s ≡ false
+  has-none : (s : ℕ) → has (value w []) s ≡ false
   unfolding value
   has-none s = has-zero s
 
-  pub has-at : (l : List ℕ) → Words w l → (k s : ℕ) → s < w → has (value w l) (k * w + s) ≡ has (getD l k 0) s
+  has-at : (l : List ℕ) → Words w l → (k s : ℕ) → s < w → has (value w l) (k * w + s) ≡ has (getD l k 0) s
   has-at [] none k s h = has-none (k * w + s) ∙ sym (has-zero s)
   has-at (x ∷ l) (more b r) zero s h = ap (has (value w (x ∷ l))) (omega arith) ∙ has-first x l s h
   has-at (x ∷ l) (more b r) (suc k) s h =

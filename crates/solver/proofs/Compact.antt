@@ -118,7 +118,7 @@ rows-behind g o h j lo lh lj l = front-row (separatedOf g) l o h j lo lh lj ∙ 
 
 -- ---- the length
 
-pub compact-some : (g : Game) → acceptance g ≡ Accepted → 0 < compactLength (separatedOf g)
+compact-some : (g : Game) → acceptance g ≡ Accepted → 0 < compactLength (separatedOf g)
 unfolding compactLength separatedOf graphOf
 compact-some g a = omega (arith, accepted-fits g a .input .some)
 

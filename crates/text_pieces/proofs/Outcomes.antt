@@ -51,7 +51,7 @@ unfolding numberRead
 fault-number (got u i) e = let z : _≡_ {A = ℕ} 0 1 = cc in absurd (omega arith)
 fault-number (fault q) e = cc
 
-pub set-members : {x : Run ℕ} {v j : ℕ} → x ≡ got v j → Members (setOf v) j ≡ setScanOf x
+set-members : {x : Run ℕ} {v j : ℕ} → x ≡ got v j → Members (setOf v) j ≡ setScanOf x
 unfolding setScanOf
 set-members e = sym (ap setScanOf e)
 

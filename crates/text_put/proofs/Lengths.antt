@@ -63,7 +63,7 @@ module _ (x y z : ℕ) (tens : (s : ℕ) → has y s ≡ (has x s && not (ltb s 
   unfolding one
   member-none s h = rw (tens s, hundreds s) (rw h refl)
 
-  pub members-length : (n lo : ℕ) → lo + n ≤ 1000 → length (items true (map decimal (members n lo x))) + spent lo ≡ spent (lo + n)
+  members-length : (n lo : ℕ) → lo + n ≤ 1000 → length (items true (map decimal (members n lo x))) + spent lo ≡ spent (lo + n)
   unfolding members items count gapText
   members-length zero lo h = let e : lo + 0 ≡ lo = omega arith in omega (arith, ap spent e)
   members-length (suc n) lo h =

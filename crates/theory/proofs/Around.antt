@@ -24,7 +24,7 @@ around-below m g k a b = elim (around-cases m g k) [ inl c ↦ omega arith | inr
 unfoldable pub distance : ℕ → ℕ → ℕ → ℕ
 distance m g q = elim (ltb q g) [ true ↦ q + m - g | false ↦ q - g ]
 
-pub distance-cases : (m g q : ℕ) → g < m → ((q < g) × (distance m g q + g ≡ q + m)) ⊎ ((g ≤ q) × (distance m g q + g ≡ q))
+distance-cases : (m g q : ℕ) → g < m → ((q < g) × (distance m g q + g ≡ q + m)) ⊎ ((g ≤ q) × (distance m g q + g ≡ q))
 unfolding distance
 distance-cases m g q a =
     elim (decide (ltb q g)) [

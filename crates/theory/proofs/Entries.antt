@@ -58,7 +58,7 @@ pub data Small : Answer → Type 0 where
   small-gives : (counter state : ℕ) → counter < 511 → state < stride → Small (gives counter state)
 
 -- "none is 65,535", and no other entry is
-pub entry-below : (a : Answer) → Small a → (a ≡ none) ⊎ (entry a < 65535)
+entry-below : (a : Answer) → Small a → (a ≡ none) ⊎ (entry a < 65535)
 unfolding entry
 entry-below none small-none = inl refl
 entry-below (gives c s) (small-gives counter state a b) = inr (omega arith)

@@ -31,7 +31,7 @@ module _ (S : Separated) where
   pub lost-out : (j o p : ℕ) → region S j o ≡ false → edge (S .output) o p ≡ true → region S j p ≡ false
   lost-out j o p h e = false-of (region S j p) (λ t. clash (output-back S j o p e t) h)
 
-  pub lost-in : (i j o p : ℕ) → joined (S .input) i j ≡ true → region S i o ≡ false → edge (S .output) o p ≡ true → region S j p ≡ false
+  lost-in : (i j o p : ℕ) → joined (S .input) i j ≡ true → region S i o ≡ false → edge (S .output) o p ≡ true → region S j p ≡ false
   lost-in i j o p a h e =
       false-of (region S j p) (λ t. clash (input-delay S j i o (joined-back (S .input) i j a) (output-back S j o p e t)) h)
 
@@ -81,7 +81,7 @@ module _ (S : Separated) where
   unfolding gate
   gate-intro o c k a b = and-intro a b
 
-  pub escapes-elim : (i o : ℕ) → escapes S i o ≡ true → (k : ℕ) × (gate S o (number (S .input) i) k ≡ true)
+  escapes-elim : (i o : ℕ) → escapes S i o ≡ true → (k : ℕ) × (gate S o (number (S .input) i) k ≡ true)
   unfolding escapes
   escapes-elim i o h = let v = any-elim (S .input .states) (gate S o (number (S .input) i)) h in (v .0, v .2)
 

@@ -61,7 +61,7 @@ module _ (G : Graph) (c : ℕ) where
   inside-below s t h = edge-from G s t (inside-edge s t h)
 
   -- a walk between two states of a component stays inside it
-  pub path-inside : {s t : ℕ} → Path G s t → joined G c s ≡ true → joined G c t ≡ true → Walk (λ (a b : ℕ). inside G c a b ≡ true) s t
+  path-inside : {s t : ℕ} → Path G s t → joined G c s ≡ true → joined G c t ≡ true → Walk (λ (a b : ℕ). inside G c a b ≡ true) s t
   path-inside stay a b = stay
   path-inside {s} {t} (step {b = u} e w) a b = step (inside-intro s u e a middle) (path-inside w middle b)
     where

@@ -12,7 +12,8 @@ use Rattle.environment.proofs.component_rows.Statement.{statement}
 use Rattle.environment.proofs.component_rows.Tie as tie
 
 whole : (c : tie.After-in-component)
-    → let start = c .before .before .before .before .before .before in
+    → let m = c .before .before .before in
+    let start = m .before .before .before in
     Whole (start .args .g) (bitsOf (c .in-component .result .0)) (start .args .i .0)
 whole c =
     let tested = c .before .before in

@@ -42,7 +42,9 @@ lowest-requires c κs = search needs
 some-left : (c : tie.Then1 Inv-loop μ-loop) → bitsOf (c .before .before .loop .rest) ≢ 0
 some-left c = is-some _ (c .before .is-empty .ensures) (c .if1 .taken)
 
-below : (c : tie.After-lowest Inv-loop μ-loop) → c .lowest .result < c .before .before .before .before .before .before .before .before .args .n
+below : (c : tie.After-lowest Inv-loop μ-loop)
+    → let l = c .before .before .before in
+    c .lowest .result < l .before .before .before .before .before .args .n
 below c =
     let l = c .before .before .before in
     collected-below capacity _ _ _ _ _ (l .loop .inv) (some-left (c .before)) _ (c .lowest .ensures)

@@ -68,7 +68,9 @@ lowest-requires-2 : tie.Need-lowest-requires-2 Inv-loop μ-loop
 lowest-requires-2 c κs = search needs
 
 between-requires : tie.Need-between-requires Inv-loop μ-loop
-between-requires c κs = (omega (arith, first-below (c .before .before)), omega (arith, least-le capacity (has (bitsOf (c .before .without-lowest .result))), c .lowest2 .ensures))
+between-requires c κs =
+    let left = c .before .without-lowest .result in
+    (omega (arith, first-below (c .before .before)), omega (arith, least-le capacity (has (bitsOf left)), c .lowest2 .ensures))
 
 member-requires : tie.Need-member-requires Inv-loop μ-loop
 member-requires c κs = first-below (c .before .before .before)
