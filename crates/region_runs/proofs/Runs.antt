@@ -3,6 +3,7 @@
 --   latest-le, latest-at, latest-self : the latest member of a set
 --   begins-first, begins-apart, begins-other : the test of one input
 --   runs-of         : the inputs at which a run begins have the runs
+--   runs-alone      : and so have all inputs
 --   spread-part     : what is asked of those that begin a run is part of them
 --   spread-all      : and what the row alone decides holds of each input of their runs
 --   spread-alone    : where each input begins a run of its own
@@ -132,6 +133,17 @@ module _ (s : List ℕ) (n c f : ℕ) (F : f ≡ pack n (λ j. has c j && begins
       pack-under : (j : ℕ) → has (pack n (λ k. has c k && beginsAt s n c k)) j ≡ true → j < n
       pack-under j h =
           ltb-true j n (and-left (ltb j n) (has c j && beginsAt s n c j) (sym (has-pack n (λ k. has c k && beginsAt s n c k) j) ∙ h))
+
+-- each input of c below n begins a run: f are these inputs, and b all states below n
+pub runs-alone : (s : List ℕ) (n c b f : ℕ) → ((t : ℕ) → has b t ≡ ltb t n) → ((t : ℕ) → has f t ≡ (has c t && has b t)) → Runs s n c f
+runs-alone s n c b f B F = record {
+  below = has-within f n (λ t h. ltb-true t n (sym (B t) ∙ and-right (has c t) (has b t) (sym (F t) ∙ h)));
+  begun = λ j l e. ap (has f) (latest-self f j (mine j l e)) ∙ mine j l e;
+  same = λ j l e. ap (rowAt s n) (latest-self f j (mine j l e));
+}
+  where
+    mine : (j : ℕ) → j < n → has c j ≡ true → has f j ≡ true
+    mine j l e = F j ∙ and-intro e (B j ∙ lt-ltb j n l)
 
 -- ---- what the row alone decides
 

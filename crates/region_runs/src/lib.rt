@@ -27,8 +27,8 @@ fn begins(s: &[u64], n: usize, c: InSet, j: InState) -> bool
     !sets::same(last.0, row.0)
 }
 
-// The inputs of c below n that begin a run.
-pub fn firsts(s: &[u64], n: usize, c: InSet) -> InSet
+// The inputs of c below n at which a run begins.
+fn begun(s: &[u64], n: usize, c: InSet) -> InSet
     requires { ⌜ (n ≤ capacity) × (n + n ≤ setCount (now s)) ⌝ }
     ensures { λ r. ⌜ Runs (setsIn (now (s .entry))) n (bitsOf (c .0)) (bitsOf (r .0)) ⌝ }
 {
@@ -40,6 +40,19 @@ pub fn firsts(s: &[u64], n: usize, c: InSet) -> InSet
         rest = sets::without_lowest(rest);
     }
     InSet(x)
+}
+
+// Inputs of c below n that begin its runs: where most runs would have one input, each input begins one, as to go from run to run would cost more than it spares.
+pub fn firsts(s: &[u64], n: usize, c: InSet) -> InSet
+    requires { ⌜ (n ≤ capacity) × (n + n ≤ setCount (now s)) ⌝ }
+    ensures { λ r. ⌜ Runs (setsIn (now (s .entry))) n (bitsOf (c .0)) (bitsOf (r .0)) ⌝ }
+{
+    let x = begun(s, n, c);
+    let all = sets::intersection(c.0, sets::below(n));
+    if sets::count(all) < 2 * sets::count(x.0) {
+        return InSet(all);
+    }
+    x
 }
 
 // The members of x from j on and below k.
