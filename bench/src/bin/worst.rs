@@ -102,7 +102,8 @@ fn main() {
                 }
             }
         }
-        let last = cost(&at, &mut b, 50);
+        // many runs, so that a moment in which the machine is busy is not told as the game's time
+        let last = cost(&at, &mut b, 1_000);
         most = most.max(last / looped);
         println!("{name:<34} {first:>10.2} {:>8.1} {last:>10.2} {:>8.1}", first / looped, last / looped);
     }

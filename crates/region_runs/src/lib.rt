@@ -42,14 +42,15 @@ fn begun(s: &[u64], n: usize, c: InSet) -> InSet
     InSet(x)
 }
 
-// Inputs of c below n that begin its runs: where most runs would have one input, each input begins one, as to go from run to run would cost more than it spares.
+// Inputs of c below n that begin its runs. Where these would have fewer than four inputs each, on the whole, each input begins one: to go from run to run
+// costs more than to ask of each.
 pub fn firsts(s: &[u64], n: usize, c: InSet) -> InSet
     requires { ⌜ (n ≤ capacity) × (n + n ≤ setCount (now s)) ⌝ }
     ensures { λ r. ⌜ Runs (setsIn (now (s .entry))) n (bitsOf (c .0)) (bitsOf (r .0)) ⌝ }
 {
     let x = begun(s, n, c);
     let all = sets::intersection(c.0, sets::below(n));
-    if sets::count(all) < 2 * sets::count(x.0) {
+    if sets::count(all) < 4 * sets::count(x.0) {
         return InSet(all);
     }
     x
