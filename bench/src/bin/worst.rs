@@ -45,6 +45,22 @@ fn cost(g: &Game, b: &mut Buffers, runs: usize) -> f64 {
     least
 }
 
+/// Nanoseconds an entry of the widened loop.
+fn loop_cost(b: &mut Buffers) -> f64 {
+    measure::best(|| measure::plain_loop(black_box(&mut b.controller[..131_073]))) * 1e9 / 131_073.0
+}
+
+/// A game's cost and how many times the loop's that is, both timed at once: the least of some tries, as a machine can be busy for seconds.
+fn beside_loop(g: &Game, b: &mut Buffers) -> (f64, f64) {
+    let (mut least, mut times) = (f64::INFINITY, f64::INFINITY);
+    for _ in 0..5 {
+        let (looped, spent) = (loop_cost(b), cost(g, b, 200));
+        least = least.min(spent);
+        times = times.min(spent / looped);
+    }
+    (least, times)
+}
+
 /// A set with one state more or less.
 fn toggled(x: Set, s: usize) -> Set {
     x.states().filter(|t| *t != s).fold(if x.has(s) { Set::default() } else { Set::of(s) }, |y, t| y | Set::of(t))
@@ -86,7 +102,7 @@ fn main() {
     let mut r = Random(words.get(1).copied().unwrap_or(88_172_645_463_325_252).max(1));
     let mut b = Buffers { scratch: vec![0; SCRATCH_MOST], controller: vec![0; CONTROLLER_MOST], environment: vec![0; ENVIRONMENT_MOST] };
     let games: Vec<(String, Game)> = games::named("").into_iter().filter(|(_, g)| full(g)).collect();
-    let looped = measure::best(|| measure::plain_loop(black_box(&mut b.controller[..131_073]))) * 1e9 / 131_073.0;
+    let looped = loop_cost(&mut b);
     println!("{:<34} {:>10} {:>8} {:>10} {:>8}", "begun with", "ns/entry", "times", "ns/entry", "times");
     let mut most: f64 = 0.0;
     for (name, g) in &games {
@@ -102,10 +118,9 @@ fn main() {
                 }
             }
         }
-        // many runs, so that a moment in which the machine is busy is not told as the game's time
-        let last = cost(&at, &mut b, 1_000);
-        most = most.max(last / looped);
-        println!("{name:<34} {first:>10.2} {:>8.1} {last:>10.2} {:>8.1}", first / looped, last / looped);
+        let (last, times) = beside_loop(&at, &mut b);
+        most = most.max(times);
+        println!("{name:<34} {first:>10.2} {:>8.1} {last:>10.2} {times:>8.1}", first / looped);
     }
     println!("the worst found: {most:.1} times the widened loop");
 }
