@@ -27,8 +27,8 @@ fn put_count(buffer: &mut [u8], at: usize, w: usize, n: usize) -> usize
     ensures { λ r. ⌜ Puts (now (buffer .entry)) at (countLine w n) r (now (buffer .exit)) × (r ≤ at + 60) ⌝ }
 {
     let a = text_put::put_opening(buffer, at, w);
-    let b = text_put::put_number_then(buffer, a, n, 41);
-    text_put::put_byte(buffer, b, 10)
+    let b = text_put::put_number_then(buffer, a, n, b')');
+    text_put::put_byte(buffer, b, b'\n')
 }
 
 // Two decimal numbers, the closing bracket and the line's end.
@@ -36,9 +36,9 @@ fn put_pair(buffer: &mut [u8], at: usize, m: usize, n: usize) -> usize
     requires { ⌜ at + 100 ≤ 2 ^ 32 ⌝ }
     ensures { λ r. ⌜ Puts (now (buffer .entry)) at (pairText m n) r (now (buffer .exit)) ⌝ }
 {
-    let a = text_put::put_number_then(buffer, at, m, 32);
-    let b = text_put::put_number_then(buffer, a, n, 41);
-    text_put::put_byte(buffer, b, 10)
+    let a = text_put::put_number_then(buffer, at, m, b' ');
+    let b = text_put::put_number_then(buffer, a, n, b')');
+    text_put::put_byte(buffer, b, b'\n')
 }
 
 // (number R N); no byte where the number was not met.

@@ -57,9 +57,9 @@ pub fn put_start(buffer: &mut [u8], at: usize, input: usize, entry: u16) -> usiz
     }
     let e = entry as usize;
     let a = text_put::put_opening(buffer, at, 5);
-    let b = text_put::put_number_then(buffer, a, input, 32);
-    let c = text_put::put_number_then(buffer, b, e % 128, 41);
-    text_put::put_byte(buffer, c, 10)
+    let b = text_put::put_number_then(buffer, a, input, b' ');
+    let c = text_put::put_number_then(buffer, b, e % 128, b')');
+    text_put::put_byte(buffer, c, b'\n')
 }
 
 // The environment's start; no byte where the entry is none.
@@ -72,8 +72,8 @@ pub fn put_environment_start(buffer: &mut [u8], at: usize, entry: u16) -> usize
     }
     let e = entry as usize;
     let a = text_put::put_opening(buffer, at, 5);
-    let b = text_put::put_number_then(buffer, a, e % 128, 41);
-    text_put::put_byte(buffer, b, 10)
+    let b = text_put::put_number_then(buffer, a, e % 128, b')');
+    text_put::put_byte(buffer, b, b'\n')
 }
 
 // (step a g b next-state next-counter).
@@ -83,12 +83,12 @@ fn put_row(buffer: &mut [u8], at: usize, a: usize, g: usize, b: usize, entry: u1
 {
     let e = entry as usize;
     let m = text_put::put_opening(buffer, at, 6);
-    let n = text_put::put_number_then(buffer, m, a, 32);
-    let o = text_put::put_number_then(buffer, n, g, 32);
-    let p = text_put::put_number_then(buffer, o, b, 32);
-    let q = text_put::put_number_then(buffer, p, e % 128, 32);
-    let r = text_put::put_number_then(buffer, q, e / 128, 41);
-    text_put::put_byte(buffer, r, 10)
+    let n = text_put::put_number_then(buffer, m, a, b' ');
+    let o = text_put::put_number_then(buffer, n, g, b' ');
+    let p = text_put::put_number_then(buffer, o, b, b' ');
+    let q = text_put::put_number_then(buffer, p, e % 128, b' ');
+    let r = text_put::put_number_then(buffer, q, e / 128, b')');
+    text_put::put_byte(buffer, r, b'\n')
 }
 
 pub fn at_least_one(n: usize) -> usize
@@ -126,8 +126,8 @@ pub fn put_refused(buffer: &mut [u8], n: u8) -> usize
     ensures { λ r. ⌜ Puts (now (buffer .entry)) 0 (refusedLine n) r (now (buffer .exit)) ⌝ }
 {
     let a = text_put::put_opening(buffer, 0, 7);
-    let b = text_put::put_number_then(buffer, a, n as usize, 41);
-    text_put::put_byte(buffer, b, 10)
+    let b = text_put::put_number_then(buffer, a, n as usize, b')');
+    text_put::put_byte(buffer, b, b'\n')
 }
 
 // (refused 11 P).
@@ -135,7 +135,7 @@ pub fn put_misshapen(buffer: &mut [u8], p: usize) -> usize
     ensures { λ r. ⌜ Puts (now (buffer .entry)) 0 (misshapenLine p) r (now (buffer .exit)) ⌝ }
 {
     let a = text_put::put_opening(buffer, 0, 7);
-    let b = text_put::put_number_then(buffer, a, 11, 32);
-    let c = text_put::put_number_then(buffer, b, p, 41);
-    text_put::put_byte(buffer, c, 10)
+    let b = text_put::put_number_then(buffer, a, 11, b' ');
+    let c = text_put::put_number_then(buffer, b, p, b')');
+    text_put::put_byte(buffer, c, b'\n')
 }
