@@ -152,6 +152,9 @@ module _ (z : Layout) (rows s : List ℕ) (inner c x k o r n : ℕ) (p : Pressed
     omega (arith, p .layout .states, p .output, p .known .ready .laid .long),
   )
 
+  pub pressed-column : o < z .width
+  pressed-column = omega (arith, p .layout .width, p .output)
+
   pub pressed-states : within c (z .states) ≡ true
   unfolding graphOf
   pressed-states =
@@ -200,9 +203,8 @@ module _ (z : Layout) (rows s : List ℕ) (inner c x k o r n : ℕ) (p : Pressed
         let out-not = no-gates (p .game) s inner (p .known) c k (p .whole) x (p .leaves) o (p .output) free out gates words none in
         escape-none (p .game) k o old over G (λ v. clash (leaving-out (p .game) k o v) out-not) (sym (touring-intro (p .game) k o (is-won lost) free out-not))
 
-    module _ (some : gates ≢ 0) (old over more alone : ℕ) {l i m : List ℕ} (G : Gated (p .game) k old over) (long : length l ≡ n)
-        (y : ℕ) (none : y ≡ 0) (single : (t : ℕ) → has alone t ≡ (has y t || eqb t o))
-        (E : Enters rows z gates out alone l i) (J : Joins rows z c old gates over o more i m) where
+    module _ (some : gates ≢ 0) (old over more : ℕ) {l i m : List ℕ} (G : Gated (p .game) k old over) (long : length l ≡ n)
+        (E : Enters rows z gates out o l i) (J : Joins rows z c old gates over o more i m) where
       escapes-here : leavingAt (p .game) k o ≡ true
       escapes-here =
           leaving-intro (p .game) k o (is-won lost) free
@@ -214,21 +216,15 @@ module _ (z : Layout) (rows s : List ℕ) (inner c x k o r n : ℕ) (p : Pressed
       is-o : (t : ℕ) → (has 0 t || eqb t o) ≡ true → t ≡ o
       is-o t a = elim (or-cases (has 0 t) (eqb t o) a) [ inl q ↦ clash q (has-zero t) | inr q ↦ eqb-true t o q ]
 
-      only : (b : ℕ) → has alone b ≡ true → b ≡ o
-      only b a = is-o b (ap (λ (v : ℕ). has v b || eqb b o) (sym none) ∙ sym (single b) ∙ a)
-
       at-gates : EnvironmentFilled (p .game) (λ a h b. (has gates a ≡ true) × (b ≡ o)) l i
       at-gates =
-          filled-same (p .game)
-          (laid-filled (p .game) (z .counters) n z (p .roomy) (p .layout)
+          laid-filled (p .game) (z .counters) n z (p .roomy) (p .layout)
           (E .fills (environmentRow (separatedOf (p .game))) (entriesOf (p .game)) (laid-table (p .game) (z .counters) n z (p .roomy) (p .layout))
           (record {
-            row = λ a h b la e lh lb q.
-                ap (environmentRow (separatedOf (p .game)) a h) (only b q)
-                ∙ row-gate (p .game) s inner (p .known) c k (p .whole) x (p .leaves) o (p .output) free out gates words a h escapes-here e
+            row = λ a h e lh.
+                row-gate (p .game) s inner (p .known) c k (p .whole) x (p .leaves) o (p .output) free out gates words a h escapes-here e
                 ∙ ap (λ (y : List ℕ). gives h (least capacity (both (getD y a 0) out))) (sym (p .moves));
-          })))
-          (λ a h b la lh lb q. (q .0, single b ∙ or-right (has y b) (eq-eqb b o (q .1))))
+          }))
 
       gated-same : old ≡ gates → ((t : ℕ) → has more t ≡ (has over t || eqb t o)) → Gated (p .game) k gates more
       gated-same q u = record {

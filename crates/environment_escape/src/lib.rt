@@ -127,8 +127,7 @@ fn escape(
     if sets::is_empty(gates.0) {
         return Turn { tours: true, group };
     }
-    let alone = sets::insert(sets::empty(), o.0);
-    table_walks::enter(moves, room, z, gates.0, out.0, alone);
+    table_walks::enter(moves, room, z, gates.0, out.0, o.0);
     let next = join(moves, room, z, c, group, gates, o);
     Turn {
         tours: false,

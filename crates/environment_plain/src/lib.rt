@@ -127,8 +127,7 @@ fn push_rows(
     ensures { λ r. ⌜ EnvironmentFilled g (λ a h b. (has (bitsOf (which .0)) a ≡ true) × (b ≡ o .0)) (now (room .entry)) (now (room .exit)) ⌝ }
 {
     let z = rows::layout_of(g.input.states, counters, g.output.states);
-    let alone = sets::insert(sets::empty(), o.0);
-    table_walks::enter(ins, room, z, which.0, refused.0, alone);
+    table_walks::enter(ins, room, z, which.0, refused.0, o.0);
 }
 
 // The inputs whose rows with an output need no walk, `moves` being its moves: those of `lone`, and all n where there is none.

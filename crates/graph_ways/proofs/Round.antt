@@ -2,8 +2,8 @@
 --
 --   choices-of                    : what `choices` gives
 --   choices-reached               : what is chosen from is reached
---   settles-intro, settles-of, settles-not, settles-left, settles-move : a state settles where it is left and has a move into what is reached
-use Prim.Native.Nat.{ℕ}
+--   settles-intro, settles-of, settles-not, settles-left, settles-move, settles-near : a state settles where it is left and has a move into what is reached
+use Prim.Native.Nat.{ℕ, _<_}
 use mathlib.Core.Path.{_≡_, sym, _∙_, ap}
 use mathlib.Core.Bool.{Bool, true, false, not, _&&_}
 use mathlib.Core.List.{List}
@@ -13,9 +13,9 @@ use lib.Bits.{bitAnd}
 use lib.ListN.{getD}
 use borrow.Author.Tests.{eqb-false, eq-eqb, ne-eqb}
 use Rattle.finite.proofs.Truth.{clash, true-of, and-intro, and-left, and-right, not-true}
-use Rattle.bits.specs.Member.{has}
+use Rattle.bits.specs.Member.{has, setsMeet}
 use Rattle.bits.proofs.Membership.{ext, has-zero, has-and}
-use Rattle.bits.proofs.Compare.{member-nonzero, nonzero-member}
+use Rattle.bits.proofs.Compare.{member-nonzero, nonzero-member, meets-intro}
 use Rattle.graph_ways.specs.Kept.{kept}
 use Rattle.graph_ways.specs.Search.{choices, movesInto}
 use Rattle.graph_ways.proofs.Kept.{kept-from}
@@ -84,6 +84,18 @@ module _ (rows : List ℕ) (c left l : ℕ) where
       let m = nonzero-member (choices rows c left l s) (settles-nonzero s h) in
       let both : (kept rows c s (m .0) && has l (m .0)) ≡ true = sym (has-choices s (m .0) (settles-left s h) b) ∙ m .1 in
       (m .0, and-left (kept rows c s (m .0)) (has l (m .0)) both, and-right (kept rows c s (m .0)) (has l (m .0)) both)
+
+  pub settles-near : (w near s : ℕ) → ((t : ℕ) → has near t ≡ (has c t && has l t)) → ((t : ℕ) → has l t ≡ true → t < w)
+      → movesInto rows c left l s ≡ true → setsMeet w (getD rows s 0) near ≡ true
+  settles-near w near s f b h =
+      let m = nonzero-member (choices rows c left l s) (settles-nonzero s h) in
+      let t = m .0 in
+      let moves = bitAnd (getD rows s 0) c in
+      let all = sym (has-and moves l t) ∙ ap (λ (k : ℕ). has k t) (choices-some s (settles-left s h)) ∙ m .1 in
+      let reached = and-right (has moves t) (has l t) all in
+      let inside = sym (has-and (getD rows s 0) c t) ∙ and-left (has moves t) (has l t) all in
+      meets-intro w (getD rows s 0) near t (b t reached) (and-left (has (getD rows s 0) t) (has c t) inside)
+      (f t ∙ and-intro (and-right (has (getD rows s 0) t) (has c t) inside) reached)
 
   pub settles-of : (s : ℕ) → choices rows c left l s ≢ 0 → movesInto rows c left l s ≡ true
   unfolding movesInto

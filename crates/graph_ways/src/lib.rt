@@ -2,10 +2,10 @@
 ghost use mathlib.Core.Path.{_≡_};
 ghost use mathlib.Core.Bool.{true};
 ghost use Prim.Native.Nat.{_<_};
-ghost use Rattle.bits.specs.Member.{has};
-ghost use Rattle.sets.specs.Words.{capacity, bitsOf, setsIn};
+ghost use Rattle.bits.specs.Member.{has, within};
+ghost use Rattle.sets.specs.Words.{capacity, lowStates, bitsOf, setsIn};
 ghost use Rattle.graphs.specs.Way.{prefer as preferred};
-ghost use Rattle.graph_ways.specs.Search.{choices as choicesOf};
+ghost use Rattle.graph_ways.specs.Search.{choices as choicesOf, PassedOver};
 use sets::Set;
 
 // The choice on a tie, s being the present state: s where it is a member, else the lowest. No other code breaks a tie between shortest ways.
@@ -17,6 +17,33 @@ pub fn prefer(s: usize, set: Set) -> usize
         return s;
     }
     sets::lowest(set)
+}
+
+// The states of `from` without the first ones of the low word that have no move into `near`, whose members are all of the low word.
+fn pass_over_low(rows: &[u64; sets::ROW_WORDS], near: Set, from: Set) -> Set
+    requires { ⌜ within (bitsOf near) lowStates ≡ true ⌝ }
+    ensures { λ r. ⌜ PassedOver (setsIn (now (rows .entry))) (bitsOf near) (bitsOf from) (bitsOf r) ⌝ }
+{
+    let mut rest = from;
+    while sets::begins_low(rest) {
+        let s = sets::lowest_low(rest);
+        if sets::row_meets_low(rows, s, near) {
+            return rest;
+        }
+        rest = sets::without_lowest_low(rest);
+    }
+    rest
+}
+
+// The states of `from` without the first ones, as many as are passed over, that have no move into `near`. A round has nothing to write for them, and most are
+// such: in a graph of at most 64 states they are passed over by their low words alone, and no others are.
+pub fn pass_over(rows: &[u64; sets::ROW_WORDS], near: Set, from: Set) -> Set
+    ensures { λ r. ⌜ PassedOver (setsIn (now (rows .entry))) (bitsOf near) (bitsOf from) (bitsOf r) ⌝ }
+{
+    if sets::within(near, sets::LOW) {
+        return pass_over_low(rows, near, from);
+    }
+    from
 }
 
 // The moves of s, which is one of `left`, inside a set that land in `reached`.

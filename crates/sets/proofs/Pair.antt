@@ -11,10 +11,10 @@ use lib.Bits.{bitOr}
 use borrow.Author.Tests.{eqb-true, eq-eqb, ne-eqb, lt-ltb, le-ltb}
 use Rattle.finite.specs.Bounded.{least, count}
 use Rattle.finite.proofs.Bounded.{least-below}
-use Rattle.bits.proofs.Compare.{nonzero-below}
+use Rattle.bits.proofs.Compare.{nonzero-below, meets-intro, meets-elim}
 use Rattle.finite.proofs.Truth.{or-false-left, or-false-right, and-intro, and-left, and-right, same-test}
 use Rattle.bits.specs.Member.{has, within, subset, setsMeet}
-use Rattle.bits.proofs.Membership.{has-zero, has-or, has-past, ext}
+use Rattle.bits.proofs.Membership.{has-zero, has-or, has-past, within-has, ext}
 use Rattle.sets.specs.Words.{value}
 use Rattle.sets.proofs.Values.{Words, has-first, has-later, value-lt, has-words, empty-words, within-first, within-later, within-not}
 use Rattle.sets.proofs.Values.{least-first, least-later, count-words, subset-words, meets-words}
@@ -151,6 +151,23 @@ module _ (x y : ℕ) (h : x < 2 ^ 64) where
       (has-words 64 0 (r ∷ []) (λ t. has (value 64 (x ∷ y ∷ [])) t && not (eqb t (64 + least 64 (has y)))) (omega arith)
       (λ t b. rw (pair-low t b, z, has-zero) refl)
       (λ t. ap (λ (n : ℕ). has n t) (single r) ∙ f t ∙ rw (pair-high t, shift-eqb) refl))
+
+-- where the second set has members of the low word alone
+pub pair-meets-low : (a b x y : ℕ) → within (value 64 (x ∷ y ∷ [])) 64 ≡ true
+    → setsMeet 64 a x ≡ setsMeet 128 (value 64 (a ∷ b ∷ [])) (value 64 (x ∷ y ∷ []))
+pair-meets-low a b x y e = same-test (setsMeet 64 a x) (setsMeet 128 (value 64 (a ∷ b ∷ [])) (value 64 (x ∷ y ∷ []))) to back
+  where
+    to : setsMeet 64 a x ≡ true → setsMeet 128 (value 64 (a ∷ b ∷ [])) (value 64 (x ∷ y ∷ [])) ≡ true
+    to q =
+        let m = meets-elim 64 a x q in
+        meets-intro 128 (value 64 (a ∷ b ∷ [])) (value 64 (x ∷ y ∷ [])) (m .0) (omega (arith, m .1)) (has-first 64 a (b ∷ []) (m .0) (m .1) ∙ m .2)
+        (has-first 64 x (y ∷ []) (m .0) (m .1) ∙ m .3)
+
+    back : setsMeet 128 (value 64 (a ∷ b ∷ [])) (value 64 (x ∷ y ∷ [])) ≡ true → setsMeet 64 a x ≡ true
+    back q =
+        let m = meets-elim 128 (value 64 (a ∷ b ∷ [])) (value 64 (x ∷ y ∷ [])) q in
+        let low = within-has (value 64 (x ∷ y ∷ [])) 64 (m .0) e (m .3) in
+        meets-intro 64 a x (m .0) low (sym (has-first 64 a (b ∷ []) (m .0) low) ∙ m .2) (sym (has-first 64 x (y ∷ []) (m .0) low) ∙ m .3)
 
 module _ (a b x y : ℕ) (h : a < 2 ^ 64) (g : x < 2 ^ 64) where
   pub pair-subset : subset 128 (value 64 (a ∷ b ∷ [])) (value 64 (x ∷ y ∷ [])) ≡ (subset 64 a x && subset 64 b y)

@@ -1,7 +1,7 @@
 -- Moves that keep the counter.
 --
 --   staying-stamps, staying-entry                   : what they write
---   Entered, entered-*                              : one move into a set, state after state
+--   step-entries, Entered, entered-*                : one move into a set, state after state
 --   approach-ground, approached                     : the way to a set
 use Prim.Native.Nat.{ℕ, _+_, _*_, _^_, _≤_, _<_}
 use mathlib.Core.Path.{_≡_, refl, sym, _∙_, ap, ap₂, fun-ext}
@@ -10,7 +10,7 @@ use mathlib.Core.List.{List}
 use mathlib.Core.Logic.{_⊎_, inl, inr, _≢_}
 use native.Mathlib.Omega.{arith}
 use native.Mathlib.Decide.{ℕ-discrete}
-use lib.Dec.{eqb}
+use lib.Dec.{eqb, ltb}
 use lib.ListN.{length, getD}
 use borrow.Author.Tests.{ltb-true, lt-ltb}
 use Rattle.finite.specs.Bounded.{least, count}
@@ -25,10 +25,11 @@ use Rattle.sets.specs.Words.{capacity, bitsOf}
 use Rattle.graphs.specs.Way.{toward}
 use Rattle.arena.specs.Table.{Answer, gives}
 use Rattle.theory.specs.Entries.{entry}
-use Rattle.table_entries.proofs.Packed.{entry-steps}
+use Rattle.table_entries.specs.Step.{entryStep}
+use Rattle.table_entries.proofs.Packed.{entry-small, entry-steps}
 use Rattle.graph_ways.specs.Kept.{kept}
 use Rattle.table_layout.specs.declared.Layout.{Layout}
-use Rattle.table_layout.specs.Rows.{Rows, Filled, Wrote}
+use Rattle.table_layout.specs.Rows.{LayoutFits, Rows, Filled, Entries, WroteColumn}
 use Rattle.table_layout.proofs.Places.{filled-none, filled-join, filled-part}
 use Rattle.table_walks.specs.declared.Stamp.{Stamp}
 use Rattle.table_walks.specs.Walk.{firstEntry, Stamps, Ground, Walks}
@@ -43,10 +44,6 @@ module _ (z : Layout) (over : ℕ) (w : Stamp) (S : Staying z over w) where
     miss = omega (arith, S .miss);
     more = omega (arith, S .more);
   }
-
-  -- told of its own columns
-  pub staying-self : Staying z (bitsOf (w .over)) w
-  staying-self = record { columns = refl; which = S .which; hit = S .hit; miss = S .miss; more = S .more }
 
   staying-first : (p : ℕ) → firstEntry w p ≡ entry (gives 0 p)
   staying-first p =
@@ -70,12 +67,23 @@ module _ (z : Layout) (over : ℕ) (w : Stamp) (S : Staying z over w) where
 
 -- the lowest move into a set
 
-pub record Entered (rows : List ℕ) (z : Layout) (own target over rest : ℕ) (x y : List ℕ) : Type 0 where
+-- what it writes, the counters being all
+pub step-entries : (z : Layout) (n which p first : ℕ) → LayoutFits z n → ((h : ℕ) → has which h ≡ ltb h (z .counters)) → p < capacity
+    → first ≡ entry (gives 0 p) → Entries z which first entryStep
+step-entries z n which p first F all b e = record {
+  counters = λ h i. below h i;
+  small = λ h i. omega (arith, e, entry-steps h p, entry-small h p b (omega (arith, below h i, F .counters)));
+}
+  where
+    below : (h : ℕ) → has which h ≡ true → h < z .counters
+    below h i = ltb-true h (z .counters) (sym (all h) ∙ i)
+
+pub record Entered (rows : List ℕ) (z : Layout) (own target b rest : ℕ) (x y : List ℕ) : Type 0 where
   pub small : rest < 2 ^ capacity
   pub inside : (t : ℕ) → has rest t ≡ true → has own t ≡ true
   pub long : length y ≡ length x
-  pub fills : (f : ℕ → ℕ → ℕ → Answer) (E : List ℕ) → Rows z f E → Stepping rows z own target over f
-      → Filled z E (λ s h b. (has rest s ≡ false) × (has own s ≡ true) × (has over b ≡ true)) x y
+  pub fills : (f : ℕ → ℕ → ℕ → Answer) (E : List ℕ) → Rows z f E → Stepping rows z own target b f
+      → Filled z E (λ s h c. (has rest s ≡ false) × (has own s ≡ true) × (c ≡ b)) x y
 
 -- the lowest move of s into the target
 module _ (rows : List ℕ) (n own target s row r : ℕ) {p : ℕ} (N : Entering rows n own target) (o : has own s ≡ true) (e : row ≡ getD rows s 0)
@@ -90,16 +98,16 @@ module _ (rows : List ℕ) (n own target s row r : ℕ) {p : ℕ} (N : Entering 
       let v = meets-elim capacity (getD rows s 0) target (N .move s o) in
       omega (arith, step-is, least-below capacity (both (getD rows s 0) target) (v .0) (v .1) (and-intro (v .2) (v .3)))
 
-module _ (rows : List ℕ) (z : Layout) (own target over : ℕ) where
-  pub entered-start : (x : List ℕ) → z .states ≤ capacity → Entering rows (z .states) own target → Entered rows z own target over own x x
+module _ (rows : List ℕ) (z : Layout) (own target b : ℕ) where
+  pub entered-start : (x : List ℕ) → z .states ≤ capacity → Entering rows (z .states) own target → Entered rows z own target b own x x
   entered-start x few N = record {
     small = small-word capacity own (λ s e. omega (arith, N .below s e));
     inside = λ t e. e;
     long = refl;
-    fills = λ f E R F. filled-none z f E R x (λ s h b ls lh lb p. clash (p .1) (p .0));
+    fills = λ f E R F. filled-none z f E R x (λ s h c ls lh lc p. clash (p .1) (p .0));
   }
 
-  module _ {x y : List ℕ} {rest s : ℕ} (I : Entered rows z own target over rest x y) (ne : rest ≢ 0) (e : s ≡ least capacity (has rest)) where
+  module _ {x y : List ℕ} {rest s : ℕ} (I : Entered rows z own target b rest x y) (ne : rest ≢ 0) (e : s ≡ least capacity (has rest)) where
     pub entered-small : s < capacity
     entered-small = lowest-below capacity rest s (I .small) ne e
 
@@ -113,10 +121,11 @@ module _ (rows : List ℕ) (z : Layout) (own target over : ℕ) where
       pub entered-falls : count capacity (has v) < count capacity (has rest)
       entered-falls = less-falls rest s v less capacity entered-small (lowest-in capacity rest s (I .small) ne e)
 
-      pub entered-next : (w : Stamp) (row r p : ℕ) {y′ y″ : List ℕ} → Staying z over w → Entering rows (z .states) own target → row ≡ getD rows s 0
-          → ((t : ℕ) → has r t ≡ (has row t && has target t)) → p ≡ least capacity (has r)
-          → Wrote z s (bitsOf (w .over)) (w .which .0) (firstEntry w p) (w .more) y y′ → y″ ≡ y′ → Entered rows z own target over v x y″
-      entered-next w row r p {y′} {y″} S N q i m W f = rw f (record {
+      pub entered-next : (which row r p first : ℕ) {y′ y″ : List ℕ} → ((h : ℕ) → has which h ≡ ltb h (z .counters))
+          → Entering rows (z .states) own target → row ≡ getD rows s 0 → ((t : ℕ) → has r t ≡ (has row t && has target t))
+          → p ≡ least capacity (has r) → first ≡ entry (gives 0 p) → WroteColumn z s b which first entryStep y y′ → y″ ≡ y′
+          → Entered rows z own target b v x y″
+      entered-next which row r p first {y′} {y″} all N q i m k W f = rw f (record {
         small = small-word capacity v (λ t a. has-lt capacity rest t (I .small) (less-in rest s v less t a));
         inside = λ t a. I .inside t (less-in rest s v less t a);
         long = W .long ∙ I .long;
@@ -124,28 +133,30 @@ module _ (rows : List ℕ) (z : Layout) (own target over : ℕ) where
       })
         where
           before : (t : ℕ) → has v t ≡ false → (t ≡ s) ⊎ (has rest t ≡ false)
-          before t a = elim (ℕ-discrete t s) [ yes k ↦ inl k | no k ↦ inr (sym (less-other rest s v less t k) ∙ a) ]
+          before t a = elim (ℕ-discrete t s) [ yes j ↦ inl j | no j ↦ inr (sym (less-other rest s v less t j) ∙ a) ]
 
-          fills : (k : ℕ → ℕ → ℕ → Answer) (E : List ℕ) → Rows z k E → Stepping rows z own target over k
-              → Filled z E (λ t h b. (has v t ≡ false) × (has own t ≡ true) × (has over b ≡ true)) x y′
-          fills k E R F =
-              filled-join z k E R (I .fills k E R F)
-              (W .fills k E R
-              (λ h b a lb o.
-              staying-entry z over w S p h
+          written : (h : ℕ) → first + entryStep * h ≡ entry (gives h (least capacity (both (getD rows s 0) target)))
+          written h =
+              ap (λ (j : ℕ). j + entryStep * h) k ∙ entry-steps h p
               ∙ ap (λ (j : ℕ). entry (gives h j)) (step-is rows (z .states) own target s row r N entered-in q i m)
-              ∙ ap entry (sym (F .row s h b (N .below s entered-in) entered-in (counter-below z over w S h a) lb (sym (in-over z over w S b) ∙ o)))))
-              (λ t h b lt lh lb g.
+
+          fills : (a : ℕ → ℕ → ℕ → Answer) (E : List ℕ) → Rows z a E → Stepping rows z own target b a
+              → Filled z E (λ t h c. (has v t ≡ false) × (has own t ≡ true) × (c ≡ b)) x y′
+          fills a E R F =
+              filled-join z a E R (I .fills a E R F)
+              (W .fills a E R
+              (λ h e. written h ∙ ap entry (sym (F .row s h entered-in (ltb-true h (z .counters) (sym (all h) ∙ e))))))
+              (λ t h c lt lh lc g.
               elim (before t (g .0)) [
-                | inl j ↦ inr (j, all-counters z over w S h lh, in-over z over w S b ∙ g .2)
+                | inl j ↦ inr (j, all h ∙ lt-ltb h (z .counters) lh, g .2)
                 | inr j ↦ inl (j, g .1, g .2)
               ])
 
-  pub entered-end : {x y : List ℕ} {rest : ℕ} (k : ℕ) → over ≡ k → Entered rows z own target over rest x y → rest ≡ 0 → Enters rows z own target k x y
-  entered-end {rest = rest} k e I q = rw (sym e) (record {
+  pub entered-end : {x y : List ℕ} {rest : ℕ} → Entered rows z own target b rest x y → rest ≡ 0 → Enters rows z own target b x y
+  entered-end {rest = rest} I q = record {
     long = I .long;
-    fills = λ f E R F. filled-part z f E R (I .fills f E R F) (λ s h b ls lh lb p. (ap (λ (k : ℕ). has k s) q ∙ has-zero s, p .0, p .1));
-  })
+    fills = λ f E R F. filled-part z f E R (I .fills f E R F) (λ s h c ls lh lc p. (ap (λ (k : ℕ). has k s) q ∙ has-zero s, p .0, p .1));
+  }
 
 -- the way to a set
 pub approach-ground : (n c target own : ℕ) → ((s : ℕ) → has own s ≡ (has c s && not (has target s))) → within target n ≡ true → Ground n c target own

@@ -1,6 +1,6 @@
 -- One round: the states that are still to be tried are a set `rest`.
 --
---   trying-start, trying-hit, trying-miss, trying-falls, trying-end : how that begins, goes on and ends
+--   trying-start, trying-passed, trying-hit, trying-miss, trying-falls, trying-end : how that begins, goes on and ends
 use Prim.Native.Nat.{ℕ, _+_, _*_, _^_, _≤_, _<_}
 use mathlib.Core.Path.{_≡_, refl, sym, _∙_, ap}
 use mathlib.Core.Bool.{true, false, not, _&&_, _||_}
@@ -11,17 +11,17 @@ use native.Mathlib.Decide.{ℕ-discrete}
 use lib.Dec.{eqb, ltb}
 use borrow.Author.Tests.{eqb-true, eq-eqb}
 use Rattle.finite.specs.Bounded.{least, count}
-use Rattle.finite.proofs.Truth.{clash, same-test, or-left, or-right, or-cases}
-use Rattle.bits.specs.Member.{has, pack}
-use Rattle.bits.proofs.Membership.{ext, has-zero, has-pack-below}
+use Rattle.finite.proofs.Truth.{decide, clash, same-test, or-left, or-right, or-cases}
+use Rattle.bits.specs.Member.{has, within, pack}
+use Rattle.bits.proofs.Membership.{ext, has-zero, has-pack-below, within-has}
 use Rattle.bits.proofs.Remove.{less-in, less-other, less-falls}
 use Rattle.bits.proofs.Visit.{small-word, lowest-below, lowest-in, lowest-less, cut-in, cut-all}
 use Rattle.sets.specs.Words.{capacity, bitsOf}
 use Rattle.graphs.specs.Way.{prefer}
 use Rattle.arena.specs.Table.{Answer}
-use Rattle.graph_ways.specs.Search.{choices, movesInto}
+use Rattle.graph_ways.specs.Search.{choices, movesInto, PassedOver}
 use Rattle.graph_ways.proofs.Kept.{pack-below, pack-holds}
-use Rattle.graph_ways.proofs.Round.{settles-of, settles-not, settles-left}
+use Rattle.graph_ways.proofs.Round.{settles-of, settles-not, settles-left, settles-near}
 use Rattle.table_layout.specs.declared.Layout.{Layout}
 use Rattle.table_layout.specs.Rows.{Rows, Filled, Wrote}
 use Rattle.table_layout.proofs.Places.{filled-none, filled-join, filled-part}
@@ -44,6 +44,29 @@ module _ (rows : List ℕ) (z : Layout) (c left l : ℕ) (w : Stamp) where
     where
       in-rest : (t : ℕ) → t < z .states → movesInto rows c left l t ≡ true → has rest t ≡ true
       in-rest t lt q = cut-all left b rest (z .states) f i t lt (settles-left rows c left l t q)
+
+  -- states that are passed over have no rows
+  pub trying-passed : {x y : List ℕ} {r rest v : ℕ} (near : ℕ) → Trying rows z c left l w x y r rest → PassedOver rows near rest v
+      → ((t : ℕ) → has near t ≡ (has c t && has l t)) → within l (z .states) ≡ true → Trying rows z c left l w x y r v
+  trying-passed {rest = rest} {v = v} near T P f b = record {
+    bound = T .bound;
+    member = λ t a. T .member t (P .member t a);
+    below = λ t a. T .below t (P .member t a);
+    taken = λ t lt a m. T .taken t lt (before t a m) m;
+    only = T .only;
+    long = T .long;
+    fills = λ k E R F. filled-part z k E R (T .fills k E R F) (λ a h b la lh lb p. (before a (p .0) (p .1), p .1, p .2, p .3));
+  }
+    where
+      small : (t : ℕ) → has l t ≡ true → t < capacity
+      small t e = omega (arith, within-has l (z .states) t b e, T .bound)
+
+      before : (t : ℕ) → has v t ≡ false → movesInto rows c left l t ≡ true → has rest t ≡ false
+      before t a m =
+          elim (decide (has rest t)) [
+            | inl i ↦ clash (settles-near rows c left l capacity near t f small m) (P .idle t i a)
+            | inr i ↦ i
+          ]
 
   module _ {x y : List ℕ} {r rest s : ℕ} (T : Trying rows z c left l w x y r rest) (ne : rest ≢ 0) (e : s ≡ least capacity (has rest)) where
     small : rest < 2 ^ capacity

@@ -2,8 +2,8 @@
 --
 --   Staying z over w               == a move to p writes p with the row's own counter, for all counters and the columns of over
 --   Entering rows n own target     == the states of own are below n, and each has a move into the target
---   Stepping rows z own target over f == rows f hold the lowest such move
---   Enters rows z own target over x y == from x to y they were written, in any list that ends in such rows
+--   Stepping rows z own target b f == rows f hold the lowest such move in the column b
+--   Enters rows z own target b x y == from x to y they were written, in any list that ends in such rows
 --   Heading rows z c target over f == rows f hold the moves towards the target, for the states of c that are not of the target
 --   Approaches rows z c target over x y == from x to y those of the states with a way were written, in any list that ends in such rows
 use Prim.Native.Nat.{ℕ, _<_}
@@ -37,14 +37,13 @@ pub record Entering (rows : List ℕ) (n own target : ℕ) : Type 0 where
   pub move : (s : ℕ) → has own s ≡ true → setsMeet capacity (getD rows s 0) target ≡ true
 
 -- "the lowest move to ..; h stays", "there take the lowest such j; h stays"
-pub record Stepping (rows : List ℕ) (z : Layout) (own target over : ℕ) (f : ℕ → ℕ → ℕ → Answer) : Type 0 where
-  pub row : (s h b : ℕ) → s < z .states → has own s ≡ true → h < z .counters → b < z .width → has over b ≡ true
-      → f s h b ≡ gives h (least capacity (both (getD rows s 0) target))
+pub record Stepping (rows : List ℕ) (z : Layout) (own target b : ℕ) (f : ℕ → ℕ → ℕ → Answer) : Type 0 where
+  pub row : (s h : ℕ) → has own s ≡ true → h < z .counters → f s h b ≡ gives h (least capacity (both (getD rows s 0) target))
 
-pub record Enters (rows : List ℕ) (z : Layout) (own target over : ℕ) (x y : List ℕ) : Type 0 where
+pub record Enters (rows : List ℕ) (z : Layout) (own target b : ℕ) (x y : List ℕ) : Type 0 where
   pub long : length y ≡ length x
-  pub fills : (f : ℕ → ℕ → ℕ → Answer) (E : List ℕ) → Rows z f E → Stepping rows z own target over f
-      → Filled z E (λ s h b. (has own s ≡ true) × (has over b ≡ true)) x y
+  pub fills : (f : ℕ → ℕ → ℕ → Answer) (E : List ℕ) → Rows z f E → Stepping rows z own target b f
+      → Filled z E (λ s h c. (has own s ≡ true) × (c ≡ b)) x y
 
 -- "the move with the shortest way to home, the lowest on ties; g stays", "go the shortest way inside the component"
 pub record Heading (rows : List ℕ) (z : Layout) (c target over : ℕ) (f : ℕ → ℕ → ℕ → Answer) : Type 0 where

@@ -55,7 +55,8 @@ struct Tried {
     rest: Set,
 }
 
-// The part of a round that tries the states of the low word: each with a move into `reached` gets its rows. Most sets have no others.
+// The part of a round that tries the states of the low word: each with a move into `reached` gets its rows. Most sets have no others, and most states no such
+// move: those are passed over.
 fn settle_low(
     rows: &[u64; sets::ROW_WORDS],
     room: &mut [u16],
@@ -69,8 +70,10 @@ fn settle_low(
     ensures { λ r. ⌜ Trying (setsIn (now (rows .entry))) z (bitsOf inside) (bitsOf left) (bitsOf reached) w (now (room .entry)) (now (room .exit))
         (bitsOf (r .settled)) (bitsOf (r .rest)) ⌝ }
 {
+    let near = sets::intersection(inside, reached);
     let mut settled = sets::empty();
-    let mut rest = sets::intersection(left, sets::below(z.states));
+    let tried = sets::intersection(left, sets::below(z.states));
+    let mut rest = graph_ways::pass_over(rows, near, tried);
     while sets::begins_low(rest) {
         let s = sets::lowest_low(rest);
         let open = graph_ways::choices(rows, inside, left, reached, s);
@@ -78,7 +81,7 @@ fn settle_low(
             write_move(room, z, s, graph_ways::prefer(s, open), w);
             settled = sets::insert(settled, s);
         }
-        rest = sets::without_lowest_low(rest);
+        rest = graph_ways::pass_over(rows, near, sets::without_lowest_low(rest));
     }
     Tried { settled, rest }
 }
@@ -153,24 +156,25 @@ fn counter_stays(z: Layout, over: Set) -> Stamp
     }
 }
 
-// The rows of the states of `own`, for the columns of `over`: the lowest move into the target; the counter stays. Each has such a move.
+// The rows of the states of `own` in the column b: the lowest move into the target; the counter stays. Each has such a move.
 pub fn enter(
     rows: &[u64; sets::ROW_WORDS],
     room: &mut [u16],
     z: Layout,
     own: Set,
     target: Set,
-    over: Set,
+    b: usize,
 )
-    requires { ⌜ LayoutFits z (length (now room)) × Entering (setsIn (now rows)) (z .states) (bitsOf own) (bitsOf target) ⌝ }
-    ensures { λ r. ⌜ Enters (setsIn (now (rows .entry))) z (bitsOf own) (bitsOf target) (bitsOf over) (now (room .entry)) (now (room .exit)) ⌝ }
+    requires { ⌜ LayoutFits z (length (now room)) × Entering (setsIn (now rows)) (z .states) (bitsOf own) (bitsOf target) × (b < z .width) ⌝ }
+    ensures { λ r. ⌜ Enters (setsIn (now (rows .entry))) z (bitsOf own) (bitsOf target) b (now (room .entry)) (now (room .exit)) ⌝ }
 {
-    let w = counter_stays(z, over);
+    let all = table_counters::below(z.counters);
     let mut rest = own;
     while !sets::is_empty(rest) {
         let s = sets::lowest(rest);
         let open = sets::intersection(sets::row_of(rows, s), target);
-        write_move(room, z, s, sets::lowest(open), w);
+        let first = table_entries::pack(sets::lowest(open), 0);
+        table_layout::write_column(room, z, s, b, all, first, table_entries::STEP);
         rest = sets::without_lowest(rest);
     }
 }

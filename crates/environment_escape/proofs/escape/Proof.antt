@@ -5,6 +5,7 @@ use Rattle.sets.proofs.Rows.{none, some}
 use Rattle.table_layout.proofs.Places.{fits-same}
 use Rattle.environment_escape.proofs.Leaving.{
   exits-entering,
+  pressed-column,
   pressed-fits,
   pressed-read,
   pressed-states,
@@ -58,28 +59,18 @@ returns-3 c =
     escape-tours _ _ _ _ _ _ _ _ _ _ p (some _ (f .before .is-empty .ensures) (f .if1 .left)) (sym (w .won .ensures) ∙ l .before .if2 .left) _ _
     (l .lost .ensures) (x .exits .ensures) _ _ G (none _ (c .before .is-empty2 .ensures) (c .if3 .taken))
 
-empty-requires : tie.Need-empty-requires
-empty-requires c κs = search needs
-
-insert-requires : tie.Need-insert-requires
-insert-requires c κs =
+enter-requires : tie.Need-enter-requires
+enter-requires c κs =
     let x = c .before .before .before in
     let w = x .before .before .before .before in
     let e = w .before .before .before in
-    pressed-read _ _ _ _ _ _ _ _ _ _ (e .before .before .before .pre .0) .2
-
-enter-requires : tie.Need-enter-requires
-enter-requires c κs =
-    let x = c .before .before .before .before .before in
-    let w = x .before .before .before .before in
-    let e = w .before .before .before in
-    (pressed-fits _ _ _ _ _ _ _ _ _ _ (e .before .before .before .pre .0), exits-entering _ _ _ _ _ (x .exits .ensures))
+    let p = e .before .before .before .pre .0 in
+    (pressed-fits _ _ _ _ _ _ _ _ _ _ p, exits-entering _ _ _ _ _ (x .exits .ensures), pressed-column _ _ _ _ _ _ _ _ _ _ p)
 
 join-requires : tie.Need-join-requires
 join-requires c κs =
     let a = c .before .before .before in
-    let i = a .before .before in
-    let x = i .before .before .before .before in
+    let x = a .before .before .before .before in
     let w = x .before .before .before .before in
     let e = w .before .before .before in
     let p = e .before .before .before .pre in (
@@ -95,16 +86,15 @@ returns-4 : tie.Need-returns-4
 returns-4 c =
     let j = c .before .before in
     let a = j .before .before .before .before in
-    let i = a .before .before in
-    let t = i .before .before in
+    let t = a .before .before in
     let x = t .before .before in
     let l = x .before .before in
     let w = l .before .before in
     let f = w .before .before in
     λ p G.
     escape-leaves _ _ _ _ _ _ _ _ _ _ p (some _ (f .before .is-empty .ensures) (f .if1 .left)) (sym (w .won .ensures) ∙ l .before .if2 .left) _ _
-    (l .lost .ensures) (x .exits .ensures) (some _ (t .before .is-empty2 .ensures) (t .if3 .left)) _ _ _ _ G refl _ (i .before .empty .ensures .1)
-    (i .insert .ensures) (a .enter .ensures) (j .join .ensures .1) _ (j .join .ensures .0)
+    (l .lost .ensures) (x .exits .ensures) (some _ (t .before .is-empty2 .ensures) (t .if3 .left)) _ _ _ G refl
+    (a .enter .ensures) (j .join .ensures .1) _ (j .join .ensures .0)
 
 pub escape-spec : {M : Type 1} → statement M
 escape-spec =
@@ -118,8 +108,6 @@ escape-spec =
     exits-requires
     is-empty-requires-2
     returns-3
-    empty-requires
-    insert-requires
     enter-requires
     join-requires
     same-length

@@ -9,21 +9,14 @@ use Rattle.environment_plain.proofs.push_rows.Tie as tie
 layout-of-requires : tie.Need-layout-of-requires
 layout-of-requires c κs = search needs
 
-empty-requires : tie.Need-empty-requires
-empty-requires c κs = search needs
-
-insert-requires : tie.Need-insert-requires
-insert-requires c κs =
-    let z = c .before in
-    let p = z .before .before .pre in
-    omega (arith, p .1 .output, p .0 .outputs)
-
 enter-requires : tie.Need-enter-requires
 enter-requires c κs =
-    let i = c .before in
-    let z = i .before .before in
-    let p = z .before .before .pre in
-    (laid-fits _ _ _ _ (p .0) (z .layout-of .ensures), pushes-entering _ _ _ _ (p .0) (z .layout-of .ensures) _ _ _ (p .1) (p .2))
+    let z = c .before in
+    let p = z .before .before .pre in (
+      laid-fits _ _ _ _ (p .0) (z .layout-of .ensures),
+      pushes-entering _ _ _ _ (p .0) (z .layout-of .ensures) _ _ _ (p .1) (p .2),
+      omega (arith, p .1 .output, z .layout-of .ensures .width),
+    )
 
 same-length : tie.Need-same-length
 same-length c = search needs
@@ -31,12 +24,10 @@ same-length c = search needs
 returns : tie.Need-returns
 returns c =
     let e = c .before .before in
-    let i = e .before .before in
-    let z = i .before .before in
+    let z = e .before .before in
     let p = z .before .before .pre in
-    pushes-written _ _ _ _ (p .0) (z .layout-of .ensures) _ _ _ (p .1) (p .2) _ _ (i .before .empty .ensures .1) (i .insert .ensures)
-    (e .enter .ensures)
+    pushes-written _ _ _ _ (p .0) (z .layout-of .ensures) _ _ _ (p .1) (p .2) (e .enter .ensures)
 
 pub push-rows-spec : {M : Type 1} → statement M
 push-rows-spec =
-    tie.close (tie.spec layout-of-requires empty-requires insert-requires enter-requires same-length returns)
+    tie.close (tie.spec layout-of-requires enter-requires same-length returns)
