@@ -5,12 +5,13 @@
 
 DIR is a repository whose crates are proved. The MIR that `rt mir` prints lists the locals of every function with their types. Of the functions that the
 entries below call, directly or not, a local that holds an array of over 64 bytes, also inside a struct or an enum, must be a copy of the game's: its type
-is one of the game's (or of the kit's drives, of which the kit's game is made), or the array inside one; and it is a parameter, or assigned whole from
-another such local, or a function's result. Nothing is written into it, nor is a `&mut` to it made. The two functions that make a kit's game out of its
-drives may write what they make, and so may the one that copies the sets of the game's requirements into one list.
+is one of the game's (or of the kit's drives, of which the kit's game is made, or that of the list of the game's sets), or the array inside one; and it is
+a parameter, or assigned whole from another such local, or a function's result. Nothing is written into it, nor is a `&mut` to it made. The two functions
+that make a kit's game out of its drives may write what they make, and so may `game_sets::list_of`. Its list is a copy of the game's arrays of sets, all of
+them and nothing else, as its contract `Lists` says; here it is seen that it makes no other such array, and that the list has no more bytes than those sets.
 
-Then the test is tried itself. It must find something with a set more in the arrays of eight words, with no type of the game's known, and with the makers
-of a kit's game not known.
+Then the test is tried itself. It must find something with a set more in the arrays of eight words, with a list as long as a graph's rows, with no type of
+the game's known, and with the makers not known.
 """
 import re
 import subprocess
@@ -18,8 +19,9 @@ import sys
 
 BYTES = 64
 ENTRIES = {"map": ["map::won_map"], "solver": ["solver::solve_into", "solver::solve_compact_into"], "kit": ["kit::solve_kit"]}
-GAMES = {"game::Game", "game::Graph", "kit_drives::Kit", "kit_drives::Drive"}
-MAKERS = {"kit_drives::graph_of", "kit_drives::game_of", "game_sets::list_of"}
+GAMES = {"game::Game", "game::Graph", "kit_drives::Kit", "kit_drives::Drive", "game_sets::Listed"}
+LISTER = "game_sets::list_of"
+MAKERS = {"kit_drives::graph_of", "kit_drives::game_of", LISTER}
 
 sys.setrecursionlimit(1_000_000)
 
@@ -92,6 +94,12 @@ class Function:
             most = max(most, align)
         return -(-at // most) * most, most
 
+    def sets(self):
+        """How many bytes the sets of all requirements of a game have."""
+        requirements, = (t for t in items(self.named["game::Game"][1]) if t[0] == "tyArray")
+        sides = [t for t in items(self.named["game::Requirement"][1]) if t[0] == "tyArray"]
+        return int(requirements[2][1]) * sum(self.size(t)[0] for t in sides)
+
     def arrays(self, t, within=()):
         """The arrays of over eight words that a value of type t holds itself, with the named types around each."""
         if isinstance(t, str) or t[0] in ("tyInt", "tyFloat", "tyRef"):
@@ -146,11 +154,24 @@ class Test:
                 if str(array) not in own:
                     self.say(f, n, f"an array of {f.size(array)[0]} bytes" + (f" in {' in '.join(reversed(within))}" if within else ""))
         self.copies += len(large)
+        written = list(self.written(f, large))
         if f.name not in self.makers:
-            self.written(f, large)
+            for n, what in written:
+                self.say(f, n, what)
+        elif f.name == LISTER:
+            self.listed(f, {n for n, _ in written})
+
+    def listed(self, f, made):
+        """That the locals `made` are the list and the record that is returned with it, and that the list has no more bytes than the game's sets."""
+        arrays = [(n, f.size(array)[0]) for n in sorted(made) for array, _ in f.arrays(f.types[int(n)])]
+        if len(arrays) != 2 or "0" not in made:
+            self.say(f, ", ".join(n for n, _ in arrays), "not the list and the record of it alone are made")
+        for n, size in arrays:
+            if size > f.sets():
+                self.say(f, n, f"an array of {size} bytes, and the sets of a game have {f.sets()}")
 
     def written(self, f, large):
-        """That no local of `large` is written but whole, from a place or by a call."""
+        """The locals of `large` that are written otherwise than whole, from a place or by a call, and how."""
         assigned = [t for t in walk(f.body) if t[0] == "assign"]
         # pointers into such a local, and those made from them
         into, before = {}, None
@@ -163,7 +184,7 @@ class Test:
                     into[place[1]] = value[1][1]
                     kind = f.types[int(place[1])]
                     if kind[0] == "tyRef" and kind[2] == "mut":
-                        self.say(f, value[1][1], "a `&mut` to it is made")
+                        yield value[1][1], "a `&mut` to it is made"
                 elif value[0] in ("op2", "rvOpd", "addrOf"):
                     for term in walk(value):
                         if term[0] == "place" and term[1] in into and (value[0] != "rvOpd" or term[2] == "lnil"):
@@ -172,15 +193,15 @@ class Test:
                                 into.setdefault(place[1], into[term[1]])
         for _, place, value in assigned:
             if place[1] in large and place[2] != "lnil":
-                self.say(f, place[1], "a part of it is written")
+                yield place[1], "a part of it is written"
             elif place[1] in large and not (value[0] == "rvOpd" and value[1][0] in ("copy", "move")):
-                self.say(f, place[1], f"it is made by `{value[0]}`")
+                yield place[1], f"it is made by `{value[0]}`"
             elif place[1] in into and place[2] != "lnil":
-                self.say(f, into[place[1]], "it is written through a pointer")
+                yield into[place[1]], "it is written through a pointer"
         for call in (t for t in walk(f.body) if t[0] == "call"):
             place = call[3]
             if place[1] in large and place[2] != "lnil" or place[1] in into and place[2] != "lnil":
-                self.say(f, into.get(place[1], place[1]), "a part of it is written by a call")
+                yield into.get(place[1], place[1]), "a part of it is written by a call"
 
 
 def over(texts, change=lambda text: text, **known):
@@ -199,8 +220,11 @@ def main():
     print(f"arrays: {test.functions} functions, {test.copies} locals with copies of the game's arrays, {len(test.found)} arrays that are none")
     eight = '(tyArray (tyNamed (pair "sets::Set" lnil)) (lenLit 4))'
     assert all(eight in texts[c] for c in ("solver", "kit"))
+    listed, rows = (f"(tyArray (tyInt 64) (lenLit {n}))" for n in (128, 256))
+    assert all(listed in text and rows in text for text in texts.values())
     tries = {
         "a set more": over(texts, lambda text: text.replace(eight, eight.replace("4", "5"))),
+        "a list as long as rows": over(texts, lambda text: text.replace(listed, rows)),
         "no type of the game's": over(texts, games=set()),
         "no maker": over(texts, makers=set()),
     }

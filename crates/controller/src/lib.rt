@@ -35,7 +35,7 @@ ghost use Rattle.compact.specs.Compact.{compactLength, compactEntries};
 fn settle(
     g: Game,
     given: Outline,
-    l: &[u64; sets::ROW_WORDS],
+    l: &[u64; game_sets::WORDS],
     outs: &[u64; sets::ROW_WORDS],
     s: &[u64],
     room: &mut [u16],
@@ -73,7 +73,7 @@ fn settle(
 fn settle_all(
     g: Game,
     given: Outline,
-    l: &[u64; sets::ROW_WORDS],
+    l: &[u64; game_sets::WORDS],
     outs: &[u64; sets::ROW_WORDS],
     s: &[u64],
     room: &mut [u16],
@@ -97,7 +97,7 @@ fn settle_all(
 fn rows(
     g: Game,
     given: Outline,
-    l: &[u64; sets::ROW_WORDS],
+    l: &[u64; game_sets::WORDS],
     outs: &[u64; sets::ROW_WORDS],
     s: &[u64],
     room: &mut [u16],
@@ -134,7 +134,7 @@ fn size_of(g: Game, given: Outline) -> Size
 pub fn fill(
     g: Game,
     given: Outline,
-    l: &[u64; sets::ROW_WORDS],
+    l: &[u64; game_sets::WORDS],
     outs: &[u64; sets::ROW_WORDS],
     s: &[u64],
     c: InSet,
@@ -171,7 +171,7 @@ fn compact_size(g: Game, given: Outline, leaders: InSet) -> Size
 pub fn fill_compact(
     g: Game,
     given: Outline,
-    l: &[u64; sets::ROW_WORDS],
+    l: &[u64; game_sets::WORDS],
     outs: &[u64; sets::ROW_WORDS],
     s: &[u64],
     c: InSet,

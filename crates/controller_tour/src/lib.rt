@@ -21,7 +21,7 @@ ghost use Rattle.controller_table.specs.Filled.{ControllerFilled, There, Sized,
 fn seek_all(
     g: Game,
     given: Outline,
-    l: &[u64; sets::ROW_WORDS],
+    l: &[u64; game_sets::WORDS],
     outs: &[u64; sets::ROW_WORDS],
     room: &mut [u16],
     z: Size,
@@ -49,7 +49,7 @@ fn seek_all(
 pub fn tour(
     g: Game,
     given: Outline,
-    l: &[u64; sets::ROW_WORDS],
+    l: &[u64; game_sets::WORDS],
     outs: &[u64; sets::ROW_WORDS],
     room: &mut [u16],
     z: Size,

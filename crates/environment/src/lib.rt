@@ -24,7 +24,7 @@ ghost use Rattle.environment_table.specs.Reading.{plain};
 fn component_rows<'a>(
     g: Game,
     given: Outline,
-    l: &[u64; sets::ROW_WORDS],
+    l: &[u64; game_sets::WORDS],
     ins: &'a [u64; sets::ROW_WORDS],
     outs: &'a [u64; sets::ROW_WORDS],
     s: &[u64],
@@ -52,7 +52,7 @@ fn component_rows<'a>(
 fn walked_rows<'a>(
     g: Game,
     given: Outline,
-    l: &[u64; sets::ROW_WORDS],
+    l: &[u64; game_sets::WORDS],
     ins: &'a [u64; sets::ROW_WORDS],
     outs: &'a [u64; sets::ROW_WORDS],
     s: &[u64],
@@ -89,7 +89,7 @@ fn walked_rows<'a>(
 pub fn fill<'a>(
     g: Game,
     given: Outline,
-    l: &[u64; sets::ROW_WORDS],
+    l: &[u64; game_sets::WORDS],
     ins: &'a [u64; sets::ROW_WORDS],
     outs: &'a [u64; sets::ROW_WORDS],
     s: &[u64],

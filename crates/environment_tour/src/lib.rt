@@ -20,7 +20,7 @@ ghost use Rattle.environment_table.specs.Touring.{Left, Aims};
 fn aims(
     g: Game,
     given: Outline,
-    l: &[u64; sets::ROW_WORDS],
+    l: &[u64; game_sets::WORDS],
     ins: &[u64; sets::ROW_WORDS],
     counters: usize,
     c: InSet,
@@ -48,7 +48,7 @@ fn aims(
 pub fn tours(
     g: Game,
     given: Outline,
-    l: &[u64; sets::ROW_WORDS],
+    l: &[u64; game_sets::WORDS],
     ins: &[u64; sets::ROW_WORDS],
     counters: usize,
     c: InSet,

@@ -5,7 +5,6 @@
 --   half-room                    : four sets in each half
 --   assumed-few, guaranteed-few  : few enough sets for some requirements
 --   due-listed, served-listed    : a requirement of the list is due or served where that of the game is
---   first-below                  : the first requirements are requirements
 --   marked-both, accepted-both   : what is told of each half, told of all requirements
 use Prim.Native.Nat.{ℕ, _+_, _-_, _≤_, _<_}
 use mathlib.Core.Path.{_≡_, refl, sym, _∙_, ap, ap₂}
@@ -79,13 +78,13 @@ half-room l n e b = omega (arith, words-held l 4 (omega (arith, e)))
 
 module _ {g : Game} (F : Few g) where
   module _ {n : List ℕ} (C : AssumedCounts g n) where
-    few-assumed : (r : ℕ) → r < g .k → getD n r 0 ≤ 4
-    few-assumed r b = omega (arith, C .at r b, F .assumed r (omega (arith, F .requirements)))
+    few-assumed : (r : ℕ) → r < 8 → getD n r 0 ≤ 4
+    few-assumed r b = omega (arith, C .at r b, F .assumed r b)
 
-    pub assumed-few : (i k : ℕ) → ((q : ℕ) → q < k → i + q < g .k) → FewSets n i k
-    assumed-few i k h = record { at = λ q b. few-assumed (i + q) (h q b) }
+    pub assumed-few : (i k : ℕ) → i + k ≤ 8 → FewSets n i k
+    assumed-few i k h = record { at = λ q b. few-assumed (i + q) (omega arith) }
 
-    due-listed : {l : List ℕ} → Lists g l → (a r : ℕ) → r < g .k → dueBy l n a r ≡ dueIn g a r
+    due-listed : {l : List ℕ} → Lists g l → (a r : ℕ) → r < 8 → dueBy l n a r ≡ dueIn g a r
     unfolding dueBy dueIn inMeets inMeetsBy inMeetsAt
     due-listed {l} L a r b =
         all-same (getD n r 0) (inMeetsBy l a r) (inMeetsAt (requirementAt g r) a)
@@ -93,13 +92,13 @@ module _ {g : Game} (F : Few g) where
         ∙ ap (λ (x : ℕ). all x (inMeetsAt (requirementAt g r) a)) (C .at r b)
 
   module _ {n : List ℕ} (C : GuaranteedCounts g n) where
-    few-guaranteed : (r : ℕ) → r < g .k → getD n r 0 ≤ 4
-    few-guaranteed r b = omega (arith, C .at r b, F .guaranteed r (omega (arith, F .requirements)))
+    few-guaranteed : (r : ℕ) → r < 8 → getD n r 0 ≤ 4
+    few-guaranteed r b = omega (arith, C .at r b, F .guaranteed r b)
 
-    pub guaranteed-few : (i k : ℕ) → ((q : ℕ) → q < k → i + q < g .k) → FewSets n i k
-    guaranteed-few i k h = record { at = λ q b. few-guaranteed (i + q) (h q b) }
+    pub guaranteed-few : (i k : ℕ) → i + k ≤ 8 → FewSets n i k
+    guaranteed-few i k h = record { at = λ q b. few-guaranteed (i + q) (omega arith) }
 
-    served-listed : {l : List ℕ} → Lists g l → (c r : ℕ) → r < g .k → servedBy l n c r ≡ servedIn g c r
+    served-listed : {l : List ℕ} → Lists g l → (c r : ℕ) → r < 8 → servedBy l n c r ≡ servedIn g c r
     unfolding servedBy servedIn outMeets outMeetsBy outMeetsAt
     served-listed {l} L c r b =
         all-same (getD n r 0) (outMeetsBy l c r) (outMeetsAt (requirementAt g r) c)
@@ -108,16 +107,13 @@ module _ {g : Game} (F : Few g) where
 
 -- ---- both halves
 
-pub first-below : {k n : ℕ} → FirstFour k n → (q : ℕ) → q < n → 0 + q < k
-first-below H q b = omega (arith, H .within)
-
 module _ {g : Game} (F : Few g) {l n : List ℕ} (L : Lists g l) {m : ℕ} (H : FirstFour (g .k) m) where
   pub marked-both : GuaranteedCounts g n → (c : ℕ) (x y v w : List ℕ) → Marked l n 0 m c (setsIn x) (setsIn v) → Marked l n 4 (g .k - m) c (setsIn y) (setsIn w)
       → (r : ℕ) → r < g .k → (t : ℕ) → has (serversAt v w r) t ≡ (has (serversAt x y r) t || (servedIn g c r && has c t))
   marked-both C c x y v w M N r b t = go (decLt r 4)
     where
       at : (i : ℕ) → i ≡ r → servedBy l n c i ≡ servedIn g c r
-      at i e = ap (servedBy l n c) e ∙ served-listed F C L c r b
+      at i e = ap (servedBy l n c) e ∙ served-listed F C L c r (omega (arith, F .requirements))
 
       told : (p q : ℕ) (o : Bool) → p ≡ serversAt x y r → q ≡ serversAt v w r → o ≡ servedIn g c r → has q t ≡ (has p t || (o && has c t))
           → has (serversAt v w r) t ≡ (has (serversAt x y r) t || (servedIn g c r && has c t))
@@ -131,9 +127,9 @@ module _ {g : Game} (F : Few g) {l n : List ℕ} (L : Lists g l) {m : ℕ} (H : 
           (N .done (r - 4) (omega (arith, H .most)) t)
 
   module _ (C : AssumedCounts g n) (a : ℕ) (x y : List ℕ) (d : ℕ) where
-    first-at : (r : ℕ) → r < g .k → r < 4 → admitsBy l n 0 a (setsIn x) d r ≡ admits g a x y d r
+    first-at : (r : ℕ) → r < 4 → admitsBy l n 0 a (setsIn x) d r ≡ admits g a x y d r
     unfolding admitsBy admits
-    first-at r b c = ap₂ (λ (u : Bool) (z : ℕ). not u || has z d) (ap (dueBy l n a) same ∙ due-listed F C L a r b) (server-first x y r c)
+    first-at r c = ap₂ (λ (u : Bool) (z : ℕ). not u || has z d) (ap (dueBy l n a) same ∙ due-listed F C L a r (omega arith)) (server-first x y r c)
       where
         same : 0 + r ≡ r
         same = omega arith
@@ -141,7 +137,7 @@ module _ {g : Game} (F : Few g) {l n : List ℕ} (L : Lists g l) {m : ℕ} (H : 
     second-at : (q : ℕ) → 4 + q < g .k → admitsBy l n 4 a (setsIn y) d q ≡ admits g a x y d (4 + q)
     unfolding admitsBy admits
     second-at q b =
-        ap₂ (λ (u : Bool) (z : ℕ). not u || has z d) (due-listed F C L a (4 + q) b)
+        ap₂ (λ (u : Bool) (z : ℕ). not u || has z d) (due-listed F C L a (4 + q) (omega (arith, F .requirements)))
         (ap (λ (j : ℕ). getD (setsIn y) j 0) same ∙ server-second x y (4 + q) (omega arith))
       where
         same : q ≡ 4 + q - 4
@@ -152,7 +148,7 @@ module _ {g : Game} (F : Few g) {l n : List ℕ} (L : Lists g l) {m : ℕ} (H : 
         same-test (all m p && all (g .k - m) q) (all (g .k) (admits g a x y d))
         (λ h. all-intro (g .k) (admits g a x y d) (λ r b. to h r b (decLt r 4)))
         (λ h. and-intro
-        (all-intro m p (λ r b. first-at r (omega (arith, H .within)) (omega (arith, H .most))
+        (all-intro m p (λ r b. first-at r (omega (arith, H .most))
         ∙ all-elim (g .k) (admits g a x y d) h r (omega (arith, H .within))))
         (all-intro (g .k - m) q (λ r b. second-at r (H .second r b) ∙ all-elim (g .k) (admits g a x y d) h (4 + r) (H .second r b))))
       where
@@ -163,7 +159,7 @@ module _ {g : Game} (F : Few g) {l n : List ℕ} (L : Lists g l) {m : ℕ} (H : 
         q = admitsBy l n 4 a (setsIn y) d
 
         to : (all m p && all (g .k - m) q) ≡ true → (r : ℕ) → r < g .k → Dec (r < 4) → admits g a x y d r ≡ true
-        to h r b (yes c) = sym (first-at r b c) ∙ all-elim m p (and-left (all m p) (all (g .k - m) q) h) r (H .first r b c)
+        to h r b (yes c) = sym (first-at r c) ∙ all-elim m p (and-left (all m p) (all (g .k - m) q) h) r (H .first r b c)
         to h r b (no c) =
             ap (admits g a x y d) back
             ∙ sym (second-at (r - 4) (omega arith))

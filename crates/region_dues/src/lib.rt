@@ -47,7 +47,7 @@ fn first_four(k: usize) -> usize
 }
 
 // Whether every input set in use of requirement r meets the set c.
-fn all_assumed(l: &[u64; sets::ROW_WORDS], assumed: &[usize; 8], r: usize, c: InSet) -> bool
+fn all_assumed(l: &[u64; game_sets::WORDS], assumed: &[usize; 8], r: usize, c: InSet) -> bool
     requires { ⌜ (r < 8) × (getD (now assumed) r 0 ≤ 4) ⌝ }
     ensures { λ x. ⌜ x ≡ dueBy (now (l .entry)) (now (assumed .entry)) (bitsOf (c .0)) r ⌝ }
 {
@@ -64,7 +64,7 @@ fn all_assumed(l: &[u64; sets::ROW_WORDS], assumed: &[usize; 8], r: usize, c: In
 }
 
 // Whether every output set in use of requirement r meets the set c.
-fn all_guaranteed(l: &[u64; sets::ROW_WORDS], guaranteed: &[usize; 8], r: usize, c: OutSet) -> bool
+fn all_guaranteed(l: &[u64; game_sets::WORDS], guaranteed: &[usize; 8], r: usize, c: OutSet) -> bool
     requires { ⌜ (r < 8) × (getD (now guaranteed) r 0 ≤ 4) ⌝ }
     ensures { λ x. ⌜ x ≡ servedBy (now (l .entry)) (now (guaranteed .entry)) (bitsOf (c .0)) r ⌝ }
 {
@@ -82,7 +82,7 @@ fn all_guaranteed(l: &[u64; sets::ROW_WORDS], guaranteed: &[usize; 8], r: usize,
 
 // Puts the outputs of a component c into the set of each requirement that it serves, of the n requirements from number `from` on, whose sets are those of t.
 fn mark(
-    l: &[u64; sets::ROW_WORDS],
+    l: &[u64; game_sets::WORDS],
     guaranteed: &[usize; 8],
     from: usize,
     n: usize,
@@ -107,7 +107,7 @@ fn mark(
 pub fn served(
     g: Game,
     outs: &[u64; sets::ROW_WORDS],
-    l: &[u64; sets::ROW_WORDS],
+    l: &[u64; game_sets::WORDS],
     guaranteed: &[usize; 8],
     s: &[u64],
 ) -> Servers
@@ -149,7 +149,7 @@ fn admitted(due: bool, y: OutSet, x: OutSet) -> OutSet
 // The outputs of x that are in the set of each requirement that is due in the set a of inputs, of the n requirements from number `from` on, whose sets are
 // those of t.
 fn narrow(
-    l: &[u64; sets::ROW_WORDS],
+    l: &[u64; game_sets::WORDS],
     assumed: &[usize; 8],
     from: usize,
     n: usize,
@@ -174,7 +174,7 @@ fn narrow(
 // The outputs of x whose components serve every requirement that is due in the set a of inputs.
 pub fn accepted(
     g: Game,
-    l: &[u64; sets::ROW_WORDS],
+    l: &[u64; game_sets::WORDS],
     assumed: &[usize; 8],
     first: &[u64; 8],
     second: &[u64; 8],

@@ -38,7 +38,7 @@ fn is_short(g: Game, given: Outline, long: usize) -> bool
 pub fn solve_accepted<'a>(
     g: Game,
     given: Outline,
-    l: &'a [u64; sets::ROW_WORDS],
+    l: &'a [u64; game_sets::WORDS],
     ins: &'a [u64; sets::ROW_WORDS],
     outs: &'a [u64; sets::ROW_WORDS],
     scratch: &mut [u64],

@@ -24,7 +24,7 @@ pub enum Verdict {
 fn solve_accepted<'a>(
     g: Game,
     given: Outline,
-    l: &'a [u64; sets::ROW_WORDS],
+    l: &'a [u64; game_sets::WORDS],
     ins: &'a [u64; sets::ROW_WORDS],
     outs: &'a [u64; sets::ROW_WORDS],
     scratch: &mut [u64],

@@ -18,7 +18,7 @@ ghost use Rattle.solver_winner.specs.Written.{WrittenCompact};
 pub fn write_winner<'a>(
     g: Game,
     given: Outline,
-    l: &'a [u64; sets::ROW_WORDS],
+    l: &'a [u64; game_sets::WORDS],
     ins: &'a [u64; sets::ROW_WORDS],
     outs: &'a [u64; sets::ROW_WORDS],
     scratch: &mut [u64],

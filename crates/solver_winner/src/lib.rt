@@ -19,7 +19,7 @@ pub mod by_component; // with the controller's rows by component
 pub fn write_winner<'a>(
     g: Game,
     given: Outline,
-    l: &'a [u64; sets::ROW_WORDS],
+    l: &'a [u64; game_sets::WORDS],
     ins: &'a [u64; sets::ROW_WORDS],
     outs: &'a [u64; sets::ROW_WORDS],
     scratch: &mut [u64],

@@ -66,7 +66,7 @@ pub fn assumption_count(g: Game) -> usize
 pub fn guarantees_of(
     g: Game,
     given: Outline,
-    l: &[u64; sets::ROW_WORDS],
+    l: &[u64; game_sets::WORDS],
     r: usize,
     from: usize,
 ) -> Stretch
@@ -89,7 +89,7 @@ pub fn guarantees_of(
 }
 
 // The numbers of the guarantees that have a state in x.
-pub fn guarantees_met(g: Game, given: Outline, l: &[u64; sets::ROW_WORDS], x: OutSet) -> CounterSet
+pub fn guarantees_met(g: Game, given: Outline, l: &[u64; game_sets::WORDS], x: OutSet) -> CounterSet
     requires { ⌜ (acceptance g ≡ Accepted) × Outlined g given × Lists g (now l) ⌝ }
     ensures { λ q. ⌜ q .0 ≡ pack (length (guarantees (separatedOf g))) (metIn (guarantees (separatedOf g)) (bitsOf (x .0))) ⌝ }
 {
@@ -109,7 +109,7 @@ pub fn guarantees_met(g: Game, given: Outline, l: &[u64; sets::ROW_WORDS], x: Ou
 pub fn assumptions_of(
     g: Game,
     given: Outline,
-    l: &[u64; sets::ROW_WORDS],
+    l: &[u64; game_sets::WORDS],
     r: usize,
     from: usize,
 ) -> Stretch
@@ -132,7 +132,7 @@ pub fn assumptions_of(
 }
 
 // The numbers of the assumptions that have a state in x.
-pub fn assumptions_met(g: Game, given: Outline, l: &[u64; sets::ROW_WORDS], x: InSet) -> CounterSet
+pub fn assumptions_met(g: Game, given: Outline, l: &[u64; game_sets::WORDS], x: InSet) -> CounterSet
     requires { ⌜ (acceptance g ≡ Accepted) × Outlined g given × Lists g (now l) ⌝ }
     ensures { λ q. ⌜ q .0 ≡ pack (length (assumptions (separatedOf g))) (metIn (assumptions (separatedOf g)) (bitsOf (x .0))) ⌝ }
 {

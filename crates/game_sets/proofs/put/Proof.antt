@@ -1,8 +1,7 @@
 -- `put`. Invariant: the sets below number j are written, and those of the other requirements stay.
 use Prim.Native.Nat.{_-_, _≤_}
-use mathlib.Core.Path.{_∙_}
 use native.Mathlib.Omega.{arith}
-use Rattle.game_sets.proofs.Listing.{Begun, begun-none, begun-next, begun-all}
+use Rattle.game_sets.proofs.Listing.{room, Begun, begun-none, begun-next, begun-all}
 use Rattle.game_sets.proofs.put.Statement.{statement}
 use Rattle.game_sets.proofs.put.Tie as tie
 
@@ -27,31 +26,28 @@ mul-y c = omega arith
 element-copy-out-y : tie.Need-element-copy-out-y Inv-loop μ-loop
 element-copy-out-y c = omega arith
 
-mul-put-of : tie.Need-mul-put-of Inv-loop μ-loop
-mul-put-of c = let b = c .before .before .before .before in omega (arith, b .before .pre .0)
+mul-put : tie.Need-mul-put Inv-loop μ-loop
+mul-put c = omega arith
 
-add-put-of : tie.Need-add-put-of Inv-loop μ-loop
-add-put-of c = let b = c .before .before .before .before in omega (arith, b .before .pre .0)
+add-put : tie.Need-add-put Inv-loop μ-loop
+add-put c = omega arith
 
-put-of-requires : tie.Need-put-of-requires Inv-loop μ-loop
-put-of-requires c κs =
+put-requires : tie.Need-put-requires Inv-loop μ-loop
+put-requires c κs =
     let b = c .before .before .before .before in
-    (omega (arith, b .before .pre .0), b .loop .inv .1 .long ∙ b .before .pre .1)
+    omega (arith, room (b .loop .l) (c .put-arg .given .0 .1))
 
-mul-put-of-2 : tie.Need-mul-put-of-2 Inv-loop μ-loop
-mul-put-of-2 c = let b = c .before .before .before in omega (arith, b .before .before .before .before .pre .0)
+mul-put-2 : tie.Need-mul-put-2 Inv-loop μ-loop
+mul-put-2 c = omega arith
 
-add-put-of-2 : tie.Need-add-put-of-2 Inv-loop μ-loop
-add-put-of-2 c = let b = c .before .before .before in omega (arith, b .before .before .before .before .pre .0)
+add-put-2 : tie.Need-add-put-2 Inv-loop μ-loop
+add-put-2 c = omega arith
 
-add-put-of-3 : tie.Need-add-put-of-3 Inv-loop μ-loop
-add-put-of-3 c = let b = c .before .before .before in omega (arith, b .before .before .before .before .pre .0)
+add-put-3 : tie.Need-add-put-3 Inv-loop μ-loop
+add-put-3 c = omega arith
 
-put-of-requires-2 : tie.Need-put-of-requires-2 Inv-loop μ-loop
-put-of-requires-2 c κs =
-    let p = c .before in
-    let b = p .before .before .before .before .before in
-    (omega (arith, b .before .pre .0), p .put-of .ensures .1 ∙ b .loop .inv .1 .long ∙ b .before .pre .1)
+put-requires-2 : tie.Need-put-requires-2 Inv-loop μ-loop
+put-requires-2 c κs = omega (arith, room (c .before .put .last .0) (c .put-arg2 .given .0 .1))
 
 add-j : tie.Need-add-j Inv-loop μ-loop
 add-j c = omega arith
@@ -62,11 +58,10 @@ loop-less c = omega arith
 loop-again : tie.Need-loop-again Inv-loop μ-loop
 loop-again c =
     let p = c .before .before in
-    let test = p .before .before .before .before in
-    let b = test .before in (
+    let b = p .before .before .before .before .before in (
       omega arith,
-      begun-next _ _ (b .loop .j) _ _ _ _ (b .loop .inv .1) (b .before .pre .1) (b .before .pre .0) (omega arith) (p .put-of .ensures .0)
-          (p .put-of .ensures .1) (c .put-of2 .ensures .0) (c .put-of2 .ensures .1),
+      begun-next _ _ (b .loop .j) _ _ _ _ (b .loop .inv .1) (p .before .put-arg .given .0 .1) (b .before .pre) (omega arith) (p .put .ensures)
+          (p .put .kept .0) (c .put2 .ensures) (c .put2 .kept .0),
     )
 
 returns : tie.Need-returns Inv-loop μ-loop
@@ -83,13 +78,13 @@ put-spec =
     element-copy-out-x
     mul-y
     element-copy-out-y
-    mul-put-of
-    add-put-of
-    put-of-requires
-    mul-put-of-2
-    add-put-of-2
-    add-put-of-3
-    put-of-requires-2
+    mul-put
+    add-put
+    put-requires
+    mul-put-2
+    add-put-2
+    add-put-3
+    put-requires-2
     add-j
     loop-less
     loop-again

@@ -8,7 +8,7 @@ use Rattle.interlock.proofs.wins_unbarred.Statement.{statement}
 use Rattle.interlock.proofs.wins_unbarred.Tie as tie
 
 list-of-requires : tie.Need-list-of-requires
-list-of-requires c κs = accepted-fits _ (c .before .pre .0) .few
+list-of-requires c κs = search needs
 
 prepare-requires : tie.Need-prepare-requires
 prepare-requires c κs =

@@ -5,7 +5,7 @@ use Rattle.map.proofs.make_map.Statement.{statement}
 use Rattle.map.proofs.make_map.Tie as tie
 
 list-of-requires : tie.Need-list-of-requires
-list-of-requires c κs = c .before .before .pre .0 .few
+list-of-requires c κs = search needs
 
 prepare-requires : tie.Need-prepare-requires
 prepare-requires c κs = search needs

@@ -1,6 +1,6 @@
 -- `accepted` goes through the first four requirements, then through the others.
 use native.Mathlib.Omega.{arith}
-use Rattle.region_dues.proofs.Halves.{half-room, first-below, assumed-few, accepted-both}
+use Rattle.region_dues.proofs.Halves.{half-room, assumed-few, accepted-both}
 use borrow.Author.Needs.{needs}
 use Rattle.region_dues.proofs.accepted.Statement.{statement}
 use Rattle.region_dues.proofs.accepted.Tie as tie
@@ -13,7 +13,7 @@ narrow-requires c κs =
     let p = c .before .before .pre in
     let H = c .before .first-four .ensures in (
       omega (arith, H .most),
-      assumed-few (p .0) (p .2) _ _ (first-below H),
+      assumed-few (p .0) (p .2) _ _ (omega (arith, H .most)),
       half-room _ _ (p .3 .first) (H .most),
     )
 
@@ -26,7 +26,7 @@ narrow-requires-2 c κs =
     let p = started .before .pre in
     let H = started .first-four .ensures in (
       omega (arith, H .others),
-      assumed-few (p .0) (p .2) _ _ (H .second),
+      assumed-few (p .0) (p .2) _ _ (omega (arith, H .others)),
       half-room _ _ (p .3 .second) (omega (arith, H .others)),
     )
 

@@ -7,7 +7,7 @@ use Rattle.bits.specs.Member.{has}
 use Rattle.sets.specs.Words.{capacity, bitsOf}
 use Rattle.sets.proofs.Rows.{is-some, is-none}
 use Rattle.scratch.proofs.Areas.{area-closes, out-transitive}
-use Rattle.region_dues.proofs.Halves.{half-room, first-below, guaranteed-few, marked-both}
+use Rattle.region_dues.proofs.Halves.{half-room, guaranteed-few, marked-both}
 use Rattle.region_dues.proofs.Meaning.{fits-few, Sorted, sorted-start, sorted-below, sorted-falls, sorted-next, sorted-end}
 use borrow.Author.Needs.{needs}
 use Rattle.region_dues.proofs.served.Statement.{statement}
@@ -69,7 +69,7 @@ mark-requires c κs =
     let p = started .before .before .pre in
     let H = started .first-four .ensures in (
       omega (arith, H .most),
-      guaranteed-few (fits-few _ (p .0)) (p .3) _ _ (first-below H),
+      guaranteed-few (fits-few _ (p .0)) (p .3) _ _ (omega (arith, H .most)),
       half-room _ _ (b .loop .inv .whole .first) (H .most),
     )
 
@@ -85,7 +85,7 @@ mark-requires-2 c κs =
     let p = started .before .before .pre in
     let H = started .first-four .ensures in (
       omega (arith, H .others),
-      guaranteed-few (fits-few _ (p .0)) (p .3) _ _ (H .second),
+      guaranteed-few (fits-few _ (p .0)) (p .3) _ _ (omega (arith, H .others)),
       half-room _ _ (b .loop .inv .whole .second) (omega (arith, H .others)),
     )
 

@@ -1,7 +1,6 @@
 -- `solve_into`.
 use Rattle.solver.proofs.Verdicts.{solve-faulty}
 use mathlib.Core.Path.{refl, sym, _∙_}
-use Rattle.game.proofs.Laws.{accepted-fits}
 use borrow.Author.Needs.{needs}
 use Rattle.solver.proofs.solve_into.Statement.{statement}
 use Rattle.solver.proofs.solve_into.Tie as tie
@@ -16,7 +15,7 @@ enum-told : tie.Need-enum-told
 enum-told c = search needs
 
 list-of-requires : tie.Need-list-of-requires
-list-of-requires c κs = accepted-fits _ (sym (c .before .before .accept-lent .ensures .answer) ∙ c .enum-told .given .1) .few
+list-of-requires c κs = search needs
 
 outline-of-requires : tie.Need-outline-of-requires
 outline-of-requires c κs =

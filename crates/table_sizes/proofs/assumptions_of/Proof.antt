@@ -1,4 +1,5 @@
 -- `assumptions_of` reads the four places.
+use Prim.Native.Nat.{_<_}
 use mathlib.Core.Path.{_∙_}
 use native.Mathlib.Omega.{arith}
 use borrow.Author.Needs.{needs}
@@ -33,10 +34,11 @@ returns c =
     let x = y .before in
     let w = x .before in
     let p = w .before .pre in
+    let b : w .before .args .r < 8 = omega (arith, p .0, p .1) in
     let L = p .3 in
-    sets-of assumptionSide _ _ _ _ _ _ _ (p .2 .counts .assumed .at _ (p .1)) (w .assumption .ensures ∙ L .assumed _ 0 (p .1) (omega arith))
-    (x .assumption2 .ensures ∙ L .assumed _ 1 (p .1) (omega arith)) (y .assumption3 .ensures ∙ L .assumed _ 2 (p .1) (omega arith))
-    (z .assumption4 .ensures ∙ L .assumed _ 3 (p .1) (omega arith))
+    sets-of assumptionSide _ _ _ _ _ _ _ (p .2 .counts .assumed .at _ b) (w .assumption .ensures ∙ L .assumed _ 0 b (omega arith))
+    (x .assumption2 .ensures ∙ L .assumed _ 1 b (omega arith)) (y .assumption3 .ensures ∙ L .assumed _ 2 b (omega arith))
+    (z .assumption4 .ensures ∙ L .assumed _ 3 b (omega arith))
 
 pub assumptions-of-spec : {M : Type 1} → statement M
 assumptions-of-spec =

@@ -1,4 +1,5 @@
 -- `guarantees_of` reads the four places.
+use Prim.Native.Nat.{_<_}
 use mathlib.Core.Path.{_∙_}
 use native.Mathlib.Omega.{arith}
 use borrow.Author.Needs.{needs}
@@ -33,10 +34,11 @@ returns c =
     let x = y .before in
     let w = x .before in
     let p = w .before .pre in
+    let b : w .before .args .r < 8 = omega (arith, p .0, p .1) in
     let L = p .3 in
-    sets-of guaranteeSide _ _ _ _ _ _ _ (p .2 .counts .guaranteed .at _ (p .1)) (w .guarantee .ensures ∙ L .guaranteed _ 0 (p .1) (omega arith))
-    (x .guarantee2 .ensures ∙ L .guaranteed _ 1 (p .1) (omega arith)) (y .guarantee3 .ensures ∙ L .guaranteed _ 2 (p .1) (omega arith))
-    (z .guarantee4 .ensures ∙ L .guaranteed _ 3 (p .1) (omega arith))
+    sets-of guaranteeSide _ _ _ _ _ _ _ (p .2 .counts .guaranteed .at _ b) (w .guarantee .ensures ∙ L .guaranteed _ 0 b (omega arith))
+    (x .guarantee2 .ensures ∙ L .guaranteed _ 1 b (omega arith)) (y .guarantee3 .ensures ∙ L .guaranteed _ 2 b (omega arith))
+    (z .guarantee4 .ensures ∙ L .guaranteed _ 3 b (omega arith))
 
 pub guarantees-of-spec : {M : Type 1} → statement M
 guarantees-of-spec =
