@@ -6,8 +6,8 @@ use mathlib.Core.List.{List, [], _∷_}
 use native.Mathlib.Omega.{arith}
 use lib.Dec.{leb}
 use lib.ListN.{length}
-use borrow.Author.Tests.{le-leb, lt-leb}
-use Rattle.finite.proofs.Truth.{and-intro, and-false-left, and-false-right}
+use borrow.Author.Tests.{leb-true, le-leb, lt-leb}
+use Rattle.finite.proofs.Truth.{and-left, and-right, and-false-left}
 use Rattle.sets.specs.Words.{wordsFor}
 use Rattle.game.specs.declared.Game.{Game}
 use Rattle.game.specs.declared.Acceptance.{Acceptance}
@@ -63,22 +63,30 @@ map-room : (g : Game) (s m : ℕ) (b : Bool) {r : Mapped} → acceptance g ≡ A
 unfolding mapAnswer mapRoom
 map-room g s m b a e h = rw (a, mapAnswer) (rw (e, mapRoom) h)
 
-pub map-scratch-short : (g : Game) (s m : List ℕ) → acceptance g ≡ Accepted → length s < scratchLength g → MapMade g s s m m (NotMapped 8)
-unfolding mapFits
-map-scratch-short g s m a b =
-    map-refused g s m 8
-    (map-room g (length s) (length m) false a (and-false-left (leb (wordsFor (g .input .states)) (length m)) (lt-leb (scratchLength g) (length s) b)) refl)
+pub map-short : (g : Game) (s m : List ℕ) → acceptance g ≡ Accepted → mapFits g (length s) (length m) ≡ false → MapMade g s s m m (NotMapped 8)
+map-short g s m a b = map-refused g s m 8 (map-room g (length s) (length m) false a b refl)
 
-pub map-short : (g : Game) (s m : List ℕ) → acceptance g ≡ Accepted → length m < wordsFor (g .input .states) → MapMade g s s m m (NotMapped 8)
+-- what is long enough
+pub fits-scratch : (g : Game) (s m : ℕ) → mapFits g s m ≡ true → scratchLength g ≤ s
 unfolding mapFits
-map-short g s m a b =
-    map-refused g s m 8
-    (map-room g (length s) (length m) false a (and-false-right (leb (scratchLength g) (length s)) (lt-leb (wordsFor (g .input .states)) (length m) b)) refl)
+fits-scratch g s m e = leb-true (scratchLength g) s (and-left (leb (scratchLength g) s) (leb (wordsFor (g .input .states)) m) e)
 
-pub map-done : (g : Game) (s s′ m m′ : List ℕ) → acceptance g ≡ Accepted → scratchLength g ≤ length s
-    → wordsFor (g .input .states) ≤ length m → s′ ≡ cleared (scratchLength g) s → MapFilled g m m′ → MapMade g s s′ m m′ Done
-unfolding MapAfter mapScratch mapFits
-map-done g s s′ m m′ a b c e f = record {
+pub fits-room : (g : Game) (s m : ℕ) → mapFits g s m ≡ true → wordsFor (g .input .states) ≤ m
+unfolding mapFits
+fits-room g s m e = leb-true (wordsFor (g .input .states)) m (and-right (leb (scratchLength g) s) (leb (wordsFor (g .input .states)) m) e)
+
+pub short-fits : (g : Game) (s m : ℕ) → s < scratchLength g → false ≡ mapFits g s m
+unfolding mapFits
+short-fits g s m b = sym (and-false-left (leb (wordsFor (g .input .states)) m) (lt-leb (scratchLength g) s b))
+
+pub long-fits : (g : Game) (s m : ℕ) {w : ℕ} → scratchLength g ≤ s → w ≡ wordsFor (g .input .states) → leb w m ≡ mapFits g s m
+unfolding mapFits
+long-fits g s m b e = rw (e, le-leb (scratchLength g) s b) refl
+
+pub map-done : (g : Game) (s s′ m m′ : List ℕ) → acceptance g ≡ Accepted → mapFits g (length s) (length m) ≡ true → s′ ≡ cleared (scratchLength g) s
+    → MapFilled g m m′ → MapMade g s s′ m m′ Done
+unfolding MapAfter mapScratch
+map-done g s s′ m m′ a b e f = record {
   answer = done;
   number = told g s m done;
   map = f;
@@ -87,4 +95,4 @@ map-done g s s′ m m′ a b c e f = record {
 }
   where
     done : Done ≡ mapAnswer g (length s) (length m)
-    done = map-room g (length s) (length m) true a (and-intro (le-leb (scratchLength g) (length s) b) (le-leb (wordsFor (g .input .states)) (length m) c)) refl
+    done = map-room g (length s) (length m) true a b refl

@@ -1,16 +1,12 @@
 // The winning region as a map: one set of outputs for each input.
 ghost use mathlib.Core.Path.{_≡_};
 ghost use Prim.Native.Nat.{_≤_, _<_};
-ghost use lib.ListN.{length};
 ghost use Rattle.sets.specs.Words.{bitsOf, setsIn, setCount};
 ghost use Rattle.game.specs.declared.Acceptance.the-variants.{Accepted};
 ghost use Rattle.game.specs.Acceptance.{acceptance};
-ghost use Rattle.game.specs.Fits.{Fits};
-ghost use Rattle.scratch_clearing.specs.Clearing.{cleared};
-ghost use Rattle.scratch.specs.Scratch.{scratchLength};
 ghost use Rattle.scratch.specs.Stored.{WonKept, Ready};
 ghost use Rattle.map_marks.specs.Marks.{mapRow, MapFilled};
-ghost use Rattle.map.specs.Map.{MapMade};
+ghost use Rattle.map.specs.Map.{mapFits, MapMade};
 use game::Acceptance;
 use game::Game;
 use game::InSet;
@@ -42,52 +38,25 @@ fn fill_map(g: Game, s: &[u64], c: InSet, map: &mut [u64])
     }
 }
 
-// Writes the map of an accepted game and clears scratch. Here and below `ins` and `outs` are the rows of the graphs, read where they stand.
-fn make_map<'a>(
-    g: Game,
-    ins: &'a [u64; sets::ROW_WORDS],
-    outs: &'a [u64; sets::ROW_WORDS],
-    scratch: &mut [u64],
-    map: &mut [u64],
-)
-    requires { ⌜ Fits g × (scratchLength g ≤ length (now scratch)) × (g .input .states ≤ setCount (now map)) × (now ins ≡ g .input .moves)
-        × (now outs ≡ g .output .moves) ⌝ }
-    ensures { λ _. ⌜ (now (scratch .exit) ≡ cleared (scratchLength g) (now (scratch .entry))) × MapFilled g (now (map .entry)) (now (map .exit)) ⌝ }
-{
-    let l = game_sets::list_of(g);
-    let x = region::prepare(g, ins, outs, &l.sets, &l.assumed, &l.guaranteed, scratch);
-    fill_map(g, scratch, x.inputs, map);
-    scratch_clearing::clear(scratch, scratch::length(g));
-}
-
 // The answer of the map's call.
 pub enum Mapped {
     Done,
     Refused(u8),
 }
 
-// The map of an accepted game, where the buffers are long enough.
-fn map_accepted<'a>(
-    g: Game,
-    ins: &'a [u64; sets::ROW_WORDS],
-    outs: &'a [u64; sets::ROW_WORDS],
-    scratch: &mut [u64],
-    map: &mut [u64],
-) -> Mapped
-    requires { ⌜ (acceptance g ≡ Accepted) × (now ins ≡ g .input .moves) × (now outs ≡ g .output .moves) ⌝ }
-    ensures { λ r. ⌜ MapMade g (now (scratch .entry)) (now (scratch .exit)) (now (map .entry)) (now (map .exit)) r ⌝ }
+// Whether scratch of so many words and a map of so many are long enough.
+fn fits(g: Game, words: usize, room: usize) -> bool
+    requires { ⌜ acceptance g ≡ Accepted ⌝ }
+    ensures { λ r. ⌜ r ≡ mapFits g words room ⌝ }
 {
-    if scratch.len() < scratch::length(g) {
-        return Mapped::Refused(8);
+    if words < scratch::length(g) {
+        return false;
     }
-    if map.len() < sets::words(g.input.states) {
-        return Mapped::Refused(8);
-    }
-    make_map(g, ins, outs, scratch, map);
-    Mapped::Done
+    sets::words(g.input.states) <= room
 }
 
-// Marks the won positions: one set of outputs for each input.
+// Marks the won positions: one set of outputs for each input. The rows of the graphs are copied to be lent, and the sets of the requirements. The region is
+// worked out from here, not from a function in between: that would have the game copied once more.
 pub fn won_map(g: Game, scratch: &mut [u64], map: &mut [u64]) -> Mapped
     ensures { λ r. ⌜ MapMade g (now (scratch .entry)) (now (scratch .exit)) (now (map .entry)) (now (map .exit)) r ⌝ }
 {
@@ -96,6 +65,23 @@ pub fn won_map(g: Game, scratch: &mut [u64], map: &mut [u64]) -> Mapped
     let accepted = acceptance::accept_lent(g, &ins, &outs);
     match accepted {
         Acceptance::Refused(n) => Mapped::Refused(n),
-        Acceptance::Accepted => map_accepted(g, &ins, &outs, scratch, map),
+        Acceptance::Accepted => {
+            if !fits(g, scratch.len(), map.len()) {
+                return Mapped::Refused(8);
+            }
+            let l = game_sets::list_of(g);
+            let x = region::prepare(
+                g,
+                &ins,
+                &outs,
+                &l.sets,
+                &l.assumed,
+                &l.guaranteed,
+                scratch,
+            );
+            fill_map(g, scratch, x.inputs, map);
+            scratch_clearing::clear(scratch, scratch::length(g));
+            Mapped::Done
+        },
     }
 }

@@ -1,7 +1,14 @@
--- `won_map`.
-use Rattle.map.proofs.Made.{map-faulty}
-use mathlib.Core.Path.{refl, sym, _∙_}
+-- `won_map`: what it refuses; else it works out the region, writes the map and clears scratch.
+use mathlib.Core.Path.{_≡_, refl, sym, _∙_}
+use native.Mathlib.Omega.{arith}
 use borrow.Author.Needs.{needs}
+use Rattle.finite.proofs.Truth.{not-true, not-false}
+use Rattle.sets.proofs.Rows.{words-held}
+use Rattle.game.specs.Acceptance.{acceptance}
+use Rattle.game.specs.declared.Acceptance.the-variants.{Accepted}
+use Rattle.game.proofs.Laws.{accepted-fits}
+use Rattle.scratch.proofs.Cleared.{cleared-kept}
+use Rattle.map.proofs.Made.{map-faulty, map-short, map-done, fits-scratch, fits-room}
 use Rattle.map.proofs.won_map.Statement.{statement}
 use Rattle.map.proofs.won_map.Tie as tie
 
@@ -14,13 +21,62 @@ enum-known-accepted c = search needs
 enum-told : tie.Need-enum-told
 enum-told c = search needs
 
-map-accepted-requires : tie.Need-map-accepted-requires
-map-accepted-requires c κs =
-    let t = c .before .before .before .before in
-    (sym (t .before .before .accept-lent .ensures .answer) ∙ t .enum-told .given .1, refl, refl)
+fits-requires : tie.Need-fits-requires
+fits-requires c κs = sym (c .before .before .accept-lent .ensures .answer) ∙ c .enum-told .given .1
 
 returns : tie.Need-returns
-returns c = map-faulty _ _ _ _ (sym (c .before .before .before .accept-lent .ensures .answer) ∙ c .before .accepted .given .1)
+returns c =
+    let f = c .before in
+    let t = f .before in
+    map-short _ _ _ (sym (t .before .before .accept-lent .ensures .answer) ∙ t .enum-told .given .1) (sym (f .fits2 .ensures) ∙ not-true _ (c .if1 .taken))
+
+list-of-requires : tie.Need-list-of-requires
+list-of-requires c κs = search needs
+
+prepare-requires : tie.Need-prepare-requires
+prepare-requires c κs =
+    let l = c .before .before .before .before in
+    let o = l .before .before .before in
+    let e = o .before in
+    let f = e .before in
+    let t = f .before in (
+      accepted-fits _ (sym (t .before .before .accept-lent .ensures .answer) ∙ t .enum-told .given .1),
+      fits-scratch _ _ _ (sym (f .fits2 .ensures) ∙ not-false _ (e .if1 .left)),
+      refl,
+      refl,
+      o .list-of .ensures .0,
+      o .list-of .ensures .1,
+    )
+
+fill-map-requires : tie.Need-fill-map-requires
+fill-map-requires c κs =
+    let p = c .before .before .before .before in
+    let l = p .before .before .before .before .before in
+    let e = l .before .before .before .before in
+    let fits = sym (e .before .fits2 .ensures) ∙ not-false _ (e .if1 .left) in
+    (p .prepare .ensures .ready, words-held _ _ (fits-room _ _ _ fits))
+
+length-requires : tie.Need-length-requires
+length-requires c κs =
+    let f = c .before .before .before in
+    let p = f .before .before .before .before .before in
+    let l = p .before .before .before .before .before in
+    let e = l .before .before .before .before in
+    let t = e .before .before in
+    let F = accepted-fits _ (sym (t .before .before .accept-lent .ensures .answer) ∙ t .enum-told .given .1) in
+    (F .input .most, F .output .most)
+
+clear-requires : tie.Need-clear-requires
+clear-requires c κs =
+    let f = c .before .before .before .before in
+    let p = f .before .before .before .before .before in
+    let l = p .before .before .before .before .before in
+    let e = l .before .before .before .before in
+    let fits = fits-scratch _ _ _ (sym (e .before .fits2 .ensures) ∙ not-false _ (e .if1 .left)) in
+    omega (arith, c .length .ensures, p .prepare .ensures .kept .long, fits)
+
+returns-2 : tie.Need-returns-2
+returns-2 c = map-faulty _ _ _ _ (sym (c .before .before .before .accept-lent .ensures .answer) ∙ c .before .accepted .given .1)
 
 same-length : tie.Need-same-length
 same-length c = search needs
@@ -28,8 +84,18 @@ same-length c = search needs
 same-length-2 : tie.Need-same-length-2
 same-length-2 c = search needs
 
-returns-2 : tie.Need-returns-2
-returns-2 c = search needs
+returns-3 : tie.Need-returns-3
+returns-3 c =
+    let clear = c .before .before in
+    let length = clear .before in
+    let fill = length .before .before .before .before in
+    let p = fill .before .before .before .before .before in
+    let l = p .before .before .before .before .before in
+    let e = l .before .before .before .before in
+    let f = e .before in
+    let t = f .before in
+    map-done _ _ _ _ _ (sym (t .before .before .accept-lent .ensures .answer) ∙ t .enum-told .given .1) (sym (f .fits2 .ensures) ∙ not-false _ (e .if1 .left))
+    (cleared-kept _ _ _ _ (p .prepare .ensures .kept) (length .length .ensures) (clear .clear .ensures)) (fill .fill-map .ensures)
 
 pub won-map-spec : {M : Type 1} → statement M
 won-map-spec =
@@ -38,8 +104,14 @@ won-map-spec =
     accept-lent-requires
     enum-known-accepted
     enum-told
-    map-accepted-requires
+    fits-requires
     returns
+    list-of-requires
+    prepare-requires
+    fill-map-requires
+    length-requires
+    clear-requires
+    returns-2
     same-length
     same-length-2
-    returns-2)
+    returns-3)
