@@ -4,8 +4,8 @@ use game::OutState;
 use player_place::Position;
 use runs::steady;
 use show::show;
+use table_entries::NONE;
 use tables::EIGHT;
-use tables::NONE;
 use tables::with;
 ghost use Prim.Native.Nat.{_≤_, _<_};
 

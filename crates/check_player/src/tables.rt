@@ -1,9 +1,8 @@
 // The controller's table of case 8, and the same with one entry changed.
+use table_entries::NONE;
 ghost use mathlib.Core.Path.{_≡_};
 ghost use Prim.Native.Nat.{_<_};
 ghost use lib.ListN.{length};
-
-pub const NONE: u16 = 65535;
 
 // Starts, then rows by output, counter and input. An entry is next output + 128 × next counter.
 pub const EIGHT: [u16; 30] = [

@@ -30,7 +30,7 @@ use Rattle.game.specs.declared.Game.{Game}
 use Rattle.game.specs.Access.{outInitial, outMoves}
 use Rattle.game.proofs.Laws.{accepted-fits}
 use Rattle.play.specs.Play.{graphOf, separatedOf}
-use Rattle.theory.specs.Entries.{answer, controllerCounters, controllerTable}
+use Rattle.theory.specs.Entries.{noneEntry, answer, controllerCounters, controllerTable}
 use Rattle.theory.proofs.Entries.{controller-long}
 use Rattle.demands.specs.Demands.{playOf, controllerOf}
 use Rattle.player_place.specs.declared.Position.{Position}
@@ -122,7 +122,7 @@ module _ (g : Game) where
       unfolding starting playOf arenaOf separatedOf graphOf controllerOf controllerTable
       start-lead k =
           lead (g .input .states) (R .counters k) (initial-outputs g (R .accepted) k) i
-          (answer (any-default l i 0 65535 (omega (arith, b, table-long)) k))
+          (answer (any-default l i 0 noneEntry (omega (arith, b, table-long)) k))
 
       -- x is what is read as the initial outputs
       pub start-read : (x : OutSet) → x ≡ outInitial g
@@ -131,7 +131,7 @@ module _ (g : Game) where
 
       pub start-fits : starting (playOf g) (controllerOf g l) i ≤ 65535
       unfolding starting playOf arenaOf separatedOf graphOf controllerOf controllerTable
-      start-fits = fits (begins (graphOf (g .output))) i (answer (getD l i 65535)) (playing .opening i) b
+      start-fits = fits (begins (graphOf (g .output))) i (answer (getD l i noneEntry)) (playing .opening i) b
 
     module _ (r : ℕ) (b : r < placeCount (playOf g) (controllerCounters (separatedOf g))) where
       inside : Inside (playOf g) (controllerCounters (separatedOf g)) (placed (playOf g .inputs) (controllerCounters (separatedOf g)) r)
@@ -163,9 +163,9 @@ module _ (g : Game) where
           (λ k. lead (g .input .states) (R .counters k) (has (bitsOf (setAt (g .output .moves) (r / g .input .states / R .counters k))))
           (r % g .input .states) (answer (getD l (g .input .states + r) 0)))
           ∙ (λ k. lead (g .input .states) N (output-moves g (R .accepted) (r / g .input .states / N) output k) (r % g .input .states)
-          (answer (any-default l (g .input .states + r) 0 65535 (omega (arith, b, table-long)) k)))
+          (answer (any-default l (g .input .states + r) 0 noneEntry (omega (arith, b, table-long)) k)))
           ∙ (λ k. lead (g .input .states) N (edge (graphOf (g .output)) (r / g .input .states / N)) (r % g .input .states)
-          (answer (getD l (g .input .states + sym back k) 65535)))
+          (answer (getD l (g .input .states + sym back k) noneEntry)))
 
       pub row-read : (x : OutSet) → x ≡ outMoves g (record { 0 = r / g .input .states / M })
           → lead (g .input .states) M (has (bitsOf (x .0))) (r % g .input .states) (answer (getD l (g .input .states + r) 0))

@@ -12,7 +12,7 @@ use Rattle.graphs.specs.Component.{number}
 use Rattle.graphs.proofs.Component.{joined-sym, number-joined}
 use Rattle.arena.specs.Arena.{Separated}
 use Rattle.theory.specs.Choice.{controllerRow, controllerStart}
-use Rattle.theory.specs.Entries.{entry, controllerCounters, rowOf, controllerEntries}
+use Rattle.theory.specs.Entries.{noneEntry, entry, controllerCounters, rowOf, controllerEntries}
 use Rattle.theory.proofs.Agree.{rows-agree}
 use Rattle.compact.specs.Rank.{componentCount, rankOf, leaderOf}
 use Rattle.compact.specs.Compact.{
@@ -62,7 +62,7 @@ module _ (S : Separated) where
   pub entries-length : length (controllerEntries S) ≡ fullLength S
   entries-length = rw entries-listed (full-length S startEntry rowEntry)
 
-  full-start : (i : ℕ) → i < S .input .states → getD (controllerEntries S) i 65535 ≡ entry (controllerStart S i)
+  full-start : (i : ℕ) → i < S .input .states → getD (controllerEntries S) i noneEntry ≡ entry (controllerStart S i)
   unfolding startEntry
   full-start i b = rw entries-listed (full-start-of S startEntry rowEntry i b)
 
@@ -77,11 +77,11 @@ module _ (S : Separated) where
   unfolding compactEntries startEntry firstEntry
   compact-entries-length = compact-length S startEntry firstEntry
 
-  pub compact-start : (i : ℕ) → i < S .input .states → getD (compactEntries S) i 65535 ≡ entry (controllerStart S i)
+  pub compact-start : (i : ℕ) → i < S .input .states → getD (compactEntries S) i noneEntry ≡ entry (controllerStart S i)
   unfolding compactEntries startEntry firstEntry
   compact-start i b = compact-start-of S startEntry firstEntry i b
 
-  pub compact-rank : (j : ℕ) → j < S .input .states → getD (compactEntries S) (S .input .states + j) 65535 ≡ rankOf S j
+  pub compact-rank : (j : ℕ) → j < S .input .states → getD (compactEntries S) (S .input .states + j) noneEntry ≡ rankOf S j
   unfolding compactEntries startEntry firstEntry
   compact-rank j b = compact-rank-of S startEntry firstEntry j b
 
@@ -101,5 +101,5 @@ module _ (S : Separated) where
   rows-equal o g j lo lg lj = compact-entries o g j lo lg lj ∙ sym (full-entries o g j lo lg lj)
 
   -- "starts as before"
-  pub starts-equal : (i : ℕ) → i < S .input .states → getD (compactEntries S) i 65535 ≡ getD (controllerEntries S) i 65535
+  pub starts-equal : (i : ℕ) → i < S .input .states → getD (compactEntries S) i noneEntry ≡ getD (controllerEntries S) i noneEntry
   starts-equal i b = compact-start i b ∙ sym (full-start i b)

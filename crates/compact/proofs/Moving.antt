@@ -15,7 +15,7 @@ use lib.ListN.{length, getD}
 use Rattle.graphs.specs.Component.{joined}
 use Rattle.graphs.proofs.Component.{joined-from, joined-to}
 use Rattle.arena.specs.Arena.{Separated}
-use Rattle.theory.specs.Entries.{controllerCounters, controllerEntries, entry}
+use Rattle.theory.specs.Entries.{noneEntry, controllerCounters, controllerEntries, entry}
 use Rattle.theory.proofs.Agree.{rows-agree}
 use Rattle.compact.specs.Rank.{componentCount, rankOf, leaderOf}
 use Rattle.compact.specs.Compact.{fullLength, compactLength, compactEntries, fullRow, compactCell, compactRow}
@@ -62,7 +62,7 @@ module _ (S : Separated) (l : List ℕ) where
   M = controllerCounters S
 
   startOf : ℕ → ℕ
-  startOf i = getD l i 65535
+  startOf i = getD l i noneEntry
 
   -- moved over
 
@@ -76,11 +76,11 @@ module _ (S : Separated) (l : List ℕ) where
   pub to-fits : compactFits S (toCompact S l) ≡ true
   to-fits = compact-fits-intro S (toCompact S l) to-length
 
-  pub start-over : (i : ℕ) → i < I → getD (toCompact S l) i 65535 ≡ getD l i 65535
+  pub start-over : (i : ℕ) → i < I → getD (toCompact S l) i noneEntry ≡ getD l i noneEntry
   unfolding toCompact startOf firstRow
   start-over i b = compact-start-of S startOf firstRow i b
 
-  pub rank-over : (j : ℕ) → j < I → getD (toCompact S l) (I + j) 65535 ≡ rankOf S j
+  pub rank-over : (j : ℕ) → j < I → getD (toCompact S l) (I + j) noneEntry ≡ rankOf S j
   unfolding toCompact startOf firstRow
   rank-over j b = compact-rank-of S startOf firstRow j b
 
@@ -100,7 +100,7 @@ module _ (S : Separated) (l : List ℕ) where
   pub from-fits : fullFits S (fromCompact S l) ≡ true
   from-fits = full-fits-intro S (fromCompact S l) from-length
 
-  pub start-back : (i : ℕ) → i < I → getD (fromCompact S l) i 65535 ≡ getD l i 65535
+  pub start-back : (i : ℕ) → i < I → getD (fromCompact S l) i noneEntry ≡ getD l i noneEntry
   unfolding fromCompact startOf
   start-back i b = full-start-of S startOf (compactRow S l) i b
 
@@ -132,7 +132,7 @@ module _ (S : Separated) (l : List ℕ) where
   pub over-and-back : fullFits S l ≡ true → rowsFit S l ≡ true → fromCompact S (toCompact S l) ≡ l
   unfolding fromCompact
   over-and-back e h =
-      full-list-is S (λ i. getD (toCompact S l) i 65535) (compactRow S (toCompact S l)) l (full-fits-elim S l e) (start-over S l)
+      full-list-is S (λ i. getD (toCompact S l) i noneEntry) (compactRow S (toCompact S l)) l (full-fits-elim S l e) (start-over S l)
       (row-over S l h)
 
   -- the row of a component, moved back
@@ -147,7 +147,7 @@ module _ (S : Separated) (l : List ℕ) where
   pub back-and-over : compactFits S l ≡ true → ranksFit S l ≡ true → toCompact S (fromCompact S l) ≡ l
   unfolding toCompact
   back-and-over e h =
-      compact-list-is S (λ i. getD (fromCompact S l) i 65535) (λ o g c. fullRow S (fromCompact S l) o g (leaderOf S c)) l
+      compact-list-is S (λ i. getD (fromCompact S l) i noneEntry) (λ o g c. fullRow S (fromCompact S l) o g (leaderOf S c)) l
       (compact-fits-elim S l e) (start-back S l) (λ j b. sym (ranks-fit-elim S l h j b)) (cell-back h)
 
 -- what the solver writes
@@ -179,7 +179,7 @@ module _ (S : Separated) where
   pub over-entries : toCompact S (controllerEntries S) ≡ compactEntries S
   unfolding toCompact
   over-entries =
-      compact-list-is S (λ i. getD (controllerEntries S) i 65535) (λ o g c. fullRow S (controllerEntries S) o g (leaderOf S c)) (compactEntries S)
+      compact-list-is S (λ i. getD (controllerEntries S) i noneEntry) (λ o g c. fullRow S (controllerEntries S) o g (leaderOf S c)) (compactEntries S)
       (compact-entries-length S) (λ i b. sym (starts-equal S i b)) (λ j b. sym (compact-rank S j b)) cell-over
 
   pub back-entries : fromCompact S (compactEntries S) ≡ controllerEntries S

@@ -18,6 +18,7 @@ use Rattle.arena.specs.Win.{ControllerWins, system, environment, DemandThree}
 use Rattle.arena.proofs.Bounds.{bounded-arenaOf}
 use Rattle.theory.specs.Region.{verdict}
 use Rattle.theory.specs.Entries.{
+  noneEntry,
   answer,
   controllerCounters,
   environmentCounters,
@@ -41,7 +42,7 @@ module _ (S : Separated) where
   oldTable = fullTable S
 
   -- a list of the full layout and one of the compact that have the same starts and rows are the same table
-  module _ (l m : List ℕ) (s : (i : ℕ) → i < S .input .states → getD m i 65535 ≡ getD l i 65535)
+  module _ (l m : List ℕ) (s : (i : ℕ) → i < S .input .states → getD m i noneEntry ≡ getD l i noneEntry)
       (h : (o g j : ℕ) → o < S .output .states → g < controllerCounters S → j < S .input .states → compactRow S m o g j ≡ fullRow S l o g j) where
     same-lists : Same (arenaOf S) (oldTable l) (compactTable S m)
     unfolding arenaOf fullTable controllerTable compactTable fullRow

@@ -18,7 +18,7 @@ use Rattle.finite.proofs.Bounded.{all-intro, all-elim}
 use Rattle.graphs.specs.Component.{joined, number}
 use Rattle.graphs.proofs.Component.{joined-from, joined-to, number-joined, number-below}
 use Rattle.arena.specs.Arena.{Separated}
-use Rattle.theory.specs.Entries.{controllerCounters}
+use Rattle.theory.specs.Entries.{noneEntry, controllerCounters}
 use Rattle.compact.specs.Rank.{rankOf, leaderOf}
 use Rattle.compact.specs.Compact.{fullLength, compactLength, fullRow}
 use Rattle.compact.specs.Moving.{fullFits, compactFits, ranksFit, pairFits, rowsFit}
@@ -55,15 +55,15 @@ module _ (S : Separated) (l : List ℕ) where
   -- "22 a rank list that is not the game's"
 
   rankFits : ℕ → Bool
-  rankFits j = eqb (getD l (I + j) 65535) (rankOf S j)
+  rankFits j = eqb (getD l (I + j) noneEntry) (rankOf S j)
 
-  pub ranks-fit-intro : ((j : ℕ) → j < I → getD l (I + j) 65535 ≡ rankOf S j) → ranksFit S l ≡ true
+  pub ranks-fit-intro : ((j : ℕ) → j < I → getD l (I + j) noneEntry ≡ rankOf S j) → ranksFit S l ≡ true
   unfolding ranksFit rankFits
-  ranks-fit-intro h = all-intro I rankFits (λ j b. eq-eqb (getD l (I + j) 65535) (rankOf S j) (h j b))
+  ranks-fit-intro h = all-intro I rankFits (λ j b. eq-eqb (getD l (I + j) noneEntry) (rankOf S j) (h j b))
 
-  pub ranks-fit-elim : ranksFit S l ≡ true → (j : ℕ) → j < I → getD l (I + j) 65535 ≡ rankOf S j
+  pub ranks-fit-elim : ranksFit S l ≡ true → (j : ℕ) → j < I → getD l (I + j) noneEntry ≡ rankOf S j
   unfolding ranksFit rankFits
-  ranks-fit-elim h j b = eqb-true (getD l (I + j) 65535) (rankOf S j) (all-elim I rankFits h j b)
+  ranks-fit-elim h j b = eqb-true (getD l (I + j) noneEntry) (rankOf S j) (all-elim I rankFits h j b)
 
   -- "21 two inputs of one component differ in a row"
 

@@ -16,7 +16,7 @@ use Rattle.arena.specs.Win.{ControllerWins, DemandThree}
 use Rattle.game.specs.declared.Game.{Game}
 use Rattle.play.specs.Play.{separatedOf}
 use Rattle.theory.specs.Choice.{controllerRow}
-use Rattle.theory.specs.Entries.{controllerCounters, controllerEntries, controllerTable}
+use Rattle.theory.specs.Entries.{noneEntry, controllerCounters, controllerEntries, controllerTable}
 use Rattle.demands.specs.Demands.{playOf}
 use Rattle.compact.specs.Rank.{componentCount, rankOf, leaderOf}
 use Rattle.compact.specs.Compact.{compactLength, compactEntries, fullRow, compactRow, compactTable, compactOutcome}
@@ -56,7 +56,7 @@ pub record RowsByComponent (G : Game) : Type 0 where
   -- "The solver can write this layout directly, and every row read from it equals the row of the old one."
   pub entries : length (compactEntries (separatedOf G)) ≡ compactLength (separatedOf G)
   pub starts : (i : ℕ) → Input (separatedOf G) i
-      → getD (compactEntries (separatedOf G)) i 65535 ≡ getD (controllerEntries (separatedOf G)) i 65535
+      → getD (compactEntries (separatedOf G)) i noneEntry ≡ getD (controllerEntries (separatedOf G)) i noneEntry
   pub rows : (o g j : ℕ) → Output (separatedOf G) o → Counter (separatedOf G) g → Input (separatedOf G) j
       → compactRow (separatedOf G) (compactEntries (separatedOf G)) o g j ≡ fullRow (separatedOf G) (controllerEntries (separatedOf G)) o g j
   pub same : Same (playOf G) (fullTable (separatedOf G) (controllerEntries (separatedOf G)))

@@ -21,7 +21,7 @@ use Rattle.arena.specs.Table.{ControllerTable}
 use Rattle.arena.specs.Win.{Outcome, system, environment}
 use Rattle.theory.specs.Region.{verdict}
 use Rattle.theory.specs.Choice.{controllerRow, controllerStart}
-use Rattle.theory.specs.Entries.{entry, answer, controllerCounters, environmentCounters, environmentEntries, environmentTable}
+use Rattle.theory.specs.Entries.{noneEntry, entry, answer, controllerCounters, environmentCounters, environmentEntries, environmentTable}
 use Rattle.compact.specs.Rank.{componentCount, rankOf, leaderOf}
 
 -- "inputs + outputs × max(1, G) × inputs entries"
@@ -54,19 +54,19 @@ unfoldable pub compactEntries : Separated → List ℕ
 compactEntries S = compactList S (λ i. entry (controllerStart S i)) (λ o g c. entry (controllerRow S o g (leaderOf S c)))
 
 unfoldable pub fullRow : Separated → List ℕ → ℕ → ℕ → ℕ → ℕ
-fullRow S l o g j = getD l (S .input .states + ((o * controllerCounters S + g) * S .input .states + j)) 65535
+fullRow S l o g j = getD l (S .input .states + ((o * controllerCounters S + g) * S .input .states + j)) noneEntry
 
 unfoldable pub compactCell : Separated → List ℕ → ℕ → ℕ → ℕ → ℕ
 compactCell S l o g c =
-    getD l (S .input .states + (S .input .states + ((o * controllerCounters S + g) * componentCount S + c))) 65535
+    getD l (S .input .states + (S .input .states + ((o * controllerCounters S + g) * componentCount S + c))) noneEntry
 
 unfoldable pub compactRow : Separated → List ℕ → ℕ → ℕ → ℕ → ℕ
-compactRow S l o g j = compactCell S l o g (getD l (S .input .states + j) 65535)
+compactRow S l o g j = compactCell S l o g (getD l (S .input .states + j) noneEntry)
 
 unfoldable pub compactTable : Separated → List ℕ → ControllerTable
 compactTable S l = record {
   memories = controllerCounters S;
-  start = λ i. answer (getD l i 65535);
+  start = λ i. answer (getD l i noneEntry);
   step = λ g o j. answer (compactRow S l o g j);
 }
 

@@ -14,16 +14,16 @@ use lib.ListN.{length, getD}
 use Rattle.finite.specs.Bounded.{all}
 use Rattle.graphs.specs.Component.{joined}
 use Rattle.arena.specs.Arena.{Separated}
-use Rattle.theory.specs.Entries.{controllerCounters}
+use Rattle.theory.specs.Entries.{noneEntry, controllerCounters}
 use Rattle.compact.specs.Rank.{rankOf, leaderOf}
 use Rattle.compact.specs.Compact.{fullLength, compactLength, fullList, compactList, fullRow, compactRow}
 
 -- the row of a component is that of its smallest state
 unfoldable pub toCompact : Separated → List ℕ → List ℕ
-toCompact S l = compactList S (λ i. getD l i 65535) (λ o g c. fullRow S l o g (leaderOf S c))
+toCompact S l = compactList S (λ i. getD l i noneEntry) (λ o g c. fullRow S l o g (leaderOf S c))
 
 unfoldable pub fromCompact : Separated → List ℕ → List ℕ
-fromCompact S l = fullList S (λ i. getD l i 65535) (compactRow S l)
+fromCompact S l = fullList S (λ i. getD l i noneEntry) (compactRow S l)
 
 -- "23 a length that is not the layout's"
 unfoldable pub fullFits : Separated → List ℕ → Bool
@@ -34,7 +34,7 @@ compactFits S l = eqb (length l) (compactLength S)
 
 -- "22 a rank list that is not the game's"
 unfoldable pub ranksFit : Separated → List ℕ → Bool
-ranksFit S l = all (S .input .states) (λ j. eqb (getD l (S .input .states + j) 65535) (rankOf S j))
+ranksFit S l = all (S .input .states) (λ j. eqb (getD l (S .input .states + j) noneEntry) (rankOf S j))
 
 -- "21 two inputs of one component differ in a row"
 unfoldable pub pairFits : Separated → List ℕ → ℕ → ℕ → ℕ → ℕ → Bool

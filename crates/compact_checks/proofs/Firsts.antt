@@ -21,7 +21,7 @@ use Rattle.bits.proofs.Membership.{has-pack-below}
 use Rattle.graphs.specs.Component.{joined, number}
 use Rattle.graphs.proofs.Component.{joined-sym, number-same, number-joined, number-below}
 use Rattle.arena.specs.Arena.{Separated}
-use Rattle.theory.specs.Entries.{controllerCounters}
+use Rattle.theory.specs.Entries.{noneEntry, controllerCounters}
 use Rattle.compact.specs.Rank.{leads, rankOf, leaderOf}
 use Rattle.compact.specs.Compact.{fullLength, fullRow}
 use Rattle.compact.specs.Moving.{rowsFit}
@@ -108,9 +108,9 @@ module _ (S : Separated) (T : List ℕ) where
   pub row-is : (x j : ℕ) → length T ≡ fullLength S → x < rows → j < inputs → fullRow S T (x / counters) (x % counters) j ≡ getD T (place x j) 0
   unfolding fullRow
   row-is x j e b l =
-      ap (λ (r : ℕ). getD T (inputs + (r * inputs + j)) 65535) (div-add-mod' x counters)
-      ∙ ap (λ (r : ℕ). getD T r 65535) (sym (add-assoc inputs (x * inputs) j))
-      ∙ any-default T (place x j) 65535 0 (place-in x j e b l)
+      ap (λ (r : ℕ). getD T (inputs + (r * inputs + j)) noneEntry) (div-add-mod' x counters)
+      ∙ ap (λ (r : ℕ). getD T r noneEntry) (sym (add-assoc inputs (x * inputs) j))
+      ∙ any-default T (place x j) noneEntry 0 (place-in x j e b l)
 
   -- the parts
 

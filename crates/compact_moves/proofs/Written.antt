@@ -14,7 +14,7 @@ use lib.Seq.{ext-getD, getD-drop}
 use Rattle.arena.specs.Arena.{Separated}
 use Rattle.game.specs.declared.Game.{Game}
 use Rattle.play.specs.Play.{graphOf, separatedOf}
-use Rattle.theory.specs.Entries.{controllerCounters, controllerEntries}
+use Rattle.theory.specs.Entries.{noneEntry, controllerCounters, controllerEntries}
 use Rattle.compact.specs.Rank.{componentCount, rankOf, leaderOf}
 use Rattle.compact.specs.Compact.{fullLength, compactLength, compactCell, compactRow}
 use Rattle.compact.specs.Moving.{toCompact, fromCompact, ranksFit, rowsFit}
@@ -55,9 +55,9 @@ module _ (S : Separated) where
       → compactCell S l (x / M) (x % M) c ≡ getD l (I + I + x * C + c) 0
   unfolding compactCell
   cell-is l x c e b h =
-      ap (λ (r : ℕ). getD l (I + (I + (r * C + c))) 65535) (div-add-mod' x M)
-      ∙ ap (λ (r : ℕ). getD l r 65535) (sym (add-assoc I I (x * C + c)) ∙ sym (add-assoc (I + I) (x * C) c))
-      ∙ any-default l (I + I + x * C + c) 65535 0 (omega (arith, row-last (I + I) x C R (length l) b (omega (arith, cells-long l e))))
+      ap (λ (r : ℕ). getD l (I + (I + (r * C + c))) noneEntry) (div-add-mod' x M)
+      ∙ ap (λ (r : ℕ). getD l r noneEntry) (sym (add-assoc I I (x * C + c)) ∙ sym (add-assoc (I + I) (x * C) c))
+      ∙ any-default l (I + I + x * C + c) noneEntry 0 (omega (arith, row-last (I + I) x C R (length l) b (omega (arith, cells-long l e))))
 
   module _ (T : List ℕ) where
     -- over
@@ -76,9 +76,9 @@ module _ (S : Separated) where
       start-agrees : (i : ℕ) → i < I → getD T i 0 ≡ getD E i 0
       unfolding E fullLength
       start-agrees i b =
-          any-default T i 0 65535 (omega arith) ∙ sym (start-over S T i b) ∙ any-default (toCompact S T) i 65535 0 (omega (arith, E-long))
+          any-default T i 0 noneEntry (omega arith) ∙ sym (start-over S T i b) ∙ any-default (toCompact S T) i noneEntry 0 (omega (arith, E-long))
 
-      rank-agrees : (j : ℕ) → j < I → getD E (I + j) 65535 ≡ getD m (I + j) 0
+      rank-agrees : (j : ℕ) → j < I → getD E (I + j) noneEntry ≡ getD m (I + j) 0
       unfolding E
       rank-agrees j b = rank-over S T j b ∙ sym (rank j b)
 
@@ -95,7 +95,7 @@ module _ (S : Separated) where
       compact-agrees = record {
         long = E-long;
         starts = start-agrees;
-        ranks = λ j b. record { is = sym (rank-agrees j b) ∙ any-default (toCompact S T) (I + j) 65535 0 (omega (arith, E-long)) };
+        ranks = λ j b. record { is = sym (rank-agrees j b) ∙ any-default (toCompact S T) (I + j) noneEntry 0 (omega (arith, E-long)) };
         below = below;
         rows = row-agrees;
         reached = λ c h. (leaderOf S c, first-below S c h, rank (leaderOf S c) (first-below S c h) ∙ first-rank S c h);
@@ -105,7 +105,7 @@ module _ (S : Separated) where
 
     module _ (fits : ranksFit S T ≡ true) (long : length T ≡ compactLength S) where
       ranked : (j : ℕ) → j < I → getD T (I + j) 0 ≡ rankOf S j
-      ranked j b = any-default T (I + j) 0 65535 (omega (arith, cells-long T long)) ∙ ranks-fit-elim S T fits j b
+      ranked j b = any-default T (I + j) 0 noneEntry (omega (arith, cells-long T long)) ∙ ranks-fit-elim S T fits j b
 
       ranks-below : (j : ℕ) → j < I → getD T (I + j) 0 < C
       ranks-below j b = omega (arith, ranked j b, rank-below S j b)
@@ -115,11 +115,11 @@ module _ (S : Separated) where
       full-agrees = record {
         long = from-length S T;
         starts = λ i b.
-            any-default T i 0 65535 (omega (arith, cells-long T long)) ∙ sym (start-back S T i b)
-            ∙ any-default (fromCompact S T) i 65535 0 (omega (arith, from-length S T));
+            any-default T i 0 noneEntry (omega (arith, cells-long T long)) ∙ sym (start-back S T i b)
+            ∙ any-default (fromCompact S T) i noneEntry 0 (omega (arith, from-length S T));
         rows = λ x j b h.
             sym (cell-is T x (getD T (I + j) 0) long b (ranks-below j h))
-            ∙ ap (compactCell S T (x / M) (x % M)) (any-default T (I + j) 0 65535 (omega (arith, cells-long T long)))
+            ∙ ap (compactCell S T (x / M) (x % M)) (any-default T (I + j) 0 noneEntry (omega (arith, cells-long T long)))
             ∙ sym (row-back S T (x / M) (x % M) j (row-below (S .output .states) M x b) (last-below (S .output .states) M x b) h)
             ∙ row-is S (fromCompact S T) x j (from-length S T) b h;
       }

@@ -15,7 +15,7 @@ use Rattle.arena.specs.Arena.{Separated}
 use Rattle.game.specs.declared.Game.{Game}
 use Rattle.game.proofs.Laws.{accepted-fits}
 use Rattle.play.specs.Play.{graphOf, separatedOf}
-use Rattle.theory.specs.Entries.{controllerCounters}
+use Rattle.theory.specs.Entries.{noneEntry, controllerCounters}
 use Rattle.demands.proofs.Sizes.{controller-few}
 use Rattle.compact.specs.Rank.{rankOf}
 use Rattle.compact.specs.Compact.{fullRow, compactCell, compactRow}
@@ -37,13 +37,13 @@ cell-small I M C o g j h b =
 
 module _ (l : List ℕ) (I M C o g j : ℕ) where
   abbrev rank : ℕ
-  rank = getD l (I + j) 65535
+  rank = getD l (I + j) noneEntry
 
   in-entry : inRange I M o g j ≡ true → C ≤ I → compactEntry l I M C o g j ≡ rankEntry l I M C o g rank
   unfolding compactEntry
   in-entry a b = rw (a, le-leb C I b, compactEntry) refl
 
-  rank-entry : rank < C → rankEntry l I M C o g rank ≡ getD l (I + (I + ((o * M + g) * C + rank))) 65535
+  rank-entry : rank < C → rankEntry l I M C o g rank ≡ getD l (I + (I + ((o * M + g) * C + rank))) noneEntry
   unfolding rankEntry
   rank-entry b = rw (lt-ltb rank C b, rankEntry) refl
 
@@ -65,7 +65,7 @@ module _ (l : List ℕ) (I M C o g j : ℕ) where
     input-of = subst (λ (n : ℕ). j < n) (sym inputs-of) lj
 
     rank-of : rank ≡ rankOf S j
-    rank-of = ap (λ (n : ℕ). getD l (n + j) 65535) (sym inputs-of) ∙ ranks-fit-elim S l (R .ranks) j input-of
+    rank-of = ap (λ (n : ℕ). getD l (n + j) noneEntry) (sym inputs-of) ∙ ranks-fit-elim S l (R .ranks) j input-of
 
     rank-in : rank < C
     rank-in = omega (arith, rank-of, rank-below S j input-of, R .components)
@@ -79,9 +79,9 @@ module _ (l : List ℕ) (I M C o g j : ℕ) where
     few = omega (arith, R .components, components-le S, inputs-of)
 
     at-dims : ℕ → ℕ → ℕ → ℕ
-    at-dims n m c = getD l (n + (n + ((o * m + g) * c + getD l (n + j) 65535))) 65535
+    at-dims n m c = getD l (n + (n + ((o * m + g) * c + getD l (n + j) noneEntry))) noneEntry
 
-    cell-of : getD l (I + (I + ((o * M + g) * C + rank))) 65535 ≡ compactRow S l o g j
+    cell-of : getD l (I + (I + ((o * M + g) * C + rank))) noneEntry ≡ compactRow S l o g j
     unfolding compactRow compactCell at-dims
     cell-of =
         ap (λ (n : ℕ). at-dims n M C) (sym inputs-of) ∙ ap (λ (m : ℕ). at-dims (S .input .states) m C) (R .counters)
@@ -95,20 +95,20 @@ module _ (l : List ℕ) (I M C o g j : ℕ) where
   looked : (r : ℕ) → r ≡ compactEntry l I M C o g j → Looked l I M C o g j r
   looked r e = record { entry = e; row = λ G R lo lg lj. e ∙ game-row G R lo lg lj }
 
-  pub none-range : inRange I M o g j ≡ false → Looked l I M C o g j 65535
+  pub none-range : inRange I M o g j ≡ false → Looked l I M C o g j noneEntry
   unfolding compactEntry
-  none-range h = looked 65535 (rw (h, compactEntry) refl)
+  none-range h = looked noneEntry (rw (h, compactEntry) refl)
 
-  pub none-components : inRange I M o g j ≡ true → I < C → Looked l I M C o g j 65535
+  pub none-components : inRange I M o g j ≡ true → I < C → Looked l I M C o g j noneEntry
   unfolding compactEntry
-  none-components h b = looked 65535 (rw (h, lt-leb C I b, compactEntry) refl)
+  none-components h b = looked noneEntry (rw (h, lt-leb C I b, compactEntry) refl)
 
   module _ (a : inRange I M o g j ≡ true) (b : C ≤ I) {c : ℕ} (q : c ≡ rank) where
-    pub none-rank : C ≤ c → Looked l I M C o g j 65535
+    pub none-rank : C ≤ c → Looked l I M C o g j noneEntry
     unfolding rankEntry
-    none-rank h = looked 65535 (sym (in-entry a b ∙ rw (le-ltb rank C (omega arith), rankEntry) refl))
+    none-rank h = looked noneEntry (sym (in-entry a b ∙ rw (le-ltb rank C (omega arith), rankEntry) refl))
 
-    pub read-rank : {r : ℕ} → c < C → r ≡ getD l (I + (I + ((o * M + g) * C + c))) 65535 → Looked l I M C o g j r
+    pub read-rank : {r : ℕ} → c < C → r ≡ getD l (I + (I + ((o * M + g) * C + c))) noneEntry → Looked l I M C o g j r
     read-rank {r} h e =
         looked r
-        (e ∙ ap (λ (k : ℕ). getD l (I + (I + ((o * M + g) * C + k))) 65535) q ∙ sym (in-entry a b ∙ rank-entry (omega arith)))
+        (e ∙ ap (λ (k : ℕ). getD l (I + (I + ((o * M + g) * C + k))) noneEntry) q ∙ sym (in-entry a b ∙ rank-entry (omega arith)))

@@ -15,7 +15,7 @@ use Rattle.game.specs.declared.Game.{Game}
 use Rattle.game.specs.declared.Acceptance.the-variants.{Accepted}
 use Rattle.game.specs.Acceptance.{acceptance}
 use Rattle.play.specs.Play.{separatedOf}
-use Rattle.theory.specs.Entries.{controllerCounters}
+use Rattle.theory.specs.Entries.{noneEntry, controllerCounters}
 use Rattle.compact.specs.Rank.{componentCount}
 use Rattle.compact.specs.Compact.{fullRow}
 use Rattle.compact.specs.Moving.{fromCompact, ranksFit}
@@ -23,11 +23,11 @@ use Rattle.view.specs.Rows.{inRange}
 
 -- "then rows by output, counter and component"
 unfoldable pub rankEntry : List ℕ → (I M C o g c : ℕ) → ℕ
-rankEntry l I M C o g c = elim (ltb c C) [ true ↦ getD l (I + (I + ((o * M + g) * C + c))) 65535 | false ↦ 65535 ]
+rankEntry l I M C o g c = elim (ltb c C) [ true ↦ getD l (I + (I + ((o * M + g) * C + c))) noneEntry | false ↦ noneEntry ]
 
 -- "starts as before, then the component's rank for each input": there are no more components than inputs
 unfoldable pub compactEntry : List ℕ → (I M C o g j : ℕ) → ℕ
-compactEntry l I M C o g j = elim (inRange I M o g j && leb C I) [ true ↦ rankEntry l I M C o g (getD l (I + j) 65535) | false ↦ 65535 ]
+compactEntry l I M C o g j = elim (inRange I M o g j && leb C I) [ true ↦ rankEntry l I M C o g (getD l (I + j) noneEntry) | false ↦ noneEntry ]
 
 pub record Ranked (G : Game) (l : List ℕ) (I M C : ℕ) : Type 0 where
   pub accepted : acceptance G ≡ Accepted

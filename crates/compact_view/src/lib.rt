@@ -4,8 +4,6 @@ use view::RowIndex;
 ghost use mathlib.Core.Path.{_≡_};
 ghost use Rattle.compact_view.specs.Rows.{Looked};
 
-const NONE: u16 = 65535;
-
 fn wide(x: u16) -> usize
     ensures { λ r. ⌜ r ≡ x ⌝ }
 {
@@ -17,16 +15,16 @@ pub fn lookup(rows: &[u16], inputs: usize, counters: usize, components: usize, a
     ensures { λ r. ⌜ Looked (now (rows .entry)) inputs counters components (at .output .0) (at .counter) (at .input .0) r ⌝ }
 {
     if !view::in_range(inputs, counters, at) {
-        return NONE;
+        return table_entries::NONE;
     }
     if components > inputs {
-        return NONE;
+        return table_entries::NONE;
     }
     let o = at.output.0;
     let j = at.input.0;
     let c = wide(view::entry(rows, inputs + j));
     if c >= components {
-        return NONE;
+        return table_entries::NONE;
     }
     view::entry(
         rows,

@@ -23,7 +23,7 @@ use Rattle.table_filling.proofs.Grows.{grows-more}
 use Rattle.game.specs.declared.Game.{Game}
 use Rattle.play.specs.Play.{graphOf, separatedOf}
 use Rattle.theory.specs.Choice.{controllerStart}
-use Rattle.theory.specs.Entries.{entry}
+use Rattle.theory.specs.Entries.{noneEntry, entry}
 use Rattle.compact.specs.Rank.{leads, componentCount, leaderOf}
 use Rattle.compact.specs.Compact.{compactLength, compactEntries, compactCell}
 use Rattle.compact.proofs.Rank.{first-below}
@@ -108,10 +108,10 @@ module _ (g : Game) (z : Size) (Z : Sized g z) (C : ByComponent g z) where
         rows = record {
           long = sym list-long;
           row = λ o c b lo lc lb.
-              read-any (compactEntries (separatedOf g)) (place (layoutOf z) o c b) 0 65535
+              read-any (compactEntries (separatedOf g)) (place (layoutOf z) o c b) 0 noneEntry
               (rw (← list-long) (place-room (layoutOf z) o c b lo lc lb))
               ∙ rw (input-at b, C .base, C .width, e .inputs, e .counters)
-              (ap (λ (k : ℕ). getD (compactEntries (separatedOf g)) k 65535) (omega arith)
+              (ap (λ (k : ℕ). getD (compactEntries (separatedOf g)) k noneEntry) (omega arith)
               ∙ compact-cell (separatedOf g) o c b (omega (arith, e .outputs)) (omega (arith, e .counters)) (omega (arith, C .width)));
         };
       }
@@ -119,7 +119,7 @@ module _ (g : Game) (z : Size) (Z : Sized g z) (C : ByComponent g z) where
   starts-at : (i : ℕ) → i < separatedOf g .input .states
       → getD (compactEntries (separatedOf g)) i 0 ≡ entry (controllerStart (separatedOf g) i)
   starts-at i b =
-      read-any (compactEntries (separatedOf g)) i 0 65535 (inside i (omega (arith, C .base, sizes-of g z Z .inputs))) ∙ compact-start (separatedOf g) i b
+      read-any (compactEntries (separatedOf g)) i 0 noneEntry (inside i (omega (arith, C .base, sizes-of g z Z .inputs))) ∙ compact-start (separatedOf g) i b
 
   -- the ranks
   module _ {l m : List ℕ} (R : RanksWritten g l m) where
@@ -129,8 +129,8 @@ module _ (g : Game) (z : Size) (Z : Sized g z) (C : ByComponent g z) where
           is =
               ap (λ (n : ℕ). getD m (n + t) 0) (Z .inputs) ∙ R .rank t (rw (Z .inputs) at b)
               ∙ sym
-              (read-any (compactEntries (separatedOf g)) (z .inputs + t) 0 65535 (inside (z .inputs + t) (omega (arith, C .base)))
-              ∙ ap (λ (n : ℕ). getD (compactEntries (separatedOf g)) (n + t) 65535) e ∙ compact-rank (separatedOf g) t (omega arith));
+              (read-any (compactEntries (separatedOf g)) (z .inputs + t) 0 noneEntry (inside (z .inputs + t) (omega (arith, C .base)))
+              ∙ ap (λ (n : ℕ). getD (compactEntries (separatedOf g)) (n + t) noneEntry) e ∙ compact-rank (separatedOf g) t (omega arith));
         }
 
     ranks-stand : (k : ℕ) → z .inputs ≤ k → k < z .base → Right (compactEntries (separatedOf g)) m k

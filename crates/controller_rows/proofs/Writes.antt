@@ -24,10 +24,9 @@ use Rattle.bits.specs.Member.{has, pack, both}
 use Rattle.bits.proofs.Membership.{has-pack-below}
 use Rattle.sets.specs.Words.{capacity}
 use Rattle.arena.specs.Table.{gives}
-use Rattle.theory.specs.Entries.{entry}
+use Rattle.theory.specs.Entries.{stride, noneEntry, entry}
 use Rattle.scratch.specs.Stored.{rowAt, outReachAt, wonAt}
 use Rattle.table_counters.specs.Counters.{mostCounters}
-use Rattle.table_entries.specs.Step.{entryStep}
 use Rattle.table_entries.proofs.Packed.{none-entry, entry-small, entry-steps}
 use Rattle.table_layout.specs.declared.Layout.{Layout}
 use Rattle.table_layout.specs.Rows.{LayoutFits, Entries, WroteColumn}
@@ -53,11 +52,11 @@ use Rattle.controller_rows.proofs.Each.{each-hit, each-miss, each-none,
 
 -- ---- entries for every counter
 
-pub stays-state : (p f : ℕ) → p < capacity → f ≡ entry (gives 0 p) → Stays p f entryStep
+pub stays-state : (p f : ℕ) → p < capacity → f ≡ entry (gives 0 p) → Stays p f stride
 unfolding first more
 stays-state p f h e = record { first = e ∙ rw (lt-ltb p capacity h, first) refl; more = rw (lt-ltb p capacity h, more) refl }
 
-pub stays-none : (p : ℕ) → capacity ≤ p → Stays p 65535 0
+pub stays-none : (p : ℕ) → capacity ≤ p → Stays p noneEntry 0
 unfolding first more
 stays-none p h = record { first = none-entry ∙ rw (le-ltb p capacity h, first) refl; more = rw (le-ltb p capacity h, more) refl }
 
@@ -68,11 +67,11 @@ stays-small p f m h e b = go (decLt p capacity)
     go (yes l) =
         let v = stays-state p (entry (gives 0 p)) l refl in
         let x : f ≡ entry (gives 0 p) = e .first ∙ sym (v .first) in
-        let y : m ≡ entryStep = e .more ∙ sym (v .more) in
+        let y : m ≡ stride = e .more ∙ sym (v .more) in
         rw (x, y) (omega (arith, entry-steps h p, entry-small h p l b))
     go (no l) =
         let v = stays-none p (omega arith) in
-        let x : f ≡ 65535 = e .first ∙ sym (v .first) in
+        let x : f ≡ noneEntry = e .first ∙ sym (v .first) in
         let y : m ≡ 0 = e .more ∙ sym (v .more) in
         rw (x, y, zero-mul h) (omega arith)
 
@@ -200,6 +199,6 @@ module _ (z : Size) (s : List ℕ) (c ins outs i : ℕ) where
   start-in {p} {x} h a b e =
       rw (h, startOf) (e .first ∙ ap (λ (k : ℕ). first k) (b ∙ ap (λ (y : ℕ). least capacity (both outs y)) a))
 
-  pub start-out : has ins i ≡ false → 65535 ≡ startOf z s c ins outs i
+  pub start-out : has ins i ≡ false → noneEntry ≡ startOf z s c ins outs i
   unfolding startOf
   start-out h = none-entry ∙ rw (h, startOf) refl

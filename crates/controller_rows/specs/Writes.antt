@@ -26,10 +26,9 @@ use Rattle.finite.specs.Bounded.{least, count}
 use Rattle.bits.specs.Member.{has, pack, both, setsMeet}
 use Rattle.sets.specs.Words.{capacity, bitsOf}
 use Rattle.arena.specs.Table.{none, gives}
-use Rattle.theory.specs.Entries.{entry}
+use Rattle.theory.specs.Entries.{stride, entry}
 use Rattle.scratch.specs.Stored.{rowAt, outReachAt, wonAt}
 use Rattle.table_counters.specs.Counters.{mostCounters}
-use Rattle.table_entries.specs.Step.{entryStep}
 use Rattle.table_layout.specs.declared.Layout.{Layout}
 use Rattle.table_layout.specs.Rows.{mostStarts, WroteColumn}
 use Rattle.controller_rows.specs.declared.Size.{Size}
@@ -40,7 +39,7 @@ unfoldable pub first : ℕ → ℕ
 first p = elim (ltb p capacity) [ true ↦ entry (gives 0 p) | false ↦ entry none ]
 
 unfoldable pub more : ℕ → ℕ
-more p = elim (ltb p capacity) [ true ↦ entryStep | false ↦ 0 ]
+more p = elim (ltb p capacity) [ true ↦ stride | false ↦ 0 ]
 
 pub record Stays (p f m : ℕ) : Type 0 where
   pub first : f ≡ first p

@@ -27,7 +27,7 @@ use Rattle.scratch.specs.Stored.{rowAt, outReachAt, wonAt}
 use Rattle.theory.specs.Region.{homeFor, settles, answers, region, opens}
 use Rattle.theory.specs.Tour.{tour}
 use Rattle.theory.specs.Choice.{guarantees, settled, controllerRow, controllerStart}
-use Rattle.theory.specs.Entries.{entry}
+use Rattle.theory.specs.Entries.{noneEntry, entry}
 use Rattle.theory.proofs.Region.{answers-elim, answers-false, settles-intro, opens-elim, opens-false}
 use Rattle.theory.proofs.ControllerRow.{row-answers, answers-settles, homeward-at}
 use Rattle.controller_rows.specs.declared.Size.{Size}
@@ -47,7 +47,7 @@ entry-state p c l =
 entry-none : (p c : ℕ) → capacity ≤ p → first p + more p * c ≡ entry none
 entry-none p c l =
     let v = stays-none p l in
-    rw (← v .first, ← v .more) (ap (λ (k : ℕ). 65535 + k) (zero-mul c) ∙ none-entry)
+    rw (← v .first, ← v .more) (ap (λ (k : ℕ). noneEntry + k) (zero-mul c) ∙ none-entry)
 
 -- the lowest number that passes a test below the capacity, and below m
 module _ (m : ℕ) (p q : ℕ → Bool) (few : m ≤ capacity) (same : (k : ℕ) → k < m → p k ≡ q k) (below : (k : ℕ) → p k ≡ true → k < m) where

@@ -33,6 +33,7 @@ use Rattle.compact.specs.Rank.{leads, rankOf}
 use Rattle.compact.specs.Moving.{ranksFit}
 use Rattle.finite.proofs.Bounded.{count-in, count-out}
 use Rattle.finite.proofs.Lists.{any-default}
+use Rattle.theory.specs.Entries.{noneEntry}
 use Rattle.graph_ranks.specs.Ranks.{Put, ranked}
 
 module _ (S : Separated) where
@@ -208,7 +209,7 @@ module _ (S : Separated) where
   -- ---- the ranks read
 
   abbrev pub Reading : ℕ → List ℕ → Type 0
-  Reading j l = (t : ℕ) → t < n → number (S .input) t < j → getD l (n + t) 65535 ≡ rankOf S t
+  Reading j l = (t : ℕ) → t < n → number (S .input) t < j → getD l (n + t) noneEntry ≡ rankOf S t
 
   pub reading-start : (l : List ℕ) → Reading 0 l
   reading-start l t a b = absurd (omega arith)
@@ -220,25 +221,25 @@ module _ (S : Separated) where
   ])
 
   module _ (j c k : ℕ) (l : List ℕ) (e : c ≡ pack n (joined (S .input) j)) (d : leads S j ≡ true) (q : k ≡ count j (leads S)) where
-    pub reading-next : Reading j l → ((t : ℕ) → has c t ≡ true → getD l (n + t) 65535 ≡ k) → Reading (j + 1) l
+    pub reading-next : Reading j l → ((t : ℕ) → has c t ≡ true → getD l (n + t) noneEntry ≡ k) → Reading (j + 1) l
     reading-next R f t a b =
         elim (number-cases j c e t a b) [
           | inl x ↦ R t a x
           | inr x ↦ f t (member-of j c e t a ∙ x) ∙ q ∙ sym (rank-at j t d x)
         ]
 
-    pub reading-fails : (t : ℕ) → has c t ≡ true → getD l (n + t) 65535 ≢ k → ranksFit S l ≡ false
+    pub reading-fails : (t : ℕ) → has c t ≡ true → getD l (n + t) noneEntry ≢ k → ranksFit S l ≡ false
     unfolding ranksFit
     reading-fails t m f =
         let b = members-below j c e t m in
-        all-fails n (λ i. eqb (getD l (n + i) 65535) (rankOf S i)) t b
-        (ne-eqb (getD l (n + t) 65535) (rankOf S t) (λ i. f (i ∙ rank-at j t d (sym (member-of j c e t b) ∙ m) ∙ sym q)))
+        all-fails n (λ i. eqb (getD l (n + i) noneEntry) (rankOf S i)) t b
+        (ne-eqb (getD l (n + t) noneEntry) (rankOf S t) (λ i. f (i ∙ rank-at j t d (sym (member-of j c e t b) ∙ m) ∙ sym q)))
 
   pub reading-end : (j : ℕ) (l : List ℕ) → n ≤ j → Reading j l → ranksFit S l ≡ true
   unfolding ranksFit
   reading-end j l b R =
-      all-intro n (λ i. eqb (getD l (n + i) 65535) (rankOf S i))
-      (λ t a. eq-eqb (getD l (n + t) 65535) (rankOf S t) (R t a (omega (arith, number-below (S .input) t a))))
+      all-intro n (λ i. eqb (getD l (n + i) noneEntry) (rankOf S i))
+      (λ t a. eq-eqb (getD l (n + t) noneEntry) (rankOf S t) (R t a (omega (arith, number-below (S .input) t a))))
 
 -- ---- one rank, for the members of a set
 
@@ -292,7 +293,7 @@ module _ (n c v : ℕ) where
 
   pub record Checking (l : List ℕ) (rest : ℕ) : Type 0 where
     pub left : (t : ℕ) → has rest t ≡ true → has c t ≡ true
-    pub inside : (t : ℕ) → has c t ≡ true → has rest t ≡ false → getD l (n + t) 65535 ≡ v
+    pub inside : (t : ℕ) → has c t ≡ true → has rest t ≡ false → getD l (n + t) noneEntry ≡ v
 
   pub checking-start : (l : List ℕ) → Checking l c
   checking-start l = record { left = λ t m. m; inside = λ t m o. clash m o }
@@ -300,29 +301,29 @@ module _ (n c v : ℕ) where
   pub checking-end : (l : List ℕ) (rest : ℕ) → Checking l rest → rest ≡ 0 → true ≡ ranked n c v l
   unfolding ranked
   checking-end l rest K e =
-      sym (all-intro capacity (λ t. not (has c t) || eqb (getD l (n + t) 65535) v) (λ t b. elim (decide (has c t)) [
-        | inl m ↦ or-right (not (has c t)) (eq-eqb (getD l (n + t) 65535) v (K .inside t m (ap (λ (x : ℕ). has x t) e ∙ has-zero t)))
-        | inr m ↦ or-left (eqb (getD l (n + t) 65535) v) (ap not m)
+      sym (all-intro capacity (λ t. not (has c t) || eqb (getD l (n + t) noneEntry) v) (λ t b. elim (decide (has c t)) [
+        | inl m ↦ or-right (not (has c t)) (eq-eqb (getD l (n + t) noneEntry) v (K .inside t m (ap (λ (x : ℕ). has x t) e ∙ has-zero t)))
+        | inr m ↦ or-left (eqb (getD l (n + t) noneEntry) v) (ap not m)
       ]))
 
   pub ranked-elim : (l : List ℕ) → ((t : ℕ) → has c t ≡ true → t < capacity) → ranked n c v l ≡ true
-      → (t : ℕ) → has c t ≡ true → getD l (n + t) 65535 ≡ v
+      → (t : ℕ) → has c t ≡ true → getD l (n + t) noneEntry ≡ v
   unfolding ranked
   ranked-elim l small e t m =
-      elim (or-cases (not (has c t)) (eqb (getD l (n + t) 65535) v)
-      (all-elim capacity (λ t. not (has c t) || eqb (getD l (n + t) 65535) v) e t (small t m))) [
+      elim (or-cases (not (has c t)) (eqb (getD l (n + t) noneEntry) v)
+      (all-elim capacity (λ t. not (has c t) || eqb (getD l (n + t) noneEntry) v) e t (small t m))) [
         | inl q ↦ clash m (not-true (has c t) q)
-        | inr q ↦ eqb-true (getD l (n + t) 65535) v q
+        | inr q ↦ eqb-true (getD l (n + t) noneEntry) v q
       ]
 
-  pub ranked-fails : (l : List ℕ) → ranked n c v l ≡ false → (t : ℕ) × (has c t ≡ true) × (getD l (n + t) 65535 ≢ v)
+  pub ranked-fails : (l : List ℕ) → ranked n c v l ≡ false → (t : ℕ) × (has c t ≡ true) × (getD l (n + t) noneEntry ≢ v)
   unfolding ranked
   ranked-fails l e =
-      let x = all-false capacity (λ t. not (has c t) || eqb (getD l (n + t) 65535) v) e in
+      let x = all-false capacity (λ t. not (has c t) || eqb (getD l (n + t) noneEntry) v) e in
       let t = x .0 in (
         t,
-        not-false (has c t) (or-false-left (not (has c t)) (eqb (getD l (n + t) 65535) v) (x .2)),
-        λ q. clash (eq-eqb (getD l (n + t) 65535) v q) (or-false-right (not (has c t)) (eqb (getD l (n + t) 65535) v) (x .2)),
+        not-false (has c t) (or-false-left (not (has c t)) (eqb (getD l (n + t) noneEntry) v) (x .2)),
+        λ q. clash (eq-eqb (getD l (n + t) noneEntry) v q) (or-false-right (not (has c t)) (eqb (getD l (n + t) noneEntry) v) (x .2)),
       )
 
   module _ (l : List ℕ) (rest h : ℕ) (K : Checking l rest) (fits : (t : ℕ) → has c t ≡ true → (t < capacity) × (n + t < length l)) (some : rest ≢ 0)
@@ -336,9 +337,9 @@ module _ (n c v : ℕ) where
     pub checking-fails : getD l (n + h) 0 ≢ v → false ≡ ranked n c v l
     unfolding ranked
     checking-fails f =
-        sym (all-fails capacity (λ t. not (has c t) || eqb (getD l (n + t) 65535) v) h (fits h (K .left h first) .0)
+        sym (all-fails capacity (λ t. not (has c t) || eqb (getD l (n + t) noneEntry) v) h (fits h (K .left h first) .0)
         (or-false (ap not (K .left h first))
-        (ne-eqb (getD l (n + h) 65535) v (λ q. f (any-default l (n + h) 0 65535 checking-below ∙ q)))))
+        (ne-eqb (getD l (n + h) noneEntry) v (λ q. f (any-default l (n + h) 0 noneEntry checking-below ∙ q)))))
 
     module _ (r : ℕ) (d : (s : ℕ) → has r s ≡ (has rest s && not (eqb s (least capacity (has rest))))) where
       less : (s : ℕ) → has r s ≡ (has rest s && not (eqb s h))
@@ -351,7 +352,7 @@ module _ (n c v : ℕ) where
       checking-next f = record {
         left = λ t i. K .left t (less-in rest h r less t i);
         inside = λ t i o. elim (ℕ-discrete t h) [
-          | yes q ↦ rw q (any-default l (n + h) 65535 0 checking-below ∙ f)
+          | yes q ↦ rw q (any-default l (n + h) noneEntry 0 checking-below ∙ f)
           | no q ↦ K .inside t i (sym (less-other rest h r less t q) ∙ o)
         ];
       }

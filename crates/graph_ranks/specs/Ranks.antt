@@ -13,6 +13,7 @@ use lib.ListN.{length, getD}
 use Rattle.finite.specs.Bounded.{all}
 use Rattle.bits.specs.Member.{has}
 use Rattle.sets.specs.Words.{capacity}
+use Rattle.theory.specs.Entries.{noneEntry}
 use Rattle.game.specs.declared.Game.{Game}
 use Rattle.play.specs.Play.{separatedOf}
 use Rattle.compact.specs.Rank.{rankOf}
@@ -23,7 +24,7 @@ pub record Put (n c v : ℕ) (l m : List ℕ) : Type 0 where
   pub outside : (k : ℕ) → ((t : ℕ) → has c t ≡ true → k ≢ n + t) → getD m k 0 ≡ getD l k 0
 
 unfoldable pub ranked : ℕ → ℕ → ℕ → List ℕ → Bool
-ranked n c v l = all capacity (λ t. not (has c t) || eqb (getD l (n + t) 65535) v)
+ranked n c v l = all capacity (λ t. not (has c t) || eqb (getD l (n + t) noneEntry) v)
 
 -- "starts as before, then the component's rank for each input"
 pub record RanksWritten (g : Game) (l m : List ℕ) : Type 0 where

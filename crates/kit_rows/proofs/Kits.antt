@@ -5,12 +5,13 @@
 --   counters-small, first-small, rows-below, count-fits : what the rows of one output and counter ask
 --   outputs-*         : the rows of one output, of one after the other, and of all
 use Prim.Native.Nat.{ℕ, zero, suc, _+_, _*_, _/_, _%_, _≤_, _<_}
-use native.Mathlib.Nat.{zero-mul, add-zero, add-assoc, mul-le-mul, mul-le-mul-right, mod-lt}
+use native.Mathlib.Nat.{zero-mul, add-zero, add-assoc, mul-le-mul, mul-le-mul-right}
 use mathlib.Core.Path.{_≡_, refl, sym, _∙_, ap, ap₂, subst}
 use mathlib.Core.Bool.{true, false}
 use mathlib.Core.List.{List, [], _∷_, _++_}
 use mathlib.Core.Logic.{_⊎_, inl, inr, _≢_}
 use native.Mathlib.Omega.{arith}
+use native.Mathlib.Decide.{ℕ-discrete}
 use lib.Dec.{eqb}
 use lib.Arith.{digits-lt, digits-div, digits-mod}
 use lib.ListN.{length, getD, take, drop, length-append, List·getD-append}
@@ -20,7 +21,8 @@ use Rattle.finite.specs.Tabulate.{tabulate}
 use Rattle.finite.proofs.Truth.{decide, clash}
 use Rattle.finite.proofs.Tabulate.{length-tabulate, getD-tabulate}
 use Rattle.sets.specs.Words.{capacity}
-use Rattle.theory.specs.Entries.{stride, answer, controllerTable}
+use Rattle.theory.specs.Entries.{noneEntry, answer, controllerTable}
+use Rattle.table_entries.proofs.Packed.{answer-none, answer-read}
 use Rattle.compact_rows.specs.Copying.{Started}
 use Rattle.compact_rows.proofs.Copying.{next-row}
 use Rattle.kit_drives.specs.declared.Drive.{Drive}
@@ -28,6 +30,7 @@ use Rattle.kit_drives.specs.declared.Kit.{Kit}
 use Rattle.kit_drives.specs.Drive.{nextIn, commandFor}
 use Rattle.kit_rows.specs.Rows.{counters, kitLength, commanded, kitRow, kitEntries, KitReady}
 use Rattle.kit_rows.specs.Writing.{lowestIn, commandsOf, translated, commandRow, Said, Into, CountFits, Outputs}
+use Rattle.kit_rows.proofs.Search.{translated-none, translated-some}
 use Rattle.kit_rows.proofs.Blocks.{CountSays, Rounds, into-none, into-join, into-front, into-done}
 
 -- within a list, the value for places past its end is never seen
@@ -82,13 +85,11 @@ module _ (k : Kit) (T : List ℕ) (b : k .old .modes ≤ length T) where
 
 -- an entry of the controller's, said by a command
 said : (d : Drive) (o e : ℕ) → translated (commandsOf (d .next) (d .commands) o) e ≡ commanded d o (answer e)
-unfolding translated answer commanded commandFor lowestIn commandsOf
-said d o e = go (decide (eqb e 65535))
-  where
-    go : (eqb e 65535 ≡ true) ⊎ (eqb e 65535 ≡ false) → translated (commandsOf (d .next) (d .commands) o) e ≡ commanded d o (answer e)
-    go (inl q) = rw (q, translated, answer) refl
-    go (inr q) = rw (q, translated, answer) (ap (λ (x : ℕ). x + 16 * (e / stride))
-        (getD-tabulate (lowestIn (d .next) (d .commands) o) capacity (e % stride) 0 (mod-lt e (omega arith))))
+unfolding commanded commandFor lowestIn
+said d o e = elim (ℕ-discrete e noneEntry) [
+  | yes h ↦ sym (translated-none (commandsOf (d .next) (d .commands) o) e h) ∙ ap (commanded d o) (answer-none e h)
+  | no h ↦ sym (translated-some (d .next) (d .commands) o e h refl refl refl) ∙ ap (commanded d o) (answer-read e h refl refl)
+]
 
 module _ (k : Kit) (T : List ℕ) (M n : ℕ) (R : KitReady k M (length T) n) where
   pub modes-in : k .old .modes ≤ length T
@@ -135,8 +136,8 @@ module _ (k : Kit) (T : List ℕ) (M n : ℕ) (R : KitReady k M (length T) n) wh
           rw (q, commandRow, kitRow)
           (ap (translated (commandsTo o))
           (ap (λ (x : ℕ). getD T x 0) (add-assoc (k .old .modes) ((o * counters k + c) * k .old .modes) (nextIn (k .old .next) i u))
-          ∙ inside T at 0 65535 (below (λ h. clash (eq-eqb (nextIn (k .old .next) i u) 255 h) q)))
-          ∙ said (k .new) o (getD T at 65535))
+          ∙ inside T at 0 noneEntry (below (λ h. clash (eq-eqb (nextIn (k .old .next) i u) 255 h) q)))
+          ∙ said (k .new) o (getD T at noneEntry))
 
   module _ (o : ℕ) (lo : o < k .new .modes) where
     -- the blocks of one output lie below all of them

@@ -5,8 +5,8 @@
 --   translated-*, told-*        : an entry by cases
 --   said-*                      : the entries of one output and counter, one more at a time
 --   lent-*                      : scratch, of which the front is used
-use Prim.Native.Nat.{ℕ, _+_, _*_, _/_, _%_, _≤_, _<_}
-use mathlib.Core.Path.{_≡_, refl, sym, _∙_, ap, subst}
+use Prim.Native.Nat.{ℕ, _+_, _*_, _≤_, _<_}
+use mathlib.Core.Path.{_≡_, refl, sym, _∙_, ap, ap₂, subst}
 use mathlib.Core.Bool.{true, false}
 use mathlib.Core.List.{List}
 use mathlib.Core.Logic.{_⊎_, inl, inr, _≢_}
@@ -23,7 +23,7 @@ use Rattle.finite.proofs.Loops.{any-start, any-turn, any-end}
 use Rattle.finite.proofs.Truth.{clash, decide}
 use Rattle.finite.proofs.Tabulate.{getD-tabulate}
 use Rattle.sets.specs.Words.{capacity}
-use Rattle.theory.specs.Entries.{stride}
+use Rattle.theory.specs.Entries.{noneEntry, entryState, entryCounter}
 use Rattle.kit_drives.specs.Drive.{nextIn, madeBy}
 use Rattle.kit_rows.specs.Writing.{lowestIn, commandsOf, translated, commandRow, Said, told, Lent}
 
@@ -54,15 +54,16 @@ module _ (n : List ℕ) (c o t : ℕ) where
       go (yes l) = clash (least-any c (λ v. eqb (nextIn n o v) t) l) (any-end c u (λ v. eqb (nextIn n o v) t) a b f)
       go (no l) = omega (arith, least-le c (λ v. eqb (nextIn n o v) t))
 
-pub translated-none : (to : List ℕ) (e : ℕ) → e ≡ 65535 → 65535 ≡ translated to e
+pub translated-none : (to : List ℕ) (e : ℕ) → e ≡ noneEntry → noneEntry ≡ translated to e
 unfolding translated
-translated-none to e q = rw (eq-eqb e 65535 q, translated) refl
+translated-none to e q = rw (eq-eqb e noneEntry q, translated) refl
 
-pub translated-some : (n : List ℕ) (c o e : ℕ) {v : ℕ} → e ≢ 65535 → v ≡ lowestIn n c o (e % stride) → v + 16 * (e / stride) ≡ translated (commandsOf n c o) e
+pub translated-some : (n : List ℕ) (c o e : ℕ) {t k v : ℕ} → e ≢ noneEntry → t ≡ entryState e → v ≡ lowestIn n c o t → k ≡ entryCounter e
+    → v + 16 * k ≡ translated (commandsOf n c o) e
 unfolding translated commandsOf
-translated-some n c o e q d =
-    rw (ne-eqb e 65535 q, translated)
-    (ap (λ (x : ℕ). x + 16 * (e / stride)) (d ∙ sym (getD-tabulate (lowestIn n c o) capacity (e % stride) 0 (mod-lt e (omega arith)))))
+translated-some n c o e q p d r =
+    rw (ne-eqb e noneEntry q, translated)
+    (ap₂ (λ (x y : ℕ). x + 16 * y) (d ∙ ap (lowestIn n c o) p ∙ sym (getD-tabulate (lowestIn n c o) capacity (entryState e) 0 (mod-lt e (omega arith)))) r)
 
 -- the entries of one output and counter, one more at a time
 
@@ -91,7 +92,7 @@ module _ (to T : List ℕ) (base : ℕ) where
   said-end j n {l} {m} a b D = subst (λ (k : ℕ). Said to T base k l m) (omega arith) D
 
 module _ (n S : List ℕ) (i u : ℕ) where
-  pub told-barred : {j : ℕ} → j ≡ nextIn n i u → j ≡ 255 → 65535 ≡ told n S i u
+  pub told-barred : {j : ℕ} → j ≡ nextIn n i u → j ≡ 255 → noneEntry ≡ told n S i u
   unfolding told
   told-barred e q = rw (eq-eqb (nextIn n i u) 255 (sym e ∙ q), told) refl
 

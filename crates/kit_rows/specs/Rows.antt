@@ -17,7 +17,7 @@ use lib.ListN.{take}
 use Rattle.finite.specs.Tabulate.{tabulate}
 use Rattle.arena.specs.Table.{Answer, none, gives, ControllerTable}
 use Rattle.play.specs.Play.{separatedOf}
-use Rattle.theory.specs.Entries.{controllerCounters, controllerTable}
+use Rattle.theory.specs.Entries.{noneEntry, controllerCounters, controllerTable}
 use Rattle.kit_drives.specs.declared.Drive.{Drive}
 use Rattle.kit_drives.specs.declared.Kit.{Kit}
 use Rattle.kit_drives.specs.Drive.{nextMode, gameFrom, commandFor, Small}
@@ -30,13 +30,13 @@ kitLength k = k .old .modes + k .new .modes * counters k * k .old .modes * k .ol
 
 -- "A row is the lowest command making the controller's move + 16 × next counter, or 65,535 where .. the controller's row is none."
 unfoldable pub commanded : Drive → ℕ → Answer → ℕ
-commanded d o none = 65535
+commanded d o none = noneEntry
 commanded d o (gives c t) = commandFor d o t + 16 * c
 
 -- ".. or 65,535 where the old command is barred"
 unfoldable pub kitRow : Kit → ControllerTable → (o c i u : ℕ) → ℕ
 kitRow k T o c i u =
-    elim (eqb (nextMode (k .old) i u) 255) [ true ↦ 65535 | false ↦ commanded (k .new) o (T .step c o (nextMode (k .old) i u)) ]
+    elim (eqb (nextMode (k .old) i u) 255) [ true ↦ noneEntry | false ↦ commanded (k .new) o (T .step c o (nextMode (k .old) i u)) ]
 
 unfoldable pub kitPlace : Kit → (o c i u : ℕ) → ℕ
 kitPlace k o c i u = k .old .modes + (((o * counters k + c) * k .old .modes + i) * k .old .commands + u)

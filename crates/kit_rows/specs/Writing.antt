@@ -21,7 +21,7 @@
 --   Counted n I U S first done l m      == from l to m those of the first `done` old modes were written, for every such E
 -- of the whole table:
 --   Outputs k T a b l m          == from l to m the rows of the outputs from a up to b were written
-use Prim.Native.Nat.{ℕ, _+_, _*_, _/_, _%_, _≤_, _<_}
+use Prim.Native.Nat.{ℕ, _+_, _*_, _≤_, _<_}
 use mathlib.Core.Path.{_≡_}
 use mathlib.Core.Bool.{true, false}
 use mathlib.Core.List.{List}
@@ -31,7 +31,7 @@ use lib.ListN.{length, getD, drop}
 use Rattle.finite.specs.Bounded.{least}
 use Rattle.finite.specs.Tabulate.{tabulate}
 use Rattle.sets.specs.Words.{capacity}
-use Rattle.theory.specs.Entries.{stride}
+use Rattle.theory.specs.Entries.{noneEntry, entryState, entryCounter}
 use Rattle.table_filling.specs.Grows.{Right, Grows}
 use Rattle.kit_drives.specs.declared.Kit.{Kit}
 use Rattle.kit_drives.specs.Drive.{nextIn}
@@ -44,11 +44,11 @@ unfoldable pub commandsOf : List ℕ → ℕ → ℕ → List ℕ
 commandsOf n c o = tabulate capacity (lowestIn n c o)
 
 unfoldable pub translated : List ℕ → ℕ → ℕ
-translated to e = elim (eqb e 65535) [ true ↦ 65535 | false ↦ getD to (e % stride) 0 + 16 * (e / stride) ]
+translated to e = elim (eqb e noneEntry) [ true ↦ noneEntry | false ↦ getD to (entryState e) 0 + 16 * entryCounter e ]
 
 unfoldable pub commandRow : (n to T : List ℕ) (base i u : ℕ) → ℕ
 commandRow n to T base i u =
-    elim (eqb (nextIn n i u) 255) [ true ↦ 65535 | false ↦ translated to (getD T (base + nextIn n i u) 0) ]
+    elim (eqb (nextIn n i u) 255) [ true ↦ noneEntry | false ↦ translated to (getD T (base + nextIn n i u) 0) ]
 
 pub record Said (to T : List ℕ) (base done : ℕ) (l m : List ℕ) : Type 0 where
   pub long : length m ≡ length l
@@ -57,7 +57,7 @@ pub record Said (to T : List ℕ) (base done : ℕ) (l m : List ℕ) : Type 0 wh
   pub rest : (n : ℕ) → done ≤ n → drop n m ≡ drop n l
 
 unfoldable pub told : (n S : List ℕ) (i u : ℕ) → ℕ
-told n S i u = elim (eqb (nextIn n i u) 255) [ true ↦ 65535 | false ↦ getD S (nextIn n i u) 0 ]
+told n S i u = elim (eqb (nextIn n i u) 255) [ true ↦ noneEntry | false ↦ getD S (nextIn n i u) 0 ]
 
 pub record ReadsIn (n S : List ℕ) (i u : ℕ) : Type 0 where
   pub below : nextIn n i u ≢ 255 → nextIn n i u < length S

@@ -38,11 +38,11 @@ fn translated(new: &[u8; 2048], from: Origin, e: u16) -> u16
     requires { ⌜ (from .commands ≤ 16) × (from .mode < capacity) ⌝ }
     ensures { λ r. ⌜ r ≡ translatedOf (commandsOf (now (new .entry)) (from .commands) (from .mode)) e ⌝ }
 {
-    if e == 65535 {
-        return 65535;
+    if e == table_entries::NONE {
+        return table_entries::NONE;
     }
-    let u = lowest_command(new, from.commands, from.mode, (e % 128) as usize);
-    u as u16 + 16 * (e / 128)
+    let u = lowest_command(new, from.commands, from.mode, table_entries::state(e));
+    (u + 16 * table_entries::counter(e)) as u16
 }
 
 // The controller's rows of one output and counter, which begin at base, said by commands: an entry for each old mode, at the front of kept. Every old
@@ -74,7 +74,7 @@ fn row(next: &[u8; 2048], kept: &[u64], i: usize, u: usize) -> u16
 {
     let j = kit_drives::next_mode(next, i, u);
     if j == 255 {
-        return 65535;
+        return table_entries::NONE;
     }
     kept[j] as u16
 }

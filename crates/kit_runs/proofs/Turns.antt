@@ -26,7 +26,7 @@ use Rattle.arena.specs.Win.{ControllerWins}
 use Rattle.arena.proofs.Bounds.{bounded-arenaOf, inside-controller}
 use Rattle.game.proofs.Laws.{accepted-fits}
 use Rattle.play.specs.Play.{graphOf, separatedOf}
-use Rattle.theory.specs.Entries.{answer, controllerTable}
+use Rattle.theory.specs.Entries.{noneEntry, answer, controllerTable}
 use Rattle.demands.specs.Demands.{playOf, controllerOf}
 use Rattle.demands.proofs.Sizes.{controller-few}
 use Rattle.kit_drives.specs.declared.Drive.{Drive}
@@ -41,21 +41,21 @@ use Rattle.kit_runs.specs.Exchange.{startsIn, reply, KitFirst, KitTurn}
 use Rattle.kit_runs.proofs.Commands.{allowed-below, allowed-open, allowed-intro, made-edge, edge-mode, command-below, command-leads}
 
 pub record Reads (k : Kit) (l t : List ℕ) : Type 0 where
-  pub starts : (i : ℕ) → i < k .old .modes → getD t i 65535 ≡ getD l i 65535
+  pub starts : (i : ℕ) → i < k .old .modes → getD t i noneEntry ≡ getD l i noneEntry
   pub rows : (o c i u : ℕ) → o < k .new .modes → c < counters k → i < k .old .modes → u < k .old .commands
-      → getD t (kitPlace k o c i u) 65535 ≡ kitRow k (controllerTable (k .old .modes) (counters k) l) o c i u
+      → getD t (kitPlace k o c i u) noneEntry ≡ kitRow k (controllerTable (k .old .modes) (counters k) l) o c i u
 
 pub kit-reads : (k : Kit) (l : List ℕ) → k .old .modes ≤ length l → Reads k l (kitEntries k l)
 unfolding kitPlace
 kit-reads k l b = record {
-  starts = λ i a. sym (start-in k l b 65535 i a);
-  rows = λ o c i u lo lc li lu. row-in k l b o c i u lo lc li lu 65535;
+  starts = λ i a. sym (start-in k l b noneEntry i a);
+  rows = λ o c i u lo lc li lu. row-in k l b o c i u lo lc li lu noneEntry;
 }
 
 reply-read : (v m : ℕ) → v < 16 → m < 1024 → reply (v + 16 * m) ≡ gives m v
 unfolding reply
 reply-read v m a b =
-    rw (ne-eqb (v + 16 * m) 65535 (omega arith), reply)
+    rw (ne-eqb (v + 16 * m) noneEntry (omega arith), reply)
     (ap₂ gives (add-mul-div-left v m (omega arith) ∙ ap (λ (k : ℕ). k + m) (div-eq-of-lt a) ∙ zero-add m) (add-mul-mod-self-left v 16 m ∙ mod-eq-of-lt a))
 
 -- the row of a command that is not barred, where the controller gives an answer
@@ -91,7 +91,7 @@ module _ (k : Kit) (F : Fitting k) (l t : List ℕ) (R : Reads k l t) (W : Contr
     pub move : playOf (gameFrom k) .inMove (x .input) (nextMode (k .old) (x .input) u) ≡ true
     pub names : Names (controllerOf (gameFrom k) l .memories) (playOf (gameFrom k) .reply (nextMode (k .old) (x .input) u) (x .output))
         (controllerOf (gameFrom k) l .step (x .memory) (x .output) (nextMode (k .old) (x .input) u)) memory output
-    pub row : Names (counters k) (allows (k .new) (x .output)) (reply (getD t (kitPlace k (x .output) (x .memory) (x .input) u) 65535)) memory
+    pub row : Names (counters k) (allows (k .new) (x .output)) (reply (getD t (kitPlace k (x .output) (x .memory) (x .input) u) noneEntry)) memory
         (commandFor (k .new) (x .output) output)
     pub leads : nextMode (k .new) (x .output) (commandFor (k .new) (x .output) output) ≡ output
 

@@ -22,7 +22,7 @@ use Rattle.arena.specs.Arena.{Requirement}
 use Rattle.arena.specs.Table.{Answer, none, gives, Names}
 use Rattle.arena.specs.Play.{Configuration, Reachable}
 use Rattle.play.specs.Play.{requirementsOf}
-use Rattle.theory.specs.Entries.{answer}
+use Rattle.theory.specs.Entries.{noneEntry, answer}
 use Rattle.endless.specs.Endless.{Endless, RecurringMeet}
 use Rattle.kit_drives.specs.declared.Drive.{Drive}
 use Rattle.kit_drives.specs.declared.Kit.{Kit}
@@ -34,18 +34,18 @@ startsIn d i = ltb i (d .modes) && has (bitsOf (d .initial)) i
 
 -- "the lowest command .. + 16 × next counter, or 65,535"
 unfoldable pub reply : ℕ → Answer
-reply e = elim (eqb e 65535) [ true ↦ none | false ↦ gives (e / 16) (e % 16) ]
+reply e = elim (eqb e noneEntry) [ true ↦ none | false ↦ gives (e / 16) (e % 16) ]
 
 -- the modes of both drives are the input and the output of a configuration, the counter is its memory
 pub record KitFirst (k : Kit) (l : List ℕ) (x : Configuration) : Type 0 where
   pub initial : startsIn (k .old) (x .input) ≡ true
-  pub start : Names (counters k) (startsIn (k .new)) (answer (getD l (x .input) 65535)) (x .memory) (x .output)
+  pub start : Names (counters k) (startsIn (k .new)) (answer (getD l (x .input) noneEntry)) (x .memory) (x .output)
 
 pub record KitTurn (k : Kit) (l : List ℕ) (u : ℕ) (x y : Configuration) : Type 0 where
   pub allowed : allows (k .old) (x .input) u ≡ true
   pub input : y .input ≡ nextMode (k .old) (x .input) u
   pub command : ℕ
-  pub row : Names (counters k) (allows (k .new) (x .output)) (reply (getD l (kitPlace k (x .output) (x .memory) (x .input) u) 65535)) (y .memory) command
+  pub row : Names (counters k) (allows (k .new) (x .output)) (reply (getD l (kitPlace k (x .output) (x .memory) (x .input) u) noneEntry)) (y .memory) command
   pub output : y .output ≡ nextMode (k .new) (x .output) command
 
 pub record KitMove (k : Kit) (l : List ℕ) (x y : Configuration) : Type 0 where

@@ -3,16 +3,19 @@
 --   picks-as      : only the input that the entry names is tested
 --   picked        : a move that is picked is the one that the answer names
 --   picks-some    : where the answer names one, that is picked
-use Prim.Native.Nat.{ℕ, _/_, _%_, _≤_, _<_}
+use Prim.Native.Nat.{ℕ, _≤_, _<_}
 use mathlib.Core.Path.{_≡_, refl, sym, _∙_, ap, subst}
 use mathlib.Core.Bool.{Bool, true, false, _&&_}
+use mathlib.Core.Logic.{_≢_}
 use native.Mathlib.Omega.{arith}
-use lib.Dec.{eqb, ltb}
-use borrow.Author.Tests.{ltb-true, lt-ltb, le-ltb, eq-eqb, ne-eqb}
+use native.Mathlib.Decide.{ℕ-discrete}
+use lib.Dec.{ltb}
+use borrow.Author.Tests.{ltb-true, lt-ltb, le-ltb}
 use Rattle.finite.proofs.Truth.{and-intro, and-left, and-right, and-false-left, and-false-right}
 use Rattle.arena.specs.Table.{Answer, none, gives, Names}
-use Rattle.theory.specs.Entries.{answer}
+use Rattle.theory.specs.Entries.{noneEntry, entryState, entryCounter, answer}
 use Rattle.game.specs.declared.OutState.{OutState}
+use Rattle.table_entries.proofs.Packed.{answer-none, answer-read}
 use Rattle.player_place.specs.declared.Position.{Position}
 use Rattle.player_place.specs.declared.Played.the-variants.{At}
 use Rattle.panel_place.specs.declared.PanelMove.{PanelMove}
@@ -33,38 +36,35 @@ granted-refused n a e = rw (e, granted)
 -- ---- an entry
 
 module _ (M : ℕ) (ok : ℕ → Bool) (e : ℕ) where
-  pub pick-none : e ≡ 65535 → Refused 15 ≡ picks M ok (answer e)
-  unfolding picks answer
-  pick-none h = rw (eq-eqb e 65535 h, answer, picks)
+  pub pick-none : e ≡ noneEntry → Refused 15 ≡ picks M ok (answer e)
+  unfolding picks
+  pick-none h = ap (picks M ok) (answer-none e h)
 
-  some : (e ≡ 65535 → ⊥) → gives (e / 128) (e % 128) ≡ answer e
-  unfolding answer
-  some h = rw (ne-eqb e 65535 h, answer)
+  module _ {c s : ℕ} (h : e ≢ noneEntry) (p : c ≡ entryCounter e) (q : s ≡ entryState e) where
+    some : picks M ok (gives c s) ≡ picks M ok (answer e)
+    some = ap (picks M ok) (answer-read e h p q)
 
-  unfoldable there : Picked
-  there = To (record { input = record { 0 = e % 128 }; counter = e / 128 })
+    unfoldable there : Picked
+    there = To (record { input = record { 0 = s }; counter = c })
 
-  pub pick-counter : (e ≡ 65535 → ⊥) → M ≤ e / 128 → Refused 15 ≡ picks M ok (answer e)
-  unfolding picks there
-  pick-counter h b = granted-refused 15 there (and-false-left (ok (e % 128)) (le-ltb (e / 128) M b)) ∙ ap (picks M ok) (some h)
+    pub pick-counter : M ≤ c → Refused 15 ≡ picks M ok (answer e)
+    unfolding picks there
+    pick-counter b = granted-refused 15 there (and-false-left (ok s) (le-ltb c M b)) ∙ some
 
-  pub pick-input : (e ≡ 65535 → ⊥) → ok (e % 128) ≡ false → Refused 15 ≡ picks M ok (answer e)
-  unfolding picks there
-  pick-input h f = granted-refused 15 there (and-false-right (ltb (e / 128) M) f) ∙ ap (picks M ok) (some h)
+    pub pick-input : ok s ≡ false → Refused 15 ≡ picks M ok (answer e)
+    unfolding picks there
+    pick-input f = granted-refused 15 there (and-false-right (ltb c M) f) ∙ some
 
-  pub pick-to : (e ≡ 65535 → ⊥) → e / 128 < M → ok (e % 128) ≡ true
-      → To (record { input = record { 0 = e % 128 }; counter = e / 128 }) ≡ picks M ok (answer e)
-  unfolding picks there
-  pick-to h b f = granted-held 15 there (and-intro (lt-ltb (e / 128) M b) f) ∙ ap (picks M ok) (some h)
+    pub pick-to : c < M → ok s ≡ true → To (record { input = record { 0 = s }; counter = c }) ≡ picks M ok (answer e)
+    unfolding picks there
+    pick-to b f = granted-held 15 there (and-intro (lt-ltb c M b) f) ∙ some
 
-  pub picks-as : picks M (λ s. ok (e % 128)) (answer e) ≡ picks M ok (answer e)
-  unfolding picks answer
-  picks-as = go (eqb e 65535)
-    where
-      go : (b : Bool) → picks M (λ s. ok (e % 128)) (elim b as (λ x. Answer) [ true ↦ none | false ↦ gives (e / 128) (e % 128) ])
-          ≡ picks M ok (elim b as (λ x. Answer) [ true ↦ none | false ↦ gives (e / 128) (e % 128) ])
-      go true = refl
-      go false = refl
+  pub picks-as : picks M (λ s. ok (entryState e)) (answer e) ≡ picks M ok (answer e)
+  unfolding picks
+  picks-as = elim (ℕ-discrete e noneEntry) [
+    | yes h ↦ ap (picks M (λ s. ok (entryState e))) (sym (answer-none e h)) ∙ ap (picks M ok) (answer-none e h)
+    | no h ↦ ap (picks M (λ s. ok (entryState e))) (sym (answer-read e h refl refl)) ∙ ap (picks M ok) (answer-read e h refl refl)
+  ]
 
 -- ---- what an answer says
 

@@ -5,10 +5,11 @@
 --   picks M ok a      == the move that the answer a names, if it names one of M counters and an input that is allowed
 --   positionWith o a  == the position that the move a makes with the output o
 --   panelNumber a     == document 01's number of the answer a, 0 for a move
-use Prim.Native.Nat.{ℕ, _%_}
+use Prim.Native.Nat.{ℕ}
 use mathlib.Core.Bool.{Bool, true, false, _&&_}
 use lib.Dec.{ltb}
 use Rattle.arena.specs.Table.{Answer, none, gives}
+use Rattle.theory.specs.Entries.{entryState}
 use Rattle.game.specs.declared.InState.{InState}
 use Rattle.game.specs.declared.OutState.{OutState}
 use Rattle.player_place.specs.declared.Played.{Played}
@@ -22,7 +23,7 @@ granted false n a = Refused n
 
 -- "Entries are 16 bits: next state + 128 × next counter"
 abbrev pub namedInput : ℕ → InState
-namedInput e = record { 0 = e % 128 }
+namedInput e = record { 0 = entryState e }
 
 -- as for a controller's table: "15 the row is none, or names a counter out of range or an output that is no move (at the start, not initial)"
 unfoldable pub picks : ℕ → (ℕ → Bool) → Answer → Picked

@@ -49,17 +49,17 @@ pub fn replies_with(g: Game, o: OutState, p: OutState) -> bool
 pub fn named(entry: u16) -> InState
     ensures { λ r. ⌜ r ≡ namedInput entry ⌝ }
 {
-    InState((entry % 128) as usize)
+    InState(table_entries::state(entry))
 }
 
 // The move that an entry names, given whether its input is allowed.
 pub fn pick(counters: usize, entry: u16, allowed: bool) -> Picked
     ensures { λ r. ⌜ r ≡ picks counters (λ s. allowed) (answer entry) ⌝ }
 {
-    if entry == 65535 {
+    if entry == table_entries::NONE {
         return Picked::Refused(15);
     }
-    let counter = (entry / 128) as usize;
+    let counter = table_entries::counter(entry);
     if counter >= counters {
         return Picked::Refused(15);
     }

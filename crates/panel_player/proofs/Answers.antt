@@ -22,7 +22,7 @@ use Rattle.game.proofs.Laws.{accepted-fits}
 use Rattle.game.proofs.Numbers.{after, game-after}
 use Rattle.arena.specs.Table.{Answer, none, gives}
 use Rattle.play.specs.Play.{graphOf, separatedOf}
-use Rattle.theory.specs.Entries.{answer, environmentCounters, environmentEntries, environmentTable}
+use Rattle.theory.specs.Entries.{noneEntry, answer, environmentCounters, environmentEntries, environmentTable}
 use Rattle.demands.specs.Demands.{environmentOf}
 use Rattle.demands.proofs.Sizes.{environment-few}
 use Rattle.player_place.specs.declared.Position.{Position}
@@ -96,12 +96,12 @@ module _ (g : Game) (M : ℕ) (p : Position) (a : acceptance g ≡ acceptance·.
 
 module _ (g : Game) (l : List ℕ) where
   pub row-read : (M e : ℕ) (p : Position) → M ≡ environmentCounters (separatedOf g)
-      → e ≡ getD l (1 + ((p .input .0 * M + p .counter) * g .output .states + p .output .0)) 65535 → e ≡ panelRowEntry g l p
+      → e ≡ getD l (1 + ((p .input .0 * M + p .counter) * g .output .states + p .output .0)) noneEntry → e ≡ panelRowEntry g l p
   unfolding panelRowEntry
-  row-read M e p m q = q ∙ ap (λ (k : ℕ). getD l (1 + ((p .input .0 * k + p .counter) * g .output .states + p .output .0)) 65535) m
+  row-read M e p m q = q ∙ ap (λ (k : ℕ). getD l (1 + ((p .input .0 * k + p .counter) * g .output .states + p .output .0)) noneEntry) m
 
   -- the move that an entry names, its input tested alone
-  pub start-picked : (M e : ℕ) (i : InState) (b : Bool) (r : Picked) → e ≡ getD l 0 65535 → i ≡ namedInput e → b ≡ begins (graphOf (g .input)) (i .0)
+  pub start-picked : (M e : ℕ) (i : InState) (b : Bool) (r : Picked) → e ≡ getD l 0 noneEntry → i ≡ namedInput e → b ≡ begins (graphOf (g .input)) (i .0)
       → M ≡ environmentCounters (separatedOf g) → r ≡ picks M (λ s. b) (answer e) → r ≡ startMove g l
   unfolding startMove environmentOf environmentTable
   start-picked M e i b r q n t m s =

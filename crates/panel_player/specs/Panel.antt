@@ -27,7 +27,7 @@ use Rattle.game.specs.declared.Acceptance.the-variants as acceptance·
 use Rattle.game.specs.Acceptance.{acceptance}
 use Rattle.game.specs.Numbers.{firstOf, gameTests}
 use Rattle.play.specs.Play.{graphOf, separatedOf}
-use Rattle.theory.specs.Entries.{environmentCounters, environmentEntries}
+use Rattle.theory.specs.Entries.{noneEntry, environmentCounters, environmentEntries}
 use Rattle.demands.specs.Demands.{environmentOf}
 use Rattle.player_place.specs.declared.Position.{Position}
 use Rattle.player_place.specs.declared.Played.{Played}
@@ -47,7 +47,7 @@ startMove g l = picks (environmentCounters (separatedOf g)) (begins (graphOf (g 
 
 -- "Panel: one start entry, then rows by input, counter, output"
 unfoldable pub panelRowEntry : Game → List ℕ → Position → ℕ
-panelRowEntry g l p = getD l (1 + ((p .input .0 * environmentCounters (separatedOf g) + p .counter) * g .output .states + p .output .0)) 65535
+panelRowEntry g l p = getD l (1 + ((p .input .0 * environmentCounters (separatedOf g) + p .counter) * g .output .states + p .output .0)) noneEntry
 
 -- "its step gives memory and input move from memory, input and output"
 unfoldable pub rowMove : Game → List ℕ → Position → Picked

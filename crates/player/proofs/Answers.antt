@@ -23,7 +23,7 @@ use Rattle.game.specs.Numbers.{firstOf}
 use Rattle.game.proofs.Numbers.{after, game-after}
 use Rattle.arena.specs.Table.{Answer, none, gives}
 use Rattle.play.specs.Play.{graphOf, separatedOf}
-use Rattle.theory.specs.Entries.{answer, controllerCounters, controllerEntries, controllerTable}
+use Rattle.theory.specs.Entries.{noneEntry, answer, controllerCounters, controllerEntries, controllerTable}
 use Rattle.demands.specs.Demands.{controllerOf}
 use Rattle.table_sizes.proofs.Lengths.{controller-most}
 use Rattle.player_place.specs.declared.Position.{Position}
@@ -62,7 +62,7 @@ module _ (g : Game) (l : List ℕ) (i : InState) where
   begun-input h b = refused 14 started b ∙ held 16 (provided (begins (graphOf (g .input)) (i .0)) 14 started) h
 
   pub begun-at : acceptance g ≡ acceptance·.Accepted → fitting g l ≡ true → begins (graphOf (g .input)) (i .0) ≡ true
-      → (M e : ℕ) (x : OutSet) (r : Played) → M ≡ controllerCounters (separatedOf g) → e ≡ getD l (i .0) 65535 → x ≡ outInitial g
+      → (M e : ℕ) (x : OutSet) (r : Played) → M ≡ controllerCounters (separatedOf g) → e ≡ getD l (i .0) noneEntry → x ≡ outInitial g
       → r ≡ arrives M (has (bitsOf (x .0))) i (answer e) → r ≡ begun g l i
   unfolding begun started controllerOf controllerTable
   begun-at a h b M e x r m q t s =
@@ -111,11 +111,11 @@ module _ (g : Game) (l : List ℕ) (p : Position) (j : InState) where
         let q = position-in g M p h in
         ap answer
         (sym (row-read (g .input .states) M (p .output .0) (p .counter) (j .0) l
-        (getD l (g .input .states + ((p .output .0 * M + p .counter) * g .input .states + j .0)) 65535)
+        (getD l (g .input .states + ((p .output .0 * M + p .counter) * g .input .states + j .0)) noneEntry)
         (in-range (g .input .states) M (p .output .0) (p .counter) (j .0) (inputs-most g a) (controller-most g a M m) (omega (arith, outputs-most g a)) (q .2)
         (edge-to (graphOf (g .input)) (p .input .0) (j .0) b))
         refl)
-        ∙ ap (λ (k : ℕ). getD l (g .input .states + ((p .output .0 * k + p .counter) * g .input .states + j .0)) 65535) m)
+        ∙ ap (λ (k : ℕ). getD l (g .input .states + ((p .output .0 * k + p .counter) * g .input .states + j .0)) noneEntry) m)
 
     pub stepped-at : acceptance g ≡ acceptance·.Accepted → fitting g l ≡ true → hasPosition g M p ≡ true
         → edge (graphOf (g .input)) (p .input .0) (j .0) ≡ true

@@ -1,15 +1,17 @@
 -- What the tests of a position and of an entry answer: one law for each return.
-use Prim.Native.Nat.{ℕ, _/_, _%_, _≤_, _<_}
+use Prim.Native.Nat.{ℕ, _≤_, _<_}
 use mathlib.Core.Path.{_≡_, refl, _∙_, ap}
 use mathlib.Core.Bool.{Bool, true, false, _&&_}
+use mathlib.Core.Logic.{_≢_}
 use lib.Dec.{ltb}
-use borrow.Author.Tests.{ltb-true, lt-ltb, le-ltb, eq-eqb, ne-eqb}
+use borrow.Author.Tests.{ltb-true, lt-ltb, le-ltb}
 use Rattle.finite.proofs.Truth.{and-intro, and-left, and-right, and-false-left, and-false-right}
 use Rattle.finite.proofs.Loops.{and-stop, and-next}
 use Rattle.arena.specs.Table.{gives}
 use Rattle.game.specs.declared.InState.{InState}
 use Rattle.game.specs.declared.Game.{Game}
-use Rattle.theory.specs.Entries.{answer}
+use Rattle.theory.specs.Entries.{noneEntry, entryState, entryCounter, answer}
+use Rattle.table_entries.proofs.Packed.{answer-none, answer-read}
 use Rattle.player_place.specs.declared.Position.{Position}
 use Rattle.player_place.specs.declared.Played.{Played}
 use Rattle.player_place.specs.declared.Played.the-variants.{At, Refused}
@@ -28,29 +30,28 @@ refused n p e = rw (e, provided)
 -- ---- an entry
 
 module _ (M : ℕ) (ok : ℕ → Bool) (i : InState) (e : ℕ) where
-  pub arrive-none : e ≡ 65535 → Refused 15 ≡ arrives M ok i (answer e)
-  unfolding arrives answer
-  arrive-none h = rw (eq-eqb e 65535 h, answer, arrives)
+  pub arrive-none : e ≡ noneEntry → Refused 15 ≡ arrives M ok i (answer e)
+  unfolding arrives
+  arrive-none h = ap (arrives M ok i) (answer-none e h)
 
-  some : (e ≡ 65535 → ⊥) → gives (e / 128) (e % 128) ≡ answer e
-  unfolding answer
-  some h = rw (ne-eqb e 65535 h, answer)
+  module _ {c s : ℕ} (h : e ≢ noneEntry) (p : c ≡ entryCounter e) (q : s ≡ entryState e) where
+    some : arrives M ok i (gives c s) ≡ arrives M ok i (answer e)
+    some = ap (arrives M ok i) (answer-read e h p q)
 
-  unfoldable there : Played
-  there = At (record { input = i; output = record { 0 = e % 128 }; counter = e / 128 })
+    unfoldable there : Played
+    there = At (record { input = i; output = record { 0 = s }; counter = c })
 
-  pub arrive-counter : (e ≡ 65535 → ⊥) → M ≤ e / 128 → Refused 15 ≡ arrives M ok i (answer e)
-  unfolding arrives there
-  arrive-counter h b = refused 15 there (and-false-left (ok (e % 128)) (le-ltb (e / 128) M b)) ∙ ap (arrives M ok i) (some h)
+    pub arrive-counter : M ≤ c → Refused 15 ≡ arrives M ok i (answer e)
+    unfolding arrives there
+    arrive-counter b = refused 15 there (and-false-left (ok s) (le-ltb c M b)) ∙ some
 
-  pub arrive-output : (e ≡ 65535 → ⊥) → e / 128 < M → ok (e % 128) ≡ false → Refused 15 ≡ arrives M ok i (answer e)
-  unfolding arrives there
-  arrive-output h b f = refused 15 there (and-false-right (ltb (e / 128) M) f) ∙ ap (arrives M ok i) (some h)
+    pub arrive-output : c < M → ok s ≡ false → Refused 15 ≡ arrives M ok i (answer e)
+    unfolding arrives there
+    arrive-output b f = refused 15 there (and-false-right (ltb c M) f) ∙ some
 
-  pub arrive-at : (e ≡ 65535 → ⊥) → e / 128 < M → ok (e % 128) ≡ true
-      → At (record { input = i; output = record { 0 = e % 128 }; counter = e / 128 }) ≡ arrives M ok i (answer e)
-  unfolding arrives there
-  arrive-at h b f = held 15 there (and-intro (lt-ltb (e / 128) M b) f) ∙ ap (arrives M ok i) (some h)
+    pub arrive-at : c < M → ok s ≡ true → At (record { input = i; output = record { 0 = s }; counter = c }) ≡ arrives M ok i (answer e)
+    unfolding arrives there
+    arrive-at b f = held 15 there (and-intro (lt-ltb c M b) f) ∙ some
 
 -- ---- a position
 

@@ -91,11 +91,11 @@ pub fn row_of(at: Position, next: InState) -> RowIndex
 pub fn arrive(counters: usize, allowed: OutSet, input: InState, entry: u16) -> Played
     ensures { λ r. ⌜ r ≡ arrives counters (has (bitsOf (allowed .0))) input (answer entry) ⌝ }
 {
-    if entry == 65535 {
+    if entry == table_entries::NONE {
         return Played::Refused(15);
     }
-    let counter = (entry / 128) as usize;
-    let state = (entry % 128) as usize;
+    let counter = table_entries::counter(entry);
+    let state = table_entries::state(entry);
     if counter >= counters {
         return Played::Refused(15);
     }

@@ -4,10 +4,12 @@ use native.Mathlib.Omega.{arith}
 use native.Mathlib.Nat.{div-le-self, mod-le, le-trans, lt-of-le-of-lt}
 use mathlib.Core.Bool.{Bool, true, false}
 use mathlib.Core.List.{List, [], _∷_, _++_, append-assoc, append-nil}
-use mathlib.Core.Path.{_≡_, refl, sym, _∙_, ap}
+use mathlib.Core.Logic.{_≢_}
+use mathlib.Core.Path.{_≡_, refl, sym, _∙_, ap, ap₂}
 use lib.Dec.{ltb, eqb}
 use lib.ListN.{length, length-append}
 use borrow.Author.Tests.{ltb-true, ltb-false, eq-eqb, ne-eqb}
+use Rattle.theory.specs.Entries.{noneEntry, entryState, entryCounter}
 use Rattle.text_grammar.specs.Number.{decimal}
 use Rattle.text_grammar.proofs.Format.{by-cases}
 use Rattle.text_grammar.proofs.Number.{decimal-one, decimal-step}
@@ -58,20 +60,20 @@ pub puts-nothing : (d : List ℕ) (at : ℕ) → Puts d at [] at d
 unfolding overlay
 puts-nothing d at = record { next = omega arith; kept = refl }
 
-pub none-line : (d : List ℕ) (at e : ℕ) (t : List ℕ) → e ≡ 65535 → Puts d at (unlessNone e t) at d
+pub none-line : (d : List ℕ) (at e : ℕ) (t : List ℕ) → e ≡ noneEntry → Puts d at (unlessNone e t) at d
 unfolding unlessNone
 none-line d at e t h =
-    let empty : unlessNone e t ≡ [] = rw (eq-eqb e 65535 h, unlessNone) in
+    let empty : unlessNone e t ≡ [] = rw (eq-eqb e noneEntry h, unlessNone) in
     puts-as (sym empty) (puts-nothing d at)
 
-some-line : (e : ℕ) (t : List ℕ) → (e ≡ 65535 → ⊥) → t ≡ unlessNone e t
+some-line : (e : ℕ) (t : List ℕ) → e ≢ noneEntry → t ≡ unlessNone e t
 unfolding unlessNone
-some-line e t h = sym (rw (ne-eqb e 65535 h, unlessNone))
+some-line e t h = sym (rw (ne-eqb e noneEntry h, unlessNone))
 
 pub unless-short : (e n : ℕ) (t : List ℕ) → length t ≤ n → length (unlessNone e t) ≤ n
 unfolding unlessNone
 unless-short e n t h =
-    by-cases (eqb e 65535)
+    by-cases (eqb e noneEntry)
     (λ b. let empty : unlessNone e t ≡ [] = rw (b, unlessNone) in omega (arith, ap length empty))
     (λ b. let whole : unlessNone e t ≡ t = rw (b, unlessNone) in omega (arith, ap length whole))
 
@@ -80,32 +82,36 @@ wins-pieces : (b : Bool) → opening 4 ++ (word (winnerWord b) ++ 41 ∷ 10 ∷ 
 unfolding winsLine line bracket items gapText opening
 wins-pieces b = simp (append-assoc, append-nil)
 
-pub start-text : (i e : ℕ)
-    → opening 5 ++ ((decimal i ++ 32 ∷ []) ++ ((decimal (e % 128) ++ 41 ∷ []) ++ 10 ∷ [])) ≡ line (word 5 ∷ decimal i ∷ decimal (e % 128) ∷ [])
+pub start-text : (i s : ℕ) → opening 5 ++ ((decimal i ++ 32 ∷ []) ++ ((decimal s ++ 41 ∷ []) ++ 10 ∷ [])) ≡ line (word 5 ∷ decimal i ∷ decimal s ∷ [])
 unfolding line bracket items gapText opening
-start-text i e = simp (append-assoc, append-nil)
+start-text i s = simp (append-assoc, append-nil)
 
-pub start-pieces : (i e : ℕ) → (e ≡ 65535 → ⊥) → opening 5 ++ ((decimal i ++ 32 ∷ []) ++ ((decimal (e % 128) ++ 41 ∷ []) ++ 10 ∷ [])) ≡ startLine i e
+pub start-line : (i e : ℕ) {s : ℕ} → s ≡ entryState e → e ≢ noneEntry → line (word 5 ∷ decimal i ∷ decimal s ∷ []) ≡ startLine i e
 unfolding startLine
-start-pieces i e h = start-text i e ∙ some-line e _ h
+start-line i e p h = ap (λ (s : ℕ). line (word 5 ∷ decimal i ∷ decimal s ∷ [])) p ∙ some-line e _ h
 
-pub environment-text : (e : ℕ) → opening 5 ++ ((decimal (e % 128) ++ 41 ∷ []) ++ 10 ∷ []) ≡ line (word 5 ∷ decimal (e % 128) ∷ [])
+pub environment-text : (s : ℕ) → opening 5 ++ ((decimal s ++ 41 ∷ []) ++ 10 ∷ []) ≡ line (word 5 ∷ decimal s ∷ [])
 unfolding line bracket items gapText opening
-environment-text e = simp (append-assoc, append-nil)
+environment-text s = simp (append-assoc, append-nil)
 
-pub environment-pieces : (e : ℕ) → (e ≡ 65535 → ⊥) → opening 5 ++ ((decimal (e % 128) ++ 41 ∷ []) ++ 10 ∷ []) ≡ environmentStartLine e
+pub environment-line : (e : ℕ) {s : ℕ} → s ≡ entryState e → e ≢ noneEntry → line (word 5 ∷ decimal s ∷ []) ≡ environmentStartLine e
 unfolding environmentStartLine
-environment-pieces e h = environment-text e ∙ some-line e _ h
+environment-line e p h = ap (λ (s : ℕ). line (word 5 ∷ decimal s ∷ [])) p ∙ some-line e _ h
 
-pub row-pieces : (a g b e : ℕ)
+pub row-text : (a g b s k : ℕ)
     → opening 6
     ++ ((decimal a ++ 32 ∷ [])
-    ++ ((decimal g ++ 32 ∷ []) ++ ((decimal b ++ 32 ∷ []) ++ ((decimal (e % 128) ++ 32 ∷ []) ++ ((decimal (e / 128) ++ 41 ∷ []) ++ 10 ∷ [])))))
-    ≡ rowLine a g b e
-unfolding rowLine line bracket items gapText opening
-row-pieces a g b e = simp (append-assoc, append-nil)
+    ++ ((decimal g ++ 32 ∷ []) ++ ((decimal b ++ 32 ∷ []) ++ ((decimal s ++ 32 ∷ []) ++ ((decimal k ++ 41 ∷ []) ++ 10 ∷ [])))))
+    ≡ line (word 6 ∷ decimal a ∷ decimal g ∷ decimal b ∷ decimal s ∷ decimal k ∷ [])
+unfolding line bracket items gapText opening
+row-text a g b s k = simp (append-assoc, append-nil)
 
-pub step-row : (c n r e m k : ℕ) → (e ≡ 65535 → ⊥) → m ≡ max 1 n → k ≡ max 1 c → rowLine (r / m / k) (r / m % k) (r % m) e ≡ stepLine c n r e
+pub row-line : (a g b e : ℕ) {s k : ℕ} → s ≡ entryState e → k ≡ entryCounter e
+    → line (word 6 ∷ decimal a ∷ decimal g ∷ decimal b ∷ decimal s ∷ decimal k ∷ []) ≡ rowLine a g b e
+unfolding rowLine
+row-line a g b e p q = ap₂ (λ (s k : ℕ). line (word 6 ∷ decimal a ∷ decimal g ∷ decimal b ∷ decimal s ∷ decimal k ∷ [])) p q
+
+pub step-row : (c n r e m k : ℕ) → e ≢ noneEntry → m ≡ max 1 n → k ≡ max 1 c → rowLine (r / m / k) (r / m % k) (r % m) e ≡ stepLine c n r e
 unfolding stepLine
 step-row c n r e m k h p q =
     (λ i. rowLine (r / p i / q i) (r / p i % q i) (r % p i) e) ∙ some-line e _ h
@@ -153,20 +159,21 @@ wins-short b =
 pub start-short : (i e : ℕ) → i < 18446744073709551616 → length (startLine i e) ≤ 160
 unfolding startLine
 start-short i e h =
-    let all = then-short (opened 5) (then-short (number i 32 h) (then-short (number (e % 128) 41 (omega arith)) ended)) .size in
-    unless-short e 160 _ (omega (arith, all, ap length (start-text i e)))
+    let all = then-short (opened 5) (then-short (number i 32 h) (then-short (number (entryState e) 41 (omega arith)) ended)) .size in
+    unless-short e 160 _ (omega (arith, all, ap length (start-text i (entryState e))))
 
 pub environment-short : (e : ℕ) → length (environmentStartLine e) ≤ 160
 unfolding environmentStartLine
 environment-short e =
-    let all = then-short (opened 5) (then-short (number (e % 128) 41 (omega arith)) ended) .size in
-    unless-short e 160 _ (omega (arith, all, ap length (environment-text e)))
+    let all = then-short (opened 5) (then-short (number (entryState e) 41 (omega arith)) ended) .size in
+    unless-short e 160 _ (omega (arith, all, ap length (environment-text (entryState e))))
 
 row-short : (a g b e : ℕ) → a < 18446744073709551616 → g < 18446744073709551616 → b < 18446744073709551616 → e < 65536 → length (rowLine a g b e) ≤ 160
+unfolding rowLine
 row-short a g b e p q s h =
-    let next = then-short (number (e % 128) 32 (omega arith)) (then-short (number (e / 128) 41 (omega arith)) ended) in
+    let next = then-short (number (entryState e) 32 (omega arith)) (then-short (number (entryCounter e) 41 (omega arith)) ended) in
     let all = then-short (opened 6) (then-short (number a 32 p) (then-short (number g 32 q) (then-short (number b 32 s) next))) .size in
-    omega (arith, all, ap length (row-pieces a g b e))
+    omega (arith, all, ap length (row-text a g b (entryState e) (entryCounter e)))
 
 pub step-short : (c n r e : ℕ) → r < 18446744073709551616 → e < 65536 → length (stepLine c n r e) ≤ 160
 unfolding stepLine

@@ -1,6 +1,5 @@
 -- The lines of an answer ("The solve program prints exactly this" of document 01).
 --
---   none                          == the entry of a row of none
 --   winnerWord b                  == the word system where b holds, else environment
 --   winsLine b                    == (wins system), (wins environment)
 --   startLine i e                 == the controller's (start input output), for the entry e
@@ -13,16 +12,13 @@ use Prim.Native.Nat.{ℕ, _/_, _%_, max}
 use mathlib.Core.Bool.{Bool, true, false}
 use mathlib.Core.List.{List, [], _∷_}
 use lib.Dec.{eqb}
+use Rattle.theory.specs.Entries.{noneEntry, entryState, entryCounter}
 use Rattle.text_grammar.specs.Number.{decimal}
 use Rattle.text_shape.specs.Text.{word, line}
 
--- "none is 65,535"
-abbrev pub none : ℕ
-none = 65535
-
 -- "Rows of none are skipped."
 unfoldable pub unlessNone : ℕ → List ℕ → List ℕ
-unlessNone e t = elim (eqb e none) [ true ↦ [] | false ↦ t ]
+unlessNone e t = elim (eqb e noneEntry) [ true ↦ [] | false ↦ t ]
 
 unfoldable pub winnerWord : Bool → ℕ
 winnerWord true = 8
@@ -31,15 +27,14 @@ winnerWord false = 9
 unfoldable pub winsLine : Bool → List ℕ
 winsLine b = line (word 4 ∷ word (winnerWord b) ∷ [])
 
--- "An entry becomes next state + 128 × next counter." (M-105)
 unfoldable pub startLine : ℕ → ℕ → List ℕ
-startLine i e = unlessNone e (line (word 5 ∷ decimal i ∷ decimal (e % 128) ∷ []))
+startLine i e = unlessNone e (line (word 5 ∷ decimal i ∷ decimal (entryState e) ∷ []))
 
 unfoldable pub environmentStartLine : ℕ → List ℕ
-environmentStartLine e = unlessNone e (line (word 5 ∷ decimal (e % 128) ∷ []))
+environmentStartLine e = unlessNone e (line (word 5 ∷ decimal (entryState e) ∷ []))
 
 unfoldable pub rowLine : ℕ → ℕ → ℕ → ℕ → List ℕ
-rowLine a g b e = line (word 6 ∷ decimal a ∷ decimal g ∷ decimal b ∷ decimal (e % 128) ∷ decimal (e / 128) ∷ [])
+rowLine a g b e = line (word 6 ∷ decimal a ∷ decimal g ∷ decimal b ∷ decimal (entryState e) ∷ decimal (entryCounter e) ∷ [])
 
 unfoldable pub stepLine : ℕ → ℕ → ℕ → ℕ → List ℕ
 stepLine c n r e = unlessNone e (rowLine (r / max 1 n / max 1 c) (r / max 1 n % max 1 c) (r % max 1 n) e)

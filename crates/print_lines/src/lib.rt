@@ -1,5 +1,6 @@
 // The lines of an answer: parts of the program `solve`. Each function writes a text at a place of the buffer and answers the place behind it. What
 // lies past the buffer's end is left out; that in the program nothing is, `Made` shows (solve/specs). 160 bytes hold every line.
+use table_entries::NONE;
 use text_shape::words;
 ghost use mathlib.Core.Path.{_≡_};
 ghost use Prim.Native.Nat.{_+_, _<_, _≤_, _^_, max};
@@ -7,9 +8,6 @@ ghost use lib.ListN.{length};
 ghost use Rattle.text_shape.specs.Text.{word};
 ghost use Rattle.text_put.specs.Put.{Puts};
 ghost use Rattle.print_lines.specs.Line.{winnerWord, winsLine, startLine, environmentStartLine, rowLine, stepLine, refusedLine, misshapenLine};
-
-// The entry of a row of none.
-const NONE: u16 = 65535;
 
 // The letters of the word w.
 fn put_word(buffer: &mut [u8], at: usize, w: usize) -> usize
@@ -55,10 +53,10 @@ pub fn put_start(buffer: &mut [u8], at: usize, input: usize, entry: u16) -> usiz
     if entry == NONE {
         return at;
     }
-    let e = entry as usize;
+    let state = table_entries::state(entry);
     let a = text_put::put_opening(buffer, at, 5);
     let b = text_put::put_number_then(buffer, a, input, b' ');
-    let c = text_put::put_number_then(buffer, b, e % 128, b')');
+    let c = text_put::put_number_then(buffer, b, state, b')');
     text_put::put_byte(buffer, c, b'\n')
 }
 
@@ -70,9 +68,9 @@ pub fn put_environment_start(buffer: &mut [u8], at: usize, entry: u16) -> usize
     if entry == NONE {
         return at;
     }
-    let e = entry as usize;
+    let state = table_entries::state(entry);
     let a = text_put::put_opening(buffer, at, 5);
-    let b = text_put::put_number_then(buffer, a, e % 128, b')');
+    let b = text_put::put_number_then(buffer, a, state, b')');
     text_put::put_byte(buffer, b, b'\n')
 }
 
@@ -81,13 +79,14 @@ fn put_row(buffer: &mut [u8], at: usize, a: usize, g: usize, b: usize, entry: u1
     requires { ⌜ at + 160 ≤ 2 ^ 32 ⌝ }
     ensures { λ r. ⌜ Puts (now (buffer .entry)) at (rowLine a g b entry) r (now (buffer .exit)) ⌝ }
 {
-    let e = entry as usize;
+    let state = table_entries::state(entry);
+    let counter = table_entries::counter(entry);
     let m = text_put::put_opening(buffer, at, 6);
     let n = text_put::put_number_then(buffer, m, a, b' ');
     let o = text_put::put_number_then(buffer, n, g, b' ');
     let p = text_put::put_number_then(buffer, o, b, b' ');
-    let q = text_put::put_number_then(buffer, p, e % 128, b' ');
-    let r = text_put::put_number_then(buffer, q, e / 128, b')');
+    let q = text_put::put_number_then(buffer, p, state, b' ');
+    let r = text_put::put_number_then(buffer, q, counter, b')');
     text_put::put_byte(buffer, r, b'\n')
 }
 

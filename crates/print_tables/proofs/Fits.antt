@@ -11,9 +11,10 @@ use borrow.Author.Tests.{leb-true, le-leb, lt-leb, eqb-true}
 use Rattle.finite.proofs.Truth.{and-left, and-right}
 use Rattle.finite.proofs.Loops.{and-stop, and-next}
 use Rattle.finite.proofs.Lists.{any-default}
+use Rattle.theory.specs.Entries.{noneEntry}
 use Rattle.text_put.specs.Put.{Puts}
 use Rattle.text_put.proofs.Buffer.{puts-then, puts-as}
-use Rattle.print_lines.specs.Line.{none, winsLine, environmentStartLine}
+use Rattle.print_lines.specs.Line.{winsLine, environmentStartLine}
 use Rattle.print_tables.specs.Print.{
   startLines,
   stepLines,
@@ -125,4 +126,5 @@ module _ {d : List ℕ} (i o c : ℕ) (es : List ℕ) where
       let rows : length es - 1 ≡ i * max 1 c * o = omega (arith, l) in
       let first : 0 < length es = omega (arith, l) in
       puts-as (sym (ap (λ (b : Bool). onlyIf b (environmentPrint i o c es)) h))
-      (puts-then P (puts-then (puts-as (ap environmentStartLine (any-default es 0 0 none first)) Q) (puts-as (ap (λ (n : ℕ). stepLines n 0 c o 1 es) rows) R)))
+      (puts-then P
+      (puts-then (puts-as (ap environmentStartLine (any-default es 0 0 noneEntry first)) Q) (puts-as (ap (λ (n : ℕ). stepLines n 0 c o 1 es) rows) R)))

@@ -5,33 +5,34 @@ use mathlib.Core.List.{List, _++_, append-assoc, append-nil}
 use mathlib.Core.Path.{_≡_, sym, _∙_, ap}
 use lib.ListN.{getD, length, length-append}
 use Rattle.finite.proofs.Lists.{any-default}
+use Rattle.theory.specs.Entries.{noneEntry}
 use Rattle.text_put.specs.Put.{Puts}
 use Rattle.text_put.proofs.Buffer.{puts-then, puts-as}
-use Rattle.print_lines.specs.Line.{none, startLine, stepLine}
+use Rattle.print_lines.specs.Line.{startLine, stepLine}
 use Rattle.print_tables.specs.Print.{startLines, stepLines}
 use Rattle.print_lines.proofs.Lines.{puts-nothing, start-short}
 
-starts-next : (n i : ℕ) (es : List ℕ) → startLines n i es ++ startLine (i + n) (getD es (i + n) none) ≡ startLines (suc n) i es
+starts-next : (n i : ℕ) (es : List ℕ) → startLines n i es ++ startLine (i + n) (getD es (i + n) noneEntry) ≡ startLines (suc n) i es
 unfolding startLines
 starts-next zero i es =
     let here : i + 0 ≡ i = omega arith in
-    ap (λ (j : ℕ). startLine j (getD es j none)) here ∙ sym (append-nil (startLine i (getD es i none)))
+    ap (λ (j : ℕ). startLine j (getD es j noneEntry)) here ∙ sym (append-nil (startLine i (getD es i noneEntry)))
 starts-next (suc n) i es =
     let there : i + suc n ≡ suc i + n = omega arith in
-    append-assoc (startLine i (getD es i none)) (startLines n (suc i) es) _
-    ∙ ap (λ (j : ℕ). startLine i (getD es i none) ++ (startLines n (suc i) es ++ startLine j (getD es j none))) there
-    ∙ ap (λ (t : List ℕ). startLine i (getD es i none) ++ t) (starts-next n (suc i) es)
+    append-assoc (startLine i (getD es i noneEntry)) (startLines n (suc i) es) _
+    ∙ ap (λ (j : ℕ). startLine i (getD es i noneEntry) ++ (startLines n (suc i) es ++ startLine j (getD es j noneEntry))) there
+    ∙ ap (λ (t : List ℕ). startLine i (getD es i noneEntry) ++ t) (starts-next n (suc i) es)
 
-steps-next : (k r c n at : ℕ) (es : List ℕ) → stepLines k r c n at es ++ stepLine c n (r + k) (getD es (at + (r + k)) none) ≡ stepLines (suc k) r c n at es
+steps-next : (k r c n at : ℕ) (es : List ℕ) → stepLines k r c n at es ++ stepLine c n (r + k) (getD es (at + (r + k)) noneEntry) ≡ stepLines (suc k) r c n at es
 unfolding stepLines
 steps-next zero r c n at es =
     let here : r + 0 ≡ r = omega arith in
-    ap (λ (j : ℕ). stepLine c n j (getD es (at + j) none)) here ∙ sym (append-nil (stepLine c n r (getD es (at + r) none)))
+    ap (λ (j : ℕ). stepLine c n j (getD es (at + j) noneEntry)) here ∙ sym (append-nil (stepLine c n r (getD es (at + r) noneEntry)))
 steps-next (suc k) r c n at es =
     let there : r + suc k ≡ suc r + k = omega arith in
-    append-assoc (stepLine c n r (getD es (at + r) none)) (stepLines k (suc r) c n at es) _
-    ∙ ap (λ (j : ℕ). stepLine c n r (getD es (at + r) none) ++ (stepLines k (suc r) c n at es ++ stepLine c n j (getD es (at + j) none))) there
-    ∙ ap (λ (t : List ℕ). stepLine c n r (getD es (at + r) none) ++ t) (steps-next k (suc r) c n at es)
+    append-assoc (stepLine c n r (getD es (at + r) noneEntry)) (stepLines k (suc r) c n at es) _
+    ∙ ap (λ (j : ℕ). stepLine c n r (getD es (at + r) noneEntry) ++ (stepLines k (suc r) c n at es ++ stepLine c n j (getD es (at + j) noneEntry))) there
+    ∙ ap (λ (t : List ℕ). stepLine c n r (getD es (at + r) noneEntry) ++ t) (steps-next k (suc r) c n at es)
 
 -- a loop's beginning and end
 pub starts-none : (d : List ℕ) (at : ℕ) (es : List ℕ) → Puts d at (startLines 0 0 es) at d
@@ -56,8 +57,8 @@ pub starts-on : {d : List ℕ} {at : ℕ} {m : ℕ} {f : List ℕ} {r : ℕ} {e 
 starts-on i es h P Q =
     let next : i + 1 ≡ suc i = omega arith in
     let here : 0 + i ≡ i = omega arith in
-    let read : startLine i (getD es i 0) ≡ startLine (0 + i) (getD es (0 + i) none) =
-    ap (startLine i) (any-default es i 0 none h) ∙ ap (λ (j : ℕ). startLine j (getD es j none)) (sym here) in
+    let read : startLine i (getD es i 0) ≡ startLine (0 + i) (getD es (0 + i) noneEntry) =
+    ap (startLine i) (any-default es i 0 noneEntry h) ∙ ap (λ (j : ℕ). startLine j (getD es j noneEntry)) (sym here) in
     puts-as (starts-next i 0 es ∙ ap (λ (n : ℕ). startLines n 0 es) (sym next)) (puts-then P (puts-as read Q))
 
 pub steps-on : {d : List ℕ} {at : ℕ} {m : ℕ} {f : List ℕ} {r : ℕ} {e : List ℕ} (k c n first : ℕ) (es : List ℕ) → first + k < length es
@@ -65,8 +66,8 @@ pub steps-on : {d : List ℕ} {at : ℕ} {m : ℕ} {f : List ℕ} {r : ℕ} {e :
 steps-on k c n first es h P Q =
     let next : k + 1 ≡ suc k = omega arith in
     let here : 0 + k ≡ k = omega arith in
-    let read : stepLine c n k (getD es (first + k) 0) ≡ stepLine c n (0 + k) (getD es (first + (0 + k)) none) =
-    ap (stepLine c n k) (any-default es (first + k) 0 none h) ∙ ap (λ (j : ℕ). stepLine c n j (getD es (first + j) none)) (sym here) in
+    let read : stepLine c n k (getD es (first + k) 0) ≡ stepLine c n (0 + k) (getD es (first + (0 + k)) noneEntry) =
+    ap (stepLine c n k) (any-default es (first + k) 0 noneEntry h) ∙ ap (λ (j : ℕ). stepLine c n j (getD es (first + j) noneEntry)) (sym here) in
     puts-as (steps-next k 0 c n first es ∙ ap (λ (j : ℕ). stepLines j 0 c n first es) (sym next)) (puts-then P (puts-as read Q))
 
 pub starts-short : (n i : ℕ) (es : List ℕ) → i + n ≤ 128 → length (startLines n i es) ≤ 160 * n
@@ -75,7 +76,7 @@ starts-short zero i es h = omega arith
 starts-short (suc n) i es h =
     omega (
       arith,
-      length-append (startLine i (getD es i none)) (startLines n (suc i) es),
-      start-short i (getD es i none) (omega arith),
+      length-append (startLine i (getD es i noneEntry)) (startLines n (suc i) es),
+      start-short i (getD es i noneEntry) (omega arith),
       starts-short n (suc i) es (omega arith),
     )

@@ -1,5 +1,5 @@
 -- A buffer of 1 MiB holds the print of 32,768 entries, a line having at most 29 bytes, and every line of a refusal.
-use Prim.Native.Nat.{ℕ, zero, suc, _+_, _*_, _/_, _%_, _≤_, _<_, max}
+use Prim.Native.Nat.{ℕ, zero, suc, _+_, _*_, _/_, _≤_, _<_, max}
 use native.Mathlib.Omega.{arith}
 use native.Mathlib.Nat.{div-le-self, mod-lt, le-trans, lt-of-le-of-lt}
 use mathlib.Core.Bool.{Bool, true, false}
@@ -11,9 +11,10 @@ use borrow.Author.Tests.{ltb-true, ltb-false}
 use Rattle.text_grammar.specs.Number.{decimal}
 use Rattle.text_grammar.proofs.Format.{by-cases}
 use Rattle.finite.proofs.Lists.{any-default}
+use Rattle.theory.specs.Entries.{noneEntry, entryState, entryCounter}
 use Rattle.text_shape.specs.Text.{words, word}
 use Rattle.text_shape.specs.Shape.{opening}
-use Rattle.print_lines.specs.Line.{none, winsLine, startLine, environmentStartLine, rowLine, stepLine, refusedLine, misshapenLine}
+use Rattle.print_lines.specs.Line.{winsLine, startLine, environmentStartLine, rowLine, stepLine, refusedLine, misshapenLine}
 use Rattle.print_tables.specs.Print.{
   startLines,
   stepLines,
@@ -32,7 +33,7 @@ use Rattle.print_lines.proofs.Lines.{
   unless-short,
   start-text,
   environment-text,
-  row-pieces,
+  row-text,
   refused-pieces,
   misshapen-pieces,
   number-short,
@@ -59,23 +60,24 @@ start-room : (i e : ℕ) → i < 1000 → length (startLine i e) ≤ 29
 unfolding startLine
 start-room i e h =
     let all = then-short start-opening (then-short (number i 32 3 (three-digits i h))
-    (then-short (number (e % 128) 41 3 (three-digits (e % 128) (omega arith))) ended)) .size in
-    unless-short e 29 _ (omega (arith, all, ap length (start-text i e)))
+    (then-short (number (entryState e) 41 3 (three-digits (entryState e) (omega arith))) ended)) .size in
+    unless-short e 29 _ (omega (arith, all, ap length (start-text i (entryState e))))
 
 environment-start-room : (e : ℕ) → length (environmentStartLine e) ≤ 29
 unfolding environmentStartLine
 environment-start-room e =
-    let all = then-short start-opening (then-short (number (e % 128) 41 3 (three-digits (e % 128) (omega arith))) ended) .size in
-    unless-short e 29 _ (omega (arith, all, ap length (environment-text e)))
+    let all = then-short start-opening (then-short (number (entryState e) 41 3 (three-digits (entryState e) (omega arith))) ended) .size in
+    unless-short e 29 _ (omega (arith, all, ap length (environment-text (entryState e))))
 
 row-room : (a g b e : ℕ) → a < 1000000 → g < 100 → b < 1000 → e < 65536 → length (rowLine a g b e) ≤ 29
+unfolding rowLine
 row-room a g b e p q s h =
-    let next = then-short (number (e % 128) 32 3 (three-digits (e % 128) (omega arith)))
-    (then-short (number (e / 128) 41 3 (three-digits (e / 128) (omega arith))) ended) in
+    let next = then-short (number (entryState e) 32 3 (three-digits (entryState e) (omega arith)))
+    (then-short (number (entryCounter e) 41 3 (three-digits (entryCounter e) (omega arith))) ended) in
     let all =
     then-short step-opening
     (then-short (number a 32 6 (six-digits a p)) (then-short (number g 32 2 (two-digits g q)) (then-short (number b 32 3 (three-digits b s)) next))) .size in
-    omega (arith, all, ap length (row-pieces a g b e))
+    omega (arith, all, ap length (row-text a g b (entryState e) (entryCounter e)))
 
 step-room : (c n r e : ℕ) → c ≤ 32 → n ≤ 128 → r < 1000000 → e < 65536 → length (stepLine c n r e) ≤ 29
 unfolding stepLine
@@ -90,15 +92,15 @@ step-room c n r e hc hn hr he =
     lt-trans : {x y z : ℕ} → x < y → y < z → x < z
     lt-trans p q = omega (arith, p, q)
 
-module _ (es : List ℕ) (entries : (j : ℕ) → getD es j none < 65536) where
+module _ (es : List ℕ) (entries : (j : ℕ) → getD es j noneEntry < 65536) where
   starts-room : (n i : ℕ) → i + n ≤ 1000 → length (startLines n i es) ≤ 29 * n
   unfolding startLines
   starts-room zero i h = omega arith
   starts-room (suc n) i h =
       omega (
         arith,
-        length-append (startLine i (getD es i none)) (startLines n (suc i) es),
-        start-room i (getD es i none) (omega arith),
+        length-append (startLine i (getD es i noneEntry)) (startLines n (suc i) es),
+        start-room i (getD es i noneEntry) (omega arith),
         starts-room n (suc i) (omega arith),
       )
 
@@ -108,8 +110,8 @@ module _ (es : List ℕ) (entries : (j : ℕ) → getD es j none < 65536) where
   steps-room c n at (suc k) r hc hn h =
       omega (
         arith,
-        length-append (stepLine c n r (getD es (at + r) none)) (stepLines k (suc r) c n at es),
-        step-room c n r (getD es (at + r) none) hc hn (omega arith) (entries (at + r)),
+        length-append (stepLine c n r (getD es (at + r) noneEntry)) (stepLines k (suc r) c n at es),
+        step-room c n r (getD es (at + r) noneEntry) hc hn (omega arith) (entries (at + r)),
         steps-room c n at k (suc r) hc hn (omega arith),
       )
 
@@ -144,10 +146,10 @@ module _ (es : List ℕ) (entries : (j : ℕ) → getD es j none < 65536) where
         arith,
         ap length whole,
         l .0,
-        length-append (winsLine false) (environmentStartLine (getD es 0 none) ++ stepLines (i * max 1 c * o) 0 c o 1 es),
-        length-append (environmentStartLine (getD es 0 none)) (stepLines (i * max 1 c * o) 0 c o 1 es),
+        length-append (winsLine false) (environmentStartLine (getD es 0 noneEntry) ++ stepLines (i * max 1 c * o) 0 c o 1 es),
+        length-append (environmentStartLine (getD es 0 noneEntry)) (stepLines (i * max 1 c * o) 0 c o 1 es),
         wins-short false,
-        environment-start-room (getD es 0 none),
+        environment-start-room (getD es 0 noneEntry),
         steps-room c o 1 (i * max 1 c * o) 0 (s .1) (s .0) (omega (arith, l)),
       ))
       (λ b. let nothing : environmentAnswer i o c es ≡ [] = ap (λ (x : Bool). onlyIf x (environmentPrint i o c es)) b in omega (arith, ap length nothing))
@@ -177,8 +179,8 @@ misshapen-room p h =
     )
 
 -- what a slice of 16-bit entries holds, and none past its end
-pub entries-small : (l : List ℕ) → ((j : ℕ) → getD l j 0 < 65536) → (j : ℕ) → getD l j none < 65536
+pub entries-small : (l : List ℕ) → ((j : ℕ) → getD l j 0 < 65536) → (j : ℕ) → getD l j noneEntry < 65536
 entries-small l h j =
     by-cases (ltb j (length l))
-    (λ b. omega (arith, any-default l j none 0 (ltb-true j (length l) b), h j))
-    (λ b. omega (arith, List·getD-eq-default l none (ltb-false j (length l) b)))
+    (λ b. omega (arith, any-default l j noneEntry 0 (ltb-true j (length l) b), h j))
+    (λ b. omega (arith, List·getD-eq-default l noneEntry (ltb-false j (length l) b)))

@@ -13,21 +13,22 @@ use mathlib.Core.Bool.{Bool, true, false, _&&_}
 use mathlib.Core.List.{List, [], _++_}
 use lib.Dec.{eqb, leb}
 use lib.ListN.{getD, length}
-use Rattle.print_lines.specs.Line.{none, winsLine, startLine, environmentStartLine, stepLine}
+use Rattle.theory.specs.Entries.{noneEntry}
+use Rattle.print_lines.specs.Line.{winsLine, startLine, environmentStartLine, stepLine}
 
 unfoldable pub startLines : ℕ → ℕ → List ℕ → List ℕ
 startLines zero i es = []
-startLines (suc n) i es = startLine i (getD es i none) ++ startLines n (suc i) es
+startLines (suc n) i es = startLine i (getD es i noneEntry) ++ startLines n (suc i) es
 
 unfoldable pub stepLines : ℕ → ℕ → ℕ → ℕ → ℕ → List ℕ → List ℕ
 stepLines zero r c n at es = []
-stepLines (suc k) r c n at es = stepLine c n r (getD es (at + r) none) ++ stepLines k (suc r) c n at es
+stepLines (suc k) r c n at es = stepLine c n r (getD es (at + r) noneEntry) ++ stepLines k (suc r) c n at es
 
 unfoldable pub controllerPrint : ℕ → ℕ → ℕ → List ℕ → List ℕ
 controllerPrint i o c es = winsLine true ++ (startLines i 0 es ++ stepLines (o * max 1 c * i) 0 c i i es)
 
 unfoldable pub environmentPrint : ℕ → ℕ → ℕ → List ℕ → List ℕ
-environmentPrint i o c es = winsLine false ++ (environmentStartLine (getD es 0 none) ++ stepLines (i * max 1 c * o) 0 c o 1 es)
+environmentPrint i o c es = winsLine false ++ (environmentStartLine (getD es 0 noneEntry) ++ stepLines (i * max 1 c * o) 0 c o 1 es)
 
 -- "1 to 128 states each"; "k requirements, 0 to 8. Each has 0 to 4 input sets and 0 to 4 output sets."
 unfoldable pub inRange : ℕ → ℕ → ℕ → Bool

@@ -22,7 +22,7 @@ use Rattle.game.proofs.Laws.{accepted-fits}
 use Rattle.game.proofs.Numbers.{after, game-after}
 use Rattle.play.specs.Play.{graphOf, separatedOf}
 use Rattle.theory.specs.Region.{verdict}
-use Rattle.theory.specs.Entries.{controllerCounters, controllerEntries, environmentEntries}
+use Rattle.theory.specs.Entries.{noneEntry, controllerCounters, controllerEntries, environmentEntries}
 use Rattle.theory.proofs.Entries.{place-below}
 use Rattle.demands.specs.Demands.{playOf, environmentOf}
 use Rattle.demands.proofs.Demands.{demand-three-environment}
@@ -101,13 +101,13 @@ module _ (S : Separated) (l : List ℕ) where
       let I = S .input .states in
       let long = compact-entries-length S in
       let rank = compact-rank S j lj in
-      ap (λ (k : ℕ). getD (compactEntries S ++ l) (I + (I + ((o * controllerCounters S + h) * componentCount S + k))) 65535)
-      (List·getD-append (compactEntries S) l 65535 (I + j) (omega arith))
-      ∙ List·getD-append (compactEntries S) l 65535
-      (I + (I + ((o * controllerCounters S + h) * componentCount S + getD (compactEntries S) (I + j) 65535)))
+      ap (λ (k : ℕ). getD (compactEntries S ++ l) (I + (I + ((o * controllerCounters S + h) * componentCount S + k))) noneEntry)
+      (List·getD-append (compactEntries S) l noneEntry (I + j) (omega arith))
+      ∙ List·getD-append (compactEntries S) l noneEntry
+      (I + (I + ((o * controllerCounters S + h) * componentCount S + getD (compactEntries S) (I + j) noneEntry)))
       (omega (
         arith,
-        place-below (S .output .states) (controllerCounters S) (componentCount S) o h (getD (compactEntries S) (I + j) 65535) lo lh
+        place-below (S .output .states) (controllerCounters S) (componentCount S) o h (getD (compactEntries S) (I + j) noneEntry) lo lh
             (rw rank (rank-below S j lj)),
       ))
 

@@ -1,9 +1,9 @@
 // The entries of a table, 16 bits each. How an entry stands for an answer is known here alone.
 ghost use mathlib.Core.Path.{_≡_};
-ghost use Prim.Native.Nat.{ℕ, _<_};
+ghost use Prim.Native.Nat.{_<_};
 ghost use Rattle.sets.specs.Words.{capacity};
 ghost use Rattle.arena.specs.Table.{gives};
-ghost use Rattle.theory.specs.Entries.{entry, answer};
+ghost use Rattle.theory.specs.Entries.{entry, entryState, entryCounter};
 ghost use Rattle.table_counters.specs.Counters.{mostCounters};
 
 // The entry of none.
@@ -17,19 +17,19 @@ pub fn pack(state: usize, counter: usize) -> u16
     requires { ⌜ (state < capacity) × (counter < mostCounters) ⌝ }
     ensures { λ r. ⌜ r ≡ entry (gives counter state) ⌝ }
 {
-    (state + 128 * counter) as u16
+    (state + STEP as usize * counter) as u16
 }
 
 // The state of an entry that is not none.
 pub fn state(e: u16) -> usize
-    ensures { λ r. ⌜ ((c s : ℕ) → answer e ≡ gives c s → r ≡ s) ⌝ }
+    ensures { λ r. ⌜ r ≡ entryState e ⌝ }
 {
-    (e % 128) as usize
+    (e % STEP) as usize
 }
 
 // The counter of an entry that is not none.
 pub fn counter(e: u16) -> usize
-    ensures { λ r. ⌜ ((c s : ℕ) → answer e ≡ gives c s → r ≡ c) ⌝ }
+    ensures { λ r. ⌜ r ≡ entryCounter e ⌝ }
 {
-    (e / 128) as usize
+    (e / STEP) as usize
 }

@@ -31,9 +31,8 @@ use Rattle.graphs.proofs.Way.{Leads}
 use Rattle.graphs.proofs.Component.{joined-to, nontrivial-same}
 use Rattle.graphs.proofs.Graph.{edge-moves}
 use Rattle.theory.specs.Tour.{goalAt, goal, inside, target}
-use Rattle.theory.specs.Entries.{entry}
+use Rattle.theory.specs.Entries.{stride, entry}
 use Rattle.arena.specs.Table.{gives}
-use Rattle.table_entries.specs.Step.{entryStep}
 use Rattle.table_entries.proofs.Packed.{entry-steps}
 use Rattle.theory.proofs.Tour.{inside-move, inside-to, inside-edge}
 use Rattle.graph_ways.specs.Kept.{kept}
@@ -129,7 +128,7 @@ pub record Staying (z : Layout) (over : ℕ) (w : Stamp) : Type 0 where
   pub which : (h : ℕ) → has (w .which .0) h ≡ ltb h (z .counters)
   pub hit : w .hit ≡ 0
   pub miss : w .miss ≡ 0
-  pub more : w .more ≡ entryStep
+  pub more : w .more ≡ stride
 
 pub staying-stamps : (z : Layout) (over : ℕ) (w : Stamp) → Staying z over w → Stamps z w
 staying-stamps z over w S = record {

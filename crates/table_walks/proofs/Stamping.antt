@@ -19,9 +19,8 @@ use Rattle.sets.specs.Words.{capacity, bitsOf}
 use Rattle.graphs.specs.Way.{prefer}
 use Rattle.graphs.proofs.Way.{Leads, prefer-below}
 use Rattle.arena.specs.Table.{Answer, gives}
-use Rattle.theory.specs.Entries.{entry}
+use Rattle.theory.specs.Entries.{stride, entry}
 use Rattle.table_counters.specs.Counters.{mostCounters}
-use Rattle.table_entries.specs.Step.{entryStep}
 use Rattle.table_entries.proofs.Packed.{entry-small}
 use Rattle.graph_ways.specs.Kept.{kept}
 use Rattle.graph_ways.specs.Search.{choices}
@@ -43,7 +42,7 @@ pub first-miss : (w : Stamp) (p : ℕ) → has (bitsOf (w .goal)) p ≡ false �
 unfolding firstEntry
 first-miss w p e = rw (e, firstEntry)
 
-first-small : (z : Layout) (w : Stamp) (p : ℕ) → Stamps z w → p < capacity → firstEntry w p < entryStep * mostCounters
+first-small : (z : Layout) (w : Stamp) (p : ℕ) → Stamps z w → p < capacity → firstEntry w p < stride * mostCounters
 first-small z w p S b =
     elim (decide (has (bitsOf (w .goal)) p)) [
       | inl e ↦ omega (arith, first-hit w p e, entry-small (w .hit) p b (S .hit))
@@ -54,7 +53,7 @@ pub stamp-entries : (z : Layout) (n : ℕ) (w : Stamp) (p first : ℕ) → Layou
     → Entries z (w .which .0) first (w .more)
 stamp-entries z n w p first F S b e = record {
   counters = S .counters;
-  small = λ h i. omega (arith, first-small z w p S b, mul-le-mul {n₂ = entryStep} {m₂ = mostCounters} (S .more) (below h i));
+  small = λ h i. omega (arith, first-small z w p S b, mul-le-mul {n₂ = stride} {m₂ = mostCounters} (S .more) (below h i));
 }
   where
     below : (h : ℕ) → has (w .which .0) h ≡ true → h ≤ mostCounters

@@ -24,8 +24,7 @@ use Rattle.bits.proofs.Visit.{small-word, lowest-below, lowest-in, lowest-less}
 use Rattle.sets.specs.Words.{capacity, bitsOf}
 use Rattle.graphs.specs.Way.{toward}
 use Rattle.arena.specs.Table.{Answer, gives}
-use Rattle.theory.specs.Entries.{entry}
-use Rattle.table_entries.specs.Step.{entryStep}
+use Rattle.theory.specs.Entries.{stride, entry}
 use Rattle.table_entries.proofs.Packed.{entry-small, entry-steps}
 use Rattle.graph_ways.specs.Kept.{kept}
 use Rattle.table_layout.specs.declared.Layout.{Layout}
@@ -69,7 +68,7 @@ module _ (z : Layout) (over : ℕ) (w : Stamp) (S : Staying z over w) where
 
 -- what it writes, the counters being all
 pub step-entries : (z : Layout) (n which p first : ℕ) → LayoutFits z n → ((h : ℕ) → has which h ≡ ltb h (z .counters)) → p < capacity
-    → first ≡ entry (gives 0 p) → Entries z which first entryStep
+    → first ≡ entry (gives 0 p) → Entries z which first stride
 step-entries z n which p first F all b e = record {
   counters = λ h i. below h i;
   small = λ h i. omega (arith, e, entry-steps h p, entry-small h p b (omega (arith, below h i, F .counters)));
@@ -123,7 +122,7 @@ module _ (rows : List ℕ) (z : Layout) (own target b : ℕ) where
 
       pub entered-next : (which row r p first : ℕ) {y′ y″ : List ℕ} → ((h : ℕ) → has which h ≡ ltb h (z .counters))
           → Entering rows (z .states) own target → row ≡ getD rows s 0 → ((t : ℕ) → has r t ≡ (has row t && has target t))
-          → p ≡ least capacity (has r) → first ≡ entry (gives 0 p) → WroteColumn z s b which first entryStep y y′ → y″ ≡ y′
+          → p ≡ least capacity (has r) → first ≡ entry (gives 0 p) → WroteColumn z s b which first stride y y′ → y″ ≡ y′
           → Entered rows z own target b v x y″
       entered-next which row r p first {y′} {y″} all N q i m k W f = rw f (record {
         small = small-word capacity v (λ t a. has-lt capacity rest t (I .small) (less-in rest s v less t a));
@@ -135,9 +134,9 @@ module _ (rows : List ℕ) (z : Layout) (own target b : ℕ) where
           before : (t : ℕ) → has v t ≡ false → (t ≡ s) ⊎ (has rest t ≡ false)
           before t a = elim (ℕ-discrete t s) [ yes j ↦ inl j | no j ↦ inr (sym (less-other rest s v less t j) ∙ a) ]
 
-          written : (h : ℕ) → first + entryStep * h ≡ entry (gives h (least capacity (both (getD rows s 0) target)))
+          written : (h : ℕ) → first + stride * h ≡ entry (gives h (least capacity (both (getD rows s 0) target)))
           written h =
-              ap (λ (j : ℕ). j + entryStep * h) k ∙ entry-steps h p
+              ap (λ (j : ℕ). j + stride * h) k ∙ entry-steps h p
               ∙ ap (λ (j : ℕ). entry (gives h j)) (step-is rows (z .states) own target s row r N entered-in q i m)
 
           fills : (a : ℕ → ℕ → ℕ → Answer) (E : List ℕ) → Rows z a E → Stepping rows z own target b a

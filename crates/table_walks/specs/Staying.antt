@@ -18,7 +18,7 @@ use Rattle.sets.specs.Words.{capacity, bitsOf}
 use Rattle.graphs.specs.Way.{toward}
 use Rattle.graphs.proofs.Way.{Leads}
 use Rattle.arena.specs.Table.{Answer, gives}
-use Rattle.table_entries.specs.Step.{entryStep}
+use Rattle.theory.specs.Entries.{stride}
 use Rattle.graph_ways.specs.Kept.{kept}
 use Rattle.table_layout.specs.declared.Layout.{Layout}
 use Rattle.table_layout.specs.Rows.{Rows, Filled}
@@ -30,7 +30,7 @@ pub record Staying (z : Layout) (over : ℕ) (w : Stamp) : Type 0 where
   pub which : (h : ℕ) → has (w .which .0) h ≡ ltb h (z .counters)
   pub hit : w .hit ≡ 0
   pub miss : w .miss ≡ 0
-  pub more : w .more ≡ entryStep
+  pub more : w .more ≡ stride
 
 pub record Entering (rows : List ℕ) (n own target : ℕ) : Type 0 where
   pub below : (s : ℕ) → has own s ≡ true → s < n

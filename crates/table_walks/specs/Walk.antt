@@ -18,9 +18,8 @@ use Rattle.sets.specs.Words.{capacity, bitsOf}
 use Rattle.graphs.specs.Way.{prefer, toward}
 use Rattle.graphs.proofs.Way.{Leads}
 use Rattle.arena.specs.Table.{Answer, gives}
-use Rattle.theory.specs.Entries.{entry}
+use Rattle.theory.specs.Entries.{stride, entry}
 use Rattle.table_counters.specs.Counters.{mostCounters}
-use Rattle.table_entries.specs.Step.{entryStep}
 use Rattle.graph_ways.specs.Kept.{kept}
 use Rattle.graph_ways.specs.Search.{choices, movesInto}
 use Rattle.table_layout.specs.declared.Layout.{Layout}
@@ -34,7 +33,7 @@ pub record Stamps (z : Layout) (w : Stamp) : Type 0 where
   pub counters : (h : ℕ) → has (w .which .0) h ≡ true → h < z .counters
   pub hit : w .hit < mostCounters
   pub miss : w .miss < mostCounters
-  pub more : w .more ≤ entryStep
+  pub more : w .more ≤ stride
 
 pub record Fair (rows : List ℕ) (z : Layout) (c left l : ℕ) (w : Stamp) (f : ℕ → ℕ → ℕ → Answer) : Type 0 where
   pub entry : (s h b : ℕ) → s < z .states → movesInto rows c left l s ≡ true → has (w .which .0) h ≡ true → b < z .width → has (bitsOf (w .over)) b ≡ true

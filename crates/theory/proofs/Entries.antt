@@ -30,6 +30,7 @@ use Rattle.theory.specs.Region.{answers, region, opens}
 use Rattle.theory.specs.Choice.{controllerRow, controllerStart, environmentRow, environmentStart, refused}
 use Rattle.theory.specs.Entries.{
   stride,
+  noneEntry,
   entry,
   answer,
   controllerCounters,
@@ -58,7 +59,7 @@ pub data Small : Answer → Type 0 where
   small-gives : (counter state : ℕ) → counter < 511 → state < stride → Small (gives counter state)
 
 -- "none is 65,535", and no other entry is
-entry-below : (a : Answer) → Small a → (a ≡ none) ⊎ (entry a < 65535)
+entry-below : (a : Answer) → Small a → (a ≡ none) ⊎ (entry a < noneEntry)
 unfolding entry
 entry-below none small-none = inl refl
 entry-below (gives c s) (small-gives counter state a b) = inr (omega arith)
@@ -67,7 +68,7 @@ answer-entry : (a : Answer) → Small a → answer (entry a) ≡ a
 unfolding answer entry
 answer-entry none small-none = refl
 answer-entry (gives c s) (small-gives counter state a b) =
-    rw (ne-eqb (state + stride * counter) 65535 (omega arith), answer)
+    rw (ne-eqb (state + stride * counter) noneEntry (omega arith), answer)
     (ap₂ gives
     (add-mul-div-left state counter (omega arith) ∙ ap (λ (k : ℕ). k + counter) (div-eq-of-lt b) ∙ zero-add counter)
     (add-mul-mod-self-left state stride counter ∙ mod-eq-of-lt b))
@@ -167,12 +168,12 @@ module _ (S : Separated) (Z : Sized S) where
   pub controller-start : (i : ℕ) → i < S .input .states
       → controllerTable (S .input .states) (controllerCounters S) (controllerEntries S) .start i ≡ controllerStart S i
   unfolding controllerTable
-  controller-start i b = ap answer (controller-start-at S 65535 i b) ∙ answer-entry (controllerStart S i) (small-start i)
+  controller-start i b = ap answer (controller-start-at S noneEntry i b) ∙ answer-entry (controllerStart S i) (small-start i)
 
   controller-step : (g o j : ℕ) → g < controllerCounters S → o < S .output .states → j < S .input .states
       → controllerTable (S .input .states) (controllerCounters S) (controllerEntries S) .step g o j ≡ controllerRow S o g j
   unfolding controllerTable
-  controller-step g o j lg lo lj = ap answer (controller-row-at S 65535 o g j lo lg lj) ∙ answer-entry (controllerRow S o g j) (small-row o g j lg)
+  controller-step g o j lg lo lj = ap answer (controller-row-at S noneEntry o g j lo lg lj) ∙ answer-entry (controllerRow S o g j) (small-row o g j lg)
 
   pub read-follows : Follows S (controllerTable (S .input .states) (controllerCounters S) (controllerEntries S))
   unfolding controllerTable
@@ -208,7 +209,8 @@ module _ (S : Separated) (Z : Sized S) where
   environment-step : (h i o : ℕ) → h < environmentCounters S → i < S .input .states → o < S .output .states
       → environmentTable (S .output .states) (environmentCounters S) (environmentEntries S) .step h i o ≡ environmentRow S i h o
   unfolding environmentTable
-  environment-step h i o lh li lo = ap answer (environment-row-at S 65535 i h o li lh lo) ∙ answer-entry (environmentRow S i h o) (small-push i h o lh li lo)
+  environment-step h i o lh li lo =
+      ap answer (environment-row-at S noneEntry i h o li lh lo) ∙ answer-entry (environmentRow S i h o) (small-push i h o lh li lo)
 
   pub read-presses : Presses S (environmentTable (S .output .states) (environmentCounters S) (environmentEntries S))
   unfolding environmentTable

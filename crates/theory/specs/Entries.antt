@@ -1,6 +1,8 @@
 -- Tables as lists of 16-bit entries, and back.
 --
 --   stride                        == how far apart the entries of one state for a counter and the next are
+--   noneEntry                     == the entry that stands for none, and what is read past a table's end
+--   entryState e, entryCounter e  == the state and the counter of the entry e, if it is not none
 --   entry a                       == the entry that stands for an answer
 --   answer e                      == the answer that an entry stands for
 --   controllerEntries S           == the controller's table, written out
@@ -31,13 +33,23 @@ use Rattle.theory.specs.Choice.{
 abbrev pub stride : ℕ
 stride = 128
 
+-- "none is 65,535"
+abbrev pub noneEntry : ℕ
+noneEntry = 65535
+
+abbrev pub entryState : ℕ → ℕ
+entryState e = e % stride
+
+abbrev pub entryCounter : ℕ → ℕ
+entryCounter e = e / stride
+
 -- "Entries are 16 bits: next state + 64 × next counter; none is 65,535.", 128 × by M-105
 unfoldable pub entry : Answer → ℕ
-entry none = 65535
+entry none = noneEntry
 entry (gives counter state) = state + stride * counter
 
 unfoldable pub answer : ℕ → Answer
-answer e = elim (eqb e 65535) [ true ↦ none | false ↦ gives (e / stride) (e % stride) ]
+answer e = elim (eqb e noneEntry) [ true ↦ none | false ↦ gives (entryCounter e) (entryState e) ]
 
 -- "the controller's counter g runs below max(1, G)"
 unfoldable pub controllerCounters : Separated → ℕ
@@ -70,15 +82,15 @@ environmentEntries S =
 unfoldable pub controllerTable : (I M : ℕ) → List ℕ → ControllerTable
 controllerTable I M l = record {
   memories = M;
-  start = λ i. answer (getD l i 65535);
-  step = λ g o j. answer (getD l (I + ((o * M + g) * I + j)) 65535);
+  start = λ i. answer (getD l i noneEntry);
+  step = λ g o j. answer (getD l (I + ((o * M + g) * I + j)) noneEntry);
 }
 
 unfoldable pub environmentTable : (O M : ℕ) → List ℕ → EnvironmentTable
 environmentTable O M l = record {
   memories = M;
-  start = answer (getD l 0 65535);
-  step = λ h i o. answer (getD l (1 + ((i * M + h) * O + o)) 65535);
+  start = answer (getD l 0 noneEntry);
+  step = λ h i o. answer (getD l (1 + ((i * M + h) * O + o)) noneEntry);
 }
 
 -- The side that the verdict names, with its table read from the list of entries.

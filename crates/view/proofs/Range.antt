@@ -11,6 +11,7 @@ use borrow.Author.Tests.{ltb-true, leb-true, lt-ltb, le-ltb, le-leb, lt-leb}
 use Rattle.finite.proofs.Truth.{and-left, and-right}
 use Rattle.finite.proofs.Loops.{and-stop, and-next}
 use Rattle.sets.specs.Words.{capacity}
+use Rattle.theory.specs.Entries.{noneEntry}
 use Rattle.view.specs.Rows.{inRange, rowEntry}
 
 module _ (I M o g j : ℕ) where
@@ -70,10 +71,10 @@ module _ (I M o g j : ℕ) where
         place = let k : (o * M + g) * I ≤ (capacity * 32 + 32) * capacity = mul-le-mul v a in omega arith;
       }
 
-  pub row-none : (l : List ℕ) → inRange I M o g j ≡ false → 65535 ≡ rowEntry l I M o g j
+  pub row-none : (l : List ℕ) → inRange I M o g j ≡ false → noneEntry ≡ rowEntry l I M o g j
   unfolding rowEntry
   row-none l h = rw (h, rowEntry)
 
-  pub row-read : (l : List ℕ) (e : ℕ) → inRange I M o g j ≡ true → e ≡ getD l (I + ((o * M + g) * I + j)) 65535 → e ≡ rowEntry l I M o g j
+  pub row-read : (l : List ℕ) (e : ℕ) → inRange I M o g j ≡ true → e ≡ getD l (I + ((o * M + g) * I + j)) noneEntry → e ≡ rowEntry l I M o g j
   unfolding rowEntry
   row-read l e h q = rw (h, rowEntry) q

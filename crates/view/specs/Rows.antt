@@ -8,6 +8,7 @@ use mathlib.Core.List.{List}
 use lib.Dec.{ltb, leb}
 use lib.ListN.{getD}
 use Rattle.sets.specs.Words.{capacity}
+use Rattle.theory.specs.Entries.{noneEntry}
 
 unfoldable pub inRange : (I M o g j : ℕ) → Bool
 inRange I M o g j = leb I capacity && (leb M 32 && (ltb o capacity && (ltb g M && ltb j I)))
@@ -15,4 +16,4 @@ inRange I M o g j = leb I capacity && (leb M 32 && (ltb o capacity && (ltb g M &
 -- "one start entry an input, then rows by output, counter, input, the last running fastest"
 unfoldable pub rowEntry : List ℕ → (I M o g j : ℕ) → ℕ
 rowEntry l I M o g j =
-    elim (inRange I M o g j) [ true ↦ getD l (I + ((o * M + g) * I + j)) 65535 | false ↦ 65535 ]
+    elim (inRange I M o g j) [ true ↦ getD l (I + ((o * M + g) * I + j)) noneEntry | false ↦ noneEntry ]

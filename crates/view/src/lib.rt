@@ -3,23 +3,22 @@ use game::InState;
 use game::OutState;
 ghost use mathlib.Core.Path.{_≡_};
 ghost use lib.ListN.{getD};
+ghost use Rattle.theory.specs.Entries.{noneEntry};
 ghost use Rattle.view.specs.Rows.{rowEntry, inRange as isRow};
-
-const NONE: u16 = 65535;
 
 // Entry number k.
 pub fn entry(rows: &[u16], k: usize) -> u16
-    ensures { λ r. ⌜ r ≡ getD (now (rows .entry)) k 65535 ⌝ }
+    ensures { λ r. ⌜ r ≡ getD (now (rows .entry)) k noneEntry ⌝ }
 {
     if k < rows.len() {
         return rows[k];
     }
-    NONE
+    table_entries::NONE
 }
 
 // The start entry of input i.
 pub fn start(rows: &[u16], i: InState) -> u16
-    ensures { λ r. ⌜ r ≡ getD (now (rows .entry)) (i .0) 65535 ⌝ }
+    ensures { λ r. ⌜ r ≡ getD (now (rows .entry)) (i .0) noneEntry ⌝ }
 {
     entry(rows, i.0)
 }
@@ -55,7 +54,7 @@ pub fn lookup(rows: &[u16], inputs: usize, counters: usize, at: RowIndex) -> u16
     ensures { λ r. ⌜ r ≡ rowEntry (now (rows .entry)) inputs counters (at .output .0) (at .counter) (at .input .0) ⌝ }
 {
     if !in_range(inputs, counters, at) {
-        return NONE;
+        return table_entries::NONE;
     }
     let o = at.output.0;
     let j = at.input.0;

@@ -1,6 +1,7 @@
 -- `none_row`: the won outputs.
 use native.Mathlib.Omega.{arith}
 use borrow.Author.Needs.{needs}
+use Rattle.theory.specs.Entries.{noneEntry}
 use Rattle.table_entries.proofs.Packed.{none-entry}
 use Rattle.environment_table.proofs.Laid.{laid-fits}
 use Rattle.environment_table.proofs.Known.{shaped, none-entries, none-filled}
@@ -25,7 +26,7 @@ write-requires c κs =
     let w = z .before in
     let p = w .before .before .before .pre in
     let Z = z .layout-of .ensures in
-    let entries = none-entries _ _ _ (p .0) _ (p .2) _ (w .won-outputs .ensures) _ _ 65535 _ Z (c .below .ensures) (omega arith) in
+    let entries = none-entries _ _ _ (p .0) _ (p .2) _ (w .won-outputs .ensures) _ _ noneEntry _ Z (c .below .ensures) (omega arith) in
     (laid-fits _ _ _ _ (p .1) Z, omega (arith, p .2, Z .states), entries)
 
 same-length : tie.Need-same-length

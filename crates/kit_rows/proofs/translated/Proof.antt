@@ -8,32 +8,39 @@ use Rattle.kit_rows.proofs.translated.Tie as tie
 returns : tie.Need-returns
 returns c = translated-none _ _ (c .if1 .taken)
 
-cast-lowest-command : tie.Need-cast-lowest-command
-cast-lowest-command c = search needs
+state-requires : tie.Need-state-requires
+state-requires c κs = search needs
 
 lowest-command-requires : tie.Need-lowest-command-requires
 lowest-command-requires c κs = search needs
 
-cast-result : tie.Need-cast-result
-cast-result c = omega (arith, lowest-small _ _ _ _ (c .lowest-command .ensures))
+counter-requires : tie.Need-counter-requires
+counter-requires c κs = search needs
 
 mul-result : tie.Need-mul-result
-mul-result c = search needs
+mul-result c = omega (arith, c .counter .ensures)
 
 add-result : tie.Need-add-result
-add-result c = omega (arith, lowest-small _ _ _ _ (c .lowest-command .ensures))
+add-result c = omega (arith, c .counter .ensures, lowest-small _ _ _ _ (c .before .lowest-command .ensures))
+
+cast-result : tie.Need-cast-result
+cast-result c = omega (arith, c .counter .ensures, lowest-small _ _ _ _ (c .before .lowest-command .ensures))
 
 returns-2 : tie.Need-returns-2
-returns-2 c = translated-some _ _ _ _ (c .before .if1 .left) (c .lowest-command .ensures)
+returns-2 c =
+    let l = c .before in
+    let s = l .before in
+    translated-some _ _ _ _ (s .before .if1 .left) (s .state .ensures) (l .lowest-command .ensures) (c .counter .ensures)
 
 pub translated-spec : {M : Type 1} → statement M
 translated-spec =
     tie.close
     (tie.spec
     returns
-    cast-lowest-command
+    state-requires
     lowest-command-requires
-    cast-result
+    counter-requires
     mul-result
     add-result
+    cast-result
     returns-2)

@@ -1,11 +1,17 @@
 -- `put_row` meets its contract.
-use Prim.Native.Nat.{_/_, _%_}
+use mathlib.Core.Path.{_∙_}
 use native.Mathlib.Omega.{arith}
 use borrow.Author.Needs.{needs}
-use Rattle.print_lines.proofs.Lines.{number-short, opening-short, row-pieces}
+use Rattle.print_lines.proofs.Lines.{number-short, opening-short, row-text, row-line}
 use Rattle.text_put.proofs.Buffer.{puts-then, puts-as}
 use Rattle.print_lines.proofs.put_row.Statement.{statement}
 use Rattle.print_lines.proofs.put_row.Tie as tie
+
+state-requires : tie.Need-state-requires
+state-requires c κs = search needs
+
+counter-requires : tie.Need-counter-requires
+counter-requires c κs = search needs
 
 put-opening-requires : tie.Need-put-opening-requires
 put-opening-requires c κs = (omega arith, omega (arith, opening-short 6))
@@ -13,14 +19,18 @@ put-opening-requires c κs = (omega arith, omega (arith, opening-short 6))
 put-number-then-requires : tie.Need-put-number-then-requires
 put-number-then-requires c κs =
     let at-put-opening = c .before .before .before in
-    let at-start = at-put-opening .before .before .before in
+    let at-counter = at-put-opening .before .before in
+    let at-state = at-counter .before in
+    let at-start = at-state .before .before in
     omega (arith, at-put-opening .put-opening .ensures .next, opening-short 6, number-short (at-start .args .a) 32 (at-start .fits .a .fits))
 
 put-number-then-requires-2 : tie.Need-put-number-then-requires-2
 put-number-then-requires-2 c κs =
     let at-put-number-then = c .before .before .before in
     let at-put-opening = at-put-number-then .before .before .before .before in
-    let at-start = at-put-opening .before .before .before in
+    let at-counter = at-put-opening .before .before in
+    let at-state = at-counter .before in
+    let at-start = at-state .before .before in
     omega (
       arith,
       at-put-opening .put-opening .ensures .next,
@@ -36,7 +46,9 @@ put-number-then-requires-3 c κs =
     let at-put-number-then2 = c .before .before .before in
     let at-put-number-then = at-put-number-then2 .before .before .before .before in
     let at-put-opening = at-put-number-then .before .before .before .before in
-    let at-start = at-put-opening .before .before .before in
+    let at-counter = at-put-opening .before .before in
+    let at-state = at-counter .before in
+    let at-start = at-state .before .before in
     omega (
       arith,
       at-put-opening .put-opening .ensures .next,
@@ -55,7 +67,9 @@ put-number-then-requires-4 c κs =
     let at-put-number-then2 = at-put-number-then3 .before .before .before .before in
     let at-put-number-then = at-put-number-then2 .before .before .before .before in
     let at-put-opening = at-put-number-then .before .before .before .before in
-    let at-start = at-put-opening .before .before .before in
+    let at-counter = at-put-opening .before .before in
+    let at-state = at-counter .before in
+    let at-start = at-state .before .before in
     omega (
       arith,
       at-put-opening .put-opening .ensures .next,
@@ -68,7 +82,7 @@ put-number-then-requires-4 c κs =
       number-short (at-start .args .g) 32 (at-start .fits .g .fits),
       number-short (at-start .args .b) 32
           (at-start .fits .b .fits),
-      number-short (at-start .args .entry % 128) 32 (omega arith),
+      number-short (at-state .state .result) 32 (omega (arith, at-state .state .ensures)),
     )
 
 put-number-then-requires-5 : tie.Need-put-number-then-requires-5
@@ -78,7 +92,9 @@ put-number-then-requires-5 c κs =
     let at-put-number-then2 = at-put-number-then3 .before .before .before .before in
     let at-put-number-then = at-put-number-then2 .before .before .before .before in
     let at-put-opening = at-put-number-then .before .before .before .before in
-    let at-start = at-put-opening .before .before .before in
+    let at-counter = at-put-opening .before .before in
+    let at-state = at-counter .before in
+    let at-start = at-state .before .before in
     omega (
       arith,
       at-put-opening .put-opening .ensures .next,
@@ -92,8 +108,8 @@ put-number-then-requires-5 c κs =
           (at-start .args .g) 32 (at-start .fits .g .fits),
       number-short (at-start .args .b) 32 (at-start .fits .b .fits),
       number-short
-          (at-start .args .entry % 128) 32 (omega arith),
-      number-short (at-start .args .entry / 128) 41 (omega (arith, at-start .fits .entry .fits)),
+          (at-state .state .result) 32 (omega (arith, at-state .state .ensures)),
+      number-short (at-counter .counter .result) 41 (omega (arith, at-counter .counter .ensures, at-start .fits .entry .fits)),
     )
 
 put-byte-requires : tie.Need-put-byte-requires
@@ -104,7 +120,9 @@ put-byte-requires c κs =
     let at-put-number-then2 = at-put-number-then3 .before .before .before .before in
     let at-put-number-then = at-put-number-then2 .before .before .before .before in
     let at-put-opening = at-put-number-then .before .before .before .before in
-    let at-start = at-put-opening .before .before .before in
+    let at-counter = at-put-opening .before .before in
+    let at-state = at-counter .before in
+    let at-start = at-state .before .before in
     omega (
       arith,
       at-put-opening .put-opening .ensures .next,
@@ -119,9 +137,8 @@ put-byte-requires c κs =
       number-short (at-start .args .g) 32 (at-start .fits .g .fits),
       number-short (at-start .args .b) 32
           (at-start .fits .b .fits),
-      number-short (at-start .args .entry % 128) 32 (omega arith),
-      number-short (at-start .args .entry / 128) 41
-          (omega (arith, at-start .fits .entry .fits)),
+      number-short (at-state .state .result) 32 (omega (arith, at-state .state .ensures)),
+      number-short (at-counter .counter .result) 41 (omega (arith, at-counter .counter .ensures, at-start .fits .entry .fits)),
     )
 
 same-length : tie.Need-same-length
@@ -136,7 +153,9 @@ returns c =
     let at-put-number-then2 = at-put-number-then3 .before .before .before .before in
     let at-put-number-then = at-put-number-then2 .before .before .before .before in
     let at-put-opening = at-put-number-then .before .before .before .before in
-    puts-as (row-pieces _ _ _ _) (puts-then (at-put-opening .put-opening .ensures)
+    let at-counter = at-put-opening .before .before in
+    puts-as (row-text _ _ _ _ _ ∙ row-line _ _ _ _ (at-counter .before .state .ensures) (at-counter .counter .ensures))
+    (puts-then (at-put-opening .put-opening .ensures)
     (puts-then (at-put-number-then .put-number-then .ensures)
     (puts-then (at-put-number-then2 .put-number-then2 .ensures)
     (puts-then (at-put-number-then3 .put-number-then3 .ensures)
@@ -147,6 +166,8 @@ pub put-row-spec : {M : Type 1} → statement M
 put-row-spec =
     tie.close
     (tie.spec
+    state-requires
+    counter-requires
     put-opening-requires
     put-number-then-requires
     put-number-then-requires-2

@@ -1,9 +1,9 @@
 -- `put_start` meets its contract.
-use Prim.Native.Nat.{_%_}
+use mathlib.Core.Path.{_∙_}
 use native.Mathlib.Omega.{arith}
 use borrow.Author.Needs.{needs}
 use Rattle.print_lines.specs.Line.{startLine}
-use Rattle.print_lines.proofs.Lines.{number-short, opening-short, none-line, start-pieces}
+use Rattle.print_lines.proofs.Lines.{number-short, opening-short, none-line, start-text, start-line}
 use Rattle.text_put.proofs.Buffer.{puts-then, puts-as}
 use Rattle.print_lines.proofs.put_start.Statement.{statement}
 use Rattle.print_lines.proofs.put_start.Tie as tie
@@ -12,20 +12,25 @@ returns : tie.Need-returns
 unfolding startLine
 returns c = none-line _ _ _ _ (c .if1 .taken)
 
+state-requires : tie.Need-state-requires
+state-requires c κs = search needs
+
 put-opening-requires : tie.Need-put-opening-requires
 put-opening-requires c κs = (omega arith, omega (arith, opening-short 5))
 
 put-number-then-requires : tie.Need-put-number-then-requires
 put-number-then-requires c κs =
     let at-put-opening = c .before .before .before in
-    let at-start = at-put-opening .before .before .before .before in
+    let at-state = at-put-opening .before .before in
+    let at-start = at-state .before .before .before in
     omega (arith, at-put-opening .put-opening .ensures .next, opening-short 5, number-short (at-start .args .input) 32 (at-start .fits .input .fits))
 
 put-number-then-requires-2 : tie.Need-put-number-then-requires-2
 put-number-then-requires-2 c κs =
     let at-put-number-then = c .before .before .before in
     let at-put-opening = at-put-number-then .before .before .before .before in
-    let at-start = at-put-opening .before .before .before .before in
+    let at-state = at-put-opening .before .before in
+    let at-start = at-state .before .before .before in
     omega (
       arith,
       at-put-opening .put-opening .ensures .next,
@@ -33,7 +38,7 @@ put-number-then-requires-2 c κs =
       opening-short 5,
       number-short
           (at-start .args .input) 32 (at-start .fits .input .fits),
-      number-short (at-start .args .entry % 128) 41 (omega arith),
+      number-short (at-state .state .result) 41 (omega (arith, at-state .state .ensures)),
     )
 
 put-byte-requires : tie.Need-put-byte-requires
@@ -41,7 +46,8 @@ put-byte-requires c κs =
     let at-put-number-then2 = c .before .before .before in
     let at-put-number-then = at-put-number-then2 .before .before .before .before in
     let at-put-opening = at-put-number-then .before .before .before .before in
-    let at-start = at-put-opening .before .before .before .before in
+    let at-state = at-put-opening .before .before in
+    let at-start = at-state .before .before .before in
     omega (
       arith,
       at-put-opening .put-opening .ensures .next,
@@ -49,7 +55,7 @@ put-byte-requires c κs =
       at-put-number-then2 .put-number-then2 .ensures .next,
       opening-short 5,
       number-short (at-start .args .input) 32 (at-start .fits .input .fits),
-      number-short (at-start .args .entry % 128) 41 (omega arith),
+      number-short (at-state .state .result) 41 (omega (arith, at-state .state .ensures)),
     )
 
 same-length : tie.Need-same-length
@@ -61,8 +67,8 @@ returns-2 c =
     let at-put-number-then2 = at-put-byte .before .before .before .before in
     let at-put-number-then = at-put-number-then2 .before .before .before .before in
     let at-put-opening = at-put-number-then .before .before .before .before in
-    let at-if1 = at-put-opening .before .before in
-    puts-as (start-pieces _ _ (at-if1 .if1 .left)) (puts-then (at-put-opening .put-opening .ensures)
+    let at-state = at-put-opening .before .before in
+    puts-as (start-text _ _ ∙ start-line _ _ (at-state .state .ensures) (at-state .before .if1 .left)) (puts-then (at-put-opening .put-opening .ensures)
     (puts-then (at-put-number-then .put-number-then .ensures) (puts-then (at-put-number-then2 .put-number-then2 .ensures) (at-put-byte .put-byte .ensures))))
 
 pub put-start-spec : {M : Type 1} → statement M
@@ -70,6 +76,7 @@ put-start-spec =
     tie.close
     (tie.spec
     returns
+    state-requires
     put-opening-requires
     put-number-then-requires
     put-number-then-requires-2

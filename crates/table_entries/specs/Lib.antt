@@ -1,2 +1,0 @@
--- What the contracts that write entries cite.
-pub mod Step
