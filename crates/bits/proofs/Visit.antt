@@ -6,6 +6,8 @@
 --   Collected w x n p rest c  == c has the members of x below n with p, but for those of `rest`
 --   collected-*               : how that begins, goes on and ends
 --   whole-start, within-start : how it begins where all members of x are below the bound
+--   whole-end                 : and how it ends
+--   cut-start, cut-end        : how it begins and ends where x is cut at the bound first
 use Prim.Native.Nat.{ℕ, _^_, _≤_, _<_}
 use mathlib.Core.Path.{_≡_, sym, _∙_, ap}
 use mathlib.Core.Bool.{Bool, true, false, _&&_, _||_, not}
@@ -18,7 +20,7 @@ use Rattle.finite.specs.Bounded.{least, count}
 use Rattle.finite.proofs.Truth.{clash, same-test, and-intro, and-left, and-right, or-left, or-right, or-cases}
 use Rattle.finite.proofs.Bounded.{least-below, least-member}
 use Rattle.bits.specs.Member.{has, within, pack}
-use Rattle.bits.proofs.Membership.{ext, has-zero, has-pack, within-has, within-lt, has-within}
+use Rattle.bits.proofs.Membership.{ext, has-zero, has-pack, pack-ext, within-has, within-lt, has-within}
 use Rattle.bits.proofs.Compare.{nonzero-below}
 use Rattle.bits.proofs.Remove.{less-in, less-other, less-falls}
 
@@ -121,3 +123,22 @@ module _ (w x n : ℕ) (p : ℕ → Bool) where
           let in′ = and-right (ltb s n) (has x s && p s) both in
           C .all s (ltb-true s n (and-left (ltb s n) (has x s && p s) both)) (and-left (has x s) (p s) in′)
           (ap (λ (k : ℕ). has k s) z ∙ has-zero s) (and-right (has x s) (p s) in′)
+
+  pub whole-end : (rest c : ℕ) → Collected w x n p rest c → rest ≡ 0 → ((s : ℕ) → has x s ≡ true → s < n) → (s : ℕ) → has c s ≡ (has x s && p s)
+  whole-end rest c C z b s =
+      same-test (has c s) (has x s && p s) (λ h. let v = C .right s h in and-intro (v .1) (v .2))
+      (λ h. let m = and-left (has x s) (p s) h in
+      C .all s (b s m) m (ap (λ (k : ℕ). has k s) z ∙ has-zero s) (and-right (has x s) (p s) h))
+
+-- y are the members of x below n
+module _ (w x b y n : ℕ) (f : (s : ℕ) → has b s ≡ ltb s n) (i : (s : ℕ) → has y s ≡ (has x s && has b s)) (p : ℕ → Bool) where
+  pub cut-start : n ≤ w → Collected w y n p y 0
+  cut-start small = whole-start w y n p small (λ s e. cut-in x b y n f i s e .0)
+
+  pub cut-end : (rest c : ℕ) → Collected w y n p rest c → rest ≡ 0 → c ≡ pack n (λ s. has x s && p s)
+  cut-end rest c C z =
+      collected-end w y n p rest c C z
+      ∙ pack-ext n (λ s. has y s && p s) (λ s. has x s && p s) (λ s l. ap (λ (k : Bool). k && p s) (same s l))
+    where
+      same : (s : ℕ) → s < n → has y s ≡ has x s
+      same s l = same-test (has y s) (has x s) (λ e. cut-in x b y n f i s e .1) (λ e. cut-all x b y n f i s l e)

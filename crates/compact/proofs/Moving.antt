@@ -5,7 +5,7 @@
 --   from-length, start-back, row-back             : what is moved back
 --   from-fits, from-rows                          : it passes 23 of the full layout and, where 22 passes, 21
 --   over-and-back, back-and-over                  : the same table
---   entries-fit, entries-rows, compact-entries-fit, compact-entries-ranks : what the solver writes passes the tests
+--   entries-fit, entries-rows                     : what the solver writes passes 23 and 21
 --   over-entries, back-entries                    : what it writes in one layout, moved, is what it writes in the other
 use Prim.Native.Nat.{ℕ, _+_, _<_}
 use mathlib.Core.Path.{_≡_, sym, _∙_, ap}
@@ -164,12 +164,6 @@ module _ (S : Separated) where
 
   entries-rows : rowsFit S (controllerEntries S) ≡ true
   entries-rows = rows-fit-intro S (controllerEntries S) entries-agree
-
-  pub compact-entries-fit : compactFits S (compactEntries S) ≡ true
-  compact-entries-fit = compact-fits-intro S (compactEntries S) (compact-entries-length S)
-
-  pub compact-entries-ranks : ranksFit S (compactEntries S) ≡ true
-  compact-entries-ranks = ranks-fit-intro S (compactEntries S) (compact-rank S)
 
   cell-over : (o g c : ℕ) → o < S .output .states → g < controllerCounters S → c < componentCount S
       → fullRow S (controllerEntries S) o g (leaderOf S c) ≡ compactCell S (compactEntries S) o g c

@@ -2,7 +2,6 @@
 --
 --   same-table           : the solver's table, read from either layout
 --   same-over, same-back : a stored table and the same table moved over, or back
---   same-list            : the list moved back is the list of the full layout, so the tables read from it are equal
 --   wins-over, wins-back : a stored table that wins still wins when it is moved
 --   compact-demand-three : demand 3 of the compact layout
 use Prim.Native.Nat.{ℕ, _<_}
@@ -34,7 +33,7 @@ use Rattle.compact.specs.Compact.{compactEntries, fullRow, compactRow, c
 use Rattle.compact.specs.Moving.{toCompact, fromCompact, rowsFit}
 use Rattle.compact.specs.Claims.{Same, fullTable}
 use Rattle.compact.proofs.Entries.{rows-equal, starts-equal}
-use Rattle.compact.proofs.Moving.{start-over, row-over, start-back, row-back, back-entries}
+use Rattle.compact.proofs.Moving.{start-over, row-over, start-back, row-back}
 use Rattle.compact.proofs.Same.{same-sym, same-wins}
 
 module _ (S : Separated) where
@@ -61,9 +60,6 @@ module _ (S : Separated) where
   same-back : (l : List ℕ) → Same (arenaOf S) (oldTable (fromCompact S l)) (compactTable S l)
   same-back l =
       same-lists (fromCompact S l) l (λ i b. sym (start-back S l i b)) (λ o g j lo lg lj. sym (row-back S l o g j lo lg lj))
-
-  pub same-list : oldTable (fromCompact S (compactEntries S)) ≡ oldTable (controllerEntries S)
-  same-list = ap oldTable (back-entries S)
 
   -- a stored table that wins still wins when it is moved
 

@@ -1,21 +1,17 @@
 -- Both sides cannot win.
 --
 --   no-both               : not both sides hold a winning table
---   no-both-game          : the same of two graphs
 --   no-both-from          : the same from one position
 --   not-won               : a position that a table of the environment beats is not won
---   beats-reached         : a winning table of the environment beats every configuration that it reaches
 --   demand-system, demand-environment    : demand 3 from a winning table
 use Prim.Native.Nat.{ℕ, _<_}
 use mathlib.Core.Path.{_≡_, refl, sym}
-use Rattle.arena.specs.Arena.{Arena, Separated, arenaOf}
+use Rattle.arena.specs.Arena.{Arena}
 use Rattle.arena.specs.Bounds.{Bounded}
 use Rattle.arena.specs.Table.{Some, ControllerTable, EnvironmentTable}
-use Rattle.arena.specs.Play.{Configuration, ControllerFirst, EnvironmentFirst, EnvironmentTurn, Reachable}
+use Rattle.arena.specs.Play.{Configuration, ControllerFirst, EnvironmentFirst}
 use Rattle.arena.specs.Win.{ControllerWins, EnvironmentWins, Keeps, Won, system, environment, DemandThree}
-use Rattle.arena.proofs.Bounds.{bounded-arenaOf}
 use Rattle.arena.proofs.Reach.{reached-first}
-use Rattle.arena.proofs.From.{reached-from, cycle-from, configurations-from}
 use Rattle.duel.specs.Beats.{Beats}
 use Rattle.duel.proofs.Match.{no-play}
 
@@ -45,10 +41,6 @@ no-both A B T P win lose =
     reply : Some (T .memories) (A .opening i) (T .start i)
     reply = win .starts i (first .names .state)
 
--- in the game of two graphs
-pub no-both-game : (S : Separated) (T : ControllerTable) (P : EnvironmentTable) → ControllerWins (arenaOf S) T → EnvironmentWins (arenaOf S) P → ⊥
-no-both-game S = no-both (arenaOf S) (bounded-arenaOf S)
-
 -- the first configurations are the position, with a memory value of either side
 pub no-both-from : (A : Arena) → Bounded A → (T : ControllerTable) (P : EnvironmentTable) (c d : Configuration)
     → c .input < A .inputs → c .output < A .outputs → c .input ≡ d .input → c .output ≡ d .output → Keeps A T c → Beats A P d → ⊥
@@ -75,12 +67,3 @@ demand-environment {A} B {P} lose = (lose, λ T win. no-both A B T P win lose)
 pub not-won : {A : Arena} → Bounded A → {P : EnvironmentTable} (i o m : ℕ) → i < A .inputs → o < A .outputs
     → Beats A P (record { input = i; output = o; memory = m }) → Won A i o → ⊥
 not-won {A} B {P} i o m ib ob lose won = no-both-from A B (won .table) P _ _ ib ob refl refl (won .keeps) lose
-
--- a winning table of the environment beats every configuration that it reaches
-pub beats-reached : (A : Arena) (P : EnvironmentTable) → EnvironmentWins A P → (c : Configuration)
-    → Reachable (EnvironmentFirst A P) (EnvironmentTurn A P) c → c .memory < P .memories → Beats A P c
-beats-reached A P win c r below = record {
-  memory = below;
-  steps = λ d s. win .steps d (reached-from _ _ r s);
-  rounds = λ s. rw (configurations-from _ _ r s) at (win .rounds (cycle-from _ _ r s));
-}

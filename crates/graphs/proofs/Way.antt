@@ -236,9 +236,6 @@ module _ (n : ℕ) (r : ℕ → ℕ → Bool) (p : ℕ → Bool) where
   unfolding shortest
   toward-near s w = and-right (r s (toward n r p s)) (near n r p (approach n r p s) (toward n r p s)) (toward-shortest s w)
 
-  pub toward-below : (s : ℕ) → Leads s → toward n r p s < n
-  toward-below s w = near-below (approach n r p s) (toward n r p s) (toward-near s w)
-
   -- where the move does not land, its own shortest way is one move shorter
   falls : (s t k : ℕ) → approach n r p s ≡ k → r s t ≡ true → near n r p k t ≡ true → (p t ≡ true) ⊎ (Leads t × (approach n r p t < k))
   falls s t zero e m h = inl (near-zero t h)

@@ -1,4 +1,3 @@
--- Visits: the members of a word, visited lowest first. Drawing: the component's rows. Tests: whether it is accepting.
-pub mod Visits
+-- Drawing: the component's rows. Tests: whether it is accepting.
 pub mod Drawing
 pub mod Tests

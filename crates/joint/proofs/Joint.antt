@@ -3,14 +3,13 @@
 --   reaches-left, reaches-right       : what is reached jointly is reached by each
 --   joined-left, joined-right         : what is joined is joined in each
 --   joint-step                        : a joint move inside a component of each graph lies inside a component of the joined graph
---   joint-nontrivial                  : a component of the joined graph has a move exactly when its two components do
---   nontrivial-both, -left, -right    : its three halves
+--   nontrivial-both, -left, -right    : a component of the joined graph has a move where its two components do, and only there
 --   spread-left, spread-right         : a joined component with a move passes every state of its two components, whatever their periods
 use Prim.Native.Nat.{ℕ, _/_, _%_, _<_}
 use mathlib.Core.Path.{_≡_, refl, sym, _∙_}
-use mathlib.Core.Bool.{true, _&&_}
+use mathlib.Core.Bool.{true}
 use lib.Arith.{digits-div, digits-mod}
-use Rattle.finite.proofs.Truth.{and-intro, and-left, and-right, same-test}
+use Rattle.finite.proofs.Truth.{and-left, and-right}
 use Rattle.graphs.specs.Walk.{stay, step}
 use Rattle.graphs.specs.Graph.{Graph, edge}
 use Rattle.graphs.specs.Closure.{reaches}
@@ -99,12 +98,6 @@ module _ (G H : Graph) where
       (ap2 (reaches H) refl (sym (at-right s t b))
       ∙ path-reaches H (v .0 % H .states) (at H s t % H .states) (edge-to H t (v .0 % H .states) e)
       (path-right (reaches-path (joint G H) (v .0) (at H s t) (joined-back (joint G H) (at H s t) (v .0) (v .2)))))
-
-  pub joint-nontrivial : (s t : ℕ) → t < H .states → nontrivial (joint G H) (at H s t) ≡ (nontrivial G s && nontrivial H t)
-  joint-nontrivial s t b =
-      same-test (nontrivial (joint G H) (at H s t)) (nontrivial G s && nontrivial H t)
-      (λ n. and-intro (nontrivial-left s t b n) (nontrivial-right s t b n))
-      (λ h. nontrivial-both s t (and-left (nontrivial G s) (nontrivial H t) h) (and-right (nontrivial G s) (nontrivial H t) h))
 
   -- each move of the path is answered inside the other's component
   along-left : (s s′ t : ℕ) → s < G .states → t < H .states → Path G s s′ → reaches G s′ s ≡ true → nontrivial H t ≡ true

@@ -1,3 +1,2 @@
--- Laws of runs, and of visits of a set below a bound.
+-- Laws of runs.
 pub mod Runs
-pub mod Visits

@@ -5,9 +5,8 @@ use mathlib.Core.Path.{refl}
 use native.Mathlib.Omega.{arith}
 use Rattle.finite.specs.Bounded.{count}
 use Rattle.bits.specs.Member.{has}
-use Rattle.bits.proofs.Visit.{Collected, whole-start, collected-small, collected-below, collected-falls, collected-next}
+use Rattle.bits.proofs.Visit.{Collected, whole-start, collected-small, collected-below, collected-falls, collected-next, whole-end}
 use Rattle.joined_component.specs.Component.{rankedIn}
-use Rattle.joined_component.proofs.Visits.{visit-end}
 use Rattle.joined_component.proofs.Drawing.{few-ahead}
 use borrow.Author.Needs.{needs}
 use Rattle.joined_component.proofs.ranked_row.Statement.{statement}
@@ -85,7 +84,7 @@ loop-again c =
 returns : tie.Need-returns Inv-loop μ-loop
 returns c =
     let b = c .before .before .before .before in
-    simp zero-add at (visit-end _ _ _ (c .before .loop .rest) _ (c .before .loop .inv) (c .loop-test .left) (rw (zero-add (b .args .at .0)) (b .pre .3)))
+    simp zero-add at (whole-end 64 _ _ _ (c .before .loop .rest) _ (c .before .loop .inv) (c .loop-test .left) (rw (zero-add (b .args .at .0)) (b .pre .3)))
 
 pub ranked-row-spec : {M : Type 1} → statement M
 ranked-row-spec =

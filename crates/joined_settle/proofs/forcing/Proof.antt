@@ -2,11 +2,10 @@
 use native.Mathlib.Omega.{arith}
 use Rattle.finite.specs.Bounded.{count}
 use Rattle.bits.specs.Member.{has}
-use Rattle.bits.proofs.Visit.{Collected, whole-start, collected-small, collected-below, collected-falls, collected-next}
+use Rattle.bits.proofs.Visit.{Collected, whole-start, collected-small, collected-below, collected-falls, collected-next, whole-end}
 use Rattle.theory.specs.Region.{replies}
 use Rattle.play.specs.Play.{separatedOf}
 use Rattle.joined_component.specs.Component.{won}
-use Rattle.joined_component.proofs.Visits.{visit-end}
 use borrow.Author.Needs.{needs}
 use Rattle.joined_settle.proofs.forcing.Statement.{statement}
 use Rattle.joined_settle.proofs.forcing.Tie as tie
@@ -58,7 +57,7 @@ loop-again c =
     (c .before .before .forces .ensures) (c .before .insert-if .ensures)
 
 returns : tie.Need-returns Inv-loop μ-loop
-returns c = visit-end _ _ _ (c .before .loop .rest) _ (c .before .loop .inv) (c .loop-test .left) (c .before .before .before .pre .3)
+returns c = whole-end 64 _ _ _ (c .before .loop .rest) _ (c .before .loop .inv) (c .loop-test .left) (c .before .before .before .pre .3)
 
 pub forcing-spec : {M : Type 1} → statement M
 forcing-spec =

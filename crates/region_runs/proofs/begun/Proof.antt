@@ -3,12 +3,11 @@ use Prim.Native.Nat.{_<_}
 use mathlib.Core.Logic.{_≢_}
 use Rattle.finite.specs.Bounded.{count}
 use Rattle.bits.specs.Member.{has}
-use Rattle.bits.proofs.Visit.{Collected, collected-below, collected-falls, collected-next}
+use Rattle.bits.proofs.Visit.{Collected, collected-below, collected-falls, collected-next, cut-start, cut-end}
 use Rattle.sets.specs.Words.{capacity, bitsOf, setsIn}
 use Rattle.sets.proofs.Rows.{is-some, is-none}
 use Rattle.region_runs.specs.Runs.{beginsAt}
 use Rattle.region_runs.proofs.Runs.{runs-of}
-use Rattle.region_runs.proofs.Visits.{visit-start, visit-end}
 use native.Mathlib.Omega.{arith}
 use borrow.Author.Needs.{needs}
 use Rattle.region_runs.proofs.begun.Statement.{statement}
@@ -31,7 +30,7 @@ intersection-requires c κs = search needs
 
 loop-holds : tie.Need-loop-holds Inv-loop μ-loop
 loop-holds c =
-    rw (c .before .before .empty .ensures .1) (visit-start _ _ _ _ (c .before .below .ensures) (c .intersection .ensures) _ (omega arith))
+    rw (c .before .before .empty .ensures .1) (cut-start capacity _ _ _ _ (c .before .below .ensures) (c .intersection .ensures) _ (omega arith))
 
 is-empty-requires : tie.Need-is-empty-requires Inv-loop μ-loop
 is-empty-requires c κs = search needs
@@ -84,7 +83,7 @@ returns c =
     let b = e .before in
     let i = b .before in
     runs-of _ _ _ _
-    (visit-end _ _ _ _ (i .before .below .ensures) (i .intersection .ensures) _ _ _ (b .loop .inv) (is-none _ (e .is-empty .ensures) (c .if1 .left)))
+    (cut-end capacity _ _ _ _ (i .before .below .ensures) (i .intersection .ensures) _ _ _ (b .loop .inv) (is-none _ (e .is-empty .ensures) (c .if1 .left)))
 
 pub begun-spec : {M : Type 1} → statement M
 begun-spec =
