@@ -1,6 +1,7 @@
 -- The way home, for inputs with the same homes below it.
 --
---   lower-is, alike-at, first-not, first-of, near-at : the tests of one input and of one output
+--   lower-is, alike-at, reach-at, avoid-at : the tests of one input and of one output
+--   avoid-homes, near-both     : the outputs that reach d and none of the homes
 --   Near                       == the outputs from which the home of these inputs is d: they reach d, and none of the lower homes
 --   resides-near, near-resides : where such an input has its home at d
 --   group-filled               : the rows of these inputs
@@ -9,7 +10,7 @@ use Prim.Native.Nat.{ℕ, _+_, _^_, _≤_, _<_}
 use mathlib.Core.Path.{_≡_, refl, sym, _∙_, ap, ap₂, subst, subst₂, fun-ext}
 use mathlib.Core.Bool.{Bool, true, false, not, _&&_}
 use mathlib.Core.List.{List}
-use mathlib.Core.Logic.{inl, inr, _≢_}
+use mathlib.Core.Logic.{_⊎_, inl, inr, _≢_}
 use native.Mathlib.Omega.{arith}
 use lib.Dec.{eqb, ltb}
 use borrow.Author.Tests.{eqb-true, eq-eqb, ltb-true, lt-ltb}
@@ -17,7 +18,7 @@ use Rattle.finite.specs.Bounded.{least, count}
 use Rattle.finite.proofs.Truth.{decide, clash, same-test, false-of, and-intro, and-left, and-right, and-false-right, not-true}
 use Rattle.finite.proofs.Bounded.{least-before, least-unique, count-less}
 use Rattle.bits.specs.Member.{has, pack, within, setsMeet}
-use Rattle.bits.proofs.Membership.{ext, has-zero, has-within, has-pack-below}
+use Rattle.bits.proofs.Membership.{ext, has-zero, has-within, within-has, has-pack, has-pack-below}
 use Rattle.bits.proofs.Compare.{meets-intro, meets-elim}
 use Rattle.bits.proofs.Visit.{small-word, lowest-in, lowest-below}
 use Rattle.sets.specs.Words.{capacity, bitsOf, setsIn, setCount}
@@ -26,7 +27,7 @@ use Rattle.graphs.specs.Closure.{reaches}
 use Rattle.graphs.specs.Component.{joined}
 use Rattle.graphs.specs.Way.{near, toward}
 use Rattle.graphs.proofs.Graph.{edge-from, edge-to}
-use Rattle.graphs.proofs.Closure.{reaches-edge, reaches-trans, reaches-to}
+use Rattle.graphs.proofs.Closure.{reaches-edge, reaches-trans, reaches-to, reaches-self}
 use Rattle.graphs.proofs.Component.{joined-to}
 use Rattle.graphs.proofs.Way.{Leads}
 use Rattle.arena.specs.Table.{gives}
@@ -54,7 +55,7 @@ use Rattle.controller_table.proofs.Loops.{comp-in}
 use Rattle.controller_table.proofs.Phases.{same-moves}
 use Rattle.controller_table.proofs.Setting.{sizes-of, told-of, scratch-long}
 use Rattle.controller_table.proofs.Told.{Told, resides-there, home-reached-at, home-at, row-home}
-use Rattle.controller_homeward.specs.Homes.{lowerAt, alikeAt, reachesFirst, nearAt}
+use Rattle.controller_homeward.specs.Homes.{lowerAt, alikeAt, reachesAt, avoidsAt, nearAt}
 
 pub lower-is : (s : List ℕ) (n d j row b : ℕ) {x : ℕ} → row ≡ rowAt s n j → ((t : ℕ) → has b t ≡ ltb t d) → ((t : ℕ) → has x t ≡ (has row t && has b t))
     → x ≡ lowerAt s n d j
@@ -79,21 +80,49 @@ pub alike-at : (s : List ℕ) (n d homes j x : ℕ) {b : Bool} → x ≡ lowerAt
 unfolding alikeAt
 alike-at s n d homes j x e f = f ∙ ap (λ (k : ℕ). eqb k homes) e
 
-pub near-at : (s : List ℕ) (n homes d o x : ℕ) {b : Bool} → x ≡ outReachAt s n o → b ≡ reachesFirst x homes d → b ≡ nearAt s n homes d o
-unfolding nearAt
-near-at s n homes d o x e f = f ∙ ap (λ (k : ℕ). reachesFirst k homes d) e
+pub reach-at : (s : List ℕ) (n d o x : ℕ) {b : Bool} → x ≡ outReachAt s n o → b ≡ has x d → b ≡ reachesAt s n d o
+unfolding reachesAt
+reach-at s n d o x e f = f ∙ ap (λ (k : ℕ). has k d) e
 
-pub first-not : (reach homes d : ℕ) → setsMeet capacity reach homes ≡ true → false ≡ reachesFirst reach homes d
-unfolding reachesFirst
-first-not reach homes d e = sym (and-false-right (has reach d) (ap not e))
+pub avoid-at : (s : List ℕ) (n homes o x : ℕ) {b : Bool} → x ≡ outReachAt s n o → b ≡ setsMeet capacity x homes → not b ≡ avoidsAt s n homes o
+unfolding avoidsAt
+avoid-at s n homes o x e f = ap not (f ∙ ap (λ (k : ℕ). setsMeet capacity k homes) e)
 
-pub first-of : (reach homes d : ℕ) {b : Bool} → setsMeet capacity reach homes ≡ false → b ≡ has reach d → b ≡ reachesFirst reach homes d
-unfolding reachesFirst
-first-of reach homes d {b} e f = f ∙ rw e (and-true (has reach d))
+pub packed-within : (x m : ℕ) (p : ℕ → Bool) → x ≡ pack m p → within x m ≡ true
+packed-within x m p e = rw e (has-within (pack m p) m (pack-below m p))
+
+-- x without the homes
+pub left-below : (x homes v m : ℕ) → within x m ≡ true → ((o : ℕ) → has v o ≡ (has x o && not (has homes o))) → (o : ℕ) → has v o ≡ true → o < m
+left-below x homes v m b f o e = within-has x m o b (and-left (has x o) (not (has homes o)) (sym (f o) ∙ e))
+
+-- a home reaches itself, so one that is left out reaches a home
+pub avoid-homes : (s : List ℕ) (n m homes x v y : ℕ) → m ≤ capacity → within x m ≡ true → ((o : ℕ) → o < m → reachesAt s n o o ≡ true)
+    → ((o : ℕ) → has v o ≡ (has x o && not (has homes o))) → ((o : ℕ) → has y o ≡ (has v o && avoidsAt s n homes o))
+    → (o : ℕ) → has y o ≡ (has x o && avoidsAt s n homes o)
+unfolding reachesAt avoidsAt
+avoid-homes s n m homes x v y few b self f e o =
+    e o ∙ ap (λ (k : Bool). k && avoidsAt s n homes o) (f o) ∙ go (decide (has x o)) (decide (has homes o))
   where
-    and-true : (x : Bool) → x ≡ (x && true)
-    and-true true = refl
-    and-true false = refl
+    go : (has x o ≡ true) ⊎ (has x o ≡ false) → (has homes o ≡ true) ⊎ (has homes o ≡ false)
+        → ((has x o && not (has homes o)) && avoidsAt s n homes o) ≡ (has x o && avoidsAt s n homes o)
+    go (inr a) h = rw a refl
+    go (inl a) (inr h) = rw (a, h) refl
+    go (inl a) (inl h) =
+        let l = within-has x m o b a in
+        let met = meets-intro capacity (outReachAt s n o) homes o (omega (arith, l, few)) (self o l) h in
+        rw (a, h, met) refl
+
+pub near-both : (s : List ℕ) (n m homes d x y : ℕ) → x ≡ pack m (reachesAt s n d) → ((o : ℕ) → has y o ≡ (has x o && avoidsAt s n homes o))
+    → y ≡ pack m (nearAt s n homes d)
+unfolding nearAt
+near-both s n m homes d x y e f =
+    ext y (pack m (nearAt s n homes d))
+    (λ o. f o ∙ ap (λ (k : ℕ). has k o && avoidsAt s n homes o) e ∙ ap (λ (k : Bool). k && avoidsAt s n homes o) (has-pack m (reachesAt s n d) o)
+    ∙ both (ltb o m) (reachesAt s n d o) (avoidsAt s n homes o) ∙ sym (has-pack m (nearAt s n homes d) o))
+  where
+    both : (a b c : Bool) → ((a && b) && c) ≡ (a && (b && c))
+    both true b c = refl
+    both false b c = refl
 
 -- group after group: x are the inputs that are left
 pub record Homing (g : Game) (z : Size) (w : Home) (x : ℕ) (l m : List ℕ) : Type 0 where
@@ -122,6 +151,13 @@ module _ (g : Game) (z : Size) (s : List ℕ) (inner : ℕ) (G : Given g z s inn
     scratch-long G,
   )
 
+  -- an output reaches itself
+  pub own-reach : (o : ℕ) → o < g .output .states → reachesAt (setsIn s) (z .inputs) o o ≡ true
+  unfolding reachesAt
+  own-reach o l =
+      let b : o < separatedOf g .output .states = omega (arith, l, sizes-of g z (G .sized) .outputs, G .sized .outputs) in
+      T .reach o o b ∙ reaches-self (separatedOf g .output) o b
+
   pub home-within : (y : Layout) → y ≡ layoutOf z → within (bitsOf (w .component .0)) (y .states) ≡ true
   home-within y D =
       has-within (bitsOf (w .component .0)) (y .states)
@@ -133,13 +169,13 @@ module _ (g : Game) (z : Size) (s : List ℕ) (inner : ℕ) (G : Given g z s inn
 
   module _ (homes o : ℕ) (b : o < separatedOf g .output .states) where
     near-reached : Near homes o ≡ true → reaches (separatedOf g .output) o (w .state .0) ≡ true
-    unfolding nearAt reachesFirst
+    unfolding nearAt reachesAt avoidsAt
     near-reached q =
         sym (T .reach o (w .state .0) b)
         ∙ and-left (has (outReachAt (setsIn s) (z .inputs) o) (w .state .0)) (not (setsMeet capacity (outReachAt (setsIn s) (z .inputs) o) homes)) q
 
     near-apart : Near homes o ≡ true → (t : ℕ) → has homes t ≡ true → reaches (separatedOf g .output) o t ≡ true → ⊥
-    unfolding nearAt reachesFirst
+    unfolding nearAt reachesAt avoidsAt
     near-apart q t h r =
         clash
         (meets-intro capacity (outReachAt (setsIn s) (z .inputs) o) homes t (omega (arith, reaches-to (separatedOf g .output) o t r, T .few-outputs))
@@ -149,7 +185,7 @@ module _ (g : Game) (z : Size) (s : List ℕ) (inner : ℕ) (G : Given g z s inn
 
     near-intro : reaches (separatedOf g .output) o (w .state .0) ≡ true
         → ((t : ℕ) → has homes t ≡ true → reaches (separatedOf g .output) o t ≡ true → ⊥) → Near homes o ≡ true
-    unfolding nearAt reachesFirst
+    unfolding nearAt reachesAt avoidsAt
     near-intro r f =
         and-intro (T .reach o (w .state .0) b ∙ r)
         (ap not (false-of (setsMeet capacity (outReachAt (setsIn s) (z .inputs) o) homes)

@@ -4,8 +4,9 @@
 --   settledAt s n c reach d j  == d is the lowest home in reach of j, which is in a nontrivial component
 --   lowerAt s n d j            == the set of the homes of j below d
 --   alikeAt s n d homes j      == these are homes
---   reachesFirst reach homes d == d is in reach, and none of the homes
---   nearAt s n homes d o       == so it is with the reach of output o
+--   reachesAt s n d o          == output o reaches d
+--   avoidsAt s n homes o       == it reaches none of the homes
+--   nearAt s n homes d o       == both
 use Prim.Native.Nat.{ℕ}
 use mathlib.Core.Bool.{Bool, _&&_, not}
 use mathlib.Core.List.{List}
@@ -27,8 +28,11 @@ lowerAt s n d j = pack d (has (rowAt s n j))
 unfoldable pub alikeAt : List ℕ → ℕ → ℕ → ℕ → ℕ → Bool
 alikeAt s n d homes j = eqb (lowerAt s n d j) homes
 
-unfoldable pub reachesFirst : ℕ → ℕ → ℕ → Bool
-reachesFirst reach homes d = has reach d && not (setsMeet capacity reach homes)
+unfoldable pub reachesAt : List ℕ → ℕ → ℕ → ℕ → Bool
+reachesAt s n d o = has (outReachAt s n o) d
+
+unfoldable pub avoidsAt : List ℕ → ℕ → ℕ → ℕ → Bool
+avoidsAt s n homes o = not (setsMeet capacity (outReachAt s n o) homes)
 
 unfoldable pub nearAt : List ℕ → ℕ → ℕ → ℕ → ℕ → Bool
-nearAt s n homes d o = reachesFirst (outReachAt s n o) homes d
+nearAt s n homes d o = reachesAt s n d o && avoidsAt s n homes o

@@ -18,7 +18,7 @@ ghost use mathlib.Core.Bool.{true, _&&_};
 ghost use Rattle.bits.specs.Member.{has, pack, within};
 ghost use Rattle.controller_rows.specs.Writes.{lengthOf, residesAt};
 ghost use Rattle.region_runs.specs.Runs.{Runs};
-ghost use Rattle.controller_homeward.specs.Homes.{lowestIs, settledAt, lowerAt, alikeAt, reachesFirst, nearAt};
+ghost use Rattle.controller_homeward.specs.Homes.{lowestIs, settledAt, lowerAt, alikeAt, reachesAt, avoidsAt};
 ghost use Rattle.controller_table.specs.Filled.{ControllerFilled, Away as AwayRow, Given, HomeOf};
 
 // Whether the lowest home of a row in reach is d.
@@ -102,34 +102,41 @@ fn alike_in(
     InSet(sets::intersection(x.0, z.0))
 }
 
-// Whether an output with this reach reaches d, and none of the homes.
-fn reaches_first(reach: OutSet, homes: OutSet, d: OutState) -> bool
-    requires { ⌜ d .0 < capacity ⌝ }
-    ensures { λ r. ⌜ r ≡ reachesFirst (bitsOf (reach .0)) (bitsOf (homes .0)) (d .0) ⌝ }
-{
-    if sets::meets(reach.0, homes.0) {
-        return false;
-    }
-    sets::member(reach.0, d.0)
-}
-
-// The outputs that reach d, and none of the homes.
-fn nearest(s: &[u64], n: usize, m: usize, homes: OutSet, d: OutState) -> OutSet
+// The outputs that reach d.
+fn reaching(s: &[u64], n: usize, m: usize, d: OutState) -> OutSet
     requires { ⌜ (n ≤ capacity) × (m ≤ capacity) × (d .0 < capacity) × (scratchSets n m ≤ setCount (now s)) ⌝ }
-    ensures { λ r. ⌜ bitsOf (r .0) ≡ pack m (nearAt (setsIn (now (s .entry))) n (bitsOf (homes .0)) (d .0)) ⌝ }
+    ensures { λ r. ⌜ bitsOf (r .0) ≡ pack m (reachesAt (setsIn (now (s .entry))) n (d .0)) ⌝ }
 {
     let mut x = sets::empty();
     let mut o: usize = 0;
     while o < m {
         let reach = scratch::out_reach(s, n, OutState(o));
-        x = sets::insert_if(x, o, reaches_first(reach, homes, d));
+        x = sets::insert_if(x, o, sets::member(reach.0, d.0));
         o += 1;
     }
     OutSet(x)
 }
 
+// The outputs of x, all below m, that reach none of the homes. Each reaches itself, so no home is asked.
+fn nearest(s: &[u64], n: usize, m: usize, x: OutSet, homes: OutSet) -> OutSet
+    requires { ⌜ (n ≤ capacity) × (m ≤ capacity) × (scratchSets n m ≤ setCount (now s)) × (within (bitsOf (x .0)) m ≡ true)
+        × ((o : ℕ) → o < m → reachesAt (setsIn (now s)) n o o ≡ true) ⌝ }
+    ensures { λ r. ⌜ ((o : ℕ) → has (bitsOf (r .0)) o ≡ (has (bitsOf (x .0)) o && avoidsAt (setsIn (now (s .entry))) n (bitsOf (homes .0)) o)) ⌝ }
+{
+    let mut y = sets::empty();
+    let mut rest = sets::difference(x.0, homes.0);
+    while !sets::is_empty(rest) {
+        let o = sets::lowest(rest);
+        let reach = scratch::out_reach(s, n, OutState(o));
+        y = sets::insert_if(y, o, !sets::meets(reach.0, homes.0));
+        rest = sets::without_lowest(rest);
+    }
+    OutSet(y)
+}
+
 // The rows outside a home: the way to it. An input of c has its home there at an output that reaches it and no lower home of that input; so the way is
-// searched once for the inputs with the same lower homes, among such outputs. The rows of the output graph, `outs`, are read where they stand.
+// searched once for the inputs with the same lower homes, among such outputs. Those that reach the home are looked for once. The rows of the output graph,
+// `outs`, are read where they stand.
 pub fn approach(
     g: Game,
     outs: &[u64; sets::ROW_WORDS],
@@ -148,12 +155,13 @@ pub fn approach(
     let y = rows::layout_of(z);
     let d = w.state;
     let inputs = w.inputs;
+    let around = reaching(s, n, g.output.states, d);
     let mut rest = sets::intersection(inputs.0, c.0);
     while !sets::is_empty(rest) {
         let j = sets::lowest(rest);
         let homes = lower(s, n, InState(j), d);
         let group = alike_in(s, n, c, firsts, InSet(rest), homes, d);
-        let inside = nearest(s, n, g.output.states, homes, d);
+        let inside = nearest(s, n, g.output.states, around, homes);
         let component = w.component;
         let over = leaders::columns_of(z, group);
         table_walks::approach(outs, room, y, inside.0, component.0, over);

@@ -70,15 +70,7 @@ pub fn won_map(g: Game, scratch: &mut [u64], map: &mut [u64]) -> Mapped
                 return Mapped::Refused(8);
             }
             let l = game_sets::list_of(g);
-            let x = region::prepare(
-                g,
-                &ins,
-                &outs,
-                &l.sets,
-                &l.assumed,
-                &l.guaranteed,
-                scratch,
-            );
+            let x = region::prepare(g, &ins, &outs, &l.sets, &l.assumed, &l.guaranteed, scratch);
             fill_map(g, scratch, x.inputs, map);
             scratch_clearing::clear(scratch, scratch::length(g));
             Mapped::Done

@@ -13,7 +13,10 @@ use Rattle.controller_homeward.proofs.Homeward.{
   Homing,
   home-read,
   home-within,
+  near-both,
   near-of,
+  own-reach,
+  packed-within,
   group-filled,
   homing-start,
   homing-within,
@@ -27,10 +30,10 @@ use Rattle.controller_homeward.proofs.approach.Statement.{statement}
 use Rattle.controller_homeward.proofs.approach.Tie as tie
 
 abbrev Inv-loop : tie.InvT-loop
-Inv-loop g outs s room₀ z k firsts w n y d rest₀ room rest = Homing g z w (bitsOf rest) room₀ room
+Inv-loop g outs s room₀ z k firsts w n y d around rest₀ room rest = Homing g z w (bitsOf rest) room₀ room
 
 abbrev μ-loop : tie.MeasureT-loop
-μ-loop g outs s room₀ z k firsts w n y d rest₀ room rest = count capacity (has (bitsOf rest))
+μ-loop g outs s room₀ z k firsts w n y d around rest₀ room rest = count capacity (has (bitsOf rest))
 
 some-left : (c : tie.Then1 Inv-loop μ-loop) → bitsOf (c .before .before .loop .rest) ≢ 0
 some-left c = is-some _ (c .before .is-empty .ensures) (c .if1 .taken)
@@ -43,7 +46,7 @@ intersection-requires c κs = search needs
 
 loop-holds : tie.Need-loop-holds Inv-loop μ-loop
 loop-holds c =
-    let step = c .before .before .before in
+    let step = c .before .before .before .before in
     let p = step .before .before .before .pre in
     homing-start _ _ _ _ (p .0) _ (p .1) _ _ (c .intersection .ensures)
 
@@ -56,7 +59,7 @@ lowest-requires c κs = search needs
 lower-requires : tie.Need-lower-requires Inv-loop μ-loop
 lower-requires c κs =
     let l = c .before .before .before in
-    let v = l .before .before .before .before in
+    let v = l .before .before .before .before .before in
     let p = v .before .before .before .pre in
     let r = home-read _ _ _ _ (p .0) _ (p .1) in
     (r .0, homing-in _ _ _ _ (p .0) _ (p .1) _ (l .loop .inv) (some-left (c .before)) _ (c .lowest .ensures), r .3, r .2)
@@ -64,7 +67,7 @@ lower-requires c κs =
 alike-in-requires : tie.Need-alike-in-requires Inv-loop μ-loop
 alike-in-requires c κs =
     let l = c .before .before .before .before in
-    let v = l .before .before .before .before in
+    let v = l .before .before .before .before .before in
     let p = v .before .before .before .pre in
     let r = home-read _ _ _ _ (p .0) _ (p .1) in (
       r .0,
@@ -75,19 +78,31 @@ alike-in-requires c κs =
       homing-inner _ _ _ _ (p .0) _ (p .1) _ (l .loop .inv),
     )
 
-nearest-requires : tie.Need-nearest-requires Inv-loop μ-loop
-nearest-requires c κs =
-    let l = c .before .before .before .before .before in
-    let v = l .before .before .before .before in
+reaching-requires : tie.Need-reaching-requires Inv-loop μ-loop
+reaching-requires c κs =
+    let v = c .before .before in
     let p = v .before .before .before .pre in
     let r = home-read _ _ _ _ (p .0) _ (p .1) in
     (r .0, omega (arith, r .1, p .0 .sized .outputs), r .2, omega (arith, r .4, p .0 .sized .outputs))
+
+nearest-requires : tie.Need-nearest-requires Inv-loop μ-loop
+nearest-requires c κs =
+    let l = c .before .before .before .before .before in
+    let v = l .before .before .before .before .before in
+    let p = v .before .before .before .pre in
+    let r = home-read _ _ _ _ (p .0) _ (p .1) in (
+      r .0,
+      omega (arith, r .1, p .0 .sized .outputs),
+      omega (arith, r .4, p .0 .sized .outputs),
+      packed-within _ _ _ (l .before .before .reaching .ensures),
+      own-reach _ _ _ _ (p .0) _ (p .1),
+    )
 
 columns-of-requires : tie.Need-columns-of-requires Inv-loop μ-loop
 columns-of-requires c κs =
     let o = c .before .before .before .before in
     let l = o .before .before .before in
-    let v = l .before .before .before .before in
+    let v = l .before .before .before .before .before in
     let p = v .before .before .before .pre in
     (home-read _ _ _ _ (p .0) _ (p .1) .0, p .0 .sized .columns)
 
@@ -97,7 +112,7 @@ approach-requires c κs =
     let x = k .before .before in
     let o = x .before .before .before in
     let l = o .before .before .before in
-    let v = l .before .before .before .before in
+    let v = l .before .before .before .before .before in
     let p = v .before .before .before .pre in (
       fits-same _ _ _ (l .loop .inv .filled .long) (laid-fits _ _ _ (p .0 .sized) (v .layout-of .ensures) _ (p .2)),
       home-within _ _ _ _ (p .0) _ (p .1) _ (v .layout-of .ensures),
@@ -113,7 +128,7 @@ loop-less c =
     let x = k .before .before in
     let o = x .before .before .before in
     let l = o .before .before .before in
-    let v = l .before .before .before .before in
+    let v = l .before .before .before .before .before in
     let p = v .before .before .before .pre in
     homing-falls _ _ _ _ (p .0) _ (p .1) _ (l .loop .inv) (some-left (o .before)) _ (o .lowest .ensures) _ _ _ (x .before .before .lower .ensures)
     (x .before .alike-in .ensures) (c .difference .ensures)
@@ -125,9 +140,9 @@ loop-again c =
     let x = k .before .before in
     let o = x .before .before .before in
     let l = o .before .before .before in
-    let v = l .before .before .before .before in
+    let v = l .before .before .before .before .before in
     let p = v .before .before .before .pre in
-    let near = near-of _ _ (p .0 .sized) _ _ _ refl (x .nearest .ensures) in
+    let near = near-of _ _ (p .0 .sized) _ _ _ refl (near-both _ _ _ _ _ _ _ (l .before .before .reaching .ensures) (x .nearest .ensures)) in
     homing-next _ _ _ _ (p .0) _ (p .1) _ (l .loop .inv) _ _ (c .difference .ensures)
     (group-filled _ _ _ _ (p .0) _ (p .1) _ (v .layout-of .ensures) _ _ (bitsOf (l .loop .rest)) near (p .3) _ _
     (λ j h. l .loop .inv .inputs j h .1) (x .before .alike-in .ensures) (k .columns-of .ensures) (a .approach .ensures))
@@ -139,7 +154,7 @@ same-length c = c .before .before .loop .inv .filled .long
 returns : tie.Need-returns Inv-loop μ-loop
 returns c =
     let l = c .before .before in
-    let v = l .before .before .before .before in
+    let v = l .before .before .before .before .before in
     let p = v .before .before .before .pre in
     homing-end _ _ _ _ (p .0) _ (p .1) _ (l .loop .inv) (is-none _ (c .before .is-empty .ensures) (c .if1 .left))
 
@@ -150,6 +165,7 @@ approach-spec =
     Inv-loop
     μ-loop
     layout-of-requires
+    reaching-requires
     intersection-requires
     loop-holds
     is-empty-requires

@@ -1,11 +1,9 @@
 -- `won_map`: what it refuses; else it works out the region, writes the map and clears scratch.
-use mathlib.Core.Path.{_≡_, refl, sym, _∙_}
+use mathlib.Core.Path.{refl, sym, _∙_}
 use native.Mathlib.Omega.{arith}
 use borrow.Author.Needs.{needs}
 use Rattle.finite.proofs.Truth.{not-true, not-false}
 use Rattle.sets.proofs.Rows.{words-held}
-use Rattle.game.specs.Acceptance.{acceptance}
-use Rattle.game.specs.declared.Acceptance.the-variants.{Accepted}
 use Rattle.game.proofs.Laws.{accepted-fits}
 use Rattle.scratch.proofs.Cleared.{cleared-kept}
 use Rattle.map.proofs.Made.{map-faulty, map-short, map-done, fits-scratch, fits-room}

@@ -102,7 +102,7 @@ loop-less c =
     let d = c .before in
     let a = d .before .before .before .before in
     let less = trying-falls _ _ _ _ _ _ (a .before .before .before .loop .inv) (some-left (a .before)) (a .lowest-low .ensures) _
-        (d .without-lowest-low .ensures) in
+    (d .without-lowest-low .ensures) in
     omega (arith, passed-few _ _ _ (c .pass-over2 .ensures), less)
 
 loop-again : tie.Need-loop-again Inv-loop μ-loop
