@@ -1,5 +1,6 @@
 -- Laws of the smallest inputs, and of the test by them.
 --
+--   number-leads                                        : an input that leads is its component's smallest
 --   named-none, named-leader, named-other, named-end    : the turns of the loop that names them, and its end
 --   row-is                                              : row numbers, told by output and counter
 --   same-next, same-stop, same-end                      : the parts, one after the other
@@ -29,14 +30,14 @@ use Rattle.compact.proofs.Rank.{rank-first}
 use Rattle.compact.proofs.Tests.{row-first, rows-fit-first}
 use Rattle.finite.proofs.Lists.{any-default}
 use Rattle.compact_rows.proofs.Copying.{row-last, row-below, last-below}
-use Rattle.compact_checks.specs.Parts.{entryFits, rowAgrees, rowAt, partFits, Marked}
+use Rattle.compact_checks.specs.Parts.{partSize, entryFits, rowAgrees, rowAt, partFits, Marked}
 use Rattle.compact_checks.specs.Firsts.{Named, AsFirst}
 
 module _ (S : Separated) where
   abbrev I : ℕ
   I = S .input .states
 
-  number-leads : (j : ℕ) → leads S j ≡ true → number (S .input) j ≡ j
+  pub number-leads : (j : ℕ) → leads S j ≡ true → number (S .input) j ≡ j
   unfolding leads
   number-leads j h = eqb-true (number (S .input) j) j h
 
@@ -47,7 +48,7 @@ module _ (S : Separated) where
       eq-eqb (number (S .input) s) s (sym (number-same (S .input) t s (number-joined (S .input) t b)))
 
   module _ (part n : ℕ) (in-graph : part + n ≤ I) where
-    pub named-none : (F : List ℕ) → length F ≡ 64 → Named S part n 0 F
+    pub named-none : (F : List ℕ) → length F ≡ partSize → Named S part n 0 F
     named-none F e = record { long = e; name = λ k b h. absurd (omega arith) }
 
     module _ (j : ℕ) {F : List ℕ} (D : Named S part n j F) where
@@ -132,14 +133,14 @@ module _ (S : Separated) (T : List ℕ) where
         (all-elim n (entryFits T F (inputs + x * inputs) part) (all-elim rows (rowAt T F inputs part n) h x b) k l)
         ∙ q .1
 
-    pub same-next : (n ≡ 64) ⊎ (part + n ≡ inputs) → partFits T F inputs rows part n ≡ true → AsFirst S T rows part → AsFirst S T rows (part + 64)
+    pub same-next : (n ≡ partSize) ⊎ (part + n ≡ inputs) → partFits T F inputs rows part n ≡ true → AsFirst S T rows part → AsFirst S T rows (part + partSize)
     same-next e h D = record { entry = λ x j b l c. here x j b l c (decLt j part) }
       where
-        below : (j : ℕ) → part ≤ j → j < inputs → j < part + 64 → (n ≡ 64) ⊎ (part + n ≡ inputs) → j - part < n
+        below : (j : ℕ) → part ≤ j → j < inputs → j < part + partSize → (n ≡ partSize) ⊎ (part + n ≡ inputs) → j - part < n
         below j a l c (inl q) = omega arith
         below j a l c (inr q) = omega arith
 
-        here : (x j : ℕ) → x < rows → j < inputs → j < part + 64 → Dec (j < part) → getD T (place x j) 0 ≡ getD T (place x (number (S .input) j)) 0
+        here : (x j : ℕ) → x < rows → j < inputs → j < part + partSize → Dec (j < part) → getD T (place x j) 0 ≡ getD T (place x (number (S .input) j)) 0
         here x j b l c (yes a) = D .entry x j b l a
         here x j b l c (no a) =
             subst (λ (i : ℕ). getD T (place x i) 0 ≡ getD T (place x (number (S .input) i)) 0) (omega arith)

@@ -3,16 +3,19 @@
 --   firsts-none, firsts-leader, firsts-other, firsts-end   : naming the smallest inputs
 --   firsts-below, rows-long                                : what the test reads is in the table
 --   parts-none, parts-next, parts-stop, parts-end          : the parts, one after the other
+--   alone-fits                                             : where every input has a component of its own
 use Prim.Native.Nat.{ℕ, _+_, _*_, _≤_, _<_}
-use mathlib.Core.Path.{_≡_, sym, _∙_, ap, subst, subst⁻¹, subst₂}
+use mathlib.Core.Path.{_≡_, refl, sym, _∙_, ap, subst, subst⁻¹, subst₂}
 use mathlib.Core.Bool.{true, false}
 use mathlib.Core.List.{List}
 use mathlib.Core.Logic.{_⊎_}
 use native.Mathlib.Omega.{arith}
+use lib.Dec.{ltb}
 use lib.ListN.{length, getD}
+use borrow.Author.Tests.{lt-ltb}
 use Rattle.bits.specs.Member.{has, pack}
 use Rattle.bits.proofs.Membership.{has-pack-below}
-use Rattle.graphs.specs.Component.{joined}
+use Rattle.graphs.specs.Component.{joined, number}
 use Rattle.graphs.proofs.Component.{number-below}
 use Rattle.arena.specs.Arena.{Separated}
 use Rattle.game.specs.declared.Game.{Game}
@@ -21,9 +24,9 @@ use Rattle.theory.specs.Entries.{controllerCounters}
 use Rattle.compact.specs.Rank.{leads}
 use Rattle.compact.specs.Compact.{fullLength}
 use Rattle.compact.specs.Moving.{rowsFit}
-use Rattle.compact_checks.specs.Parts.{partFits, Marked}
+use Rattle.compact_checks.specs.Parts.{partSize, partFits, Marked}
 use Rattle.compact_checks.specs.Firsts.{Named, Firsts, AsFirst}
-use Rattle.compact_checks.proofs.Firsts.{named-none, named-leader, named-other, named-end, same-next, same-stop, same-end}
+use Rattle.compact_checks.proofs.Firsts.{number-leads, named-none, named-leader, named-other, named-end, same-next, same-stop, same-end}
 
 module _ (g : Game) where
   abbrev S : Separated
@@ -33,7 +36,7 @@ module _ (g : Game) where
   I = g .input .states
 
   module _ (part n : ℕ) (in-graph : part + n ≤ I) where
-    pub firsts-none : (F : List ℕ) → length F ≡ 64 → Named S part n 0 F
+    pub firsts-none : (F : List ℕ) → length F ≡ partSize → Named S part n 0 F
     unfolding separatedOf graphOf
     firsts-none F e = named-none S part n in-graph F e
 
@@ -68,10 +71,10 @@ module _ (g : Game) where
     parts-none = record { entry = λ x j b l h. absurd (omega arith) }
 
     module _ (part n : ℕ) {F : List ℕ} {N : ℕ} (z : N ≡ I) (in-graph : part + n ≤ I) (D : Firsts g part n F) where
-      pub parts-next : (n ≡ 64) ⊎ (part + n ≡ I) → partFits T F N R part n ≡ true → AsFirst S T R part → AsFirst S T R (part + 64)
+      pub parts-next : (n ≡ partSize) ⊎ (part + n ≡ I) → partFits T F N R part n ≡ true → AsFirst S T R part → AsFirst S T R (part + partSize)
       unfolding separatedOf graphOf
       parts-next e h P =
-          subst⁻¹ (λ (r : ℕ). AsFirst S T r (part + 64)) q
+          subst⁻¹ (λ (r : ℕ). AsFirst S T r (part + partSize)) q
           (same-next S T F part n in-graph (D .name) e (subst₂ (λ (i r : ℕ). partFits T F i r part n ≡ true) z q h)
           (subst (λ (r : ℕ). AsFirst S T r part) q P))
 
@@ -82,3 +85,13 @@ module _ (g : Game) where
     pub parts-end : (part : ℕ) → length T ≡ fullLength S → I ≤ part → AsFirst S T R part → true ≡ rowsFit S T
     unfolding separatedOf graphOf
     parts-end part e b P = sym (same-end S T part e b (subst (λ (r : ℕ). AsFirst S T r part) q P))
+
+  -- where every input leads, it is its component's smallest itself
+  pub alone-fits : (T : List ℕ) {b w : ℕ} → length T ≡ fullLength S → b ≡ pack I (leads S) → ((s : ℕ) → has w s ≡ ltb s I) → b ≡ w → true ≡ rowsFit S T
+  unfolding separatedOf graphOf
+  alone-fits T {b} {w} e p h q = parts-end T refl I e (omega arith) (record { entry = λ x j l lj d. ap (λ (i : ℕ). getD T (I + x * I + i) 0) (sym (first j lj)) })
+    where
+      first : (j : ℕ) → j < I → number (S .input) j ≡ j
+      first j lj =
+          number-leads S j
+          (sym (has-pack-below I (leads S) j lj) ∙ ap (λ (x : ℕ). has x j) (sym p ∙ q) ∙ h j ∙ lt-ltb j I lj)

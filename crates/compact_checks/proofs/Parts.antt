@@ -1,10 +1,12 @@
 -- Laws of the loops.
 use Prim.Native.Nat.{ℕ, _+_, _*_, _≤_, _<_}
 use mathlib.Core.Path.{_≡_, refl, sym, _∙_, ap, subst}
-use mathlib.Core.Bool.{true, false}
+use mathlib.Core.Bool.{Bool, true, false}
 use mathlib.Core.List.{List}
 use mathlib.Core.Logic.{_≢_}
 use native.Mathlib.Omega.{arith}
+use native.Mathlib.Numerals.{add-one}
+use Rattle.finite.specs.Bounded.{all}
 use native.Mathlib.Decide.{ℕ-discrete}
 use lib.ListN.{length, getD, set, length-set}
 use lib.Seq.{getD-set-same, getD-set-other}
@@ -16,27 +18,30 @@ use Rattle.compact_checks.specs.Parts.{entryFits, rowAgrees, rowAt, part
 
 -- one row number
 
+all-same : (i : ℕ) (p : ℕ → Bool) → p i ≡ true → all (i + 1) p ≡ all i p
+unfolding all
+all-same i p e = rw add-one (rw e refl)
+
 module _ (T F : List ℕ) (row part : ℕ) where
-  pub row-start : rowAgrees T F row part 0 ≡ true
+  pub row-start : true ≡ rowAgrees T F row part 0
   unfolding rowAgrees
-  row-start = all-start (entryFits T F row part)
+  row-start = sym (all-start (entryFits T F row part))
 
-  pub row-turn : (k : ℕ) {c : ℕ} → c ≡ getD F k 0 → getD T (row + part + k) 0 ≡ getD T (row + c) 0 → rowAgrees T F row part k ≡ true
-      → rowAgrees T F row part (k + 1) ≡ true
+  pub row-same : (k : ℕ) {c : ℕ} {b : Bool} → c ≡ getD F k 0 → getD T (row + part + k) 0 ≡ getD T (row + c) 0 → b ≡ rowAgrees T F row part k
+      → b ≡ rowAgrees T F row part (k + 1)
   unfolding rowAgrees entryFits
-  row-turn k {c} q e h =
-      all-turn k (entryFits T F row part) h
-      (eq-eqb (getD T (row + part + k) 0) (getD T (row + getD F k 0) 0) (e ∙ ap (λ (x : ℕ). getD T (row + x) 0) q))
+  row-same k {c} q e h =
+      h ∙ sym (all-same k (entryFits T F row part)
+      (eq-eqb (getD T (row + part + k) 0) (getD T (row + getD F k 0) 0) (e ∙ ap (λ (x : ℕ). getD T (row + x) 0) q)))
 
-  pub row-stop : (n k : ℕ) {c : ℕ} → k < n → c ≡ getD F k 0 → getD T (row + part + k) 0 ≢ getD T (row + c) 0 → false ≡ rowAgrees T F row part n
+  pub row-other : (k : ℕ) {c : ℕ} → c ≡ getD F k 0 → getD T (row + part + k) 0 ≢ getD T (row + c) 0 → false ≡ rowAgrees T F row part (k + 1)
   unfolding rowAgrees entryFits
-  row-stop n k {c} b q e =
-      all-stop n k (entryFits T F row part) b
+  row-other k {c} q e =
+      all-stop (k + 1) k (entryFits T F row part) (omega arith)
       (ne-eqb (getD T (row + part + k) 0) (getD T (row + getD F k 0) 0) (λ z. e (z ∙ ap (λ (x : ℕ). getD T (row + x) 0) (sym q))))
 
-  pub row-end : (n k : ℕ) → k ≤ n → n ≤ k → rowAgrees T F row part k ≡ true → true ≡ rowAgrees T F row part n
-  unfolding rowAgrees
-  row-end n k a b h = all-end n k (entryFits T F row part) a b h
+  pub row-end : (n k : ℕ) {b : Bool} → k ≤ n → n ≤ k → b ≡ rowAgrees T F row part k → b ≡ rowAgrees T F row part n
+  row-end n k {b} l h e = subst (λ (x : ℕ). b ≡ rowAgrees T F row part x) (omega arith) e
 
 -- all of them
 

@@ -11,13 +11,14 @@ use Rattle.graphs.specs.Component.{number}
 use Rattle.arena.specs.Arena.{Separated}
 use Rattle.game.specs.declared.Game.{Game}
 use Rattle.play.specs.Play.{separatedOf}
+use Rattle.compact_checks.specs.Parts.{partSize}
 
 pub record Named (S : Separated) (part n j : ℕ) (F : List ℕ) : Type 0 where
-  pub long : length F ≡ 64
+  pub long : length F ≡ partSize
   pub name : (k : ℕ) → k < n → number (S .input) (part + k) < j → getD F k 0 ≡ number (S .input) (part + k)
 
 pub record Firsts (g : Game) (part n : ℕ) (F : List ℕ) : Type 0 where
-  pub long : length F ≡ 64
+  pub long : length F ≡ partSize
   pub name : (k : ℕ) → k < n → getD F k 0 ≡ number (separatedOf g .input) (part + k)
 
 pub record AsFirst (S : Separated) (T : List ℕ) (R part : ℕ) : Type 0 where

@@ -1,5 +1,6 @@
 -- A table of the full layout, compared with itself. T is the table, F a list of inputs: number k of it is for the input part + k.
 --
+--   partSize                      == how many inputs a part has at most: a byte for each of them is eight words
 --   rowAgrees T F row part n      == in the row number that begins at row, the entry of each of n inputs is that of the input which F names
 --   partFits T F I R part n       == the same of all R row numbers, I being the count of inputs
 --   Marked part n c s l m         == from l to m, s was named for those of n inputs that are in c, and nothing else was changed
@@ -11,6 +12,9 @@ use lib.Dec.{eqb}
 use lib.ListN.{length, getD}
 use Rattle.finite.specs.Bounded.{all}
 use Rattle.bits.specs.Member.{has}
+
+abbrev pub partSize : ℕ
+partSize = 64
 
 unfoldable pub entryFits : (T F : List ℕ) (row part k : ℕ) → Bool
 entryFits T F row part k = eqb (getD T (row + part + k) 0) (getD T (row + getD F k 0) 0)

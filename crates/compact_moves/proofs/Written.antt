@@ -4,15 +4,17 @@
 --   full-fits, full-written          : the table in the full layout
 --   controller-long, ranks-in        : the lengths
 use Prim.Native.Nat.{ℕ, _+_, _*_, _-_, _/_, _%_, _≤_, _<_}
-use native.Mathlib.Nat.{add-assoc, div-add-mod'}
+use native.Mathlib.Nat.{add-assoc, div-add-mod', mul-le-mul, le-max-left}
 use mathlib.Core.Path.{_≡_, sym, _∙_, ap, ap₂, subst₂}
 use mathlib.Core.Bool.{true}
 use mathlib.Core.List.{List, _++_}
 use native.Mathlib.Omega.{arith}
-use lib.ListN.{length, getD, drop, length-drop}
-use lib.Seq.{ext-getD, getD-drop}
+use lib.ListN.{length, getD, drop}
 use Rattle.arena.specs.Arena.{Separated}
 use Rattle.game.specs.declared.Game.{Game}
+use Rattle.game.specs.declared.Acceptance.the-variants.{Accepted}
+use Rattle.game.specs.Acceptance.{acceptance}
+use Rattle.game.proofs.Laws.{accepted-fits}
 use Rattle.play.specs.Play.{graphOf, separatedOf}
 use Rattle.theory.specs.Entries.{noneEntry, controllerCounters, controllerEntries}
 use Rattle.compact.specs.Rank.{componentCount, rankOf, leaderOf}
@@ -23,16 +25,15 @@ use Rattle.compact.proofs.Entries.{entries-length}
 use Rattle.compact.proofs.Tests.{ranks-fit-elim}
 use Rattle.compact.proofs.Moving.{to-length, start-over, rank-over, row-over, from-length, start-back, row-back}
 use Rattle.graph_ranks.specs.Ranks.{RanksWritten}
+use Rattle.table_sizes.proofs.Lengths.{inputs-most}
 use Rattle.finite.proofs.Lists.{any-default}
 use Rattle.compact_rows.specs.Copying.{FullFits, FullAgrees, FullFilled, CompactFits, CompactAgrees, CompactFilled}
-use Rattle.compact_rows.proofs.Copying.{row-last, row-below, last-below}
+use Rattle.compact_rows.proofs.Copying.{drop-same, row-last, row-below, last-below}
 use Rattle.compact_checks.proofs.Firsts.{row-is}
 
--- what stands behind a place is known by what stands at each
-drop-same : (n : ℕ) (l m : List ℕ) → length m ≡ length l → ((k : ℕ) → n ≤ k → getD m k 0 ≡ getD l k 0) → drop n m ≡ drop n l
-drop-same n l m e h =
-    ext-getD 0 (drop n m) (drop n l) (length-drop n m ∙ ap (λ (k : ℕ). k - n) e ∙ sym (length-drop n l))
-    (λ i b. getD-drop n m i 0 ∙ h (n + i) (omega arith) ∙ sym (getD-drop n l i 0))
+some-counter : (S : Separated) → 0 < controllerCounters S
+unfolding controllerCounters
+some-counter S = le-max-left 1 _
 
 module _ (S : Separated) where
   abbrev I : ℕ
@@ -90,15 +91,16 @@ module _ (S : Separated) where
           ∙ ap (compactCell S (toCompact S T) (x / M) (x % M)) (rank-agrees j h)
           ∙ cell-is (toCompact S T) x (getD m (I + j) 0) (to-length S T) b (below j h)
 
+      rank-reached : (c : ℕ) → c < C → (j : ℕ) × (j < I) × (getD m (I + j) 0 ≡ c)
+      rank-reached c h = (leaderOf S c, first-below S c h, rank (leaderOf S c) (first-below S c h) ∙ first-rank S c h)
+
       compact-agrees : CompactAgrees (toCompact S T) T I C R m
       unfolding E
       compact-agrees = record {
         long = E-long;
         starts = start-agrees;
         ranks = λ j b. record { is = sym (rank-agrees j b) ∙ any-default (toCompact S T) (I + j) noneEntry 0 (omega (arith, E-long)) };
-        below = below;
         rows = row-agrees;
-        reached = λ c h. (leaderOf S c, first-below S c h, rank (leaderOf S c) (first-below S c h) ∙ first-rank S c h);
       }
 
     -- back
@@ -142,11 +144,14 @@ module _ (g : Game) (T : List ℕ) {c r : ℕ} (p : c ≡ componentCount (separa
   compact-length-is = ap₂ (λ (x y : ℕ). N + N + x * y) q p ∙ add-assoc N N (g .output .states * controllerCounters G * componentCount G)
 
   module _ (fits : rowsFit G T ≡ true) (long : length T ≡ fullLength G) {l m : List ℕ} (W : RanksWritten g l m) where
-    pub compact-fits : compactLength G ≤ length l → CompactFits T N c r m
+    pub compact-fits : acceptance g ≡ Accepted → compactLength G ≤ length l → CompactFits T N c r m
     unfolding separatedOf graphOf
-    compact-fits b = record {
+    compact-fits a b = record {
+      few = omega (arith, inputs-most g a);
+      some = omega (arith, q, mul-le-mul (accepted-fits g a .output .some) (some-counter G));
       table = omega (arith, long, full-length-is);
       ranks = λ j h. omega (arith, p, W .rank j h, rank-below G j h);
+      reached = λ k h. rank-reached G T fits long m (W .rank) k (omega (arith, p));
       room = omega (arith, b, W .long, compact-length-is);
     }
 

@@ -6,12 +6,18 @@ use mathlib.Core.List.{List, _++_}
 use mathlib.Core.Logic.{_≢_}
 use native.Mathlib.Omega.{arith}
 use native.Mathlib.Decide.{decLt, ℕ-discrete}
-use lib.ListN.{length, getD, drop, set, length-set}
-use lib.Seq.{getD-set-other}
+use lib.ListN.{length, getD, drop, set, length-set, length-drop}
+use lib.Seq.{getD-set-same, getD-set-other, getD-drop, ext-getD}
 use Rattle.table_filling.specs.Grows.{Right, Grows}
 use Rattle.table_filling.proofs.Grows.{grows-none, grows-more, grows-set, right-set, grows-done}
 use Rattle.compact_rows.specs.Copying.{PutAt, Started, GatherFits, Gathered, FullFits, FullAgrees, GatheredRows, FullFilled}
-use Rattle.compact_rows.specs.Copying.{ScatterFits, Scattered, CompactFits, CompactAgrees, ScatteredRows, CompactFilled}
+use Rattle.compact_rows.specs.Copying.{RepresentFits, Represented, PickFits, Picked, PickRowsFits, PickedRows, CompactFits, CompactAgrees, CompactFilled}
+
+-- what stands behind a place is known by what stands at each
+pub drop-same : (n : ℕ) (l m : List ℕ) → length m ≡ length l → ((k : ℕ) → n ≤ k → getD m k 0 ≡ getD l k 0) → drop n m ≡ drop n l
+drop-same n l m e h =
+    ext-getD 0 (drop n m) (drop n l) (length-drop n m ∙ ap (λ (k : ℕ). k - n) e ∙ sym (length-drop n l))
+    (λ i b. getD-drop n m i 0 ∙ h (n + i) (omega arith) ∙ sym (getD-drop n l i 0))
 
 module _ (E : List ℕ) (place : ℕ → ℕ) where
   puts-none : (l : List ℕ) → PutAt E l l place 0
@@ -72,30 +78,81 @@ module _ (T : List ℕ) (I from at : ℕ) where
   pub gathered-end : (j : ℕ) {l m : List ℕ} → j ≤ I → I ≤ j → Gathered T I from at j l m → Gathered T I from at I l m
   gathered-end j {l} {m} a b D = subst (λ (k : ℕ). Gathered T I from at k l m) (omega arith) D
 
+-- ---- an input for each rank
+
+module _ (I C at : ℕ) where
+  pub represented-none : (l : List ℕ) → Represented I C at 0 l l
+  represented-none l = record { long = refl; outside = λ k h. refl; below = λ j b. absurd (omega arith); alike = λ j b. absurd (omega arith) }
+
+  module _ (j : ℕ) {l m : List ℕ} (F : RepresentFits I C l at) (b : j < I) (D : Represented I C at j l m) where
+    -- a rank's place lies past the ranks, so that they stay
+    pub ranks-stay : (i : ℕ) → i < I → getD m (I + i) 0 ≡ getD l (I + i) 0
+    ranks-stay i h = D .outside (I + i) (λ c d e. omega (arith, F .before))
+
+    module _ {c : ℕ} (q : c ≡ getD m (I + j) 0) where
+      rank : c ≡ getD l (I + j) 0
+      rank = q ∙ ranks-stay j b
+
+      pub rank-in : at + c < length m
+      rank-in = omega (arith, rank, F .ranks j b, F .room, D .long)
+
+      pub represented-next : {v : ℕ} → v ≡ j → Represented I C at (j + 1) l (set m (at + c) v)
+      represented-next {v} e = record {
+        long = length-set m (at + c) v ∙ D .long;
+        outside = λ k h. getD-set-other m (at + c) k v 0 (h c (omega (arith, rank, F .ranks j b))) ∙ D .outside k h;
+        below = λ i h. below i h (ℕ-discrete (getD l (I + i) 0) c);
+        alike = λ i h. alike i h (ℕ-discrete (getD l (I + i) 0) c);
+      }
+        where
+          here : (i : ℕ) → getD l (I + i) 0 ≡ c → getD (set m (at + c) v) (at + getD l (I + i) 0) 0 ≡ j
+          here i p = ap (λ (x : ℕ). getD (set m (at + c) v) (at + x) 0) p ∙ getD-set-same m (at + c) v 0 rank-in ∙ e
+
+          there : (i : ℕ) → getD l (I + i) 0 ≢ c → getD (set m (at + c) v) (at + getD l (I + i) 0) 0 ≡ getD m (at + getD l (I + i) 0) 0
+          there i p = getD-set-other m (at + c) (at + getD l (I + i) 0) v 0 (λ d. p (omega arith))
+
+          earlier : (i : ℕ) → i < j + 1 → getD l (I + i) 0 ≢ c → i < j
+          earlier i h p = go (ℕ-discrete i j)
+            where
+              go : Dec (i ≡ j) → i < j
+              go (yes d) = absurd (p (ap (λ (x : ℕ). getD l (I + x) 0) d ∙ sym rank))
+              go (no d) = omega arith
+
+          below : (i : ℕ) → i < j + 1 → Dec (getD l (I + i) 0 ≡ c) → getD (set m (at + c) v) (at + getD l (I + i) 0) 0 < I
+          below i h (yes p) = omega (arith, here i p)
+          below i h (no p) = omega (arith, there i p, D .below i (earlier i h p))
+
+          alike : (i : ℕ) → i < j + 1 → Dec (getD l (I + i) 0 ≡ c)
+              → getD l (I + getD (set m (at + c) v) (at + getD l (I + i) 0) 0) 0 ≡ getD l (I + i) 0
+          alike i h (yes p) = ap (λ (x : ℕ). getD l (I + x) 0) (here i p) ∙ sym rank ∙ sym p
+          alike i h (no p) = ap (λ (x : ℕ). getD l (I + x) 0) (there i p) ∙ D .alike i (earlier i h p)
+
+  pub represented-end : (j : ℕ) {l m : List ℕ} → j ≤ I → I ≤ j → Represented I C at j l m → Represented I C at I l m
+  represented-end j {l} {m} a b D = subst (λ (k : ℕ). Represented I C at k l m) (omega arith) D
+
 -- ---- a row number of the compact layout
 
-module _ (T : List ℕ) (from I cells : ℕ) where
-  pub scattered-none : (l : List ℕ) → Scattered T from I cells 0 l l
-  scattered-none l = record { long = refl; ranks = λ j b. refl; fills = λ E b f. puts-none E (λ j. cells + getD l (I + j) 0) l }
+module _ (T : List ℕ) (from at cells : ℕ) where
+  pub picked-none : (l : List ℕ) → Picked T from at cells 0 l l
+  picked-none l = record { long = refl; outside = λ k h. refl; entries = λ c b. absurd (omega arith) }
 
-  pub scattered-next : (j : ℕ) {l m : List ℕ} {c v : ℕ} → j < I → I + I ≤ cells → c ≡ getD m (I + j) 0 → cells + c < length m → v ≡ getD T (from + j) 0
-      → Scattered T from I cells j l m → Scattered T from I cells (j + 1) l (set m (cells + c) v)
-  scattered-next j {l} {m} {c} {v} b s q d e D = record {
-    long = length-set m (cells + c) v ∙ D .long;
-    ranks = λ k h. getD-set-other m (cells + c) (I + k) v 0 (other k h) ∙ D .ranks k h;
-    fills = λ E r f.
-        puts-next E (λ x. cells + getD l (I + x) 0) j (cells + c) v place (subst (λ (x : ℕ). x < length E) place (r j b)) d
-        (e ∙ f j b ∙ ap (λ (x : ℕ). getD E x 0) place) (D .fills E r f);
-  }
-    where
-      place : cells + getD l (I + j) 0 ≡ cells + c
-      place = ap (_+_ cells) (sym (q ∙ D .ranks j b))
+  module _ (C c : ℕ) {l m : List ℕ} (F : PickFits T from C l at cells) (b : c < C) (D : Picked T from at cells c l m) where
+    pub input-stays : getD m (at + c) 0 ≡ getD l (at + c) 0
+    input-stays = D .outside (at + c) (λ i h. F .apart c i h b)
 
-      other : (k : ℕ) → k < I → I + k ≢ cells + c
-      other k h q = omega arith
+    pub picked-next : {j v : ℕ} → j ≡ getD m (at + c) 0 → v ≡ getD T (from + j) 0 → Picked T from at cells (c + 1) l (set m (cells + c) v)
+    picked-next {j} {v} q e = record {
+      long = length-set m (cells + c) v ∙ D .long;
+      outside = λ k h. getD-set-other m (cells + c) k v 0 (h c (omega arith)) ∙ D .outside k (λ i d. h i (omega arith));
+      entries = λ i h. entry i h (ℕ-discrete i c);
+    }
+      where
+        entry : (i : ℕ) → i < c + 1 → Dec (i ≡ c) → getD (set m (cells + c) v) (cells + i) 0 ≡ getD T (from + getD l (at + i) 0) 0
+        entry i h (yes p) =
+            rw p (getD-set-same m (cells + c) v 0 (omega (arith, F .room, D .long)) ∙ e ∙ ap (λ (x : ℕ). getD T (from + x) 0) (q ∙ input-stays))
+        entry i h (no p) = getD-set-other m (cells + c) (cells + i) v 0 (λ d. p (omega arith)) ∙ D .entries i (omega arith)
 
-  pub scattered-end : (j : ℕ) {l m : List ℕ} → j ≤ I → I ≤ j → Scattered T from I cells j l m → Scattered T from I cells I l m
-  scattered-end j {l} {m} a b D = subst (λ (k : ℕ). Scattered T from I cells k l m) (omega arith) D
+  pub picked-end : (C c : ℕ) {l m : List ℕ} → c ≤ C → C ≤ c → Picked T from at cells c l m → Picked T from at cells C l m
+  picked-end C c {l} {m} a b D = subst (λ (k : ℕ). Picked T from at cells k l m) (omega arith) D
 
 -- ---- places
 
@@ -182,98 +239,130 @@ full-filled {T} {I} {C} {R} {r} {l} {m} {n} F z S D = record {
 
 -- ---- all row numbers of the compact layout
 
+-- a row number ends where a later one begins, or before
+earlier-row : (x y C : ℕ) → x < y → x * C + C ≤ y * C
+earlier-row x y C b = omega (arith, row-last 0 x C y (y * C) b (omega arith))
+
 module _ (T : List ℕ) (I C R : ℕ) where
-  pub scatter-fits : (l m : List ℕ) (x : ℕ) → CompactFits T I C R l → x < R → length m ≡ length l
-      → ((j : ℕ) → j < I → getD m (I + j) 0 ≡ getD l (I + j) 0) → ScatterFits T (I + x * I) I m (I + I + x * C)
-  scatter-fits l m x F b e f = record {
-    table = row-last I x I R (length T) b (F .table);
-    ranks = omega arith;
-    room = λ j h. omega (arith, f j h, F .ranks j h, row-last (I + I) x C R (length l) b (F .room));
-  }
+  pub picked-rows-none : (l : List ℕ) → PickedRows T I C R R l l
+  picked-rows-none l = record { long = refl; outside = λ k h. refl; rows = λ y c a b. absurd (omega arith) }
 
-  pub scattered-rows-none : (l : List ℕ) → ScatteredRows T I C R 0 l l
-  scattered-rows-none l = record {
-    long = refl;
-    ranks = λ j b. refl;
-    grows = λ E A. grows-none E l;
-    right = λ E A x j b. absurd (omega arith);
-  }
+  module _ (n : ℕ) {l m : List ℕ} (F : PickRowsFits T I C R l) (a : 0 < n) (e : n ≤ R) (D : PickedRows T I C R n l m) where
+    abbrev x : ℕ
+    x = n - 1
 
-  pub scattered-rows-next : (x : ℕ) {l m k : List ℕ} → x < R → ScatteredRows T I C R x l m → Scattered T (I + x * I) I (I + I + x * C) I m k
-      → ScatteredRows T I C R (x + 1) l k
-  scattered-rows-next x {l} {m} {k} b D S = record {
-    long = S .long ∙ D .long;
-    ranks = λ j h. S .ranks j h ∙ D .ranks j h;
-    grows = λ E A. grows-more E (D .grows E A) (put E A .grows);
-    right = λ E A y j c h. right E A y j c h (ℕ-discrete y x);
-  }
-    where
-      fits : (E : List ℕ) → CompactAgrees E T I C R l → (y j : ℕ) → y < R → j < I → I + I + y * C + getD l (I + j) 0 < length E
-      fits E A y j h b = omega (arith, A .below j b, row-last (I + I) y C R (length E) h (omega (arith, A .long)))
+    b : x < R
+    b = omega arith
 
-      put : (E : List ℕ) → CompactAgrees E T I C R l → PutAt E m k (λ j. I + I + x * C + getD m (I + j) 0) I
-      put E A =
-          S .fills E
-          (λ j h. subst (λ (c : ℕ). I + I + x * C + c < length E) (sym (D .ranks j h)) (fits E A x j b h))
-          (λ j h. A .rows x j b h ∙ ap (λ (c : ℕ). getD E (I + I + x * C + c) 0) (sym (D .ranks j h)))
+    -- the inputs of the ranks lie before the row numbers that are written
+    inputs-stay : (c : ℕ) → c < C → getD m (I + I + c) 0 ≡ getD l (I + I + c) 0
+    inputs-stay c h = D .outside (I + I + c) (λ y i p q d e. omega (arith, earlier-row 0 y C (omega arith)))
 
-      right : (E : List ℕ) → CompactAgrees E T I C R l → (y j : ℕ) → y < x + 1 → j < I → Dec (y ≡ x) → Right E k (I + I + y * C + getD l (I + j) 0)
-      right E A y j c h (yes q) =
-          rw q (subst (λ (z : ℕ). Right E k (I + I + x * C + z)) (D .ranks j h) (put E A .right j h))
-      right E A y j c h (no q) =
-          put E A .grows .kept (I + I + y * C + getD l (I + j) 0) (fits E A y j (omega arith) h) (D .right E A y j (omega arith) h)
+    pub pick-fits : PickFits T (I + x * I) C m (I + I) (I + I + x * C)
+    pick-fits = record {
+      table = λ c h. omega (arith, inputs-stay c h, F .inputs c h, row-last I x I R (length T) b (F .table));
+      apart = λ c i p h. apart c i p h (ℕ-discrete x 0);
+      inputs = omega (arith, D .long, row-last (I + I) 0 C R (length l) (omega arith) (F .room));
+      room = omega (arith, D .long, row-last (I + I) x C R (length l) b (F .room));
+    }
+      where
+        apart : (c i : ℕ) → i < c → c < C → Dec (x ≡ 0) → I + I + c ≢ I + I + x * C + i
+        apart c i p h (yes q) e = omega (arith, ap (λ (k : ℕ). k * C) q)
+        apart c i p h (no q) e = omega (arith, earlier-row 0 x C (omega arith))
 
-  pub scattered-rows-end : (x : ℕ) {l m : List ℕ} → x ≤ R → R ≤ x → ScatteredRows T I C R x l m → ScatteredRows T I C R R l m
-  scattered-rows-end x {l} {m} a b D = subst (λ (k : ℕ). ScatteredRows T I C R k l m) (omega arith) D
+    pub picked-rows-next : {k : List ℕ} → Picked T (I + x * I) (I + I) (I + I + x * C) C m k → PickedRows T I C R x l k
+    picked-rows-next {k} P = record {
+      long = P .long ∙ D .long;
+      outside = λ i h. P .outside i (λ c d. h x c (omega arith) b d) ∙ D .outside i (λ y c p. h y c (omega arith));
+      rows = λ y c p q h. row y c p q h (ℕ-discrete y x);
+    }
+      where
+        row : (y c : ℕ) → x ≤ y → y < R → c < C → Dec (y ≡ x) → getD k (I + I + y * C + c) 0 ≡ getD T (I + y * I + getD l (I + I + c) 0) 0
+        row y c p q h (yes e) = rw e (P .entries c h ∙ ap (λ (i : ℕ). getD T (I + x * I + i) 0) (inputs-stay c h))
+        row y c p q h (no e) =
+            P .outside (I + I + y * C + c) (λ i d z. omega (arith, earlier-row x y C (omega arith))) ∙ D .rows y c (omega arith) q h
 
+  pub picked-rows-end : (x : ℕ) {l m : List ℕ} → x ≤ 0 → PickedRows T I C R x l m → PickedRows T I C R 0 l m
+  picked-rows-end x {l} {m} a D = subst (λ (k : ℕ). PickedRows T I C R k l m) (omega arith) D
+
+-- ---- the table in the compact layout: the starts are written from l to m, an input for each rank from m to n, the rows from n to r
+
+module _ {T : List ℕ} {I C R : ℕ} {l m : List ℕ} (F : CompactFits T I C R l) (S : Started T I I l m) where
   -- the starts leave the ranks
-  pub still-fits : {l m : List ℕ} → Started T I I l m → CompactFits T I C R l → CompactFits T I C R m
-  still-fits {l} {m} S F = record {
-    table = F .table;
-    ranks = λ j h. omega (arith, S .behind (I + j) (omega arith), F .ranks j h);
-    room = omega (arith, S .long, F .room);
+  rank-stays : (j : ℕ) → getD m (I + j) 0 ≡ getD l (I + j) 0
+  rank-stays j = S .behind (I + j) (omega arith)
+
+  pub represent-fits : RepresentFits I C m (I + I)
+  represent-fits = record {
+    few = F .few;
+    before = omega arith;
+    ranks = λ j h. omega (arith, rank-stays j, F .ranks j h);
+    room = omega (arith, S .long, row-last (I + I) 0 C R (length l) (F .some) (F .room));
   }
 
-module _ (E T : List ℕ) (I C R : ℕ) {l m n : List ℕ} (S : Started T I I l m) (A : CompactAgrees E T I C R l) (D : ScatteredRows T I C R R m n) where
-  begun : PutAt E l m (λ i. i) I
-  begun = S .fills E (omega (arith, A .long)) (A .starts)
+  module _ {n : List ℕ} (N : Represented I C (I + I) I m n) where
+    -- the input that is read for a rank has it
+    standing : (c : ℕ) → c < C → (getD n (I + I + c) 0 < I) × (getD l (I + getD n (I + I + c) 0) 0 ≡ c)
+    standing c h =
+        let w = F .reached c h in
+        let p : getD m (I + w .0) 0 ≡ c = rank-stays (w .0) ∙ w .2 in
+        (
+          subst (λ (x : ℕ). getD n (I + I + x) 0 < I) p (N .below (w .0) (w .1)),
+          sym (rank-stays (getD n (I + I + c) 0))
+              ∙ subst (λ (x : ℕ). getD m (I + getD n (I + I + x) 0) 0 ≡ x) p (N .alike (w .0) (w .1)),
+        )
 
-  still-agrees : CompactAgrees E T I C R m
-  still-agrees = record {
-    long = A .long;
-    starts = A .starts;
-    ranks = λ j h. begun .grows .kept (I + j) (omega (arith, A .long)) (A .ranks j h);
-    below = λ j h. omega (arith, S .behind (I + j) (omega arith), A .below j h);
-    rows = λ x j b h. A .rows x j b h ∙ ap (λ (c : ℕ). getD E (I + I + x * C + c) 0) (sym (S .behind (I + j) (omega arith)));
-    reached = λ c h. let w = A .reached c h in (w .0, w .1, S .behind (I + w .0) (omega arith) ∙ w .2);
-  }
+    pub pick-rows-fits : PickRowsFits T I C R n
+    pick-rows-fits = record {
+      table = F .table;
+      inputs = λ c h. standing c h .0;
+      room = omega (arith, F .room, S .long, N .long);
+    }
 
-  compact-all : (k : ℕ) → k < length E → Right E n k
-  compact-all k h = go (decLt k I) (decLt k (I + I))
-    where
-      cell : (x c : ℕ) → x < R → c < C → Right E n (I + I + x * C + c)
-      cell x c b d =
-          let w = still-agrees .reached c d in
-          subst (λ (z : ℕ). Right E n (I + I + x * C + z)) (w .2) (D .right E still-agrees x (w .0) b (w .1))
+    module _ {r : List ℕ} (P : PickedRows T I C R 0 n r) where
+      -- before the rows, and behind them, nothing else is written
+      front : (k : ℕ) → k < I + I → getD r k 0 ≡ getD m k 0
+      front k h = P .outside k (λ y c p q d e. omega arith) ∙ N .outside k (λ c d e. omega arith)
 
-      go : Dec (k < I) → Dec (k < I + I) → Right E n k
-      go (yes b) d = D .grows E still-agrees .kept k h (begun .right k b)
-      go (no b) (yes d) =
-          let j : k - I < I = omega arith in
-          subst (Right E n) (omega arith)
-          (D .grows E still-agrees .kept (I + (k - I)) (omega arith) (still-agrees .ranks (k - I) j))
-      go (no b) (no d) =
-          let q : k - (I + I) < R * C = omega (arith, A .long) in
-          subst (Right E n) (omega (arith, div-add-mod' (k - (I + I)) C))
-          (cell ((k - (I + I)) / C) ((k - (I + I)) % C) (row-below R C (k - (I + I)) q) (last-below R C (k - (I + I)) q))
+      behind : (k : ℕ) → I + I + R * C ≤ k → getD r k 0 ≡ getD l k 0
+      behind k h =
+          P .outside k (λ y c p q d e. omega (arith, earlier-row y R C q))
+          ∙ N .outside k (λ c d e. omega (arith, earlier-row 0 R C (F .some)))
+          ∙ S .behind k (omega arith)
 
-  compact-front : I + I + R * C ≤ length l → n ≡ E ++ drop (length E) l
-  compact-front b =
-      grows-done E l n (omega (arith, A .long)) (grows-more E (begun .grows) (D .grows E still-agrees)) compact-all
+      module _ (E : List ℕ) (A : CompactAgrees E T I C R l) where
+        begun : PutAt E l m (λ i. i) I
+        begun = S .fills E (omega (arith, A .long)) (A .starts)
 
-pub compact-filled : {T : List ℕ} {I C R : ℕ} {l m n : List ℕ} → CompactFits T I C R l → Started T I I l m → ScatteredRows T I C R R m n
-    → CompactFilled T I C R l n
-compact-filled {T} {I} {C} {R} {l} {m} {n} F S D = record {
-  long = D .long ∙ S .long;
-  front = λ E A. compact-front E T I C R S A D (F .room);
-}
+        cell : (x c : ℕ) → x < R → c < C → getD r (I + I + x * C + c) 0 ≡ getD E (I + I + x * C + c) 0
+        cell x c b h =
+            let w = standing c h in
+            P .rows x c (omega arith) b h ∙ A .rows x (getD n (I + I + c) 0) b (w .0) ∙ ap (λ (z : ℕ). getD E (I + I + x * C + z) 0) (w .1)
+
+        all-right : (k : ℕ) → k < length E → Right E r k
+        all-right k h = go (decLt k I) (decLt k (I + I))
+          where
+            go : Dec (k < I) → Dec (k < I + I) → Right E r k
+            go (yes b) d = record { is = front k (omega arith) ∙ begun .right k b .is }
+            go (no b) (yes d) =
+                let p : I + (k - I) ≡ k = omega arith in
+                subst (Right E r) p
+                (record { is = front (I + (k - I)) (omega arith) ∙ rank-stays (k - I) ∙ A .ranks (k - I) (omega arith) .is })
+            go (no b) (no d) =
+                let q : k - (I + I) < R * C = omega (arith, A .long) in
+                let p : I + I + (k - (I + I)) / C * C + (k - (I + I)) % C ≡ k = omega (arith, div-add-mod' (k - (I + I)) C) in
+                subst (Right E r) p
+                (record { is = cell ((k - (I + I)) / C) ((k - (I + I)) % C) (row-below R C (k - (I + I)) q) (last-below R C (k - (I + I)) q) })
+
+        compact-front : r ≡ E ++ drop (length E) l
+        compact-front = grows-done E l r (omega (arith, A .long, F .room)) grows all-right
+          where
+            grows : Grows E l r
+            grows = record {
+              long = P .long ∙ N .long ∙ S .long;
+              rest = drop-same (length E) l r (P .long ∙ N .long ∙ S .long) (λ k h. behind k (omega (arith, A .long)));
+              kept = λ k h w. all-right k h;
+            }
+
+      pub compact-filled : CompactFilled T I C R l r
+      compact-filled = record { long = P .long ∙ N .long ∙ S .long; front = compact-front }

@@ -2,8 +2,8 @@
 ghost use Prim.Native.Nat.{_+_, _≤_};
 ghost use lib.ListN.{length};
 ghost use mathlib.Core.Path.{_≡_};
-ghost use Rattle.compact_rows.specs.Copying.{GatherFits, Gathered, ScatterFits, Scattered, Started};
-ghost use Rattle.compact_rows.specs.Copying.{FullFits, GatheredRows, FullFilled, CompactFits, ScatteredRows, CompactFilled};
+ghost use Rattle.compact_rows.specs.Copying.{Started, GatherFits, Gathered, FullFits, GatheredRows, FullFilled};
+ghost use Rattle.compact_rows.specs.Copying.{RepresentFits, Represented, PickFits, Picked, PickRowsFits, PickedRows, CompactFits, CompactFilled};
 
 fn wide(x: u16) -> usize
     ensures { λ r. ⌜ r ≡ x ⌝ }
@@ -63,35 +63,49 @@ pub fn fill_full(table: &[u16], inputs: usize, components: usize, rows: usize, r
     gather_rows(table, inputs, components, rows, room);
 }
 
-// One row number of the compact layout, its entries by rank beginning at `cells`. Each input's entry is put at its rank: inputs of one rank have the
-// same entry. The ranks are in the room.
-fn scatter(table: &[u16], from: usize, inputs: usize, room: &mut [u16], cells: usize)
-    requires { ⌜ ScatterFits (now table) from inputs (now room) cells ⌝ }
-    ensures { λ r. ⌜ Scattered (now (table .entry)) from inputs cells inputs (now (room .entry)) (now (room .exit)) ⌝ }
+// Puts one input of each rank, from `at` on, at its rank: the one that is read for it, whichever it is, as inputs of one rank have the same entries. The
+// ranks are in the room.
+fn represent(inputs: usize, components: usize, room: &mut [u16], at: usize)
+    requires { ⌜ RepresentFits inputs components (now room) at ⌝ }
+    ensures { λ r. ⌜ Represented inputs components at inputs (now (room .entry)) (now (room .exit)) ⌝ }
 {
     let mut j: usize = 0;
     while j < inputs {
         let c = wide(room[inputs + j]);
-        room[cells + c] = table[from + j];
+        room[at + c] = j as u16;
         j += 1;
     }
 }
 
-// All row numbers of the compact layout.
-fn scatter_rows(table: &[u16], inputs: usize, components: usize, rows: usize, room: &mut [u16])
-    requires { ⌜ CompactFits (now table) inputs components rows (now room) ⌝ }
-    ensures { λ r. ⌜ ScatteredRows (now (table .entry)) inputs components rows rows (now (room .entry)) (now (room .exit)) ⌝ }
+// One row number of the compact layout, its entries by rank beginning at `cells`, each read for the input that stands for its rank, from `at` on.
+fn pick(table: &[u16], from: usize, components: usize, room: &mut [u16], at: usize, cells: usize)
+    requires { ⌜ PickFits (now table) from components (now room) at cells ⌝ }
+    ensures { λ r. ⌜ Picked (now (table .entry)) from at cells components (now (room .entry)) (now (room .exit)) ⌝ }
 {
-    let mut x: usize = 0;
-    while x < rows {
-        scatter(
+    let mut c: usize = 0;
+    while c < components {
+        let j = wide(room[at + c]);
+        room[cells + c] = table[from + j];
+        c += 1;
+    }
+}
+
+// All row numbers of the compact layout, the first last: the inputs that stand for the ranks are in its place.
+fn pick_rows(table: &[u16], inputs: usize, components: usize, rows: usize, room: &mut [u16])
+    requires { ⌜ PickRowsFits (now table) inputs components rows (now room) ⌝ }
+    ensures { λ r. ⌜ PickedRows (now (table .entry)) inputs components rows 0 (now (room .entry)) (now (room .exit)) ⌝ }
+{
+    let mut x = rows;
+    while 0 < x {
+        x -= 1;
+        pick(
             table,
             inputs + x * inputs,
-            inputs,
+            components,
             room,
+            inputs + inputs,
             inputs + inputs + x * components,
         );
-        x += 1;
     }
 }
 
@@ -101,5 +115,6 @@ pub fn fill_compact(table: &[u16], inputs: usize, components: usize, rows: usize
     ensures { λ r. ⌜ CompactFilled (now (table .entry)) inputs components rows (now (room .entry)) (now (room .exit)) ⌝ }
 {
     starts(inputs, table, room);
-    scatter_rows(table, inputs, components, rows, room);
+    represent(inputs, components, room, inputs + inputs);
+    pick_rows(table, inputs, components, rows, room);
 }

@@ -1,19 +1,19 @@
 -- `row_fits` goes through the inputs.
 use Prim.Native.Nat.{_≤_, _-_}
-use mathlib.Core.Path.{_≡_}
-use mathlib.Core.Bool.{true}
+use mathlib.Core.Path.{_≡_, _∙_}
+use mathlib.Core.Logic.{⊎-elim}
 use native.Mathlib.Omega.{arith}
 use Rattle.compact_checks.specs.Parts.{rowAgrees}
-use Rattle.compact_checks.proofs.Parts.{row-start, row-turn, row-stop, row-end}
+use Rattle.compact_checks.proofs.Parts.{row-start, row-same, row-other, row-end}
 use borrow.Author.Needs.{needs}
 use Rattle.compact_checks.proofs.row_fits.Statement.{statement}
 use Rattle.compact_checks.proofs.row_fits.Tie as tie
 
 abbrev Inv-loop : tie.InvT-loop
-Inv-loop table row part count firsts k₀ k = (k ≤ count) × (rowAgrees table firsts row part k ≡ true)
+Inv-loop table row part count firsts same₀ k₀ same k = (k ≤ count) × (same ≡ rowAgrees table firsts row part k)
 
 abbrev μ-loop : tie.MeasureT-loop
-μ-loop table row part count firsts k₀ k = count - k
+μ-loop table row part count firsts same₀ k₀ same k = count - k
 
 loop-holds : tie.Need-loop-holds Inv-loop μ-loop
 loop-holds c = (omega arith, row-start _ _ _ _)
@@ -55,12 +55,6 @@ shared-slice-read-if1-2 c =
     let a = w .before .before in
     omega (arith, w .wide .ensures, a .before .before .before .pre .2 (a .before .loop .k) (a .loop-test .taken))
 
-returns : tie.Need-returns Inv-loop μ-loop
-returns c =
-    let w = c .before .before .before in
-    let a = w .before .before in
-    row-stop _ _ _ _ _ _ (a .loop-test .taken) (w .wide .ensures) (c .if1 .taken)
-
 add-k : tie.Need-add-k Inv-loop μ-loop
 add-k c =
     let a = c .before .before .before .before .before in omega (arith, a .loop-test .taken)
@@ -71,12 +65,19 @@ loop-less c =
 
 loop-again : tie.Need-loop-again Inv-loop μ-loop
 loop-again c =
-    let w = c .before .before .before in
+    let i = c .before in
+    let w = i .before .before in
     let a = w .before .before in
-    (omega (arith, a .loop-test .taken), row-turn _ _ _ _ (a .before .loop .k) (w .wide .ensures) (c .if1 .left) (a .before .loop .inv .1))
+    let l = a .before .loop in (
+      omega (arith, a .loop-test .taken),
+      ⊎-elim
+          (λ t. t .1 ∙ row-other _ _ _ _ (l .k) (w .wide .ensures) (t .0 .taken))
+          (λ t. t .1 ∙ row-same _ _ _ _ (l .k) (w .wide .ensures) (t .0 .left) (l .inv .1))
+          (c .if1 .came),
+    )
 
-returns-2 : tie.Need-returns-2 Inv-loop μ-loop
-returns-2 c = row-end _ _ _ _ _ _ (c .before .loop .inv .0) (c .loop-test .left) (c .before .loop .inv .1)
+returns : tie.Need-returns Inv-loop μ-loop
+returns c = row-end _ _ _ _ _ _ (c .before .loop .inv .0) (c .loop-test .left) (c .before .loop .inv .1)
 
 pub row-fits-spec : {M : Type 1} → statement M
 row-fits-spec =
@@ -94,8 +95,7 @@ row-fits-spec =
     add-if1-3
     mul-if1-2
     shared-slice-read-if1-2
-    returns
     add-k
     loop-less
     loop-again
-    returns-2)
+    returns)

@@ -28,7 +28,7 @@ fill-compact-requires c κs =
     let k = c .before .before in
     let t = k .before .before .before in
     let s = t .before .before .before .before in
-    compact-fits _ _ (s .pre .1) (ap (_*_ _) (k .controller-counters .ensures)) (s .pre .3) (s .pre .2) (t .write-ranks .ensures) (s .pre .4)
+    compact-fits _ _ (s .pre .1) (ap (_*_ _) (k .controller-counters .ensures)) (s .pre .3) (s .pre .2) (t .write-ranks .ensures) (s .pre .0) (s .pre .4)
 
 same-length : tie.Need-same-length
 same-length c = search needs
