@@ -60,7 +60,14 @@ fn row_move(g: Game, table: &[u16], counters: usize, at: Position) -> Picked
     ensures { λ r. ⌜ r ≡ rowMove g (now (table .entry)) at ⌝ }
 {
     let entry = row_entry(g, table, counters, at);
-    let allowed = player_place::moves_to(g, at.input, panel_place::named(entry));
+    let ins = g.input.moves;
+    let allowed = player_place::moves_to(
+        g,
+        g.input.states,
+        &ins,
+        at.input,
+        panel_place::named(entry),
+    );
     panel_place::pick(counters, entry, allowed)
 }
 
@@ -98,7 +105,7 @@ fn next_accepted(g: Game, table: &[u16], at: Position) -> Picked
         return Picked::Refused(16);
     }
     let counters = table_sizes::environment_counters(g);
-    if !player_place::has_position(g, counters, at) {
+    if !player_place::has_position(g, g.input.states, g.output.states, counters, at) {
         return Picked::Refused(16);
     }
     row_move(g, table, counters, at)
@@ -113,7 +120,7 @@ fn step_accepted(g: Game, table: &[u16], at: Position, next: OutState) -> Played
         return Played::Refused(16);
     }
     let counters = table_sizes::environment_counters(g);
-    if !player_place::has_position(g, counters, at) {
+    if !player_place::has_position(g, g.input.states, g.output.states, counters, at) {
         return Played::Refused(16);
     }
     if !panel_place::replies_with(g, at.output, next) {

@@ -8,6 +8,7 @@ use lib.Dec.{ltb}
 use lib.ListN.{length, getD}
 use borrow.Author.Tests.{eq-eqb, ne-eqb}
 use Rattle.finite.proofs.Truth.{and-intro, and-false-left, and-false-right}
+use Rattle.sets.specs.declared.Set.{Set}
 use Rattle.sets.specs.Words.{bitsOf, setAt}
 use Rattle.bits.specs.Member.{has}
 use Rattle.graphs.specs.Graph.{edge, begins}
@@ -17,7 +18,7 @@ use Rattle.game.specs.declared.OutSet.{OutSet}
 use Rattle.game.specs.declared.Game.{Game}
 use Rattle.game.specs.declared.Acceptance.{Acceptance}
 use Rattle.game.specs.declared.Acceptance.the-variants as acceptance·
-use Rattle.game.specs.Access.{outInitial, outMoves}
+use Rattle.game.specs.Access.{outInitial}
 use Rattle.game.specs.Acceptance.{acceptance}
 use Rattle.game.specs.Numbers.{firstOf}
 use Rattle.game.proofs.Numbers.{after, game-after}
@@ -119,17 +120,19 @@ module _ (g : Game) (l : List ℕ) (p : Position) (j : InState) where
 
     pub stepped-at : acceptance g ≡ acceptance·.Accepted → fitting g l ≡ true → hasPosition g M p ≡ true
         → edge (graphOf (g .input)) (p .input .0) (j .0) ≡ true
-        → (w : RowIndex) (e : ℕ) (x : OutSet) (r : Played) → w ≡ record { output = p .output; counter = p .counter; input = j }
-        → e ≡ rowEntry l (g .input .states) M (w .output .0) (w .counter) (w .input .0) → x ≡ outMoves g (p .output)
-        → r ≡ arrives M (has (bitsOf (x .0))) j (answer e) → r ≡ stepped g l p j
+        → (N : ℕ) (outs : List ℕ) (w : RowIndex) (e : ℕ) (x : Set) (r : Played) → N ≡ g .input .states → outs ≡ g .output .moves
+        → w ≡ record { output = p .output; counter = p .counter; input = j }
+        → e ≡ rowEntry l N M (w .output .0) (w .counter) (w .input .0) → x ≡ setAt outs (p .output .0)
+        → r ≡ arrives M (has (bitsOf x)) j (answer e) → r ≡ stepped g l p j
     unfolding stepped placed answered
-    stepped-at a f h b w e x r z q t s =
+    stepped-at a f h b N outs w e x r i y z q t s =
         s
-        ∙ ap (λ (y : OutSet). arrives M (has (bitsOf (y .0))) j (answer e)) t
+        ∙ ap (λ (v : Set). arrives M (has (bitsOf v)) j (answer e)) (t ∙ ap (λ (v : List ℕ). setAt v (p .output .0)) y)
         ∙ ap (λ (k : ℕ). arrives k (has (bitsOf (setAt (g .output .moves) (p .output .0)))) j (answer e)) m
         ∙ ap (λ (ok : ℕ → Bool). arrives (controllerCounters (separatedOf g)) ok j (answer e)) (output-moves g a (p .output .0) (position-in g M p h .1))
         ∙ ap (arrives (controllerCounters (separatedOf g)) (edge (graphOf (g .output)) (p .output .0)) j)
-        (ap answer (q ∙ ap (λ (y : RowIndex). rowEntry l (g .input .states) M (y .output .0) (y .counter) (y .input .0)) z) ∙ row-of a h b)
+        (ap answer (q ∙ ap (λ (v : ℕ). rowEntry l v M (w .output .0) (w .counter) (w .input .0)) i
+        ∙ ap (λ (v : RowIndex). rowEntry l (g .input .states) M (v .output .0) (v .counter) (v .input .0)) z) ∙ row-of a h b)
         ∙ held 14 answered b
         ∙ held 16 placed (both-hold f h)
 

@@ -1,5 +1,7 @@
 -- The player: a controller's table run step by step.
 --
+--   sizesOf g                 == how many states g has, and how many counters its controller's table
+--   Lent g n ins outs         == n are the sizes of g, and ins and outs the rows of its graphs
 --   fitting g l               == the list l has the controller's length
 --   begun g l i               == the answer to begin with input i, for an accepted game
 --   stepped g l p j           == the answer to step from position p with input j, for an accepted game
@@ -29,8 +31,17 @@ use Rattle.demands.specs.Demands.{controllerOf}
 use Rattle.player_place.specs.declared.Position.{Position}
 use Rattle.player_place.specs.Place.{provided, arrives, names, playerNumber, hasPosition}
 use Rattle.player.specs.declared.Moved.{Moved}
+use Rattle.player.specs.declared.Sizes.{Sizes}
 use Rattle.player_place.specs.declared.Played.{Played}
 use Rattle.player_place.specs.declared.Played.the-variants.{At, Refused}
+
+abbrev pub sizesOf : Game → Sizes
+sizesOf g = record { inputs = g .input .states; outputs = g .output .states; counters = controllerCounters (separatedOf g) }
+
+pub record Lent (g : Game) (n : Sizes) (ins outs : List ℕ) : Type 0 where
+  pub sizes : n ≡ sizesOf g
+  pub inputs : ins ≡ g .input .moves
+  pub outputs : outs ≡ g .output .moves
 
 -- "16 table not of the controller's length"
 unfoldable pub fitting : Game → List ℕ → Bool

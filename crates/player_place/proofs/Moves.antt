@@ -2,6 +2,8 @@
 use Prim.Native.Nat.{ℕ, _≤_, _<_}
 use mathlib.Core.Path.{_≡_, _∙_, ap, fun-ext}
 use mathlib.Core.Bool.{Bool, _&&_}
+use mathlib.Core.List.{List}
+use native.Mathlib.Omega.{arith}
 use lib.Dec.{ltb}
 use lib.ListN.{getD}
 use borrow.Author.Tests.{lt-ltb}
@@ -27,6 +29,12 @@ pub edge-of : (h : Graph) (s t x : ℕ) (r : Bool) → s < h .states → x ≡ g
     → r ≡ edge (graphOf h) s t
 unfolding edge graphOf
 edge-of h s t x r l q e = and-next (lt-ltb s (h .states) l) (e ∙ ap (λ (y : ℕ). ltb t (h .states) && has y t) q)
+
+-- the count and the rows being lent
+pub edge-lent : (h : Graph) (n s t x : ℕ) (l : List ℕ) (r : Bool) → n ≡ h .states → l ≡ h .moves → s < n → x ≡ getD (setsIn l) s 0
+    → r ≡ (ltb t n && has x t) → r ≡ edge (graphOf h) s t
+edge-lent h n s t x l r e m b q k =
+    edge-of h s t x r (omega (arith, e)) (q ∙ ap (λ (y : List ℕ). getD (setsIn y) s 0) m) (k ∙ ap (λ (y : ℕ). ltb t y && has x t) e)
 
 module _ (g : Game) (a : acceptance g ≡ Accepted) where
   pub inputs-most : g .input .states ≤ capacity

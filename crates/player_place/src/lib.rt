@@ -52,24 +52,29 @@ pub fn begins_with(g: Game, i: InState) -> bool
     holds(h.initial, h.states, i.0)
 }
 
-// Whether input i, a state of the game, moves to j.
-pub fn moves_to(g: Game, i: InState, j: InState) -> bool
-    requires { ⌜ (i .0 < g .input .states) × (g .input .states ≤ capacity) ⌝ }
+// Whether input i, a state of the game, moves to j. The count of the inputs and their rows are lent: here and below the game is read by the contract alone.
+pub fn moves_to(
+    g: Game,
+    inputs: usize,
+    ins: &[u64; sets::ROW_WORDS],
+    i: InState,
+    j: InState,
+) -> bool
+    requires { ⌜ (inputs ≡ g .input .states) × (now ins ≡ g .input .moves) × (i .0 < inputs) × (inputs ≤ capacity) ⌝ }
     ensures { λ r. ⌜ r ≡ edge (graphOf (g .input)) (i .0) (j .0) ⌝ }
 {
-    let h = g.input;
-    let s = i.0;
-    holds(sets::row_of(&h.moves, s), h.states, j.0)
+    holds(sets::row_of(ins, i.0), inputs, j.0)
 }
 
 // Whether the game has the position.
-pub fn has_position(g: Game, counters: usize, at: Position) -> bool
+pub fn has_position(g: Game, inputs: usize, outputs: usize, counters: usize, at: Position) -> bool
+    requires { ⌜ (inputs ≡ g .input .states) × (outputs ≡ g .output .states) ⌝ }
     ensures { λ r. ⌜ r ≡ hasPosition g counters at ⌝ }
 {
-    if at.input.0 >= g.input.states {
+    if at.input.0 >= inputs {
         return false;
     }
-    if at.output.0 >= g.output.states {
+    if at.output.0 >= outputs {
         return false;
     }
     at.counter < counters

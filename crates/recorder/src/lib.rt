@@ -3,13 +3,16 @@ use game::Acceptance;
 use game::Game;
 use game::InState;
 use game::OutState;
+use player::Sizes;
 use player_place::Played;
 use player_place::Position;
+ghost use mathlib.Core.Bool.{true};
 ghost use mathlib.Core.Path.{_≡_};
 ghost use Prim.Native.Nat.{_≤_, _<_};
 ghost use lib.ListN.{length, getD, drop};
 ghost use Rattle.game.specs.declared.Acceptance.the-variants.{Accepted};
 ghost use Rattle.game.specs.Acceptance.{acceptance};
+ghost use Rattle.player.specs.Player.{fitting, Lent};
 ghost use Rattle.recorder.specs.Recorded.{ended, answerAt, recorded, nowhere, Compares};
 
 // The inputs of a run, recorded by the panel: a state number a byte.
@@ -41,15 +44,25 @@ fn state_at(recording: &[u8], n: usize) -> usize
     recording[n] as usize
 }
 
-// The player's answer to the input of step n: at the start it begins. The game is accepted, once for all steps.
-fn answer_at(g: Game, table: &[u16], n: usize, at: Position, next: InState) -> Played
-    requires { ⌜ acceptance g ≡ Accepted ⌝ }
+// The player's answer to the input of step n: at the start it begins. The game is accepted and the table's length tested, once for all steps; `m`, `ins` and
+// `outs` are the game's sizes and rows, worked out once too.
+fn answer_at<'a>(
+    g: Game,
+    m: Sizes,
+    ins: &'a [u64; sets::ROW_WORDS],
+    outs: &'a [u64; sets::ROW_WORDS],
+    table: &[u16],
+    n: usize,
+    at: Position,
+    next: InState,
+) -> Played
+    requires { ⌜ (acceptance g ≡ Accepted) × Lent g m (now ins) (now outs) × (fitting g (now table) ≡ true) ⌝ }
     ensures { λ r. ⌜ r ≡ answerAt g (now (table .entry)) n at next ⌝ }
 {
     if n == 0 {
         return player::begin_accepted(g, table, next);
     }
-    player::step_accepted(g, table, at, next)
+    player::step_lent(g, m, ins, outs, table, at, next)
 }
 
 // Where the inputs have ended at step n.
@@ -64,8 +77,16 @@ fn at_end(outputs: &[u8], n: usize) -> Compared
 }
 
 // Plays the recorded inputs, and looks at each step whether the output is the recorded one.
-fn follow(g: Game, table: &[u16], inputs: &[u8], outputs: &[u8]) -> Compared
-    requires { ⌜ acceptance g ≡ Accepted ⌝ }
+fn follow<'a>(
+    g: Game,
+    m: Sizes,
+    ins: &'a [u64; sets::ROW_WORDS],
+    outs: &'a [u64; sets::ROW_WORDS],
+    table: &[u16],
+    inputs: &[u8],
+    outputs: &[u8],
+) -> Compared
+    requires { ⌜ (acceptance g ≡ Accepted) × Lent g m (now ins) (now outs) × (fitting g (now table) ≡ true) ⌝ }
     ensures { λ r. ⌜ r ≡ recorded g (now (table .entry)) (now (inputs .entry)) (now (outputs .entry)) 0 nowhere ⌝ }
 {
     let mut at = Position {
@@ -75,7 +96,7 @@ fn follow(g: Game, table: &[u16], inputs: &[u8], outputs: &[u8]) -> Compared
     };
     let mut n: usize = 0;
     while n < inputs.len() {
-        let answer = answer_at(g, table, n, at, InState(state_at(inputs, n)));
+        let answer = answer_at(g, m, ins, outs, table, n, at, InState(state_at(inputs, n)));
         match answer {
             Played::Refused(c) => {
                 return Compared::Fault(n, c);
@@ -99,13 +120,15 @@ fn follow(g: Game, table: &[u16], inputs: &[u8], outputs: &[u8]) -> Compared
 fn compare_states(g: Game, table: &[u16], inputs: &[u8], outputs: &[u8]) -> Compared
     ensures { λ r. ⌜ Compares g (now (table .entry)) (now (inputs .entry)) (now (outputs .entry)) r ⌝ }
 {
-    match acceptance::accept(g) {
+    let ins = g.input.moves;
+    let outs = g.output.moves;
+    match acceptance::accept_lent(g, &ins, &outs) {
         Acceptance::Refused(n) => Compared::Refused(n),
         Acceptance::Accepted => {
             if table.len() != table_sizes::controller_length(g) {
                 return Compared::Refused(16);
             }
-            follow(g, table, inputs, outputs)
+            follow(g, player::sizes_of(g), &ins, &outs, table, inputs, outputs)
         }
     }
 }

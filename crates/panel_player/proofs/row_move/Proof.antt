@@ -1,4 +1,5 @@
 -- `row_move` tests the input that the row's entry names.
+use mathlib.Core.Path.{refl}
 use borrow.Author.Needs.{needs}
 use Rattle.player_place.proofs.Moves.{inputs-most}
 use Rattle.player_place.proofs.Tests.{position-in}
@@ -14,16 +15,18 @@ named-requires c κs = search needs
 
 moves-to-requires : tie.Need-moves-to-requires
 moves-to-requires c κs =
-    let start = c .before .before .before in
-    (position-in _ _ _ (start .pre .2) .0, inputs-most _ (start .pre .0))
+    let start = c .before .before .before .before .before in
+    (refl, refl, position-in _ _ _ (start .pre .2) .0, inputs-most _ (start .pre .0))
 
 pick-requires : tie.Need-pick-requires
 pick-requires c κs = search needs
 
 returns : tie.Need-returns
 returns c =
-    let start = c .before .before .before .before .before in
-    row-picked _ _ _ _ _ _ _ _ (c .before .before .before .row-entry .ensures) (c .before .before .named .ensures) (c .before .moves-to .ensures)
+    let n = c .before .before in
+    let r = n .before .before .before in
+    let start = r .before .before in
+    row-picked _ _ _ _ _ _ _ _ (r .row-entry .ensures) (n .named .ensures) (c .before .moves-to .ensures)
     (start .pre .1) (c .pick .ensures)
 
 pub row-move-spec : {M : Type 1} → statement M

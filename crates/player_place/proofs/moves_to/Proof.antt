@@ -1,5 +1,5 @@
 -- `moves_to` from what `holds` ensures.
-use Rattle.player_place.proofs.Moves.{edge-of}
+use Rattle.player_place.proofs.Moves.{edge-lent}
 use borrow.Author.Needs.{needs}
 use Rattle.player_place.proofs.moves_to.Statement.{statement}
 use Rattle.player_place.proofs.moves_to.Tie as tie
@@ -11,7 +11,9 @@ holds-requires : tie.Need-holds-requires
 holds-requires c κs = search needs
 
 returns : tie.Need-returns
-returns c = edge-of _ _ _ _ _ (c .before .before .before .before .before .pre .0) (c .before .row-of .ensures .1) (c .holds .ensures)
+returns c =
+    let p = c .before .before .pre in
+    edge-lent _ _ _ _ _ _ _ (p .0) (p .1) (p .2) (c .before .row-of .ensures .1) (c .holds .ensures)
 
 pub moves-to-spec : {M : Type 1} → statement M
 moves-to-spec = tie.close (tie.spec row-of-requires holds-requires returns)

@@ -1,12 +1,13 @@
 -- `compare_states` by its tests.
-use mathlib.Core.Path.{sym, _∙_}
+use mathlib.Core.Path.{refl, sym, _∙_}
+use Rattle.player.proofs.Answers.{fits}
 use Rattle.recorder.proofs.Steps.{compared-faulty, compared-misfit, compared-in, compares}
 use borrow.Author.Needs.{needs}
 use Rattle.recorder.proofs.compare_states.Statement.{statement}
 use Rattle.recorder.proofs.compare_states.Tie as tie
 
-accept-requires : tie.Need-accept-requires
-accept-requires c κs = search needs
+accept-lent-requires : tie.Need-accept-lent-requires
+accept-lent-requires c κs = search needs
 
 enum-known-n : tie.Need-enum-known-n
 enum-known-n c = search needs
@@ -15,40 +16,51 @@ enum-told : tie.Need-enum-told
 enum-told c = search needs
 
 controller-length-requires : tie.Need-controller-length-requires
-controller-length-requires c κs = sym (c .before .before .accept .ensures .answer) ∙ c .enum-told .given .1
+controller-length-requires c κs = sym (c .before .before .accept-lent .ensures .answer) ∙ c .enum-told .given .1
 
 returns : tie.Need-returns
 returns c =
     let t = c .before .before in
     compares _ _ _ _
-    (compared-misfit _ _ _ _ (sym (t .before .before .accept .ensures .answer) ∙ t .enum-told .given .1)
+    (compared-misfit _ _ _ _ (sym (t .before .before .accept-lent .ensures .answer) ∙ t .enum-told .given .1)
     (λ h. c .if1 .taken (h ∙ sym (c .before .controller-length .ensures))))
+
+sizes-of-requires : tie.Need-sizes-of-requires
+sizes-of-requires c κs =
+    let t = c .before .before in
+    sym (t .before .before .accept-lent .ensures .answer) ∙ t .enum-told .given .1
 
 follow-requires : tie.Need-follow-requires
 follow-requires c κs =
-    let t = c .before .before in
-    sym (t .before .before .accept .ensures .answer) ∙ t .enum-told .given .1
+    let n = c .before .before in
+    let i = n .before in
+    let t = i .before .before in (
+      sym (t .before .before .accept-lent .ensures .answer) ∙ t .enum-told .given .1,
+      record { sizes = n .sizes-of .ensures; inputs = refl; outputs = refl },
+      fits _ _ _ (i .before .controller-length .ensures) (i .if1 .left),
+    )
 
 returns-2 : tie.Need-returns-2
-returns-2 c = compares _ _ _ _ (compared-faulty _ _ _ _ _ (sym (c .before .before .before .accept .ensures .answer) ∙ c .before .n .given .1))
+returns-2 c = compares _ _ _ _ (compared-faulty _ _ _ _ _ (sym (c .before .before .before .accept-lent .ensures .answer) ∙ c .before .n .given .1))
 
 returns-3 : tie.Need-returns-3
 returns-3 c =
-    let i = c .before in
+    let i = c .before .before .before .before in
     let t = i .before .before in
     compares _ _ _ _
-    (compared-in _ _ _ _ (sym (t .before .before .accept .ensures .answer) ∙ t .enum-told .given .1) (i .if1 .left ∙ i .before .controller-length .ensures)
-    (c .follow .ensures))
+    (compared-in _ _ _ _ (sym (t .before .before .accept-lent .ensures .answer) ∙ t .enum-told .given .1)
+    (i .if1 .left ∙ i .before .controller-length .ensures) (c .follow .ensures))
 
 pub compare-states-spec : {M : Type 1} → statement M
 compare-states-spec =
     tie.close
     (tie.spec
-    accept-requires
+    accept-lent-requires
     enum-known-n
     enum-told
     controller-length-requires
     returns
+    sizes-of-requires
     follow-requires
     returns-2
     returns-3)

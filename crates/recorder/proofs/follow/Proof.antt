@@ -10,11 +10,11 @@ use Rattle.recorder.proofs.follow.Statement.{statement}
 use Rattle.recorder.proofs.follow.Tie as tie
 
 abbrev Inv-loop : tie.InvT-loop
-Inv-loop g table inputs outputs at₀ n₀ at n =
+Inv-loop g m ins outs table inputs outputs at₀ n₀ at n =
     (n ≤ length inputs) × (n ≤ length outputs) × (recorded g table inputs outputs 0 nowhere ≡ recorded g table (drop n inputs) (drop n outputs) n at)
 
 abbrev μ-loop : tie.MeasureT-loop
-μ-loop g table inputs outputs at₀ n₀ at n = length inputs - n
+μ-loop g m ins outs table inputs outputs at₀ n₀ at n = length inputs - n
 
 loop-holds : tie.Need-loop-holds Inv-loop μ-loop
 loop-holds c = (omega arith, omega arith, refl)
@@ -63,7 +63,13 @@ returns-3 c =
     (at-loop .loop .inv .2)
 
 add-n : tie.Need-add-n Inv-loop μ-loop
-add-n c = omega arith
+add-n c =
+    let at-answer2 = c .before .before .before .before .before in
+    let at-state-at = at-answer2 .before .before .before in
+    let at-loop-test = at-state-at .before in
+    let at-start = at-loop-test .before .before .before .before .before in
+    let inputs-good = at-start .good .1 .1 .1 .1 .1 .0 in
+    omega (arith, inputs-good)
 
 loop-less : tie.Need-loop-less Inv-loop μ-loop
 loop-less c = omega arith
