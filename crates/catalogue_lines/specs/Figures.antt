@@ -17,6 +17,7 @@ use Rattle.text_grammar.specs.Number.{decimal}
 use Rattle.text_shape.specs.Text.{word, line}
 use Rattle.text_put.specs.Put.{Puts}
 use Rattle.catalogue_tally.specs.declared.Tally.{Tally}
+use Rattle.text_grammar.specs.Marks.{blank, newline, closeBracket}
 
 unfoldable pub numberWord : List ℕ
 numberWord = 110 ∷ 117 ∷ 109 ∷ 98 ∷ 101 ∷ 114 ∷ []
@@ -28,7 +29,7 @@ unfoldable pub countLine : ℕ → ℕ → List ℕ
 countLine w n = line (word w ∷ decimal n ∷ [])
 
 unfoldable pub pairText : ℕ → ℕ → List ℕ
-pairText m n = (decimal m ++ 32 ∷ []) ++ ((decimal n ++ 41 ∷ []) ++ 10 ∷ [])
+pairText m n = (decimal m ++ blank ∷ []) ++ ((decimal n ++ closeBracket ∷ []) ++ newline ∷ [])
 
 unfoldable pub numberLine : ℕ → ℕ → List ℕ
 numberLine r n = elim (eqb n 0) [ true ↦ [] | false ↦ line (numberWord ∷ decimal r ∷ decimal n ∷ []) ]

@@ -13,7 +13,7 @@ pub fn name_end(list: &[u8], at: usize) -> usize
 {
     let mut i = at;
     while i < list.len() {
-        if list[i] == 10 {
+        if list[i] == b'\n' {
             break;
         }
         i += 1;
@@ -99,7 +99,7 @@ fn store(list: &mut [u8], k: Kept, b: u8) -> usize
 fn keep_byte(list: &mut [u8], k: Kept, b: u8) -> Kept
     ensures { λ r. ⌜ Keeps (now (list .entry)) k (b ∷ []) r (now (list .exit)) ⌝ }
 {
-    if b == 10 {
+    if b == b'\n' {
         let len = store(list, k, b);
         return Kept { len: len, run: 0 };
     }

@@ -105,7 +105,7 @@ use Rattle.text_shape.specs.Text.{
 }
 use Rattle.print_lines.specs.Line.{unlessNone, winnerWord, winsLine, startLine, environmentStartLine as panelStart, rowLine, stepLine}
 use Rattle.print_tables.specs.Print.{startLines, stepLines, controllerPrint, environmentPrint}
-use Rattle.solver.specs.Promise.{controllerLength, environmentLength, named, tenth, ninth, eighth, verdictAnswer}
+use Rattle.solver.specs.Promise.{controllerLength, environmentLength, named, environmentTested, controllerTested, scratchTested, verdictAnswer}
 use Rattle.text.specs.Read.{Reads}
 use Rattle.text.specs.OneText.{Arrays}
 use Rattle.text.proofs.OneText.{one-text-holds}
@@ -141,7 +141,7 @@ chosen g = controllerEntries (separatedOf g) ++ environmentEntries (separatedOf 
 
 print : Game → List ℕ
 unfolding text answer chosen unlessNone winnerWord winsLine startLine panelStart rowLine stepLine startLines stepLines controllerPrint
-    environmentPrint controllerLength environmentLength named tenth ninth eighth verdictAnswer tablePrint gamePrint
+    environmentPrint controllerLength environmentLength named environmentTested controllerTested scratchTested verdictAnswer tablePrint gamePrint
 print g = gamePrint g
 
 files : map (λ (c : Case). gameText (c .game)) table ≡ map (λ (c : Case). c .file) table

@@ -4,6 +4,10 @@ use libc::STDOUT_FILENO;
 use text::Answer;
 use text::WriteAnswer;
 
+const ZERO: usize = b'0' as usize;
+
+const NINE: usize = b'9' as usize;
+
 fn wide(b: u8) -> usize {
     b as usize
 }
@@ -14,16 +18,16 @@ fn length_of(head: &[u8; 5]) -> usize {
     let mut i: usize = 0;
     while i < 5 {
         let b = wide(head[i]);
-        if b < 48 {
+        if b < ZERO {
             return 65536;
         }
-        if b > 57 {
+        if b > NINE {
             return 65536;
         }
         if n > 6553 {
             return 65536;
         }
-        n = 10 * n + (b - 48);
+        n = 10 * n + (b - ZERO);
         i += 1;
     }
     n

@@ -23,7 +23,7 @@ use Rattle.checker_places.specs.Place.{placeCount, place, placed, starti
 use Rattle.checker_places.specs.Finding.{Walked, BadStart, BadRow, BadRound}
 use Rattle.checker_places.specs.Marked.{Stepped}
 use Rattle.checker_places.proofs.Place.{place-input, placed-inside, place-placed, lead-cases, named-inside, lead-bad, leads-at, place-first}
-use Rattle.checker_places.proofs.Stretch.{entry-in, entry-of}
+use Rattle.checker_places.proofs.WalkPart.{entry-in, entry-of}
 use Rattle.checker_places.proofs.OnPlaces.{turn-placed}
 
 -- the entries number b to b + m - 1 of a walk

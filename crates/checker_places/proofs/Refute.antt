@@ -19,13 +19,13 @@ use Rattle.arena.specs.Play.{Configuration, ControllerFirst, ControllerTurn, Re
 use Rattle.arena.specs.Win.{ControllerWins}
 use Rattle.arena.proofs.Meets.{breaks-elim}
 use Rattle.checker_places.specs.Finding.{Walked, BadStart, BadRow, BadRound}
-use Rattle.checker_places.proofs.Stretch.{stretch}
+use Rattle.checker_places.proofs.WalkPart.{walk-part}
 
 module _ (A : Arena) (T : ControllerTable) where
   module _ (at : ℕ → Configuration) (n : ℕ) (W : Walked A T at n) where
     -- the part from number a to number b
     pub part : (a m b : ℕ) → a + m ≡ b → b < n → (v : Walk (ControllerTurn A T) (at a) (at b)) × (passed v ≡ tabulateFrom a (suc m) at)
-    part a m b e l = stretch (ControllerTurn A T) at a m b e (λ k i j. W .turn k (omega (arith, j, l)))
+    part a m b e l = walk-part (ControllerTurn A T) at a m b e (λ k i j. W .turn k (omega (arith, j, l)))
 
     pub walked-reachable : (k : ℕ) → k < n → Reachable (ControllerFirst A T) (ControllerTurn A T) (at k)
     walked-reachable k l = record { origin = at 0; first = W .first; walk = part 0 k k (omega arith) l .0 }

@@ -2,6 +2,7 @@
 use game::Game;
 use game::InState;
 use game::OutSet;
+use game::OutState;
 use player_place::Played;
 ghost use mathlib.Core.Path.{_≡_};
 ghost use Prim.Native.Nat.{_≤_, _<_};
@@ -34,11 +35,11 @@ pub fn start(g: Game, counters: usize, table: &[u16], i: InState) -> u16
 }
 
 // The outputs that output o moves to. The rows are lent, not the game: a copy of it for each row of the table would cost more than the row.
-fn replies(moves: &[u64; sets::ROW_WORDS], o: usize) -> OutSet
-    requires { ⌜ o < capacity ⌝ }
-    ensures { λ r. ⌜ r ≡ record { 0 = setAt (now (moves .entry)) o } ⌝ }
+fn replies(moves: &[u64; sets::ROW_WORDS], o: OutState) -> OutSet
+    requires { ⌜ o .0 < capacity ⌝ }
+    ensures { λ r. ⌜ r ≡ record { 0 = setAt (now (moves .entry)) (o .0) } ⌝ }
 {
-    OutSet(sets::row_of(moves, o))
+    OutSet(sets::row_of(moves, o.0))
 }
 
 // Fills `to` with where each row leads.
@@ -50,7 +51,7 @@ pub fn fill(g: Game, counters: usize, places: usize, table: &[u16], to: &mut [u1
     let mut r: usize = 0;
     while r < places {
         let inputs = g.input.states;
-        let allowed = replies(&h.moves, r / inputs / counters);
+        let allowed = replies(&h.moves, OutState(r / inputs / counters));
         to[r] = lead(
             inputs,
             counters,

@@ -29,7 +29,7 @@ use Rattle.demands.specs.Demands.{playOf, controllerOf}
 use Rattle.checker_places.specs.Place.{placeCount, placed, starting, turns}
 use Rattle.checker_places.specs.Finding.{BadStart, BadRow, BadRound}
 use Rattle.checker_places.specs.Marked.{Stepped}
-use Rattle.checker_places.proofs.Stretch.{entry-in, entry-of}
+use Rattle.checker_places.proofs.WalkPart.{entry-in, entry-of}
 use Rattle.checker_places.proofs.Found as found
 use Rattle.checker_search.specs.Turns.{enters}
 use Rattle.checker_search.specs.Queues.{at, InQueue, Copied}

@@ -26,7 +26,7 @@ use Rattle.demands.specs.Demands.{playOf, controllerOf}
 use Rattle.checker_places.specs.Place.{placeCount, starting, leads, turns}
 use Rattle.checker_places.specs.Suspect.{onPlaces, Suspect, Holds}
 use Rattle.checker_places.specs.Marked.{Marked}
-use Rattle.checker_places.proofs.Stretch.{entry-in, entry-of}
+use Rattle.checker_places.proofs.WalkPart.{entry-in, entry-of}
 use Rattle.checker_places.proofs.Accept.{places-start, places-cut, places-drop, places-none, accepted}
 use Rattle.checker_search.specs.Turns.{marked, follows, enters}
 use Rattle.checker_search.specs.Queues.{at, InQueue, Exhausted}

@@ -89,7 +89,8 @@ module _ (g : Game) where
   -- where every input leads, it is its component's smallest itself
   pub alone-fits : (T : List ℕ) {b w : ℕ} → length T ≡ fullLength S → b ≡ pack I (leads S) → ((s : ℕ) → has w s ≡ ltb s I) → b ≡ w → true ≡ rowsFit S T
   unfolding separatedOf graphOf
-  alone-fits T {b} {w} e p h q = parts-end T refl I e (omega arith) (record { entry = λ x j l lj d. ap (λ (i : ℕ). getD T (I + x * I + i) 0) (sym (first j lj)) })
+  alone-fits T {b} {w} e p h q =
+      parts-end T refl I e (omega arith) (record { entry = λ x j l lj d. ap (λ (i : ℕ). getD T (I + x * I + i) 0) (sym (first j lj)) })
     where
       first : (j : ℕ) → j < I → number (S .input) j ≡ j
       first j lj =

@@ -3,8 +3,8 @@
 --   compact-fits, compact-written    : the table in the compact layout, where the ranks are written already
 --   full-fits, full-written          : the table in the full layout
 --   controller-long, ranks-in        : the lengths
-use Prim.Native.Nat.{ℕ, _+_, _*_, _-_, _/_, _%_, _≤_, _<_}
-use native.Mathlib.Nat.{add-assoc, div-add-mod', mul-le-mul, le-max-left}
+use Prim.Native.Nat.{ℕ, _+_, _*_, _/_, _%_, _≤_, _<_}
+use native.Mathlib.Nat.{add-assoc, div-add-mod', mul-le-mul}
 use mathlib.Core.Path.{_≡_, sym, _∙_, ap, ap₂, subst₂}
 use mathlib.Core.Bool.{true}
 use mathlib.Core.List.{List, _++_}
@@ -25,15 +25,12 @@ use Rattle.compact.proofs.Entries.{entries-length}
 use Rattle.compact.proofs.Tests.{ranks-fit-elim}
 use Rattle.compact.proofs.Moving.{to-length, start-over, rank-over, row-over, from-length, start-back, row-back}
 use Rattle.graph_ranks.specs.Ranks.{RanksWritten}
+use Rattle.theory.proofs.Demands.{controller-counts}
 use Rattle.table_sizes.proofs.Lengths.{inputs-most}
 use Rattle.finite.proofs.Lists.{any-default}
 use Rattle.compact_rows.specs.Copying.{FullFits, FullAgrees, FullFilled, CompactFits, CompactAgrees, CompactFilled}
 use Rattle.compact_rows.proofs.Copying.{drop-same, row-last, row-below, last-below}
 use Rattle.compact_checks.proofs.Firsts.{row-is}
-
-some-counter : (S : Separated) → 0 < controllerCounters S
-unfolding controllerCounters
-some-counter S = le-max-left 1 _
 
 module _ (S : Separated) where
   abbrev I : ℕ
@@ -148,7 +145,7 @@ module _ (g : Game) (T : List ℕ) {c r : ℕ} (p : c ≡ componentCount (separa
     unfolding separatedOf graphOf
     compact-fits a b = record {
       few = omega (arith, inputs-most g a);
-      some = omega (arith, q, mul-le-mul (accepted-fits g a .output .some) (some-counter G));
+      some = omega (arith, q, mul-le-mul (accepted-fits g a .output .some) (controller-counts G));
       table = omega (arith, long, full-length-is);
       ranks = λ j h. omega (arith, p, W .rank j h, rank-below G j h);
       reached = λ k h. rank-reached G T fits long m (W .rank) k (omega (arith, p));

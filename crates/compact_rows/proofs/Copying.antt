@@ -86,7 +86,7 @@ module _ (I C at : ℕ) where
 
   module _ (j : ℕ) {l m : List ℕ} (F : RepresentFits I C l at) (b : j < I) (D : Represented I C at j l m) where
     -- a rank's place lies past the ranks, so that they stay
-    pub ranks-stay : (i : ℕ) → i < I → getD m (I + i) 0 ≡ getD l (I + i) 0
+    ranks-stay : (i : ℕ) → i < I → getD m (I + i) 0 ≡ getD l (I + i) 0
     ranks-stay i h = D .outside (I + i) (λ c d e. omega (arith, F .before))
 
     module _ {c : ℕ} (q : c ≡ getD m (I + j) 0) where
@@ -305,8 +305,7 @@ module _ {T : List ℕ} {I C R : ℕ} {l m : List ℕ} (F : CompactFits T I C R 
     standing : (c : ℕ) → c < C → (getD n (I + I + c) 0 < I) × (getD l (I + getD n (I + I + c) 0) 0 ≡ c)
     standing c h =
         let w = F .reached c h in
-        let p : getD m (I + w .0) 0 ≡ c = rank-stays (w .0) ∙ w .2 in
-        (
+        let p : getD m (I + w .0) 0 ≡ c = rank-stays (w .0) ∙ w .2 in (
           subst (λ (x : ℕ). getD n (I + I + x) 0 < I) p (N .below (w .0) (w .1)),
           sym (rank-stays (getD n (I + I + c) 0))
               ∙ subst (λ (x : ℕ). getD m (I + getD n (I + I + x) 0) 0 ≡ x) p (N .alike (w .0) (w .1)),

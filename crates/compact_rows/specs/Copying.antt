@@ -17,7 +17,8 @@
 --   GatheredRows T I C R n l m   == the first n row numbers were written
 --   FullFilled T I C R l m       == all were
 -- the whole table, compact:
---   CompactFits T I C R l        == T is a table of the full layout with a row number or more, l has ranks in their place, each of them, and the compact one fits l
+--   CompactFits T I C R l        == T is a table of the full layout with a row number or more, l has the ranks in their place, all of them, and the
+--                                   compact one fits l
 --   CompactAgrees E T I C R l    == E is T in the compact layout with the ranks of l
 --   PickRowsFits T I C R l       == T is a table of the full layout, an input for each rank stands in the first row number of l, and all rows fit l
 --   PickedRows T I C R n l m     == the row numbers from n on were written, and nothing else

@@ -49,7 +49,7 @@ fn settle(
         × Runs (setsIn (now s)) (z .inputs) (bitsOf (c .0)) (bitsOf (firsts .0)) ⌝ }
     ensures { λ r. ⌜ ControllerFilled (separatedOf g) z (At (separatedOf g) (d .0)) (now (room .entry)) (now (room .exit)) ⌝ }
 {
-    let inputs = controller_homeward::residents(s, z.inputs, c, firsts, d, d);
+    let inputs = controller_homeward::inputs_with_home(s, z.inputs, c, firsts, d, d);
     if sets::is_empty(inputs.0) {
         return;
     }

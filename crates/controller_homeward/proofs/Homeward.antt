@@ -3,7 +3,7 @@
 --   lower-is, alike-at, reach-at, avoid-at : the tests of one input and of one output
 --   avoid-homes, near-both     : the outputs that reach d and none of the homes
 --   Near                       == the outputs from which the home of these inputs is d: they reach d, and none of the lower homes
---   resides-near, near-resides : where such an input has its home at d
+--   has-home-near, near-has-home : where such an input has its home at d
 --   group-filled               : the rows of these inputs
 --   homing-*                   : group after group
 use Prim.Native.Nat.{ℕ, _+_, _^_, _≤_, _<_}
@@ -48,13 +48,13 @@ use Rattle.table_walks.specs.Staying.{Approaches}
 use Rattle.controller_rows.specs.declared.Size.{Size}
 use Rattle.controller_rows.specs.declared.Home.{Home}
 use Rattle.controller_rows.specs.Writes.{inputOf, layoutOf}
-use Rattle.controller_table.specs.Filled.{ControllerFilled, Resides, Away, Given, HomeOf, Sized}
+use Rattle.controller_table.specs.Filled.{ControllerFilled, HasHome, Away, Given, HomeOf, Sized}
 use Rattle.controller_table.proofs.Fills.{filled-none, filled-more, filled-part}
 use Rattle.controller_table.proofs.Laid.{outputs-are, width-is, laid-rows, laid-input, laid-filled}
 use Rattle.controller_table.proofs.Loops.{comp-in}
 use Rattle.controller_table.proofs.Phases.{same-moves}
 use Rattle.controller_table.proofs.Setting.{sizes-of, told-of, scratch-long}
-use Rattle.controller_table.proofs.Told.{Told, resides-there, home-reached-at, home-at, row-home}
+use Rattle.controller_table.proofs.Told.{Told, has-home-there, home-reached-at, home-at, row-home}
 use Rattle.controller_homeward.specs.Homes.{lowerAt, alikeAt, reachesAt, avoidsAt, nearAt}
 
 pub lower-is : (s : List ℕ) (n d j row b : ℕ) {x : ℕ} → row ≡ rowAt s n j → ((t : ℕ) → has b t ≡ ltb t d) → ((t : ℕ) → has x t ≡ (has row t && has b t))
@@ -201,28 +201,28 @@ module _ (g : Game) (z : Size) (s : List ℕ) (inner : ℕ) (G : Given g z s inn
       (reaches-trans (separatedOf g .output) o p t (reaches-edge (separatedOf g .output) o p e) r))
 
   -- an input j with these homes below d, whose home at d is d
-  module _ (homes j : ℕ) (a : j < separatedOf g .input .states) (r : Resides (separatedOf g) (w .state .0) (w .state .0) j)
+  module _ (homes j : ℕ) (a : j < separatedOf g .input .states) (r : HasHome (separatedOf g) (w .state .0) (w .state .0) j)
       (e : lowerAt (setsIn s) (z .inputs) (w .state .0) j ≡ homes) where
     lower-in : (t : ℕ) → t < w .state .0 → homeFor (separatedOf g) (region (separatedOf g)) j t ≡ true → has homes t ≡ true
     unfolding lowerAt
     lower-in t b h =
         ap (λ (k : ℕ). has k t) (sym e)
         ∙ has-pack-below (w .state .0) (has (rowAt (setsIn s) (z .inputs) j)) t b
-        ∙ T .homes j t a (r .core) ∙ h
+        ∙ T .homes j t a (r .is-nontrivial) ∙ h
 
     lower-of : (t : ℕ) → has homes t ≡ true → (t < w .state .0) × (homeFor (separatedOf g) (region (separatedOf g)) j t ≡ true)
     unfolding lowerAt
     lower-of t h =
         let i = ap (λ (k : ℕ). has k t) e ∙ h in (
           pack-below (w .state .0) (has (rowAt (setsIn s) (z .inputs) j)) t i,
-          sym (T .homes j t a (r .core)) ∙ pack-holds (w .state .0) (has (rowAt (setsIn s) (z .inputs) j)) t i,
+          sym (T .homes j t a (r .is-nontrivial)) ∙ pack-holds (w .state .0) (has (rowAt (setsIn s) (z .inputs) j)) t i,
         )
 
     module _ (o : ℕ) (b : o < separatedOf g .output .states) where
-      resides-near : Near homes o ≡ true → Resides (separatedOf g) o (w .state .0) j
+      has-home-near : Near homes o ≡ true → HasHome (separatedOf g) o (w .state .0) j
       unfolding home
-      resides-near q = record {
-        core = r .core;
+      has-home-near q = record {
+        is-nontrivial = r .is-nontrivial;
         settled = settles-intro (separatedOf g) (region (separatedOf g)) j o (w .state .0) (near-reached homes o b q)
             (home-at (separatedOf g) (w .state .0) (w .state .0) j r);
         is =
@@ -235,9 +235,9 @@ module _ (g : Game) (z : Size) (s : List ℕ) (inner : ℕ) (G : Given g z s inn
             (and-left (reaches (separatedOf g .output) o k) (homeFor (separatedOf g) (region (separatedOf g)) j k) m))));
       }
 
-      near-resides : Resides (separatedOf g) o (w .state .0) j → Near homes o ≡ true
+      near-has-home : HasHome (separatedOf g) o (w .state .0) j → Near homes o ≡ true
       unfolding home
-      near-resides h =
+      near-has-home h =
           near-intro homes o b (home-reached-at (separatedOf g) o (w .state .0) j h)
           (λ t i m.
           let v = lower-of t i in
@@ -272,7 +272,7 @@ module _ (g : Game) (z : Size) (s : List ℕ) (inner : ℕ) (G : Given g z s inn
           subst (λ (k : ℕ). Leads k (kept (setsIn (g .output .moves)) inside) (has (bitsOf (w .component .0))) o) (sym (outputs-are g z y (G .sized) D))
           (subst₂ (λ (r : ℕ → ℕ → Bool) (p : ℕ → Bool). Leads (separatedOf g .output .states) r p o) (sym inside-is) (sym (home-states))
           (leads-narrow (separatedOf g .output .states) (edge (separatedOf g .output)) (joined (separatedOf g .output) (w .state .0)) (Near homes)
-          (near-closed homes) o q (home-leads (separatedOf g .output) (w .state .0) o (near-reached homes o b q) (H .core))))
+          (near-closed homes) o q (home-leads (separatedOf g .output) (w .state .0) o (near-reached homes o b q) (H .is-nontrivial))))
 
     -- x are inputs at home d; those of them with these lower homes are a group; k are the rows that were read
     pub group-filled : {k : List ℕ} → k ≡ g .output .moves → (group over : ℕ) {l m : List ℕ} → ((j : ℕ) → has x j ≡ true → has (bitsOf (w .inputs .0)) j ≡ true)
@@ -292,7 +292,7 @@ module _ (g : Game) (z : Size) (s : List ℕ) (inner : ℕ) (G : Given g z s inn
           (λ o c b lo lc lb p.
           let a : o < separatedOf g .output .states = omega (arith, outputs-are g z y (G .sized) D) in
           let j = laid-input g z y (G .sized) D E T b lb in
-          let q = near-resides homes (inputOf z b) j (at-home (inputOf z b) j (p .1)) (same (inputOf z b) (p .1)) o a (p .0 .resides) in
+          let q = near-has-home homes (inputOf z b) j (at-home (inputOf z b) j (p .1)) (same (inputOf z b) (p .1)) o a (p .0 .has-home) in
           (in-near o a ∙ q, comp-in (separatedOf g) w H o ∙ p .0 .apart, leads-home o q a, of-group b lb (p .1))));
     }
       where
@@ -305,9 +305,9 @@ module _ (g : Game) (z : Size) (s : List ℕ) (inner : ℕ) (G : Given g z s inn
             eqb-true (lowerAt (setsIn s) (z .inputs) (w .state .0) j) homes
             (and-right (has x j) (eqb (lowerAt (setsIn s) (z .inputs) (w .state .0) j) homes) (both j h))
 
-        at-home : (j : ℕ) → j < separatedOf g .input .states → has group j ≡ true → Resides (separatedOf g) (w .state .0) (w .state .0) j
+        at-home : (j : ℕ) → j < separatedOf g .input .states → has group j ≡ true → HasHome (separatedOf g) (w .state .0) (w .state .0) j
         at-home j a h =
-            H .resides j a (sub j (and-left (has x j) (eqb (lowerAt (setsIn s) (z .inputs) (w .state .0) j) homes) (both j h)))
+            H .has-home j a (sub j (and-left (has x j) (eqb (lowerAt (setsIn s) (z .inputs) (w .state .0) j) homes) (both j h)))
 
         in-group : (b : ℕ) → has over b ≡ true → has group (inputOf z b) ≡ true
         in-group b h = and-right (ltb b (z .width)) (has group (inputOf z b)) (sym (O b) ∙ h)
@@ -321,7 +321,7 @@ module _ (g : Game) (z : Size) (s : List ℕ) (inner : ℕ) (G : Given g z s inn
         row o h j lo k c a m =
             let b : o < separatedOf g .output .states = omega (arith, outputs-are g z y (G .sized) D) in
             let q = sym (in-near o b) ∙ k in
-            let r = resides-near homes j a (at-home j a m) (same j m) o b q in
+            let r = has-home-near homes j a (at-home j a m) (same j m) o b q in
             row-home (separatedOf g) o (w .state .0) j r a h
             ∙ homeward-away (separatedOf g) (w .state .0) o h (sym (comp-in (separatedOf g) w H o) ∙ c)
             ∙ ap (gives h) (sym (toward-home o q))
@@ -333,15 +333,15 @@ module _ (g : Game) (z : Size) (s : List ℕ) (inner : ℕ) (G : Given g z s inn
     inputs = λ j h.
         let v = sym (e j) ∙ h in
         (inner-below j (and-right (has (bitsOf (w .inputs .0)) j) (has inner j) v), and-left (has (bitsOf (w .inputs .0)) j) (has inner j) v);
-    filled = filled-none (separatedOf g) z l (λ o c j lo lc lj p. clash (inside o j lj (p .0 .resides)) (p .1));
+    filled = filled-none (separatedOf g) z l (λ o c j lo lc lj p. clash (inside o j lj (p .0 .has-home)) (p .1));
   }
     where
       inner-below : (j : ℕ) → has inner j ≡ true → j < z .inputs
       inner-below j h =
           rw (G .sized .inputs) (pack-below (g .input .states) _ j (ap (λ (k : ℕ). has k j) (sym (G .ready .inner)) ∙ h))
 
-      inside : (o j : ℕ) → j < separatedOf g .input .states → Resides (separatedOf g) o (w .state .0) j → has x j ≡ true
-      inside o j lj r = e j ∙ and-intro (H .resident j lj (resides-there (separatedOf g) o (w .state .0) j r)) (T .core j lj ∙ r .core)
+      inside : (o j : ℕ) → j < separatedOf g .input .states → HasHome (separatedOf g) o (w .state .0) j → has x j ≡ true
+      inside o j lj r = e j ∙ and-intro (H .complete j lj (has-home-there (separatedOf g) o (w .state .0) j r)) (T .is-nontrivial j lj ∙ r .is-nontrivial)
 
   module _ (x : ℕ) {l m : List ℕ} (I : Homing g z w x l m) where
     pub homing-within : within x (z .inputs) ≡ true
@@ -351,7 +351,7 @@ module _ (g : Game) (z : Size) (s : List ℕ) (inner : ℕ) (G : Given g z s inn
     homing-inner j h =
         let i = I .inputs j h in
         let l : j < separatedOf g .input .states = omega (arith, i .0, sizes-of g z (G .sized) .inputs) in
-        T .core j l ∙ H .resides j l (i .1) .core
+        T .is-nontrivial j l ∙ H .has-home j l (i .1) .is-nontrivial
 
     homing-small : x < 2 ^ capacity
     homing-small = small-word capacity x (λ j h. omega (arith, I .inputs j h .0, sizes-of g z (G .sized) .inputs, T .few-inputs))

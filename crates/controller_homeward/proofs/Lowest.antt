@@ -1,7 +1,7 @@
 -- The inputs whose home at an output is d, and those with the same homes below d, asked once for each run.
 --
 --   lowest-is         : the test of one row
---   settled-part, resides-spread : the inputs whose home is d, from those of them that begin a run
+--   settled-part, has-home-spread : the inputs whose home is d, from those of them that begin a run
 --   alike-part, alike-spread     : the inputs with these lower homes
 use Prim.Native.Nat.{ℕ}
 use mathlib.Core.Path.{_≡_, sym, _∙_, ap}
@@ -17,7 +17,7 @@ use Rattle.sets.specs.Words.{capacity}
 use Rattle.scratch.specs.Stored.{rowAt, outReachAt}
 use Rattle.region_runs.specs.Runs.{Runs, spreadAt}
 use Rattle.region_runs.proofs.Runs.{spread-part, spread-all}
-use Rattle.controller_rows.specs.Writes.{homeAt, residesAt}
+use Rattle.controller_rows.specs.Writes.{homeAt, hasHomeAt}
 use Rattle.controller_homeward.specs.Homes.{lowestIs, settledAt, lowerAt, alikeAt}
 
 pub lowest-is : (row reach d : ℕ) {x : ℕ} → x ≡ least capacity (both row reach) → eqb x d ≡ lowestIs row reach d
@@ -29,9 +29,9 @@ module _ (s : List ℕ) (n f reach d x : ℕ) (e : x ≡ pack n (settledAt s n f
   unfolding settledAt
   settled-part = spread-part n f x (λ j. lowestIs (rowAt s n j) reach d) e
 
-  pub resides-spread : (c o : ℕ) → Runs s n c f → reach ≡ outReachAt s n o → {y : ℕ} → y ≡ pack n (spreadAt c f x) → y ≡ pack n (residesAt s n c o d)
-  unfolding settledAt residesAt homeAt lowestIs
-  resides-spread c o R r g =
+  pub has-home-spread : (c o : ℕ) → Runs s n c f → reach ≡ outReachAt s n o → {y : ℕ} → y ≡ pack n (spreadAt c f x) → y ≡ pack n (hasHomeAt s n c o d)
+  unfolding settledAt hasHomeAt homeAt lowestIs
+  has-home-spread c o R r g =
       spread-all s n c f x R (λ j. lowestIs (rowAt s n j) reach d) (λ i j q. ap (λ (k : ℕ). lowestIs k reach d) q) e g
       ∙ ap (λ (k : ℕ). pack n (λ j. has c j && lowestIs (rowAt s n j) k d)) r
 

@@ -16,7 +16,7 @@ ghost use lib.ListN.{length};
 ghost use Rattle.play.specs.Play.{separatedOf};
 ghost use mathlib.Core.Bool.{true, _&&_};
 ghost use Rattle.bits.specs.Member.{has, pack, within};
-ghost use Rattle.controller_rows.specs.Writes.{lengthOf, residesAt};
+ghost use Rattle.controller_rows.specs.Writes.{lengthOf, hasHomeAt};
 ghost use Rattle.region_runs.specs.Runs.{Runs};
 ghost use Rattle.controller_homeward.specs.Homes.{lowestIs, settledAt, lowerAt, alikeAt, reachesAt, avoidsAt};
 ghost use Rattle.controller_table.specs.Filled.{ControllerFilled, Away as AwayRow, Given, HomeOf};
@@ -45,10 +45,17 @@ fn settled(s: &[u64], n: usize, c: InSet, reach: OutSet, d: OutState) -> InSet
 }
 
 // The inputs of c, those in nontrivial components, whose home at output o is d. What is asked of a row is asked once for each run; `firsts` begin them.
-pub fn residents(s: &[u64], n: usize, c: InSet, firsts: InSet, o: OutState, d: OutState) -> InSet
+pub fn inputs_with_home(
+    s: &[u64],
+    n: usize,
+    c: InSet,
+    firsts: InSet,
+    o: OutState,
+    d: OutState,
+) -> InSet
     requires { ⌜ (n ≤ capacity) × (o .0 < capacity) × (scratchSets n (o .0) < setCount (now s))
         × Runs (setsIn (now s)) n (bitsOf (c .0)) (bitsOf (firsts .0)) ⌝ }
-    ensures { λ r. ⌜ bitsOf (r .0) ≡ pack n (residesAt (setsIn (now (s .entry))) n (bitsOf (c .0)) (o .0) (d .0)) ⌝ }
+    ensures { λ r. ⌜ bitsOf (r .0) ≡ pack n (hasHomeAt (setsIn (now (s .entry))) n (bitsOf (c .0)) (o .0) (d .0)) ⌝ }
 {
     let reach = scratch::out_reach(s, n, o);
     let x = settled(s, n, firsts, reach, d);

@@ -11,7 +11,7 @@
 -- told from the sets s of scratch, c being the inputs in nontrivial components:
 --   settlesAt c j row reach        == j is in a nontrivial component, and one of its homes, the row, is in reach
 --   homeAt c j row reach d         == and the lowest such home is d
---   residesAt s n c o d j          == the home of j at output o is d
+--   hasHomeAt s n c o d j          == the home of j at output o is d
 --   PlainRow z s c o moves j b     == where input j, of column b, has no home in reach of o: the lowest of the moves to a member of its row, or none
 --   Plain z s c o moves k          == the same for each leader j < k
 --   Plains z s c rows k            == the same for each output o < k
@@ -82,8 +82,8 @@ settlesAt c j row reach = has c j && setsMeet capacity row reach
 unfoldable pub homeAt : ℕ → ℕ → ℕ → ℕ → ℕ → Bool
 homeAt c j row reach d = has c j && eqb (least capacity (both row reach)) d
 
-unfoldable pub residesAt : List ℕ → ℕ → ℕ → ℕ → ℕ → ℕ → Bool
-residesAt s n c o d j = homeAt c j (rowAt s n j) (outReachAt s n o) d
+unfoldable pub hasHomeAt : List ℕ → ℕ → ℕ → ℕ → ℕ → ℕ → Bool
+hasHomeAt s n c o d j = homeAt c j (rowAt s n j) (outReachAt s n o) d
 
 pub record PlainRow (z : Size) (s : List ℕ) (c o moves j b : ℕ) (l m : List ℕ) : Type 0 where
   pub written : settlesAt c j (rowAt s (z .inputs) j) (outReachAt s (z .inputs) o) ≡ false

@@ -1,23 +1,14 @@
 -- The places of rows in a layout.
 --
---   some-counter          : every game has one
 --   place-room            : a row's place is one of the list
 --   cell-of               : every place past the front is a row's
 use Prim.Native.Nat.{ℕ, zero, suc, _+_, _-_, _*_, _/_, _%_, _≤_, _<_}
-use native.Mathlib.Nat.{div-add-mod', mod-lt, div-lt-iff-lt-mul, mul-zero, le-max-left}
+use native.Mathlib.Nat.{div-add-mod', mod-lt, div-lt-iff-lt-mul, mul-zero}
 use mathlib.Core.Path.{_≡_, sym, _∙_, ap}
 use native.Mathlib.Omega.{arith}
-use lib.ListN.{length}
-use Rattle.arena.specs.Arena.{Separated}
-use Rattle.theory.specs.Choice.{guarantees}
-use Rattle.theory.specs.Entries.{controllerCounters}
 use Rattle.theory.proofs.Entries.{place-below}
 use Rattle.table_layout.specs.declared.Layout.{Layout}
 use Rattle.table_layout.specs.Rows.{place}
-
-pub some-counter : (S : Separated) → 0 < controllerCounters S
-unfolding controllerCounters
-some-counter S = le-max-left 1 (length (guarantees S))
 
 module _ (y : Layout) where
   pub place-room : (o c b : ℕ) → o < y .states → c < y .counters → b < y .width → place y o c b < y .base + y .states * y .counters * y .width

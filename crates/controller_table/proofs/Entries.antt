@@ -32,7 +32,7 @@ use Rattle.theory.proofs.Region.{answers-elim, answers-false, settles-intro, op
 use Rattle.theory.proofs.ControllerRow.{row-answers, answers-settles, homeward-at}
 use Rattle.controller_rows.specs.declared.Size.{Size}
 use Rattle.controller_rows.specs.Writes.{first, more, settlesAt, startOf}
-use Rattle.controller_table.specs.Filled.{Resides}
+use Rattle.controller_table.specs.Filled.{HasHome}
 use Rattle.table_entries.proofs.Packed.{none-entry, entry-steps}
 use Rattle.controller_rows.proofs.Writes.{stays-state, stays-none}
 use Rattle.controller_table.proofs.Told.{in-both, Told, unsettled, row-home}
@@ -204,9 +204,9 @@ module _ (S : Separated) (s : List ℕ) (n inner : ℕ) (rows : List ℕ) (T : T
             (λ o b. false-of (q o) (λ k. clash (and-right (begins (S .output) o) (region S i o) k)
             (opens-false S i o h (and-left (begins (S .output) o) (region S i o) k))))))
 
--- ---- residents
+-- ---- inputs with a home
 
-module _ (S : Separated) (o d j : ℕ) (r : Resides S o d j) (a : j < S .input .states) (few : S .output .states ≤ capacity) where
+module _ (S : Separated) (o d j : ℕ) (r : HasHome S o d j) (a : j < S .input .states) (few : S .output .states ≤ capacity) where
   module _ (h : joined (S .output) d o ≡ true) where
     pub at-home : (c : ℕ) → controllerRow S o c j ≡ tour (S .output) d (guarantees S) o c
     at-home c = row-home S o d j r a c ∙ homeward-at S d o c h

@@ -1,6 +1,6 @@
 -- All homes, one after the other.
 --
---   home-given, no-home          : a home with residents, and without
+--   home-given, no-home          : a home with inputs, and without
 --   settled-here                 : the rows of one home
 --   homes-none, homes-next       : the loop over them
 --   filled-table                 : all rows
@@ -31,10 +31,10 @@ use Rattle.graph_ways.proofs.Kept.{pack-below, pack-holds}
 use Rattle.theory.specs.Choice.{home}
 use Rattle.controller_rows.specs.declared.Size.{Size}
 use Rattle.controller_rows.specs.declared.Home.{Home}
-use Rattle.controller_rows.specs.Writes.{residesAt}
-use Rattle.controller_table.specs.Filled.{ControllerFilled, Resides, Away, There, At, Below, Given, HomeOf}
+use Rattle.controller_rows.specs.Writes.{hasHomeAt}
+use Rattle.controller_table.specs.Filled.{ControllerFilled, HasHome, Away, There, At, Below, Given, HomeOf}
 use Rattle.controller_table.proofs.Fills.{filled-none, filled-more, filled-part}
-use Rattle.controller_table.proofs.Told.{resides-word, resides-at, resides-there, home-core}
+use Rattle.controller_table.proofs.Told.{has-home-word, has-home-at, has-home-there, home-core}
 use Rattle.controller_table.proofs.Setting.{sizes-of, told-of}
 
 -- the home that the code makes
@@ -46,26 +46,26 @@ module _ (g : Game) (z : Size) (s : List ℕ) (inner : ℕ) (G : Given g z s inn
     d-below : d < separatedOf g .output .states
     d-below = rw (sizes-of g z (G .sized) .outputs) at b
 
-    module _ (i : InSet) (e : bitsOf (i .0) ≡ pack (z .inputs) (residesAt (setsIn s) (z .inputs) inner d d)) where
-      in-set : (j : ℕ) → j < separatedOf g .input .states → Resides (separatedOf g) d d j → has (bitsOf (i .0)) j ≡ true
+    module _ (i : InSet) (e : bitsOf (i .0) ≡ pack (z .inputs) (hasHomeAt (setsIn s) (z .inputs) inner d d)) where
+      in-set : (j : ℕ) → j < separatedOf g .input .states → HasHome (separatedOf g) d d j → has (bitsOf (i .0)) j ≡ true
       in-set j a r =
-          ap (λ (x : ℕ). has x j) e ∙ has-pack-below (z .inputs) (residesAt (setsIn s) (z .inputs) inner d d) j (rw (sizes-of g z (G .sized) .inputs) a)
-          ∙ resides-at (separatedOf g) (setsIn s) (z .inputs) inner (setsIn (g .output .moves)) (told-of g z s inner G) j d a d-below d r
+          ap (λ (x : ℕ). has x j) e ∙ has-pack-below (z .inputs) (hasHomeAt (setsIn s) (z .inputs) inner d d) j (rw (sizes-of g z (G .sized) .inputs) a)
+          ∙ has-home-at (separatedOf g) (setsIn s) (z .inputs) inner (setsIn (g .output .moves)) (told-of g z s inner G) j d a d-below d r
 
-      of-set : (j : ℕ) → has (bitsOf (i .0)) j ≡ true → (j < separatedOf g .input .states) × Resides (separatedOf g) d d j
+      of-set : (j : ℕ) → has (bitsOf (i .0)) j ≡ true → (j < separatedOf g .input .states) × HasHome (separatedOf g) d d j
       of-set j h =
           let k = ap (λ (x : ℕ). has x j) (sym e) ∙ h in
-          let a = rw (sizes-of g z (G .sized) .inputs) at (pack-below (z .inputs) (residesAt (setsIn s) (z .inputs) inner d d) j k) in (
+          let a = rw (sizes-of g z (G .sized) .inputs) at (pack-below (z .inputs) (hasHomeAt (setsIn s) (z .inputs) inner d d) j k) in (
             a,
-            resides-word (separatedOf g) (setsIn s) (z .inputs) inner (setsIn (g .output .moves)) (told-of g z s inner G) j d a d-below d d-below
-                (pack-holds (z .inputs) (residesAt (setsIn s) (z .inputs) inner d d) j k),
+            has-home-word (separatedOf g) (setsIn s) (z .inputs) inner (setsIn (g .output .moves)) (told-of g z s inner G) j d a d-below d d-below
+                (pack-holds (z .inputs) (hasHomeAt (setsIn s) (z .inputs) inner d d) j k),
           )
 
-      -- with no resident at d there is none anywhere
+      -- with no input at home at d there is none anywhere
       pub no-home : bitsOf (i .0) ≡ 0 → (l : List ℕ) → ControllerFilled (separatedOf g) z (At (separatedOf g) d) l l
       no-home none l =
           filled-none (separatedOf g) z l
-          (λ o c j x y a h. clash (in-set j a (resides-there (separatedOf g) o d j (h .resides))) (ap (λ (x : ℕ). has x j) none ∙ has-zero j))
+          (λ o c j x y a h. clash (in-set j a (has-home-there (separatedOf g) o d j (h .has-home))) (ap (λ (x : ℕ). has x j) none ∙ has-zero j))
 
       pub home-given : (x : OutSet) → bitsOf (i .0) ≢ 0 → bitsOf (x .0) ≡ pack (z .outputs) (together (outArea (setsIn s) (z .inputs)) d)
           → HomeOf (separatedOf g) (homeWith d x i)
@@ -74,12 +74,12 @@ module _ (g : Game) (z : Size) (s : List ℕ) (inner : ℕ) (G : Given g z s inn
           let v = nonzero-member (bitsOf (i .0)) n in
           record {
             below = d-below;
-            core = home-core (separatedOf g) d d (v .0) (of-set (v .0) (v .1) .1);
+            is-nontrivial = home-core (separatedOf g) d d (v .0) (of-set (v .0) (v .1) .1);
             component =
                 q ∙ rw (G .sized .outputs, G .sized .inputs)
                 (component-closed (g .output) (outArea (setsIn s) (g .input .states)) (area-closes (G .ready .laid)) d d-below);
-            resides = λ j a h. of-set j h .1;
-            resident = in-set;
+            has-home = λ j a h. of-set j h .1;
+            complete = in-set;
           }
 
 -- the rows of one home
@@ -88,8 +88,8 @@ pub settled-here : (S : Separated) (z : Size) (d : ℕ) {l m r : List ℕ} → C
 settled-here S z d p q =
     filled-part S z
     (λ o c j x y a h. elim (decide (joined (S .output) d o)) [
-      | inl e ↦ inr (record { resides = h .resides; within = e })
-      | inr e ↦ inl (record { resides = h .resides; apart = e })
+      | inl e ↦ inr (record { has-home = h .has-home; within = e })
+      | inr e ↦ inl (record { has-home = h .has-home; apart = e })
     ])
     (filled-more S z p q)
 
@@ -102,7 +102,7 @@ pub homes-next : (S : Separated) (z : Size) (d : ℕ) {l m r : List ℕ} → Con
 homes-next S z d p q =
     filled-part S z
     (λ o c j x y a h. elim (below-suc (home S j o) d (rw add-one at (h .below))) [
-      | inl e ↦ inr (record { resides = subst (λ (k : ℕ). Resides S o k j) e (h .resides) })
-      | inr e ↦ inl (record { resides = h .resides; below = e })
+      | inl e ↦ inr (record { has-home = subst (λ (k : ℕ). HasHome S o k j) e (h .has-home) })
+      | inr e ↦ inl (record { has-home = h .has-home; below = e })
     ])
     (filled-more S z p q)

@@ -27,9 +27,9 @@ use Rattle.controller_rows.specs.declared.Size.{Size}
 use Rattle.controller_rows.specs.declared.Home.{Home}
 use Rattle.controller_rows.specs.Each.{Each, none, hit, miss}
 use Rattle.controller_rows.specs.Writes.{leading, columnOf, Row, settlesAt, Plain, Plains, startOf, Start, Starts}
-use Rattle.controller_table.specs.Filled.{Resides, HomeOf}
+use Rattle.controller_table.specs.Filled.{HasHome, HomeOf}
 use Rattle.controller_table.proofs.Fills.{Sizes, Fills, filled-part, filled-led, fills-each, fills-row}
-use Rattle.controller_table.proofs.Told.{Told, resides-same}
+use Rattle.controller_table.proofs.Told.{Told, has-home-same}
 use Rattle.controller_table.proofs.Entries.{plain-entry}
 
 -- the component of a home, as a word
@@ -70,14 +70,14 @@ module _ (S : Separated) (z : Size) (Z : Sizes S z) where
     }
 
   module _ (w : Home) (H : HomeOf S w) (few : S .output .states ≤ capacity) where
-    -- who resides at the home, at any state of its component
-    pub resident-at : (o j : ℕ) → j < S .input .states → joined (S .output) (w .state .0) o ≡ true → has (bitsOf (w .inputs .0)) j ≡ true
-        → Resides S o (w .state .0) j
-    resident-at o j a h i = resides-same S (w .state .0) o (w .state .0) j a h (H .resides j a i)
+    -- who has-home at the home, at any state of its component
+    pub has-home-from : (o j : ℕ) → j < S .input .states → joined (S .output) (w .state .0) o ≡ true → has (bitsOf (w .inputs .0)) j ≡ true
+        → HasHome S o (w .state .0) j
+    has-home-from o j a h i = has-home-same S (w .state .0) o (w .state .0) j a h (H .has-home j a i)
 
-    pub input-at : (o j : ℕ) → j < S .input .states → joined (S .output) (w .state .0) o ≡ true → Resides S o (w .state .0) j
+    pub input-at : (o j : ℕ) → j < S .input .states → joined (S .output) (w .state .0) o ≡ true → HasHome S o (w .state .0) j
         → has (bitsOf (w .inputs .0)) j ≡ true
-    input-at o j a h r = H .resident j a (resides-same S o (w .state .0) (w .state .0) j a (joined-sym (S .output) (w .state .0) o h) r)
+    input-at o j a h r = H .complete j a (has-home-same S o (w .state .0) (w .state .0) j a (joined-sym (S .output) (w .state .0) o h) r)
 
 -- ---- the starts
 

@@ -18,7 +18,7 @@ use Rattle.theory.specs.Choice.{guarantees}
 use Rattle.theory.specs.Entries.{controllerCounters}
 use Rattle.demands.proofs.Sizes.{guarantees-few}
 use Rattle.table_goals.specs.Goal.{Goals as Counted}
-use Rattle.table_goals.specs.Stretches.{metIn}
+use Rattle.table_goals.specs.Ranges.{metIn}
 use Rattle.table_goals.proofs.Tours.{met-pack, goal-below, goals-from}
 use Rattle.controller_rows.specs.declared.Size.{Size}
 use Rattle.controller_rows.specs.declared.Home.{Home}

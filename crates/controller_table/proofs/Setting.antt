@@ -32,7 +32,7 @@ use Rattle.theory.proofs.Region.{homeFor-nontrivial, region-out}
 use Rattle.controller_rows.specs.declared.Size.{Size}
 use Rattle.controller_rows.specs.Writes.{lengthOf, Table}
 use Rattle.controller_table.specs.Filled.{Sized, Given}
-use Rattle.controller_table.proofs.Cells.{some-counter}
+use Rattle.theory.proofs.Demands.{controller-counts}
 use Rattle.controller_table.proofs.Fills.{Sizes}
 use Rattle.controller_table.proofs.Told.{Told}
 
@@ -53,7 +53,7 @@ module _ (g : Game) (z : Size) (Z : Sized g z) where
   table-of long b = record {
     inputs = omega (arith, Z .inputs, fits-of .input .most);
     outputs = omega (arith, Z .outputs, fits-of .output .most);
-    some = rw (Z .counters) (some-counter (separatedOf g));
+    some = rw (Z .counters) (controller-counts (separatedOf g));
     counters = omega (arith, Z .counters, controller-few g fits-of);
     all = Z .all;
     starts = Z .starts;
@@ -90,7 +90,7 @@ unfolding separatedOf graphOf
 told-of g z s inner G = record {
   few-inputs = F .input .most;
   few-outputs = F .output .most;
-  core = λ j a. ap (λ (x : ℕ). has x j) (G .ready .inner) ∙ has-pack-below (g .input .states) (nontrivial (graphOf (g .input))) j a;
+  is-nontrivial = λ j a. ap (λ (x : ℕ). has x j) (G .ready .inner) ∙ has-pack-below (g .input .states) (nontrivial (graphOf (g .input))) j a;
   homes = λ j d a t. row j d a ∙ stored-homes (separatedOf g) j t d;
   wins = λ j o a t. row j o a ∙ stored-wins (separatedOf g) j t o;
   reach = λ o d b.

@@ -3,7 +3,7 @@
 --   rows-filled     : the rows with no home in reach and the rows with a home are all rows
 --   starts-grown, starts-stand : the starts
 --   table-filled    : what comes before the rows, and the rows, are all entries
-use Prim.Native.Nat.{ℕ, _+_, _≤_, _<_}
+use Prim.Native.Nat.{ℕ, _≤_, _<_}
 use mathlib.Core.Path.{_≡_, refl}
 use mathlib.Core.Bool.{false}
 use mathlib.Core.List.{List, _++_}
@@ -31,7 +31,8 @@ use Rattle.controller_rows.specs.declared.Size.{Size}
 use Rattle.controller_rows.specs.Writes.{inputOf, layoutOf, lengthOf, settlesAt, Plains, startOf, Starts}
 use Rattle.table_layout.specs.Rows.{Filled as FilledIn}
 use Rattle.controller_table.specs.Filled.{Sheet, ControllerFilled, Every, Below, Given}
-use Rattle.controller_table.proofs.Cells.{some-counter, cell-of}
+use Rattle.controller_table.proofs.Cells.{cell-of}
+use Rattle.theory.proofs.Demands.{controller-counts}
 use Rattle.controller_table.proofs.Fills.{filled-more, filled-part}
 use Rattle.controller_table.proofs.Told.{Told, settled, settled-core}
 use Rattle.controller_table.proofs.Entries.{start-entry}
@@ -75,8 +76,8 @@ module _ (g : Game) (z : Size) (s : List ℕ) (inner : ℕ) (G : Given g z s inn
                 let e = settled (separatedOf g) (setsIn s) (z .inputs) inner (setsIn (g .output .moves)) T j o d a t in
                 inr
                 (record {
-                  resides = record {
-                    core = settled-core (separatedOf g) (setsIn s) (z .inputs) inner (setsIn (g .output .moves)) T j o d a t;
+                  has-home = record {
+                    is-nontrivial = settled-core (separatedOf g) (setsIn s) (z .inputs) inner (setsIn (g .output .moves)) T j o d a t;
                     settled = e;
                     is = refl;
                   };
@@ -122,5 +123,5 @@ module _ (g : Game) (z : Size) (s : List ℕ) (inner : ℕ) (G : Given g z s inn
         go : (k : ℕ) → k < length E → Dec (k < z .base) → Right E r k
         go k b (yes a) = filled .grows .kept k b (stand k a)
         go k b (no a) =
-            let v = cell-of (layoutOf z) (rw (G .sized .counters) (some-counter (separatedOf g))) k (omega arith) (omega (arith, is-long)) in
+            let v = cell-of (layoutOf z) (rw (G .sized .counters) (controller-counts (separatedOf g))) k (omega arith) (omega (arith, is-long)) in
             rw (v .is) (filled .rows (v .output) (v .counter) (v .column) (v .output-below) (v .counter-below) (v .column-below) (record {}))

@@ -1,10 +1,10 @@
--- What scratch tells of the game: who resides where.
+-- What scratch tells of the game: who has-home where.
 --
 --   Told S s n inner rows    == what the sets s of scratch and the rows of moves hold
 --   settled, unsettled       : whether some home is in reach
---   resides-word, resides-at : the words of residents
---   row-home                 : the row of a resident
---   resides-there            : who resides at d resides there also at d
+--   has-home-word, has-home-at : the inputs with a home, as a set
+--   row-home                 : the row of an input with a home
+--   has-home-there            : who has-home at d has-home there also at d
 use Prim.Native.Nat.{ℕ, _≤_, _<_}
 use mathlib.Core.Path.{_≡_, refl, sym, _∙_, ap, ap₂}
 use mathlib.Core.Bool.{Bool, true, false, _&&_}
@@ -32,8 +32,8 @@ use Rattle.theory.specs.Choice.{home, homeward, controllerRow}
 use Rattle.theory.proofs.Region.{answers-intro, settles-intro, settles-elim, homeFor-nontrivial, region-settles}
 use Rattle.theory.proofs.Delay.{first-move}
 use Rattle.theory.proofs.ControllerRow.{home-reached, home-homeFor, home-same, row-answers, settled-nontrivial}
-use Rattle.controller_rows.specs.Writes.{settlesAt, homeAt, residesAt}
-use Rattle.controller_table.specs.Filled.{Resides}
+use Rattle.controller_rows.specs.Writes.{settlesAt, homeAt, hasHomeAt}
+use Rattle.controller_table.specs.Filled.{HasHome}
 
 -- what belongs to both of two sets
 pub in-both : (x y d : ℕ) → both x y d ≡ (has x d && has y d)
@@ -43,7 +43,7 @@ in-both x y d = refl
 pub record Told (S : Separated) (s : List ℕ) (n inner : ℕ) (rows : List ℕ) : Type 0 where
   pub few-inputs : S .input .states ≤ capacity
   pub few-outputs : S .output .states ≤ capacity
-  pub core : (j : ℕ) → j < S .input .states → has inner j ≡ nontrivial (S .input) j
+  pub is-nontrivial : (j : ℕ) → j < S .input .states → has inner j ≡ nontrivial (S .input) j
   pub homes : (j d : ℕ) → j < S .input .states → nontrivial (S .input) j ≡ true → has (rowAt s n j) d ≡ homeFor S (region S) j d
   pub wins : (j o : ℕ) → j < S .input .states → nontrivial (S .input) j ≡ false → has (rowAt s n j) o ≡ region S j o
   pub reach : (o d : ℕ) → o < S .output .states → has (outReachAt s n o) d ≡ reaches (S .output) o d
@@ -55,7 +55,7 @@ module _ (S : Separated) (s : List ℕ) (n inner : ℕ) (rows : List ℕ) (T : T
   module _ (j o : ℕ) (a : j < S .input .states) (b : o < S .output .states) where
     pub settled-core : settlesAt inner j (rowAt s n j) (outReachAt s n o) ≡ true → nontrivial (S .input) j ≡ true
     unfolding settlesAt
-    settled-core h = sym (T .core j a) ∙ and-left (has inner j) (setsMeet capacity (rowAt s n j) (outReachAt s n o)) h
+    settled-core h = sym (T .is-nontrivial j a) ∙ and-left (has inner j) (setsMeet capacity (rowAt s n j) (outReachAt s n o)) h
 
     pub settled : settlesAt inner j (rowAt s n j) (outReachAt s n o) ≡ true → settles S (region S) j o ≡ true
     unfolding settlesAt
@@ -70,7 +70,7 @@ module _ (S : Separated) (s : List ℕ) (n inner : ℕ) (rows : List ℕ) (T : T
         false-of (settles S (region S) j o)
         (λ e. let v = settles-elim S (region S) j o e in
         clash
-        (and-intro (T .core j a ∙ t)
+        (and-intro (T .is-nontrivial j a ∙ t)
         (meets-intro capacity (rowAt s n j) (outReachAt s n o) (v .0) (omega (arith, reaches-to (S .output) o (v .0) (v .1), T .few-outputs))
         (T .homes j (v .0) a t ∙ v .2) (T .reach o (v .0) b ∙ v .1)))
         h)
@@ -91,10 +91,10 @@ module _ (S : Separated) (s : List ℕ) (n inner : ℕ) (rows : List ℕ) (T : T
     swap false false h = refl
 
     module _ (d : ℕ) where
-      pub resides-word : d < S .output .states → residesAt s n inner o d j ≡ true → Resides S o d j
-      unfolding residesAt homeAt
-      resides-word l h = record {
-        core = t;
+      pub has-home-word : d < S .output .states → hasHomeAt s n inner o d j ≡ true → HasHome S o d j
+      unfolding hasHomeAt homeAt
+      has-home-word l h = record {
+        is-nontrivial = t;
         settled = settles-intro S (region S) j o d reached inside;
         is =
             home-least
@@ -103,7 +103,7 @@ module _ (S : Separated) (s : List ℕ) (n inner : ℕ) (rows : List ℕ) (T : T
       }
         where
           t : nontrivial (S .input) j ≡ true
-          t = sym (T .core j a) ∙ and-left (has inner j) (eqb (least capacity (both (rowAt s n j) (outReachAt s n o))) d) h
+          t = sym (T .is-nontrivial j a) ∙ and-left (has inner j) (eqb (least capacity (both (rowAt s n j) (outReachAt s n o))) d) h
 
           low : least capacity (both (rowAt s n j) (outReachAt s n o)) ≡ d
           low =
@@ -125,15 +125,15 @@ module _ (S : Separated) (s : List ℕ) (n inner : ℕ) (rows : List ℕ) (T : T
           before : (k : ℕ) → k < d → (both (rowAt s n j) (outReachAt s n o)) k ≡ false
           before k b = least-before capacity (both (rowAt s n j) (outReachAt s n o)) k (omega (arith, low))
 
-      pub resides-at : Resides S o d j → residesAt s n inner o d j ≡ true
-      unfolding residesAt homeAt
-      resides-at r =
-          and-intro (T .core j a ∙ r .core)
+      pub has-home-at : HasHome S o d j → hasHomeAt s n inner o d j ≡ true
+      unfolding hasHomeAt homeAt
+      has-home-at r =
+          and-intro (T .is-nontrivial j a ∙ r .is-nontrivial)
           (eq-eqb (least capacity (both (rowAt s n j) (outReachAt s n o))) d
           (least-unique capacity (both (rowAt s n j) (outReachAt s n o)) (home S j o)
           (omega (arith, reaches-to (S .output) o (home S j o) reached, T .few-outputs))
-          (both-home (r .core) (home S j o) ∙ and-intro (home-homeFor S j o (r .settled)) reached)
-          (λ k b. both-home (r .core) k ∙ swap (reaches (S .output) o k) (homeFor S (region S) j k) (before k b))
+          (both-home (r .is-nontrivial) (home S j o) ∙ and-intro (home-homeFor S j o (r .settled)) reached)
+          (λ k b. both-home (r .is-nontrivial) k ∙ swap (reaches (S .output) o k) (homeFor S (region S) j k) (before k b))
           ∙ r .is))
         where
           reached : reaches (S .output) o (home S j o) ≡ true
@@ -142,9 +142,9 @@ module _ (S : Separated) (s : List ℕ) (n inner : ℕ) (rows : List ℕ) (T : T
           before : (k : ℕ) → k < home S j o → (reaches (S .output) o k && homeFor S (region S) j k) ≡ false
           before k b = least-before (S .output .states) (λ d. reaches (S .output) o d && homeFor S (region S) j d) k (omega (arith, home-least))
 
--- ---- residents
+-- ---- inputs with a home
 
-module _ (S : Separated) (o d j : ℕ) (r : Resides S o d j) where
+module _ (S : Separated) (o d j : ℕ) (r : HasHome S o d j) where
   pub home-reached-at : reaches (S .output) o d ≡ true
   home-reached-at = rw (r .is) at (home-reached S j o (r .settled))
 
@@ -159,16 +159,16 @@ module _ (S : Separated) (o d j : ℕ) (r : Resides S o d j) where
   answered a =
       let v = first-move (S .output) o d (reaches-path (S .output) o d home-reached-at) home-core in
       answers-intro S (region S) j o (v .0) (v .1)
-      (region-settles S j (v .0) a (edge-to (S .output) o (v .0) (v .1)) (r .core) ∙ settles-intro S (region S) j (v .0) d (v .2) home-at)
+      (region-settles S j (v .0) a (edge-to (S .output) o (v .0) (v .1)) (r .is-nontrivial) ∙ settles-intro S (region S) j (v .0) d (v .2) home-at)
 
   pub row-home : j < S .input .states → (c : ℕ) → controllerRow S o c j ≡ homeward S d o c
-  row-home a c = row-answers S o c j (answered a) ∙ settled-nontrivial S o c j (r .core) ∙ ap (λ (k : ℕ). homeward S k o c) (r .is)
+  row-home a c = row-answers S o c j (answered a) ∙ settled-nontrivial S o c j (r .is-nontrivial) ∙ ap (λ (k : ℕ). homeward S k o c) (r .is)
 
   -- the home of j at d is d
-  pub resides-there : Resides S d d j
+  pub has-home-there : HasHome S d d j
   unfolding home
-  resides-there = record {
-    core = r .core;
+  has-home-there = record {
+    is-nontrivial = r .is-nontrivial;
     settled = settles-intro S (region S) j d d self home-at;
     is =
         least-unique (S .output .states) (λ k. reaches (S .output) d k && homeFor S (region S) j k) d (reaches-to (S .output) o d home-reached-at)
@@ -183,10 +183,10 @@ module _ (S : Separated) (o d j : ℕ) (r : Resides S o d j) where
       self : reaches (S .output) d d ≡ true
       self = reaches-self (S .output) d (reaches-to (S .output) o d home-reached-at)
 
--- who resides at d at one state of its component resides there at every other
-pub resides-same : (S : Separated) (o o′ d j : ℕ) → j < S .input .states → joined (S .output) o o′ ≡ true → Resides S o d j → Resides S o′ d j
-resides-same S o o′ d j a e r = record {
-  core = r .core;
+-- who has-home at d at one state of its component has-home there at every other
+pub has-home-same : (S : Separated) (o o′ d j : ℕ) → j < S .input .states → joined (S .output) o o′ ≡ true → HasHome S o d j → HasHome S o′ d j
+has-home-same S o o′ d j a e r = record {
+  is-nontrivial = r .is-nontrivial;
   settled =
       settles-intro S (region S) j o′ d (reaches-trans (S .output) o′ o d (joined-back (S .output) o o′ e) (home-reached-at S o d j r)) (home-at S o d j r);
   is = sym (home-same S j j o o′ (joined-self (S .input) j a) e) ∙ r .is;

@@ -3,14 +3,14 @@
 --   Sheet S y input E          == the list E ends in rows of the table, in the layout y, column b of them being that of the input b
 --   ControllerFilled S z P l m == from l to m entries of any such list of the size z were written, those of the rows with P among them
 --   Every o c j                == every row
---   Resides S o d j            == j is in a nontrivial component, and its home at output o is d
+--   HasHome S o d j            == j is in a nontrivial component, and its home at output o is d
 --   Away S d o c j             == so it is, and o lies outside the component of d
 --   There S d o c j            == so it is, and o lies in the component of d
 --   At S d o c j               == so it is, wherever o lies
 --   Below S k o c j            == the home of j at o is below k
 --   Sized g z                  == an accepted game and the size of its table
 --   Given g z s inner          == with scratch that is ready, inner being the inputs in nontrivial components
---   HomeOf S w                 == w is a home with its component and the inputs that reside there
+--   HomeOf S w                 == w is a home with its component and the inputs that have it for their home
 --   HomeGoals S w q            == q is the set of the numbers of the guarantees that meet its component
 use Prim.Native.Nat.{ℕ, _≤_, _<_}
 use mathlib.Core.Path.{_≡_}
@@ -51,24 +51,24 @@ pub record ControllerFilled (S : Separated) (z : Size) (P : ℕ → ℕ → ℕ 
 
 pub record Every (o c j : ℕ) : Type 0 where
 
-pub record Resides (S : Separated) (o d j : ℕ) : Type 0 where
-  pub core : nontrivial (S .input) j ≡ true
+pub record HasHome (S : Separated) (o d j : ℕ) : Type 0 where
+  pub is-nontrivial : nontrivial (S .input) j ≡ true
   pub settled : settles S (region S) j o ≡ true
   pub is : home S j o ≡ d
 
 pub record Away (S : Separated) (d o c j : ℕ) : Type 0 where
-  pub resides : Resides S o d j
+  pub has-home : HasHome S o d j
   pub apart : joined (S .output) d o ≡ false
 
 pub record There (S : Separated) (d o c j : ℕ) : Type 0 where
-  pub resides : Resides S o d j
+  pub has-home : HasHome S o d j
   pub within : joined (S .output) d o ≡ true
 
 pub record At (S : Separated) (d o c j : ℕ) : Type 0 where
-  pub resides : Resides S o d j
+  pub has-home : HasHome S o d j
 
 pub record Below (S : Separated) (k o c j : ℕ) : Type 0 where
-  pub resides : Resides S o (home S j o) j
+  pub has-home : HasHome S o (home S j o) j
   pub below : home S j o < k
 
 pub record Sized (g : Game) (z : Size) : Type 0 where
@@ -87,10 +87,10 @@ pub record Given (g : Game) (z : Size) (s : List ℕ) (inner : ℕ) : Type 0 whe
 
 pub record HomeOf (S : Separated) (w : Home) : Type 0 where
   pub below : w .state .0 < S .output .states
-  pub core : nontrivial (S .output) (w .state .0) ≡ true
+  pub is-nontrivial : nontrivial (S .output) (w .state .0) ≡ true
   pub component : bitsOf (w .component .0) ≡ pack (S .output .states) (joined (S .output) (w .state .0))
-  pub resides : (j : ℕ) → j < S .input .states → has (bitsOf (w .inputs .0)) j ≡ true → Resides S (w .state .0) (w .state .0) j
-  pub resident : (j : ℕ) → j < S .input .states → Resides S (w .state .0) (w .state .0) j → has (bitsOf (w .inputs .0)) j ≡ true
+  pub has-home : (j : ℕ) → j < S .input .states → has (bitsOf (w .inputs .0)) j ≡ true → HasHome S (w .state .0) (w .state .0) j
+  pub complete : (j : ℕ) → j < S .input .states → HasHome S (w .state .0) (w .state .0) j → has (bitsOf (w .inputs .0)) j ≡ true
 
 pub record HomeGoals (S : Separated) (w : Home) (q : ℕ) : Type 0 where
   pub is : q ≡ pack (length (guarantees S)) (λ k. meetsAt (S .output) (w .state .0) (goalAt (guarantees S) k))

@@ -27,15 +27,15 @@ use Rattle.play.specs.Play.{separatedOf}
 use Rattle.theory.specs.Tour.{goalAt}
 use Rattle.theory.specs.Choice.{guarantees, controllerRow}
 use Rattle.theory.specs.Entries.{entry, controllerCounters}
-use Rattle.table_goals.specs.declared.Stretch.{Stretch}
-use Rattle.table_goals.specs.Stretches.{stretchSet}
+use Rattle.table_goals.specs.declared.GoalRange.{GoalRange}
+use Rattle.table_goals.specs.Ranges.{rangeSet}
 use Rattle.table_goals.specs.Goal.{Goals as Counted}
 use Rattle.table_layout.specs.declared.Layout.{Layout}
 use Rattle.table_layout.specs.Rows.{place, Filled as FilledIn}
 use Rattle.table_layout.proofs.Places.{filled-part}
-use Rattle.table_tours.specs.Course.{Course, Moving, Stayed, Headed, Stretched}
+use Rattle.table_tours.specs.Course.{Course, Moving, Stayed, GoalWithin, RangeWritten}
 use Rattle.table_tours.proofs.Courses.{course-counters, course-moving}
-use Rattle.table_tours.proofs.Stretches.{headed-none, headed-further, headed-all}
+use Rattle.table_tours.proofs.Ranges.{goal-within-none, goal-within-further, goal-within-all}
 use Rattle.controller_rows.specs.declared.Size.{Size}
 use Rattle.controller_rows.specs.declared.Home.{Home}
 use Rattle.controller_rows.specs.Writes.{inputOf, layoutOf}
@@ -43,7 +43,7 @@ use Rattle.controller_table.specs.Filled.{Sheet, ControllerFilled, There, Sized
 use Rattle.controller_table.proofs.Cells.{place-room}
 use Rattle.controller_table.proofs.Laid.{outputs-are, counters-are, width-is, laid-rows, laid-input, laid-filled}
 use Rattle.controller_table.proofs.Entries.{at-home}
-use Rattle.controller_table.proofs.Loops.{comp-in, resident-at, input-at}
+use Rattle.controller_table.proofs.Loops.{comp-in, has-home-from, input-at}
 use Rattle.controller_table.proofs.Setting.{sizes-of, few-outputs}
 use Rattle.controller_table.proofs.Phases.{same-moves, seek-goals}
 
@@ -51,21 +51,21 @@ use Rattle.controller_table.proofs.Phases.{same-moves, seek-goals}
 pub record Toured (g : Game) (y : Layout) (c over q k : ℕ) (l m : List ℕ) : Type 0 where
   pub long : length m ≡ length l
   pub fills : (p : Course y (setsIn (g .output .moves)) c over q) → p .sets ≡ guarantees (separatedOf g)
-      → FilledIn y (p .entries) (Headed y c over q 0 k) l m
+      → FilledIn y (p .entries) (GoalWithin y c over q 0 k) l m
 
 module _ (g : Game) (y : Layout) (c over q : ℕ) where
   pub home-none : (l : List ℕ) → Toured g y c over q 0 l l
-  home-none l = record { long = refl; fills = λ p e. headed-none y (setsIn (g .output .moves)) c over q p l }
+  home-none l = record { long = refl; fills = λ p e. goal-within-none y (setsIn (g .output .moves)) c over q p l }
 
   -- x are the rows that were read
-  pub home-further : {x : List ℕ} → x ≡ g .output .moves → (t : Stretch) (k : ℕ) {l m r r′ : List ℕ} → t .from ≡ k
-      → ((i : ℕ) → i < t .count → has (stretchSet t i) ≡ goalAt (guarantees (separatedOf g)) (t .from + i))
-      → Toured g y c over q k l m → Stretched (setsIn x) y c over q t (t .count) m r → r′ ≡ r
+  pub home-further : {x : List ℕ} → x ≡ g .output .moves → (t : GoalRange) (k : ℕ) {l m r r′ : List ℕ} → t .from ≡ k
+      → ((i : ℕ) → i < t .count → has (rangeSet t i) ≡ goalAt (guarantees (separatedOf g)) (t .from + i))
+      → Toured g y c over q k l m → RangeWritten (setsIn x) y c over q t (t .count) m r → r′ ≡ r
       → Toured g y c over q (k + t .count) l r′
   home-further a t k e sets F S d = rw d (record {
     long = S .long ∙ F .long;
     fills = λ p f.
-        headed-further y (setsIn (g .output .moves)) c over q p t k e
+        goal-within-further y (setsIn (g .output .moves)) c over q p t k e
         (λ i b. sets i b ∙ ap (λ (x : List (ℕ → Bool)). goalAt x (t .from + i)) (sym f)) (F .fills p f) (rw a at S);
   })
 
@@ -98,7 +98,7 @@ module _ (g : Game) (z : Size) (y : Layout) (Z : Sized g z) (D : y ≡ layoutOf 
         counters = counters-are g z y Z D;
         same = same-moves g;
         component = H .component;
-        core = H .core;
+        is-nontrivial = H .is-nontrivial;
         goals = Q .is;
         tours = λ o c b lo i lc lb k. clash k (has-zero b);
       }
@@ -110,7 +110,7 @@ module _ (g : Game) (z : Size) (y : Layout) (Z : Sized g z) (D : y ≡ layoutOf 
       unfolding layoutOf
       home-counted ne = let v = nonzero-member q ne in rw D (seek-goals g z Z w H q Q (v .0) (v .1))
 
-    -- the columns of those who reside there
+    -- the columns of the inputs whose home it is
     module _ (over : ℕ) (O : (b : ℕ) → has over b ≡ (ltb b (z .width) && has (bitsOf (w .inputs .0)) (inputOf z b))) where
       in-column : (b : ℕ) → has over b ≡ true → has (bitsOf (w .inputs .0)) (inputOf z b) ≡ true
       in-column b h = and-right (ltb b (z .width)) (has (bitsOf (w .inputs .0)) (inputOf z b)) (sym (O b) ∙ h)
@@ -133,12 +133,12 @@ module _ (g : Game) (z : Size) (y : Layout) (Z : Sized g z) (D : y ≡ layoutOf 
           counters = counters-are g z y Z D;
           same = same-moves g;
           component = H .component;
-          core = H .core;
+          is-nontrivial = H .is-nontrivial;
           goals = Q .is;
           tours = λ o c b lo i lc lb k.
               let h = sym (comp-in (separatedOf g) w H o) ∙ i in
               let a = laid-input g z y Z D E T b lb in
-              let r = resident-at (separatedOf g) z (sizes-of g z Z) w H (few-outputs g z Z) o (inputOf z b) a h (in-column b k) in
+              let r = has-home-from (separatedOf g) z (sizes-of g z Z) w H (few-outputs g z Z) o (inputOf z b) a h (in-column b k) in
               at-home (separatedOf g) o (w .state .0) (inputOf z b) r a (few-outputs g z Z) h c;
         }
 
@@ -150,7 +150,7 @@ module _ (g : Game) (z : Size) (y : Layout) (Z : Sized g z) (D : y ≡ layoutOf 
             (λ o c b lo lc lb p.
             let a = laid-input g z y Z D E T b lb in (
               comp-in (separatedOf g) w H o ∙ p .within,
-              of-column b lb (input-at (separatedOf g) z (sizes-of g z Z) w H (few-outputs g z Z) o (inputOf z b) a (p .within) (p .resides)),
+              of-column b lb (input-at (separatedOf g) z (sizes-of g z Z) w H (few-outputs g z Z) o (inputOf z b) a (p .within) (p .has-home)),
             )))
 
       module _ (q : ℕ) (Q : HomeGoals (separatedOf g) w q) where
@@ -163,7 +163,7 @@ module _ (g : Game) (z : Size) (y : Layout) (Z : Sized g z) (D : y ≡ layoutOf 
           fills = λ E T.
               let p = home-course E T q Q in
               there E T
-              (headed-all y (setsIn (g .output .moves)) (bitsOf (w .component .0)) over q p (home-counted q Q ne) k
+              (goal-within-all y (setsIn (g .output .moves)) (bitsOf (w .component .0)) over q p (home-counted q Q ne) k
               (omega (arith, e, course-counters y (setsIn (g .output .moves)) (bitsOf (w .component .0)) over q p ne)) (F .fills p refl));
         }
 

@@ -1,4 +1,4 @@
--- Stretches of time. No play is named here.
+-- Ranges of time. No play is named here.
 --
 --   Between p t u      == p holds at some time from t on and before u
 --   Window p l t       == a later time before which p a has held, from t on, of every a in l

@@ -64,7 +64,7 @@ use Rattle.environment_table.proofs.Outward.{
   no-gates,
   some-gates,
 }
-use Rattle.environment_escape.specs.Gates.{Gated, Pressed, Joins, Escape}
+use Rattle.environment_escape.specs.Gates.{Gated, EscapeFits, Joins, Escape}
 
 pub exits-entering : (rows : List ℕ) (n c out gates : ℕ) → gates ≡ pack n (exitsAt rows c out) → Entering rows n gates out
 unfolding exitsAt
@@ -140,7 +140,7 @@ escape-none g k o gates over {l} G never e = record {
     none a b v (inr q) (inl w) = clash (q .0) w
     none a b v (inr q) (inr w) = clash w (q .1)
 
-module _ (z : Layout) (rows s : List ℕ) (inner c x k o r n : ℕ) (p : Pressed z rows s inner c x k o r n) where
+module _ (z : Layout) (rows s : List ℕ) (inner c x k o r n : ℕ) (p : EscapeFits z rows s inner c x k o r n) where
   pub pressed-fits : LayoutFits z n
   pressed-fits = laid-fits (p .game) (z .counters) n z (p .roomy) (p .layout)
 

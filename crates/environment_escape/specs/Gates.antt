@@ -1,7 +1,7 @@
 -- Ways out of a component, for outputs that are collected as long as they have the same gates: the states with a move out.
 --
 --   Gated g first gates over       == with each output of over the component with the number first has a way out, by these gates
---   Pressed z rows s inner c x first o r n == c is the component with the number first of a game with these rows of inputs, whose region s holds and whose
+--   EscapeFits z rows s inner c x first o r n == c is the component with the number first of a game with these rows of inputs, whose region s holds and whose
 --                                     rows are laid out as z says in n entries; moves out of c enter x; o moves to the set r
 --   Joins rows z c old gates over o more l m == o, with these gates, came to the outputs with the gates old: more is all of them where the gates are the
 --                                     same; else it is o alone, and from l to m the rows of the others outside their gates were written
@@ -31,7 +31,7 @@ pub record Gated (g : Game) (k gates over : ℕ) : Type 0 where
   pub leaving : (b : ℕ) → has over b ≡ true → leavingAt g k b ≡ true
   pub same : (b : ℕ) → has over b ≡ true → has gates ≡ gate (separatedOf g) b k
 
-pub record Pressed (z : Layout) (rows s : List ℕ) (inner c x k o r n : ℕ) : Type 0 where
+pub record EscapeFits (z : Layout) (rows s : List ℕ) (inner c x k o r n : ℕ) : Type 0 where
   pub game : Game
   pub layout : EnvironmentLayout (game .input .states) (z .counters) (game .output .states) z
   pub moves : rows ≡ setsIn (game .input .moves)

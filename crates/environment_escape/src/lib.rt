@@ -16,7 +16,7 @@ ghost use Rattle.sets.specs.Words.{capacity, bitsOf, setsIn};
 ghost use Rattle.table_layout.specs.Rows.{LayoutFits};
 ghost use Rattle.environment_table.specs.Table.{Known, Roomy};
 ghost use Rattle.environment_table.specs.Pressing.{Whole, Escaped, exitsAt};
-ghost use Rattle.environment_escape.specs.Gates.{Gated, Pressed, Joins, Escape};
+ghost use Rattle.environment_escape.specs.Gates.{Gated, EscapeFits, Joins, Escape};
 
 // Outputs with which a component has the same gates; their rows outside the gates are still to be written.
 struct Group {
@@ -98,10 +98,10 @@ fn escape(
     group: Group,
     room: &mut [u16],
 ) -> Turn
-    requires { ⌜ Pressed z (setsIn (now moves)) (now s) (bitsOf (inner .0)) (bitsOf (part .states .0)) (bitsOf (part .leaving .0)) (part .first .0) (o .0)
+    requires { ⌜ EscapeFits z (setsIn (now moves)) (now s) (bitsOf (inner .0)) (bitsOf (part .states .0)) (bitsOf (part .leaving .0)) (part .first .0) (o .0)
         (bitsOf (replies .0)) (length (now room))
         × (within (bitsOf (group .gates .0)) (z .states) ≡ true) ⌝ }
-    ensures { λ r. ⌜ ((p : Pressed z (setsIn (now (moves .entry))) (now (s .entry)) (bitsOf (inner .0)) (bitsOf (part .states .0))
+    ensures { λ r. ⌜ ((p : EscapeFits z (setsIn (now (moves .entry))) (now (s .entry)) (bitsOf (inner .0)) (bitsOf (part .states .0))
         (bitsOf (part .leaving .0)) (part .first .0) (o .0) (bitsOf (replies .0)) (length (now (room .entry))))
         → Gated (p .game) (part .first .0) (bitsOf (group .gates .0)) (bitsOf (group .outputs .0))
         → Escape (p .game) (part .first .0) (o .0) (bitsOf (group .gates .0)) (bitsOf (group .outputs .0)) (bitsOf (r .group .gates .0))

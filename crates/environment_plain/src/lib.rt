@@ -18,7 +18,7 @@ ghost use Rattle.theory.specs.Region.{region};
 ghost use Rattle.theory.specs.Choice.{environmentStart};
 ghost use Rattle.theory.specs.Entries.{entry};
 ghost use Rattle.environment_table.specs.Table.{Known, Roomy, EnvironmentFilled, Pushes};
-ghost use Rattle.environment_table.specs.Reading.{Shaped, refusedAt, Lone, unwalked, pushedAt, Pushed, plain};
+ghost use Rattle.environment_table.specs.Reading.{Shaped, refusedAt, TrivialInputs, unwalked, pushedAt, Pushed, plain};
 
 // What the outputs of the set reach, from scratch for n inputs and m outputs.
 fn reached(s: &[u64], n: usize, m: usize, set: OutSet) -> OutSet
@@ -130,15 +130,15 @@ fn push_rows(
     table_walks::enter(ins, room, z, which.0, refused.0, o.0);
 }
 
-// The inputs whose rows with an output need no walk, `moves` being its moves: those of `lone`, and all n where there is none.
-fn pushed(n: usize, lone: InSet, moves: OutSet) -> InSet
+// The inputs whose rows with an output need no walk, `moves` being its moves: those of `trivials`, and all n where there is none.
+fn pushed(n: usize, trivials: InSet, moves: OutSet) -> InSet
     requires { ⌜ n ≤ capacity ⌝ }
-    ensures { λ r. ⌜ ((i : ℕ) → has (bitsOf (r .0)) i ≡ pushedAt (bitsOf (moves .0)) n (bitsOf (lone .0)) i) ⌝ }
+    ensures { λ r. ⌜ ((i : ℕ) → has (bitsOf (r .0)) i ≡ pushedAt (bitsOf (moves .0)) n (bitsOf (trivials .0)) i) ⌝ }
 {
     if sets::is_empty(moves.0) {
         return InSet(sets::below(n));
     }
-    lone
+    trivials
 }
 
 // The rows of the inputs of x, which need no walk, that are not won with output o. What o refuses is worked out once for all of them, and only where
@@ -169,7 +169,7 @@ fn push_column(
     push_rows(g, ins, counters, o, which, y, room);
 }
 
-// The same for every output; `lone` are the inputs in trivial components.
+// The same for every output; `trivials` are the inputs in trivial components.
 fn push_columns<'a>(
     g: Game,
     ins: &'a [u64; sets::ROW_WORDS],
@@ -177,17 +177,18 @@ fn push_columns<'a>(
     s: &[u64],
     inner: InSet,
     counters: usize,
-    lone: InSet,
+    trivials: InSet,
     room: &mut [u16],
 )
-    requires { ⌜ Known g (now s) (bitsOf (inner .0)) × Roomy g counters (length (now room)) × Lone (g .input .states) (bitsOf (inner .0)) (bitsOf (lone .0))
+    requires { ⌜ Known g (now s) (bitsOf (inner .0)) × Roomy g counters (length (now room))
+        × TrivialInputs (g .input .states) (bitsOf (inner .0)) (bitsOf (trivials .0))
         × (now ins ≡ g .input .moves) × (now outs ≡ g .output .moves) ⌝ }
     ensures { λ r. ⌜ EnvironmentFilled g (λ a h b. (unwalked g a b ≡ true) × (region (separatedOf g) a b ≡ false)) (now (room .entry)) (now (room .exit)) ⌝ }
 {
     let m = g.output.states;
     let mut o: usize = 0;
     while o < m {
-        let x = pushed(g.input.states, lone, OutSet(sets::row_of(outs, o)));
+        let x = pushed(g.input.states, trivials, OutSet(sets::row_of(outs, o)));
         push_column(g, ins, outs, s, inner, counters, x, OutState(o), room);
         o += 1;
     }
@@ -207,6 +208,6 @@ pub fn plain_rows<'a>(
     ensures { λ r. ⌜ EnvironmentFilled g (λ a h b. plain g a b ≡ true) (now (room .entry)) (now (room .exit)) ⌝ }
 {
     none_rows(g, s, inner, counters, room);
-    let lone = InSet(sets::difference(sets::below(g.input.states), inner.0));
-    push_columns(g, ins, outs, s, inner, counters, lone, room);
+    let trivials = InSet(sets::difference(sets::below(g.input.states), inner.0));
+    push_columns(g, ins, outs, s, inner, counters, trivials, room);
 }

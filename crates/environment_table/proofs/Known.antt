@@ -4,8 +4,8 @@
 --   start-found, start-none : the start
 --   same-push              : rows that need no walk
 --   none-entries, none-filled : those of one input that are none
---   lone-of                : the inputs in trivial components
---   pushed-all, pushed-lone, pushed-of, pushed-within : the inputs whose rows with an output need no walk: those, or all where it has no move
+--   trivials-of                : the inputs in trivial components
+--   pushed-all, pushed-trivials, pushed-of, pushed-within : the inputs whose rows with an output need no walk: those, or all where it has no move
 --   pushes-*, plain-join   : their pushes, output after output, and all rows that need no walk
 use Prim.Native.Nat.{ℕ, _+_, _*_, _<_, _≤_}
 use native.Mathlib.Nat.{zero-mul}
@@ -43,7 +43,7 @@ use Rattle.theory.proofs.EnvironmentRow.{unanswered, row-pushed}
 use Rattle.scratch.specs.Stored.{wonAt, someWonAt}
 use Rattle.scratch.proofs.Read.{ready-won}
 use Rattle.environment_table.specs.Table.{Known, Roomy, EnvironmentFilled, EnvironmentLayout, Pushes}
-use Rattle.environment_table.specs.Reading.{Shaped, refusedAt, openAt, unansweredAt, lostAt, Lone, unwalked, pushedAt, Pushed, plain}
+use Rattle.environment_table.specs.Reading.{Shaped, refusedAt, openAt, unansweredAt, lostAt, TrivialInputs, unwalked, pushedAt, Pushed, plain}
 use Rattle.environment_table.specs.Pressing.{lostIn}
 use Rattle.table_layout.specs.declared.Layout.{Layout}
 use Rattle.table_layout.specs.Rows.{Entries, Wrote}
@@ -219,16 +219,17 @@ module _ (g : Game) (s : List ℕ) (inner : ℕ) (K : Known g s inner) where
           clash (output-edge o p b ∙ f) (ap (λ (x : ℕ). has x p) (eqb-true (getD (setsIn (g .output .moves)) o 0) 0 e) ∙ has-zero p)
 
   -- the inputs whose rows with o need no walk, from those in trivial components and the moves of o
-  pub pushed-of : (lone o y : ℕ) {x : ℕ} → Lone (g .input .states) inner lone → o < g .output .states → y ≡ getD (setsIn (g .output .moves)) o 0
-      → ((i : ℕ) → has x i ≡ pushedAt y (g .input .states) lone i) → Pushed g x o
+  pub pushed-of : (trivials o y : ℕ) {x : ℕ} → TrivialInputs (g .input .states) inner trivials → o < g .output .states
+      → y ≡ getD (setsIn (g .output .moves)) o 0
+      → ((i : ℕ) → has x i ≡ pushedAt y (g .input .states) trivials i) → Pushed g x o
   unfolding unwalked pushedAt
-  pushed-of lone o y {x} L b q e = record { each = λ i. e i ∙ go i (decide (eqb y 0)) (decide (ltb i (g .input .states))) }
+  pushed-of trivials o y {x} L b q e = record { each = λ i. e i ∙ go i (decide (eqb y 0)) (decide (ltb i (g .input .states))) }
     where
       stops : stuck (separatedOf g .output) o ≡ eqb y 0
       stops = row-stuck o b ∙ ap (λ (z : ℕ). eqb z 0) (sym q)
 
       go : (i : ℕ) → (eqb y 0 ≡ true) ⊎ (eqb y 0 ≡ false) → (ltb i (g .input .states) ≡ true) ⊎ (ltb i (g .input .states) ≡ false)
-          → pushedAt y (g .input .states) lone i ≡ (ltb i (g .input .states) && unwalked g i o)
+          → pushedAt y (g .input .states) trivials i ≡ (ltb i (g .input .states) && unwalked g i o)
       go i (inl f) (inl m) = rw (f, pushedAt) (m ∙ sym (and-intro m (or-right (not (nontrivial (separatedOf g .input) i)) (stops ∙ f))))
       go i (inl f) (inr m) = rw (f, pushedAt) (m ∙ sym (and-false-left (unwalked g i o) m))
       go i (inr f) (inl m) =
@@ -334,16 +335,16 @@ plain-join g F G =
     ])
 
 -- the inputs in trivial components, from all and those in the others
-pub lone-of : (n inner b : ℕ) {x : ℕ} → ((i : ℕ) → has b i ≡ ltb i n) → ((i : ℕ) → has x i ≡ (has b i && not (has inner i))) → Lone n inner x
-lone-of n inner b f d = record { each = λ i. d i ∙ ap (λ (y : Bool). y && not (has inner i)) (f i) }
+pub trivials-of : (n inner b : ℕ) {x : ℕ} → ((i : ℕ) → has b i ≡ ltb i n) → ((i : ℕ) → has x i ≡ (has b i && not (has inner i))) → TrivialInputs n inner x
+trivials-of n inner b f d = record { each = λ i. d i ∙ ap (λ (y : Bool). y && not (has inner i)) (f i) }
 
-pub pushed-all : (y n lone x : ℕ) → y ≡ 0 → ((i : ℕ) → has x i ≡ ltb i n) → (i : ℕ) → has x i ≡ pushedAt y n lone i
+pub pushed-all : (y n trivials x : ℕ) → y ≡ 0 → ((i : ℕ) → has x i ≡ ltb i n) → (i : ℕ) → has x i ≡ pushedAt y n trivials i
 unfolding pushedAt
-pushed-all y n lone x z e i = rw (eq-eqb y 0 z, pushedAt) (e i)
+pushed-all y n trivials x z e i = rw (eq-eqb y 0 z, pushedAt) (e i)
 
-pub pushed-lone : (y n lone : ℕ) → y ≢ 0 → (i : ℕ) → has lone i ≡ pushedAt y n lone i
+pub pushed-trivials : (y n trivials : ℕ) → y ≢ 0 → (i : ℕ) → has trivials i ≡ pushedAt y n trivials i
 unfolding pushedAt
-pushed-lone y n lone z i = rw (ne-eqb y 0 z, pushedAt) refl
+pushed-trivials y n trivials z i = rw (ne-eqb y 0 z, pushedAt) refl
 
 -- the pushes, output after output
 pub pushes-next : (g : Game) (k : ℕ) {l m n : List ℕ} → EnvironmentFilled g

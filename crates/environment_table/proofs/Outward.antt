@@ -75,7 +75,7 @@ module _ (g : Game) (c k : ℕ) (W : Whole g c k) where
   whole-number a j = sym (number-same (graphOf (g .input)) k a j) ∙ W .first
 
   pub whole-core : (a : ℕ) → joined (graphOf (g .input)) k a ≡ true → nontrivial (graphOf (g .input)) a ≡ true
-  whole-core a j = sym (nontrivial-same (graphOf (g .input)) k a j) ∙ W .core
+  whole-core a j = sym (nontrivial-same (graphOf (g .input)) k a j) ∙ W .is-nontrivial
 
   pub whole-in : (a : ℕ) → has c a ≡ true → joined (graphOf (g .input)) k a ≡ true
   whole-in a e = ap (λ (p : ℕ → Bool). p a) (sym whole-has) ∙ e

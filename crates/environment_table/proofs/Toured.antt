@@ -31,7 +31,7 @@ use Rattle.theory.proofs.Delay.{region-same}
 use Rattle.theory.proofs.EnvironmentRow.{escapes-same, row-lost, pushing-nontrivial, pressing-tours}
 use Rattle.demands.proofs.Sizes.{assumptions-few}
 use Rattle.table_goals.specs.Goal.{Goals}
-use Rattle.table_goals.specs.Stretches.{metIn}
+use Rattle.table_goals.specs.Ranges.{metIn}
 use Rattle.table_goals.proofs.Tours.{met-pack, goal-below, goals-from}
 use Rattle.environment_table.specs.Table.{Roomy}
 use Rattle.environment_table.specs.Pressing.{Whole, pressedAt, touringAt}

@@ -143,7 +143,7 @@ module _ (g : Game) (i : ℕ) (li : i < g .input .states) (x : ℕ) (A : Ahead g
     ahead-whole = record {
       below = li;
       first = own;
-      core = and-left (nontrivial (graphOf (g .input)) i) (leb i (number (graphOf (g .input)) i)) mine;
+      is-nontrivial = and-left (nontrivial (graphOf (g .input)) i) (leb i (number (graphOf (g .input)) i)) mine;
       word = w;
     }
 

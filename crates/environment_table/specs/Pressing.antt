@@ -30,7 +30,7 @@ use Rattle.environment_table.specs.Reading.{lostAt}
 pub record Whole (g : Game) (c k : ℕ) : Type 0 where
   pub below : k < g .input .states
   pub first : number (graphOf (g .input)) k ≡ k
-  pub core : nontrivial (graphOf (g .input)) k ≡ true
+  pub is-nontrivial : nontrivial (graphOf (g .input)) k ≡ true
   pub word : c ≡ pack (g .input .states) (joined (graphOf (g .input)) k)
 
 pub record Ahead (g : Game) (i x : ℕ) : Type 0 where

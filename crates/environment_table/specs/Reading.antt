@@ -5,9 +5,9 @@
 --   unansweredAt l n m inner from set  == the lowest such input; n where there is none
 --   refusedAt l n m inner set j        == no output of the set makes a won position with j
 --   lostAt l n inner o j               == (j, o) is not won
---   Lone n inner x                     == x are the inputs in trivial components: those that are not in the set inner
+--   TrivialInputs n inner x                     == x are the inputs in trivial components: those that are not in the set inner
 --   unwalked g i o                     == the component of i is trivial, or the output o has no move
---   pushedAt y n lone i                == i is one of n inputs where the set y is empty, else one of the set lone
+--   pushedAt y n trivials i                == i is one of n inputs where the set y is empty, else one of the set trivials
 --   Pushed g x o                       == x are the inputs i with unwalked g i o
 --   plain g i o                        == (i, o) is won, or unwalked
 use Prim.Native.Nat.{ℕ, _≤_}
@@ -44,7 +44,7 @@ unfoldable pub lostAt : List ℕ → ℕ → ℕ → ℕ → ℕ → Bool
 lostAt l n inner o j = not (wonAt l n inner j o)
 
 -- "i's component not stayable"
-pub record Lone (n inner x : ℕ) : Type 0 where
+pub record TrivialInputs (n inner x : ℕ) : Type 0 where
   pub each : (i : ℕ) → has x i ≡ (ltb i n && not (has inner i))
 
 -- "i's component not stayable"; "Where the output is stuck and the input is not" (M-102): such a row is the lowest move to an input that no move of o
@@ -53,7 +53,7 @@ unfoldable pub unwalked : Game → ℕ → ℕ → Bool
 unwalked g i o = not (nontrivial (separatedOf g .input) i) || stuck (separatedOf g .output) o
 
 unfoldable pub pushedAt : ℕ → ℕ → ℕ → ℕ → Bool
-pushedAt y n lone i = elim (eqb y 0) [ true ↦ ltb i n | false ↦ has lone i ]
+pushedAt y n trivials i = elim (eqb y 0) [ true ↦ ltb i n | false ↦ has trivials i ]
 
 pub record Pushed (g : Game) (x o : ℕ) : Type 0 where
   pub each : (i : ℕ) → has x i ≡ (ltb i (g .input .states) && unwalked g i o)

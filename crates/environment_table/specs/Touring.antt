@@ -15,7 +15,7 @@ use Rattle.play.specs.Play.{separatedOf}
 use Rattle.theory.specs.Choice.{assumptions}
 use Rattle.sets.specs.Words.{capacity}
 use Rattle.table_counters.specs.Counters.{mostCounters}
-use Rattle.table_goals.specs.Stretches.{metIn}
+use Rattle.table_goals.specs.Ranges.{metIn}
 use Rattle.environment_table.specs.Pressing.{Whole, touringAt}
 
 pub record Count (g : Game) (n : ℕ) : Type 0 where

@@ -17,14 +17,14 @@ use Rattle.play.specs.Play.{graphOf, separatedOf}
 use Rattle.theory.specs.Tour.{goalAt}
 use Rattle.theory.specs.Choice.{assumptions, environmentRow}
 use Rattle.theory.specs.Entries.{environmentCounters}
-use Rattle.table_goals.specs.declared.Stretch.{Stretch}
+use Rattle.table_goals.specs.declared.GoalRange.{GoalRange}
 use Rattle.table_goals.specs.Goal.{Goals}
-use Rattle.table_goals.specs.Stretches.{metIn, stretchSet}
+use Rattle.table_goals.specs.Ranges.{metIn, rangeSet}
 use Rattle.table_layout.specs.declared.Layout.{Layout}
 use Rattle.table_layout.specs.Rows.{Filled as FilledIn}
-use Rattle.table_tours.specs.Course.{Course, Moving, Stayed, Headed, Stretched}
+use Rattle.table_tours.specs.Course.{Course, Moving, Stayed, GoalWithin, RangeWritten}
 use Rattle.table_tours.proofs.Courses.{course-members, course-moving}
-use Rattle.table_tours.proofs.Stretches.{headed-none, headed-further, headed-all}
+use Rattle.table_tours.proofs.Ranges.{goal-within-none, goal-within-further, goal-within-all}
 use Rattle.environment_table.specs.Table.{entriesOf, Roomy, EnvironmentLayout, EnvironmentFilled}
 use Rattle.environment_table.specs.Pressing.{touringAt}
 use Rattle.environment_table.specs.Touring.{Left, Aims}
@@ -47,7 +47,7 @@ module _ (g : Game) (M n : ℕ) (z : Layout) (R : Roomy g M n) (Z : EnvironmentL
     counters = Z .counters ∙ R .counters;
     same = λ s t a b. refl;
     component = L .whole .word;
-    core = L .whole .core;
+    is-nontrivial = L .whole .is-nontrivial;
     goals = goals-pack g c (L .first) (L .whole) q (length (assumptions (separatedOf g))) (R .inputs) refl e;
     tours = λ s h b ls i lh lb o.
         tour-row g c (L .first) (L .whole) s h b i (omega (arith, Z .width))
@@ -65,23 +65,23 @@ module _ (g : Game) (M n : ℕ) (z : Layout) (R : Roomy g M n) (Z : EnvironmentL
     aims-members = course-members z (setsIn (g .input .moves)) c over q aims-course
 
     -- all sets were passed
-    pub aims-filled : {l m : List ℕ} (k : ℕ) → k ≡ length (assumptions (separatedOf g)) → FilledIn z (entriesOf g) (Headed z c over q 0 k) l m
+    pub aims-filled : {l m : List ℕ} (k : ℕ) → k ≡ length (assumptions (separatedOf g)) → FilledIn z (entriesOf g) (GoalWithin z c over q 0 k) l m
         → EnvironmentFilled g (λ a h b. (has c a ≡ true) × (has over b ≡ true)) l m
     unfolding aims-course tour-course
     aims-filled k e F =
-        laid-filled g M n z R Z (headed-all z (setsIn (g .input .moves)) c over q aims-course aims-counted k (omega (arith, Z .counters, A .count .all)) F)
+        laid-filled g M n z R Z (goal-within-all z (setsIn (g .input .moves)) c over q aims-course aims-counted k (omega (arith, Z .counters, A .count .all)) F)
 
-    pub aims-none : (l : List ℕ) → FilledIn z (entriesOf g) (Headed z c over q 0 0) l l
+    pub aims-none : (l : List ℕ) → FilledIn z (entriesOf g) (GoalWithin z c over q 0 0) l l
     unfolding aims-course tour-course
-    aims-none l = headed-none z (setsIn (g .input .moves)) c over q aims-course l
+    aims-none l = goal-within-none z (setsIn (g .input .moves)) c over q aims-course l
 
     -- x are the rows that were read, here and below
-    pub aims-further : {x : List ℕ} → x ≡ g .input .moves → (t : Stretch) (k : ℕ) {l m r r′ : List ℕ} → t .from ≡ k
-        → ((i : ℕ) → i < t .count → has (stretchSet t i) ≡ goalAt (assumptions (separatedOf g)) (t .from + i))
-        → FilledIn z (entriesOf g) (Headed z c over q 0 k) l m → Stretched (setsIn x) z c over q t (t .count) m r → r′ ≡ r
-        → FilledIn z (entriesOf g) (Headed z c over q 0 (k + t .count)) l r′
+    pub aims-further : {x : List ℕ} → x ≡ g .input .moves → (t : GoalRange) (k : ℕ) {l m r r′ : List ℕ} → t .from ≡ k
+        → ((i : ℕ) → i < t .count → has (rangeSet t i) ≡ goalAt (assumptions (separatedOf g)) (t .from + i))
+        → FilledIn z (entriesOf g) (GoalWithin z c over q 0 k) l m → RangeWritten (setsIn x) z c over q t (t .count) m r → r′ ≡ r
+        → FilledIn z (entriesOf g) (GoalWithin z c over q 0 (k + t .count)) l r′
     unfolding aims-course tour-course
-    aims-further a t k e sets F D d = rw d (headed-further z (setsIn (g .input .moves)) c over q aims-course t k e sets F (rw a at D))
+    aims-further a t k e sets F D d = rw d (goal-within-further z (setsIn (g .input .moves)) c over q aims-course t k e sets F (rw a at D))
 
   -- with no goal
   module _ (c over q : ℕ) (L : Left g c over) (e : q ≡ pack (length (assumptions (separatedOf g))) (metIn (assumptions (separatedOf g)) c)) (none : q ≡ 0) where

@@ -17,7 +17,7 @@ use Rattle.play.specs.Play.{graphOf}
 use Rattle.graph_closure.specs.Sweep.{swept, adds, sweptTimes, Given, firstRows, sweepSettled, sweepsOf, Ran, Closed}
 use Rattle.graph_closure.proofs.Sweeps.{swept-length}
 use Rattle.graph_closure.proofs.FirstRows.{first-length, first-rest, first-again}
-use Rattle.graph_closure.proofs.Stages.{Stage, stage-start, stage-next, stage-end, stage-few, stage-lone}
+use Rattle.graph_closure.proofs.Stages.{Stage, stage-start, stage-next, stage-end, stage-few, stage-loops}
 
 -- some graph has n states and the rows l
 pub graph-given : (n : ℕ) (l : List ℕ) → (h : Graph) × Given h n l
@@ -86,11 +86,11 @@ module _ {h : Graph} {l m : List ℕ} {k : ℕ} {x : List ℕ} {b : Bool} {k′ 
       (at k ∙ ap not (now-adds ∙ e)) (λ j d. at j ∙ ap not (c .busy j d))))
 
   -- where each state moves only to itself, the first sweep adds nothing
-  counted-lone : Counted h l l 0 → ((s t : ℕ) → edge (graphOf h) s t ≡ true → t ≡ s) → k′ ≡ 1
+  counted-loops : Counted h l l 0 → ((s t : ℕ) → edge (graphOf h) s t ≡ true → t ≡ s) → k′ ≡ 1
   unfolding graphOf sweptTimes
-  counted-lone f a =
+  counted-loops f a =
       elim (decLt 0 k) [
-        | yes d ↦ clash (c .busy 0 d) (stage-lone (graphOf h) l l 0 (f .stage) a)
+        | yes d ↦ clash (c .busy 0 d) (stage-loops (graphOf h) l l 0 (f .stage) a)
         | no d ↦ omega (arith, next-is)
       ]
 
@@ -102,6 +102,6 @@ module _ {h : Graph} {l m : List ℕ} {k : ℕ} {x : List ℕ} {b : Bool} {k′ 
         ∙ ap (λ (r : List ℕ). rowsOf (h .states) (h .states) (reaches (graphOf h)) ++ r) (first-rest h o s);
     count = counted-settled o s e;
     some = omega (arith, next-is);
-    lone = counted-lone (counted-start h o s f);
+    loops = counted-loops (counted-start h o s f);
     few = omega (arith, c .few, next-is);
   }

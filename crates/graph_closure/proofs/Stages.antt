@@ -164,12 +164,12 @@ module _ (G : Graph) where
         go (no b) = clash e (still-none (G .states) m (G .states) (still (omega arith)))
 
     -- where each state moves only to itself a sweep adds nothing
-    lone-path : ((s t : ℕ) → edge G s t ≡ true → t ≡ s) → {a u : ℕ} → Path G a u → u ≡ a
-    lone-path alone stay = refl
-    lone-path alone (step {a = a} {b = c} e w) = lone-path alone w ∙ alone a c e
+    loops-path : ((s t : ℕ) → edge G s t ≡ true → t ≡ s) → {a u : ℕ} → Path G a u → u ≡ a
+    loops-path alone stay = refl
+    loops-path alone (step {a = a} {b = c} e w) = loops-path alone w ∙ alone a c e
 
-    pub stage-lone : ((s t : ℕ) → edge G s t ≡ true → t ≡ s) → adds (G .states) m (G .states) ≡ false
-    stage-lone alone = still-none (G .states) m (G .states) (record { rows = still })
+    pub stage-loops : ((s t : ℕ) → edge G s t ≡ true → t ≡ s) → adds (G .states) m (G .states) ≡ false
+    stage-loops alone = still-none (G .states) m (G .states) (record { rows = still })
       where
         still : (a t u : ℕ) → a < G .states → t < G .states → rel m a t ≡ true → rel m t u ≡ true → rel m a u ≡ true
-        still a t u b c p q = rw (lone-path alone (reaches-path G a t (h .sound a t b p))) at q
+        still a t u b c p q = rw (loops-path alone (reaches-path G a t (h .sound a t b p))) at q

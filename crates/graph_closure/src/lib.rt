@@ -21,7 +21,7 @@ fn start(moves: &[u64; sets::ROW_WORDS], n: usize, rows: &mut [u64])
     }
 }
 
-// The set x with the rows of its members below n, which are in its low word, those that join on the way included.
+// The set x with the rows of its members below n, which are low, those that join on the way included.
 fn joined_low(rows: &[u64], n: usize, x: Set) -> Set
     requires { ⌜ (n ≤ lowStates) × (n ≤ setCount (now rows)) ⌝ }
     ensures { λ r. ⌜ bitsOf r ≡ grown (setsIn (now (rows .entry))) n (bitsOf x) ⌝ }
@@ -37,7 +37,7 @@ fn joined_low(rows: &[u64], n: usize, x: Set) -> Set
     y
 }
 
-// The same on, for the members that are in the high word.
+// The same on, for the members that are not low.
 fn joined_high(rows: &[u64], n: usize, x: Set) -> Set
     requires { ⌜ (lowStates ≤ n) × (n ≤ capacity) × (n ≤ setCount (now rows)) ⌝ }
     ensures { λ r. ⌜ ((z : ℕ) → bitsOf x ≡ grown (setsIn (now (rows .entry))) lowStates z → bitsOf r ≡ grown (setsIn (now (rows .entry))) n z) ⌝ }
@@ -53,7 +53,8 @@ fn joined_high(rows: &[u64], n: usize, x: Set) -> Set
     y
 }
 
-// The set x with the rows of its members below n, those that join on the way included. By halves, as a turn then looks at one word of the set alone.
+// The set x with the rows of its members below n, those that join on the way included. Low states and others apart, as to ask for a member
+// costs less where it is known which it is.
 fn joined(rows: &[u64], n: usize, x: Set) -> Set
     requires { ⌜ (n ≤ capacity) × (n ≤ setCount (now rows)) ⌝ }
     ensures { λ r. ⌜ bitsOf r ≡ grown (setsIn (now (rows .entry))) n (bitsOf x) ⌝ }

@@ -19,7 +19,7 @@ pub fn prefer(s: usize, set: Set) -> usize
     sets::lowest(set)
 }
 
-// The states of `from` without the first ones of the low word that have no move into `near`, whose members are all of the low word.
+// The states of `from` without the first low ones that have no move into `near`, whose members are all low.
 fn pass_over_low(rows: &[u64; sets::ROW_WORDS], near: Set, from: Set) -> Set
     requires { ⌜ within (bitsOf near) lowStates ≡ true ⌝ }
     ensures { λ r. ⌜ PassedOver (setsIn (now (rows .entry))) (bitsOf near) (bitsOf from) (bitsOf r) ⌝ }
@@ -36,7 +36,7 @@ fn pass_over_low(rows: &[u64; sets::ROW_WORDS], near: Set, from: Set) -> Set
 }
 
 // The states of `from` without the first ones, as many as are passed over, that have no move into `near`. A round has nothing to write for them, and most are
-// such: in a graph of at most 64 states they are passed over by their low words alone, and no others are.
+// such. Low ones are passed over, where all of `near` are low: that costs little. Others are not.
 pub fn pass_over(rows: &[u64; sets::ROW_WORDS], near: Set, from: Set) -> Set
     ensures { λ r. ⌜ PassedOver (setsIn (now (rows .entry))) (bitsOf near) (bitsOf from) (bitsOf r) ⌝ }
 {

@@ -23,9 +23,9 @@ use Rattle.solver.specs.Promise.{
   controllerLength,
   environmentLength,
   named,
-  tenth,
-  ninth,
-  eighth,
+  environmentTested,
+  controllerTested,
+  scratchTested,
   verdictAnswer,
   controllerAfter,
   environmentAfter,
@@ -49,25 +49,26 @@ module _ (g : Game) (s c e : ℕ) where
   told-named k l true = (refl, k)
   told-named k l false = (refl, l)
 
-  told-tenth : controllerLength g ≤ c → (b : Bool) → leb (environmentLength g) e ≡ b
+  told-environment-test : controllerLength g ≤ c → (b : Bool) → leb (environmentLength g) e ≡ b
       → Told g c e (elim b as (λ x. Verdict) [ true ↦ named g | false ↦ NotSolved 10 ])
   unfolding Told named
-  told-tenth k true h = told-named k (leb-true (environmentLength g) e h) (verdict (separatedOf g))
-  told-tenth k false h = (omega arith, omega arith)
+  told-environment-test k true h = told-named k (leb-true (environmentLength g) e h) (verdict (separatedOf g))
+  told-environment-test k false h = (omega arith, omega arith)
 
-  told-ninth : (b : Bool) → leb (controllerLength g) c ≡ b → Told g c e (elim b as (λ x. Verdict) [ true ↦ tenth g e | false ↦ NotSolved 9 ])
-  unfolding Told tenth
-  told-ninth true h = told-tenth (leb-true (controllerLength g) c h) (leb (environmentLength g) e) refl
-  told-ninth false h = (omega arith, omega arith)
+  told-controller-test : (b : Bool) → leb (controllerLength g) c ≡ b
+      → Told g c e (elim b as (λ x. Verdict) [ true ↦ environmentTested g e | false ↦ NotSolved 9 ])
+  unfolding Told environmentTested
+  told-controller-test true h = told-environment-test (leb-true (controllerLength g) c h) (leb (environmentLength g) e) refl
+  told-controller-test false h = (omega arith, omega arith)
 
-  told-eighth : (b : Bool) → Told g c e (elim b as (λ x. Verdict) [ true ↦ ninth g c e | false ↦ NotSolved 8 ])
-  unfolding Told ninth
-  told-eighth true = told-ninth (leb (controllerLength g) c) refl
-  told-eighth false = (omega arith, omega arith)
+  told-scratch-test : (b : Bool) → Told g c e (elim b as (λ x. Verdict) [ true ↦ controllerTested g c e | false ↦ NotSolved 8 ])
+  unfolding Told controllerTested
+  told-scratch-test true = told-controller-test (leb (controllerLength g) c) refl
+  told-scratch-test false = (omega arith, omega arith)
 
-  told-acceptance : (a : Acceptance) → acceptance g ≡ a → Told g c e (elim a as (λ x. Verdict) [ Accepted ↦ eighth g s c e | Faulty n ↦ NotSolved n ])
-  unfolding Told eighth
-  told-acceptance Accepted h = told-eighth (leb (scratchLength g) s)
+  told-acceptance : (a : Acceptance) → acceptance g ≡ a → Told g c e (elim a as (λ x. Verdict) [ Accepted ↦ scratchTested g s c e | Faulty n ↦ NotSolved n ])
+  unfolding Told scratchTested
+  told-acceptance Accepted h = told-scratch-test (leb (scratchLength g) s)
   told-acceptance (Faulty n) h = let r = refused-code g n h in (r .0, omega (arith, r .1))
 
   pub told-answer : Told g c e (verdictAnswer g s c e)

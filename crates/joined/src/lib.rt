@@ -105,7 +105,7 @@ fn write_map(g: Game, s: &[u64], map: &mut [u64])
 {
     let mut i: usize = 0;
     while i < g.input.states {
-        sets::put(map, i, joined_reach::set_of(s[WON + i]));
+        sets::put(map, i, sets::of_word(s[WON + i]));
         i += 1;
     }
 }

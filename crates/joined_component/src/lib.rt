@@ -77,7 +77,7 @@ fn inputs_of(g: Game, s: &[u64]) -> InSet
         c = bits::insert_if(c, i, s[COMPONENT + i] != 0);
         i += 1;
     }
-    InSet(joined_reach::set_of(c))
+    InSet(sets::of_word(c))
 }
 
 // The outputs of the component's positions.
@@ -91,7 +91,7 @@ fn outputs_of(g: Game, s: &[u64]) -> OutSet
         c = bits::union(c, s[COMPONENT + i]);
         i += 1;
     }
-    OutSet(joined_reach::set_of(c))
+    OutSet(sets::of_word(c))
 }
 
 // Whether requirement r is due where the inputs x recur: all its input sets meet them.

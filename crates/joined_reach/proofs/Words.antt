@@ -2,33 +2,28 @@
 --
 --   small-in, small-out                       : the moves of a graph of at most 32 states
 --   small-in-word, small-out-word             : they are in one word
---   low-word, word-low                        : a set in one word, and the set that a word holds
 --   move-below                                : what an input moves to is an input
 --   belongs-has, belongs-below, belongs-in    : what belongs to a set
 --   found-has                                 : what belongs to the set of found positions, whose rows stand first
 --   kept-cleared             : what changes the front words alone
 --   but-then, but-wider                     : one change after the other; a wider span
 --   cleared-zero                              : words that are cleared
-use Prim.Native.Nat.{ℕ, _+_, _-_, _^_, _≤_, _<_}
+use Prim.Native.Nat.{ℕ, _+_, _-_, _≤_, _<_}
 use mathlib.Core.Path.{_≡_, refl, sym, _∙_, ap}
-use mathlib.Core.Bool.{true, false, _&&_}
+use mathlib.Core.Bool.{true, _&&_}
 use mathlib.Core.List.{List}
-use mathlib.Core.Logic.{_⊎_, inl, inr}
 use native.Mathlib.Nat.{zero-add}
 use native.Mathlib.Omega.{arith}
-use native.Mathlib.Decide.{decLt}
 use lib.Dec.{ltb}
 use lib.ListN.{length, getD, set, drop}
 use lib.Seq.{getD-drop}
 use borrow.Author.Tests.{lt-ltb, ltb-true}
-use Rattle.finite.proofs.Truth.{decide, same-test, and-left, and-right, and-intro}
+use Rattle.finite.proofs.Truth.{same-test, and-left, and-right, and-intro}
 use Rattle.finite.proofs.Front.{front-length, front-rest, front-at}
 use Rattle.finite.specs.But.{ButFor}
 use Rattle.bits.specs.Member.{has}
-use Rattle.bits.proofs.Membership.{has-zero, has-past, ext}
 use Rattle.sets.specs.declared.Set.{Set}
 use Rattle.sets.specs.Words.{bitsOf, setsIn, setAt}
-use Rattle.sets.proofs.Pair.{pair-low, pair-is}
 use Rattle.sets.proofs.Rows.{set-bits}
 use Rattle.graphs.specs.Graph.{edge}
 use Rattle.graphs.proofs.Graph.{edge-to, edge-intro, edge-moves}
@@ -40,27 +35,6 @@ use Rattle.game.specs.Fits.{GraphFits}
 use Rattle.play.specs.Play.{graphOf}
 use Rattle.scratch_clearing.specs.Clearing.{cleared}
 use Rattle.joined_reach.specs.Words.{belongs, Small}
-
--- ---- words
-
--- of a parameter the range of its words is found by `omega`
-pub low-word : (x : Set) → x .low < 2 ^ 64 → ((s : ℕ) → has (bitsOf x) s ≡ true → s < 64) → x .low ≡ bitsOf x
-unfolding bitsOf
-low-word x h b = ext (x .low) (bitsOf x) (λ s. go s (decLt s 64))
-  where
-    none : (s : ℕ) → 64 ≤ s → (has (bitsOf x) s ≡ true) ⊎ (has (bitsOf x) s ≡ false) → has (bitsOf x) s ≡ false
-    none s l (inl q) = let c = b s q in absurd (omega arith)
-    none s l (inr q) = q
-
-    go : (s : ℕ) → Dec (s < 64) → has (x .low) s ≡ has (bitsOf x) s
-    go s (yes l) = sym (pair-low (x .low) (x .high) h s l)
-    go s (no l) = has-past 64 (x .low) s h (omega arith) ∙ sym (none s (omega arith) (decide (has (bitsOf x) s)))
-
-pub word-low : (w : ℕ) → w < 2 ^ 64 → bitsOf (record { low = w; high = 0 }) ≡ w
-unfolding bitsOf
-word-low w h =
-    ext (bitsOf (record { low = w; high = 0 })) w
-    (pair-is w 0 h (has w) (λ t l. refl) (λ t. has-zero t ∙ sym (has-past 64 w (64 + t) h (omega arith))))
 
 -- ---- moves
 

@@ -5,7 +5,6 @@ ghost use mathlib.Core.Bool.{true};
 ghost use Prim.Native.Nat.{ℕ, _*_, _≤_, _<_};
 ghost use lib.ListN.{length};
 ghost use Rattle.bits.specs.Member.{has};
-ghost use Rattle.sets.specs.Words.{bitsOf};
 ghost use Rattle.graphs.specs.Graph.{edge};
 ghost use Rattle.play.specs.Play.{graphOf};
 ghost use Rattle.joined_reach.specs.Words.{Small};
@@ -14,7 +13,6 @@ use game::Game;
 use game::InState;
 use game::OutState;
 use sets::ROW_WORDS;
-use sets::Set;
 
 // A set of inputs, and one of outputs, below 64: a word of scratch.
 pub struct InWord(pub u64);
@@ -34,21 +32,6 @@ pub const COMPONENT: usize = 128;
 // Where it stands, for each position, how many positions it reaches: 1,024 words.
 pub const AHEAD: usize = 1024;
 
-// The word of a set whose members are below 64.
-fn word_of(x: Set) -> u64
-    requires { ⌜ ((s : ℕ) → has (bitsOf x) s ≡ true → s < 64) ⌝ }
-    ensures { λ r. ⌜ r ≡ bitsOf x ⌝ }
-{
-    x.low
-}
-
-// The set whose members are those of a word.
-pub fn set_of(w: u64) -> Set
-    ensures { λ r. ⌜ bitsOf r ≡ w ⌝ }
-{
-    Set { low: w, high: 0 }
-}
-
 // The inputs that i moves to. Here and below the rows of the graphs, `ins` and `outs`, are read where they stand: a game goes by value, and to read a row of
 // it would copy all of them.
 pub fn input_moves(g: Game, ins: &[u64; ROW_WORDS], i: InState) -> InWord
@@ -56,7 +39,7 @@ pub fn input_moves(g: Game, ins: &[u64; ROW_WORDS], i: InState) -> InWord
     ensures { λ r. ⌜ ((j : ℕ) → has (r .0) j ≡ edge (graphOf (g .input)) (i .0) j) ⌝ }
 {
     let row = sets::row_of(ins, i.0);
-    InWord(word_of(row))
+    InWord(sets::word(row))
 }
 
 // The outputs that o moves to.
@@ -65,7 +48,7 @@ pub fn output_moves(g: Game, outs: &[u64; ROW_WORDS], o: OutState) -> OutWord
     ensures { λ r. ⌜ ((p : ℕ) → has (r .0) p ≡ edge (graphOf (g .output)) (o .0) p) ⌝ }
 {
     let row = sets::row_of(outs, o.0);
-    OutWord(word_of(row))
+    OutWord(sets::word(row))
 }
 
 // The outputs that some member of x moves to.

@@ -34,9 +34,9 @@ use Rattle.solver.specs.Promise.{
   controllerLength,
   environmentLength,
   named,
-  tenth,
-  ninth,
-  eighth,
+  environmentTested,
+  controllerTested,
+  scratchTested,
   verdictAnswer,
   verdictNumber,
   controllerAfter,
@@ -95,17 +95,17 @@ module _ (k : Kit) (s c e t : ℕ) where
   named-number true = refl
   named-number false = refl
 
-  tenth-number : (b : Bool) → verdictNumber (elim b as (λ x. Verdict) [ true ↦ kitNamed k | false ↦ Refused 10 ]) ≡ firstOf ((10, b) ∷ [])
+  environment-test-number : (b : Bool) → verdictNumber (elim b as (λ x. Verdict) [ true ↦ kitNamed k | false ↦ Refused 10 ]) ≡ firstOf ((10, b) ∷ [])
   unfolding kitNamed firstOf
-  tenth-number true = named-number (verdict (separatedOf (gameFrom k)))
-  tenth-number false = refl
+  environment-test-number true = named-number (verdict (separatedOf (gameFrom k)))
+  environment-test-number false = refl
 
-  ninth-number : (b : Bool)
+  controller-test-number : (b : Bool)
       → verdictNumber (elim b as (λ x. Verdict) [ true ↦ kitTenth k e | false ↦ Refused 9 ])
       ≡ firstOf ((9, b) ∷ (10, leb (environmentLength (gameFrom k)) e) ∷ [])
   unfolding kitTenth firstOf
-  ninth-number true = tenth-number (leb (environmentLength (gameFrom k)) e)
-  ninth-number false = refl
+  controller-test-number true = environment-test-number (leb (environmentLength (gameFrom k)) e)
+  controller-test-number false = refl
 
   abbrev enough : Bool
   enough = leb (controllerLength (gameFrom k)) c && leb (kitLength k) t
@@ -113,16 +113,16 @@ module _ (k : Kit) (s c e t : ℕ) where
   abbrev rooms : Bool → List (ℕ × Bool)
   rooms b = (8, b) ∷ (9, enough) ∷ (10, leb (environmentLength (gameFrom k)) e) ∷ []
 
-  eighth-number : (b : Bool) → verdictNumber (elim b as (λ x. Verdict) [ true ↦ kitNinth k c e t | false ↦ Refused 8 ]) ≡ firstOf (rooms b)
+  scratch-test-number : (b : Bool) → verdictNumber (elim b as (λ x. Verdict) [ true ↦ kitNinth k c e t | false ↦ Refused 8 ]) ≡ firstOf (rooms b)
   unfolding kitNinth firstOf
-  eighth-number true = ninth-number enough
-  eighth-number false = refl
+  scratch-test-number true = controller-test-number enough
+  scratch-test-number false = refl
 
   acceptance-number : (a : Acceptance)
       → verdictNumber (elim a as (λ x. Verdict) [ Accepted ↦ kitEighth k s c e t | Faulty n ↦ Refused n ])
       ≡ after a (firstOf (rooms (leb (scratchLength (gameFrom k)) s)))
   unfolding kitEighth
-  acceptance-number Accepted = eighth-number (leb (scratchLength (gameFrom k)) s)
+  acceptance-number Accepted = scratch-test-number (leb (scratchLength (gameFrom k)) s)
   acceptance-number (Faulty n) = refl
 
   kit-number : verdictNumber (kitAnswer k s c e t) ≡ firstOf (solveKitTests k s c e t)
@@ -176,14 +176,15 @@ module _ (k : Kit) (s c e t : List ℕ) where
           at-nine b
           ∙ rw (and-intro (le-leb (controllerLength (gameFrom k)) (length c) d) (le-leb (kitLength k) (length t) f), kitNinth) refl
 
-      solver-ten : verdictAnswer (gameFrom k) (length s) (length c) (length e) ≡ tenth (gameFrom k) (length e)
-      unfolding verdictAnswer eighth ninth
+      solver-ten : verdictAnswer (gameFrom k) (length s) (length c) (length e) ≡ environmentTested (gameFrom k) (length e)
+      unfolding verdictAnswer scratchTested controllerTested
       solver-ten =
           rw (kit-fitting k a .game, verdictAnswer)
-          (rw (le-leb (scratchLength (gameFrom k)) (length s) b, eighth) (rw (le-leb (controllerLength (gameFrom k)) (length c) d, ninth) refl))
+          (rw (le-leb (scratchLength (gameFrom k)) (length s) b, scratchTested)
+          (rw (le-leb (controllerLength (gameFrom k)) (length c) d, controllerTested) refl))
 
-      same-ten : kitTenth k (length e) ≡ lifted k (tenth (gameFrom k) (length e))
-      unfolding kitTenth tenth kitNamed named lifted
+      same-ten : kitTenth k (length e) ≡ lifted k (environmentTested (gameFrom k) (length e))
+      unfolding kitTenth environmentTested kitNamed named lifted
       same-ten = go (leb (environmentLength (gameFrom k)) (length e)) (verdict (separatedOf (gameFrom k)))
         where
           go : (x y : Bool)
@@ -203,7 +204,7 @@ module _ (k : Kit) (s c e t : List ℕ) where
       answer-lifted r q = ap (lifted k) (q ∙ solver-ten) ∙ sym (at-ten ∙ same-ten)
 
       pub system-length : (n : ℕ) → System n ≡ verdictAnswer (gameFrom k) (length s) (length c) (length e) → n ≡ controllerLength (gameFrom k)
-      unfolding tenth named
+      unfolding environmentTested named
       system-length n q = go (leb (environmentLength (gameFrom k)) (length e)) (verdict (separatedOf (gameFrom k))) (q ∙ solver-ten)
         where
           go : (x y : Bool)

@@ -14,28 +14,30 @@
 --   sets-take, sets-drop, count-drop, sets-append : the sets in a part of the words
 --   rest-words                   : where the sets past the first k are the same, so are the words
 --   bits-of, set-is    : a set and its number
---   sets-put, sets-all, words-sets, rows-put  : the rows of a graph, as words and as sets
+--   low-word, word-low : a set of low states and its word
+--   sets-all, words-sets, rows-put  : the rows of a graph, as words and as sets
 --   no-bits, no-states : the empty set has no members
 --   set-bits           : a set of the list as a record, and as a number
 use Prim.Native.Nat.{ℕ, zero, suc, _+_, _-_, _*_, _/_, _%_, _^_, _≤_, _<_}
 use mathlib.Core.Path.{_≡_, refl, sym, _∙_, ap, ap₂}
 use mathlib.Core.Bool.{Bool, true, false, not}
 use mathlib.Core.List.{List, [], _∷_, _++_}
-use mathlib.Core.Logic.{_≢_}
+use mathlib.Core.Logic.{_≢_, _⊎_, inl, inr}
 use lib.Dec.{eqb}
 use lib.Seq.{getD-drop}
 use lib.ListN.{length, getD, set, replicate, take, drop, length-drop, drop-of-length-le}
 use native.Mathlib.Omega.{arith}
+use native.Mathlib.Decide.{decLt}
 use native.Mathlib.Numerals.{unary-clauses}
 use borrow.Author.Tests.{eqb-true, eqb-false}
-use Rattle.sets.proofs.Pair.{pair-zero}
+use Rattle.sets.proofs.Pair.{pair-zero, pair-low, pair-is}
 use Rattle.finite.specs.Bounded.{least}
 use Rattle.finite.proofs.Bounded.{least-member}
-use Rattle.finite.proofs.Truth.{clash, not-true, not-false}
+use Rattle.finite.proofs.Truth.{decide, clash, not-true, not-false}
 use Rattle.bits.specs.Member.{has}
-use Rattle.bits.proofs.Membership.{has-zero}
+use Rattle.bits.proofs.Membership.{has-zero, has-past, ext}
 use Rattle.sets.specs.declared.Set.{Set}
-use Rattle.sets.specs.Words.{capacity, rowWords, value, bitsOf, setOf, setsIn, setCount, wordsOf, putSet, wordsFor, noStates, setAt}
+use Rattle.sets.specs.Words.{capacity, lowStates, rowWords, value, bitsOf, setOf, setsIn, setCount, wordsOf, putSet, wordsFor, noStates, setAt}
 
 pub none : {b : Bool} (x : ℕ) → b ≡ eqb x 0 → b ≡ true → x ≡ 0
 none x e q = eqb-true x 0 (sym e ∙ q)
@@ -189,9 +191,9 @@ heads h = ap (λ (n : List ℕ). getD n 0 0) h
 tails : {x y : ℕ} {l m : List ℕ} → x ∷ l ≡ y ∷ m → l ≡ m
 tails h = ap (λ (n : List ℕ). drop 1 n) h
 
-lone : (y : ℕ) → value 64 (y ∷ []) ≡ y
+single-word : (y : ℕ) → value 64 (y ∷ []) ≡ y
 unfolding value
-lone y = omega arith
+single-word y = omega arith
 
 -- words of 64 bits that hold the same sets are the same
 words-same : (l m : List ℕ) → ((i : ℕ) → getD l i 0 < 2 ^ 64) → ((i : ℕ) → getD m i 0 < 2 ^ 64) → length l ≡ length m → setsIn l ≡ setsIn m → l ≡ m
@@ -199,7 +201,7 @@ unfolding setsIn
 words-same [] [] a b e h = refl
 words-same [] (z ∷ m) a b e h = absurd (omega arith)
 words-same (x ∷ l) [] a b e h = absurd (omega arith)
-words-same (x ∷ []) (z ∷ []) a b e h = ap (λ (y : ℕ). y ∷ []) (sym (lone x) ∙ heads h ∙ lone z)
+words-same (x ∷ []) (z ∷ []) a b e h = ap (λ (y : ℕ). y ∷ []) (sym (single-word x) ∙ heads h ∙ single-word z)
 words-same (x ∷ []) (z ∷ w ∷ m) a b e h = absurd (omega arith)
 words-same (x ∷ y ∷ l) (z ∷ []) a b e h = absurd (omega arith)
 words-same (x ∷ y ∷ l) (z ∷ w ∷ m) a b e h =
@@ -230,9 +232,24 @@ pub set-is : (x : Set) → x .low < 2 ^ 64 → setOf (bitsOf x) ≡ x
 unfolding bitsOf setOf
 set-is x h = λ i. record { low = parted-low (x .low) (x .high) h i; high = parted-high (x .low) (x .high) h i }
 
-pub sets-put : (l : List ℕ) (s x : ℕ) → s < setCount l → setsIn (putSet l s x) ≡ set (setsIn l) s x
-unfolding putSet
-sets-put l s x h = pair-put l s (x % 2 ^ 64) (x / 2 ^ 64) (place-low l s h) ∙ ap (set (setsIn l) s) (parted x)
+-- of a parameter the range of its words is found by `omega`
+pub low-word : (x : Set) → x .low < 2 ^ 64 → ((s : ℕ) → has (bitsOf x) s ≡ true → s < lowStates) → x .low ≡ bitsOf x
+unfolding bitsOf
+low-word x h b = ext (x .low) (bitsOf x) (λ s. go s (decLt s 64))
+  where
+    none : (s : ℕ) → 64 ≤ s → (has (bitsOf x) s ≡ true) ⊎ (has (bitsOf x) s ≡ false) → has (bitsOf x) s ≡ false
+    none s l (inl q) = let c = b s q in absurd (omega arith)
+    none s l (inr q) = q
+
+    go : (s : ℕ) → Dec (s < lowStates) → has (x .low) s ≡ has (bitsOf x) s
+    go s (yes l) = sym (pair-low (x .low) (x .high) h s l)
+    go s (no l) = has-past 64 (x .low) s h (omega arith) ∙ sym (none s (omega arith) (decide (has (bitsOf x) s)))
+
+pub word-low : (w : ℕ) → w < 2 ^ 64 → bitsOf (record { low = w; high = 0 }) ≡ w
+unfolding bitsOf
+word-low w h =
+    ext (bitsOf (record { low = w; high = 0 })) w
+    (pair-is w 0 h (has w) (λ t l. refl) (λ t. has-zero t ∙ sym (has-past 64 w (64 + t) h (omega arith))))
 
 even-length : (l : List ℕ) (n : ℕ) → length l ≡ 2 * n → length (setsIn l) ≡ n
 unfolding setsIn

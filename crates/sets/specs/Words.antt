@@ -3,7 +3,7 @@
 --
 --   capacity    == how many states a set can hold
 --   highest     == the highest of them
---   lowStates   == how many of them the low word holds
+--   lowStates   == how many of them are low: those that the first word of a set holds
 --   rowWords    == how many words the rows of a graph take
 --   value w l   == the number whose words of w bits are l, low first: laws of it hold for any number of words
 --   bitsOf x    == the number of the set x: state s belongs to x when `has (bitsOf x) s`

@@ -60,30 +60,30 @@ module _ (g : Game) (s c e : ℕ) where
   named-number true = refl
   named-number false = refl
 
-  tenth-number : (b : Bool) → verdictNumber (elim b as (λ x. Verdict) [ true ↦ compactNamed g | false ↦ NotSolved 10 ]) ≡ firstOf ((10, b) ∷ [])
+  environment-test-number : (b : Bool) → verdictNumber (elim b as (λ x. Verdict) [ true ↦ compactNamed g | false ↦ NotSolved 10 ]) ≡ firstOf ((10, b) ∷ [])
   unfolding compactNamed firstOf
-  tenth-number true = named-number (verdict (separatedOf g))
-  tenth-number false = refl
+  environment-test-number true = named-number (verdict (separatedOf g))
+  environment-test-number false = refl
 
-  ninth-number : (b : Bool)
+  controller-test-number : (b : Bool)
       → verdictNumber (elim b as (λ x. Verdict) [ true ↦ compactTenth g e | false ↦ NotSolved 9 ]) ≡ firstOf ((9, b) ∷ (10, leb (environmentLength g) e) ∷ [])
   unfolding compactTenth firstOf
-  ninth-number true = tenth-number (leb (environmentLength g) e)
-  ninth-number false = refl
+  controller-test-number true = environment-test-number (leb (environmentLength g) e)
+  controller-test-number false = refl
 
   abbrev rooms : Bool → List (ℕ × Bool)
   rooms b = (8, b) ∷ (9, leb (compactLength (separatedOf g)) c) ∷ (10, leb (environmentLength g) e) ∷ []
 
-  eighth-number : (b : Bool) → verdictNumber (elim b as (λ x. Verdict) [ true ↦ compactNinth g c e | false ↦ NotSolved 8 ]) ≡ firstOf (rooms b)
+  scratch-test-number : (b : Bool) → verdictNumber (elim b as (λ x. Verdict) [ true ↦ compactNinth g c e | false ↦ NotSolved 8 ]) ≡ firstOf (rooms b)
   unfolding compactNinth firstOf
-  eighth-number true = ninth-number (leb (compactLength (separatedOf g)) c)
-  eighth-number false = refl
+  scratch-test-number true = controller-test-number (leb (compactLength (separatedOf g)) c)
+  scratch-test-number false = refl
 
   acceptance-number : (a : Acceptance)
       → verdictNumber (elim a as (λ x. Verdict) [ Accepted ↦ compactEighth g s c e | Faulty n ↦ NotSolved n ])
       ≡ after a (firstOf (rooms (leb (scratchLength g) s)))
   unfolding compactEighth
-  acceptance-number Accepted = eighth-number (leb (scratchLength g) s)
+  acceptance-number Accepted = scratch-test-number (leb (scratchLength g) s)
   acceptance-number (Faulty n) = refl
 
   verdict-number : verdictNumber (compactAnswer g s c e) ≡ firstOf (compactTests g s c e)
@@ -154,36 +154,36 @@ module _ (g : Game) (s c e : List ℕ) where
     unfolding compactOutcome
     demand-of v = rw (v, compactOutcome) at (rows-by-component g a .demand)
 
-    at-eighth : compactAnswer g (length s) (length c) (length e) ≡ compactEighth g (length s) (length c) (length e)
+    at-scratch-test : compactAnswer g (length s) (length c) (length e) ≡ compactEighth g (length s) (length c) (length e)
     unfolding compactAnswer
-    at-eighth = rw (a, compactAnswer) refl
+    at-scratch-test = rw (a, compactAnswer) refl
 
     pub solve-scratch-short : length s < scratchLength g → SolvedCompact g s s c c e e (NotSolved 8)
     unfolding compactEighth
-    solve-scratch-short h = refused 8 (sym (at-eighth ∙ rw (lt-leb (scratchLength g) (length s) h, compactEighth) refl))
+    solve-scratch-short h = refused 8 (sym (at-scratch-test ∙ rw (lt-leb (scratchLength g) (length s) h, compactEighth) refl))
 
-    at-ninth : scratchLength g ≤ length s → compactAnswer g (length s) (length c) (length e) ≡ compactNinth g (length c) (length e)
+    at-controller-test : scratchLength g ≤ length s → compactAnswer g (length s) (length c) (length e) ≡ compactNinth g (length c) (length e)
     unfolding compactEighth
-    at-ninth h = at-eighth ∙ rw (le-leb (scratchLength g) (length s) h, compactEighth) refl
+    at-controller-test h = at-scratch-test ∙ rw (le-leb (scratchLength g) (length s) h, compactEighth) refl
 
     pub solve-controller-short : scratchLength g ≤ length s → length c < compactLength (separatedOf g) → SolvedCompact g s s c c e e (NotSolved 9)
     unfolding compactNinth
-    solve-controller-short h k = refused 9 (sym (at-ninth h ∙ rw (lt-leb (compactLength (separatedOf g)) (length c) k, compactNinth) refl))
+    solve-controller-short h k = refused 9 (sym (at-controller-test h ∙ rw (lt-leb (compactLength (separatedOf g)) (length c) k, compactNinth) refl))
 
-    at-tenth : scratchLength g ≤ length s → compactLength (separatedOf g) ≤ length c
+    at-environment-test : scratchLength g ≤ length s → compactLength (separatedOf g) ≤ length c
         → compactAnswer g (length s) (length c) (length e) ≡ compactTenth g (length e)
     unfolding compactNinth
-    at-tenth h k = at-ninth h ∙ rw (le-leb (compactLength (separatedOf g)) (length c) k, compactNinth) refl
+    at-environment-test h k = at-controller-test h ∙ rw (le-leb (compactLength (separatedOf g)) (length c) k, compactNinth) refl
 
     pub solve-environment-short : scratchLength g ≤ length s → compactLength (separatedOf g) ≤ length c → length e < environmentLength g
         → SolvedCompact g s s c c e e (NotSolved 10)
     unfolding compactTenth
-    solve-environment-short h k l = refused 10 (sym (at-tenth h k ∙ rw (lt-leb (environmentLength g) (length e) l, compactTenth) refl))
+    solve-environment-short h k l = refused 10 (sym (at-environment-test h k ∙ rw (lt-leb (environmentLength g) (length e) l, compactTenth) refl))
 
     module _ (h : scratchLength g ≤ length s) (k : compactLength (separatedOf g) ≤ length c) (l : environmentLength g ≤ length e) where
       at-named : compactAnswer g (length s) (length c) (length e) ≡ compactNamed g
       unfolding compactTenth
-      at-named = at-tenth h k ∙ rw (le-leb (environmentLength g) (length e) l, compactTenth) refl
+      at-named = at-environment-test h k ∙ rw (le-leb (environmentLength g) (length e) l, compactTenth) refl
 
       solved-system : (s′ c′ : List ℕ) → verdict (separatedOf g) ≡ true → s′ ≡ cleared (scratchLength g) s
           → c′ ≡ compactEntries (separatedOf g) ++ drop (compactLength (separatedOf g)) c

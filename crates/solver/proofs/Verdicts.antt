@@ -29,9 +29,9 @@ use Rattle.solver.specs.Promise.{
   controllerLength,
   environmentLength,
   named,
-  tenth,
-  ninth,
-  eighth,
+  environmentTested,
+  controllerTested,
+  scratchTested,
   verdictAnswer,
   solveTests,
   verdictNumber,
@@ -58,29 +58,31 @@ module _ (g : Game) (s c e : ℕ) where
   named-number true = refl
   named-number false = refl
 
-  tenth-number : (b : Bool) → verdictNumber (elim b as (λ x. Verdict) [ true ↦ named g | false ↦ NotSolved 10 ]) ≡ firstOf ((10, b) ∷ [])
+  environment-test-number : (b : Bool) → verdictNumber (elim b as (λ x. Verdict) [ true ↦ named g | false ↦ NotSolved 10 ]) ≡ firstOf ((10, b) ∷ [])
   unfolding named firstOf
-  tenth-number true = named-number (verdict (separatedOf g))
-  tenth-number false = refl
+  environment-test-number true = named-number (verdict (separatedOf g))
+  environment-test-number false = refl
 
-  ninth-number : (b : Bool)
-      → verdictNumber (elim b as (λ x. Verdict) [ true ↦ tenth g e | false ↦ NotSolved 9 ]) ≡ firstOf ((9, b) ∷ (10, leb (environmentLength g) e) ∷ [])
-  unfolding tenth firstOf
-  ninth-number true = tenth-number (leb (environmentLength g) e)
-  ninth-number false = refl
+  controller-test-number : (b : Bool)
+      → verdictNumber (elim b as (λ x. Verdict) [ true ↦ environmentTested g e | false ↦ NotSolved 9 ])
+      ≡ firstOf ((9, b) ∷ (10, leb (environmentLength g) e) ∷ [])
+  unfolding environmentTested firstOf
+  controller-test-number true = environment-test-number (leb (environmentLength g) e)
+  controller-test-number false = refl
 
   abbrev rooms : Bool → List (ℕ × Bool)
   rooms b = (8, b) ∷ (9, leb (controllerLength g) c) ∷ (10, leb (environmentLength g) e) ∷ []
 
-  eighth-number : (b : Bool) → verdictNumber (elim b as (λ x. Verdict) [ true ↦ ninth g c e | false ↦ NotSolved 8 ]) ≡ firstOf (rooms b)
-  unfolding ninth firstOf
-  eighth-number true = ninth-number (leb (controllerLength g) c)
-  eighth-number false = refl
+  scratch-test-number : (b : Bool) → verdictNumber (elim b as (λ x. Verdict) [ true ↦ controllerTested g c e | false ↦ NotSolved 8 ]) ≡ firstOf (rooms b)
+  unfolding controllerTested firstOf
+  scratch-test-number true = controller-test-number (leb (controllerLength g) c)
+  scratch-test-number false = refl
 
   acceptance-number : (a : Acceptance)
-      → verdictNumber (elim a as (λ x. Verdict) [ Accepted ↦ eighth g s c e | Faulty n ↦ NotSolved n ]) ≡ after a (firstOf (rooms (leb (scratchLength g) s)))
-  unfolding eighth
-  acceptance-number Accepted = eighth-number (leb (scratchLength g) s)
+      → verdictNumber (elim a as (λ x. Verdict) [ Accepted ↦ scratchTested g s c e | Faulty n ↦ NotSolved n ])
+      ≡ after a (firstOf (rooms (leb (scratchLength g) s)))
+  unfolding scratchTested
+  acceptance-number Accepted = scratch-test-number (leb (scratchLength g) s)
   acceptance-number (Faulty n) = refl
 
   verdict-number : verdictNumber (verdictAnswer g s c e) ≡ firstOf (solveTests g s c e)
@@ -89,12 +91,12 @@ module _ (g : Game) (s c e : ℕ) where
 
 -- scratch beyond what the game asks for changes no answer
 pub more-scratch : (g : Game) (s c e : ℕ) → scratchLength g ≤ s → verdictAnswer g s c e ≡ verdictAnswer g (scratchLength g) c e
-unfolding verdictAnswer eighth
+unfolding verdictAnswer scratchTested
 more-scratch g s c e h =
     ap told (le-leb (scratchLength g) s h ∙ sym (le-leb (scratchLength g) (scratchLength g) (omega arith)))
   where
     told : Bool → Verdict
-    told b = elim (acceptance g) [ Accepted ↦ elim b [ true ↦ ninth g c e | false ↦ NotSolved 8 ] | Faulty n ↦ NotSolved n ]
+    told b = elim (acceptance g) [ Accepted ↦ elim b [ true ↦ controllerTested g c e | false ↦ NotSolved 8 ] | Faulty n ↦ NotSolved n ]
 
 module _ (g : Game) (s c e : List ℕ) where
   told : {r : Verdict} → r ≡ verdictAnswer g (length s) (length c) (length e) → verdictNumber r ≡ firstOf (solveTests g (length s) (length c) (length e))
@@ -109,35 +111,36 @@ module _ (g : Game) (s c e : List ℕ) where
   solve-faulty n a = refused n (rw (a, verdictAnswer) refl)
 
   module _ (a : acceptance g ≡ Accepted) where
-    at-eighth : verdictAnswer g (length s) (length c) (length e) ≡ eighth g (length s) (length c) (length e)
+    at-scratch-test : verdictAnswer g (length s) (length c) (length e) ≡ scratchTested g (length s) (length c) (length e)
     unfolding verdictAnswer
-    at-eighth = rw (a, verdictAnswer) refl
+    at-scratch-test = rw (a, verdictAnswer) refl
 
     pub solve-scratch-short : length s < scratchLength g → Solved g s s c c e e (NotSolved 8)
-    unfolding eighth
-    solve-scratch-short h = refused 8 (sym (at-eighth ∙ rw (lt-leb (scratchLength g) (length s) h, eighth) refl))
+    unfolding scratchTested
+    solve-scratch-short h = refused 8 (sym (at-scratch-test ∙ rw (lt-leb (scratchLength g) (length s) h, scratchTested) refl))
 
-    at-ninth : scratchLength g ≤ length s → verdictAnswer g (length s) (length c) (length e) ≡ ninth g (length c) (length e)
-    unfolding eighth
-    at-ninth h = at-eighth ∙ rw (le-leb (scratchLength g) (length s) h, eighth) refl
+    at-controller-test : scratchLength g ≤ length s → verdictAnswer g (length s) (length c) (length e) ≡ controllerTested g (length c) (length e)
+    unfolding scratchTested
+    at-controller-test h = at-scratch-test ∙ rw (le-leb (scratchLength g) (length s) h, scratchTested) refl
 
     pub solve-controller-short : scratchLength g ≤ length s → length c < controllerLength g → Solved g s s c c e e (NotSolved 9)
-    unfolding ninth
-    solve-controller-short h k = refused 9 (sym (at-ninth h ∙ rw (lt-leb (controllerLength g) (length c) k, ninth) refl))
+    unfolding controllerTested
+    solve-controller-short h k = refused 9 (sym (at-controller-test h ∙ rw (lt-leb (controllerLength g) (length c) k, controllerTested) refl))
 
-    at-tenth : scratchLength g ≤ length s → controllerLength g ≤ length c → verdictAnswer g (length s) (length c) (length e) ≡ tenth g (length e)
-    unfolding ninth
-    at-tenth h k = at-ninth h ∙ rw (le-leb (controllerLength g) (length c) k, ninth) refl
+    at-environment-test : scratchLength g ≤ length s → controllerLength g ≤ length c
+        → verdictAnswer g (length s) (length c) (length e) ≡ environmentTested g (length e)
+    unfolding controllerTested
+    at-environment-test h k = at-controller-test h ∙ rw (le-leb (controllerLength g) (length c) k, controllerTested) refl
 
     pub solve-environment-short : scratchLength g ≤ length s → controllerLength g ≤ length c → length e < environmentLength g
         → Solved g s s c c e e (NotSolved 10)
-    unfolding tenth
-    solve-environment-short h k l = refused 10 (sym (at-tenth h k ∙ rw (lt-leb (environmentLength g) (length e) l, tenth) refl))
+    unfolding environmentTested
+    solve-environment-short h k l = refused 10 (sym (at-environment-test h k ∙ rw (lt-leb (environmentLength g) (length e) l, environmentTested) refl))
 
     module _ (h : scratchLength g ≤ length s) (k : controllerLength g ≤ length c) (l : environmentLength g ≤ length e) where
       at-named : verdictAnswer g (length s) (length c) (length e) ≡ named g
-      unfolding tenth
-      at-named = at-tenth h k ∙ rw (le-leb (environmentLength g) (length e) l, tenth) refl
+      unfolding environmentTested
+      at-named = at-environment-test h k ∙ rw (le-leb (environmentLength g) (length e) l, environmentTested) refl
 
       solved-system : (s′ c′ : List ℕ) → verdict (separatedOf g) ≡ true → s′ ≡ cleared (scratchLength g) s
           → c′ ≡ controllerEntries (separatedOf g) ++ drop (controllerLength g) c → Solved g s s′ c c′ e e (System (controllerLength g))

@@ -38,17 +38,17 @@ unfoldable pub named : Game → Verdict
 named g = elim (verdict (separatedOf g)) [ true ↦ System (controllerLength g) | false ↦ Environment (environmentLength g) ]
 
 -- "Number 8 is given below that length" (document 02, M-103); "9 controller room too short and 10 panel room too short, each tried whoever wins"
-unfoldable pub tenth : Game → ℕ → Verdict
-tenth g e = elim (leb (environmentLength g) e) [ true ↦ named g | false ↦ NotSolved 10 ]
+unfoldable pub environmentTested : Game → ℕ → Verdict
+environmentTested g e = elim (leb (environmentLength g) e) [ true ↦ named g | false ↦ NotSolved 10 ]
 
-unfoldable pub ninth : Game → ℕ → ℕ → Verdict
-ninth g c e = elim (leb (controllerLength g) c) [ true ↦ tenth g e | false ↦ NotSolved 9 ]
+unfoldable pub controllerTested : Game → ℕ → ℕ → Verdict
+controllerTested g c e = elim (leb (controllerLength g) c) [ true ↦ environmentTested g e | false ↦ NotSolved 9 ]
 
-unfoldable pub eighth : Game → ℕ → ℕ → ℕ → Verdict
-eighth g s c e = elim (leb (scratchLength g) s) [ true ↦ ninth g c e | false ↦ NotSolved 8 ]
+unfoldable pub scratchTested : Game → ℕ → ℕ → ℕ → Verdict
+scratchTested g s c e = elim (leb (scratchLength g) s) [ true ↦ controllerTested g c e | false ↦ NotSolved 8 ]
 
 unfoldable pub verdictAnswer : Game → ℕ → ℕ → ℕ → Verdict
-verdictAnswer g s c e = elim (acceptance g) [ Accepted ↦ eighth g s c e | Faulty n ↦ NotSolved n ]
+verdictAnswer g s c e = elim (acceptance g) [ Accepted ↦ scratchTested g s c e | Faulty n ↦ NotSolved n ]
 
 unfoldable pub solveTests : Game → ℕ → ℕ → ℕ → List (ℕ × Bool)
 solveTests g s c e = gameTests g ++ (8, leb (scratchLength g) s) ∷ (9, leb (controllerLength g) c) ∷ (10, leb (environmentLength g) e) ∷ []

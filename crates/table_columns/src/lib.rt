@@ -63,7 +63,7 @@ fn run(room: &mut [u16], base: usize, width: usize, value: u16)
     }
 }
 
-// The value at base + x for each x of the low word of the set `over`, lowest first. The answer is the rest of the set: most rows have none.
+// The value at base + x for each low x of the set `over`, lowest first. The answer is the rest of the set: most rows have none.
 fn scattered_low(room: &mut [u16], base: usize, width: usize, over: Set, value: u16) -> Set
     requires { ⌜ RowFits (length (now room)) base width (bitsOf over) ⌝ }
     ensures { λ r. ⌜ Scattering (length (now (room .entry))) (now (room .entry)) (now (room .exit)) base width (bitsOf over) value (bitsOf r) ⌝ }

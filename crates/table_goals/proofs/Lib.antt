@@ -2,4 +2,4 @@
 pub mod Goal
 pub mod Aims
 pub mod Tours
-pub mod Stretches
+pub mod Ranges

@@ -38,7 +38,7 @@ use Rattle.graph_ways.specs.Kept.{kept}
 use Rattle.graph_ways.proofs.Kept.{kept-pack, members-pack}
 use Rattle.graphs.proofs.Way.{prefer-same, prefer-wider}
 use Rattle.table_goals.specs.Goal.{Goals, firstFrom, passedCounter}
-use Rattle.table_goals.specs.Stretches.{metIn}
+use Rattle.table_goals.specs.Ranges.{metIn}
 
 -- the sets that meet the component, whose states are the word x
 met-meets : (G : Graph) (c x : ℕ) → G .states ≤ capacity → ((t : ℕ) → has x t ≡ joined G c t) → (l : List (ℕ → Bool)) (a : ℕ)

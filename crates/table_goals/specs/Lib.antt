@@ -1,3 +1,3 @@
 -- The counters of a tour, for both sides.
 pub mod Goal
-pub mod Stretches
+pub mod Ranges

@@ -6,17 +6,17 @@ ghost use Prim.Native.Nat.{_<_};
 ghost use Rattle.bits.specs.Member.{pack};
 ghost use Rattle.sets.specs.Words.{bitsOf};
 ghost use Rattle.table_goals.specs.Goal.{Goals, passedCounter, aimedAt};
-ghost use Rattle.table_goals.specs.Stretches.{Short, MetMore};
+ghost use Rattle.table_goals.specs.Ranges.{Short, MetMore};
 
 // Some sets of a tour, one after the other: the first of them is number `from` of all. Of the four places `count` are in use.
-pub struct Stretch {
+pub struct GoalRange {
     pub sets: [Set; 4],
     pub count: usize,
     pub from: usize,
 }
 
 // q, and the numbers of the sets of s that have a state in x: these are goals of a tour through x.
-pub fn add_met(q: CounterSet, s: Stretch, x: Set) -> CounterSet
+pub fn add_met(q: CounterSet, s: GoalRange, x: Set) -> CounterSet
     requires { ⌜ Short s ⌝ }
     ensures { λ r. ⌜ MetMore s (bitsOf x) (q .0) (s .count) (r .0) ⌝ }
 {

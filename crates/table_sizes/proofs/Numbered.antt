@@ -2,7 +2,7 @@
 --
 --   sets-of                         : a requirement's four sets
 --   upto-none, upto-next, upto-all  : how many sets there are
---   stretch-short, stretch-set      : the sets of the next requirement, by number
+--   range-short, range-set      : the sets of the next requirement, by number
 --   met-further, met-all            : those among them that have a state in x
 use Prim.Native.Nat.{ℕ, zero, suc, _+_, _≤_, _<_}
 use mathlib.Core.Path.{_≡_, refl, sym, _∙_, ap}
@@ -18,8 +18,8 @@ use Rattle.game.specs.declared.Requirement.{Requirement}
 use Rattle.game.specs.declared.Game.{Game}
 use Rattle.game.specs.Access.{requirementAt}
 use Rattle.theory.specs.Tour.{goalAt}
-use Rattle.table_goals.specs.declared.Stretch.{Stretch}
-use Rattle.table_goals.specs.Stretches.{metIn, stretchSet, Short, MetMore}
+use Rattle.table_goals.specs.declared.GoalRange.{GoalRange}
+use Rattle.table_goals.specs.Ranges.{metIn, rangeSet, Short, MetMore}
 use Rattle.table_sizes.specs.Below.{Side, allSets}
 use Rattle.table_sizes.specs.Numbered.{SetsOf, Upto}
 use Rattle.table_sizes.proofs.Below.{Listed, below-none, below-more, below-all, set-found}
@@ -47,7 +47,7 @@ module _ (s : Side) (L : Listed s) (g : Game) where
   met-all x r n q a b U e = e ∙ ap (λ (i : ℕ). pack i (metIn (allSets s g) x)) (upto-all r n a b U)
 
   -- the sets of requirement r
-  module _ (r n : ℕ) (t : Stretch) (l : r < g .k) (k : g .k ≤ 8) (f : s .count (requirementAt g r) ≤ 4) (U : Upto s g r n)
+  module _ (r n : ℕ) (t : GoalRange) (l : r < g .k) (k : g .k ≤ 8) (f : s .count (requirementAt g r) ≤ 4) (U : Upto s g r n)
       (W : SetsOf s (requirementAt g r) n t) where
     pub upto-next : Upto s g (r + 1) (n + t .count)
     upto-next = record {
@@ -55,19 +55,19 @@ module _ (s : Side) (L : Listed s) (g : Game) where
       count = ap (λ (i : ℕ). n + i) (W .count) ∙ below-more s L g r n (U .count);
     }
 
-    pub stretch-short : Short t
-    stretch-short = record { places = omega (arith, W .count); numbers = omega (arith, W .count, W .first, U .few) }
+    pub range-short : Short t
+    range-short = record { places = omega (arith, W .count); numbers = omega (arith, W .count, W .first, U .few) }
 
-    pub stretch-set : (j : ℕ) → j < t .count → has (stretchSet t j) ≡ goalAt (allSets s g) (t .from + j)
-    stretch-set j b =
+    pub range-set : (j : ℕ) → j < t .count → has (rangeSet t j) ≡ goalAt (allSets s g) (t .from + j)
+    range-set j b =
         ap has (W .sets j (omega (arith, W .count)))
         ∙ set-found s L g r (t .from + j) j l (omega (arith, W .first, U .count)) (omega (arith, W .count))
 
-    met-at : (x j : ℕ) → j < t .count → setsMeet capacity (stretchSet t j) x ≡ metIn (allSets s g) x (t .from + j)
+    met-at : (x j : ℕ) → j < t .count → setsMeet capacity (rangeSet t j) x ≡ metIn (allSets s g) x (t .from + j)
     unfolding setsMeet both metIn
     met-at x j b =
-        any-same capacity (both (stretchSet t j) x) (λ i. goalAt (allSets s g) (t .from + j) i && has x i)
-        (λ i d. ap (λ (p : ℕ → Bool). p i && has x i) (stretch-set j b))
+        any-same capacity (both (rangeSet t j) x) (λ i. goalAt (allSets s g) (t .from + j) i && has x i)
+        (λ i d. ap (λ (p : ℕ → Bool). p i && has x i) (range-set j b))
 
     pub met-further : (x q m : ℕ) → q ≡ pack n (metIn (allSets s g) x) → MetMore t x q (t .count) m → m ≡ pack (n + t .count) (metIn (allSets s g) x)
     met-further x q m e M =

@@ -8,10 +8,10 @@ use lib.ListN.{length, getD}
 use Rattle.sets.specs.Words.{bitsOf, noStates}
 use Rattle.game.specs.declared.Requirement.{Requirement}
 use Rattle.game.specs.declared.Game.{Game}
-use Rattle.table_goals.specs.declared.Stretch.{Stretch}
+use Rattle.table_goals.specs.declared.GoalRange.{GoalRange}
 use Rattle.table_sizes.specs.Below.{Side, setsBelow}
 
-pub record SetsOf (s : Side) (q : Requirement) (n : ℕ) (t : Stretch) : Type 0 where
+pub record SetsOf (s : Side) (q : Requirement) (n : ℕ) (t : GoalRange) : Type 0 where
   pub first : t .from ≡ n
   pub count : t .count ≡ s .count q
   pub sets : (j : ℕ) → j < 4 → bitsOf (getD (t .sets) j noStates) ≡ bitsOf (s .set q j)

@@ -3,7 +3,7 @@ use game::Game;
 use game::InSet;
 use game::OutSet;
 use table_counters::CounterSet;
-use table_goals::Stretch;
+use table_goals::GoalRange;
 ghost use mathlib.Core.Path.{_≡_};
 ghost use Prim.Native.Nat.{max, _≤_, _<_};
 ghost use lib.ListN.{length};
@@ -17,7 +17,7 @@ ghost use Rattle.play.specs.Play.{separatedOf};
 ghost use Rattle.theory.specs.Choice.{guarantees, assumptions};
 ghost use Rattle.theory.specs.Entries.{controllerCounters, environmentCounters, controllerEntries, environmentEntries};
 ghost use Rattle.table_sizes.specs.Below.{guaranteeSide, assumptionSide};
-ghost use Rattle.table_goals.specs.Stretches.{metIn};
+ghost use Rattle.table_goals.specs.Ranges.{metIn};
 ghost use Rattle.table_sizes.specs.Numbered.{SetsOf};
 ghost use Rattle.table_sizes.specs.Outlined.{Outlined};
 
@@ -69,7 +69,7 @@ pub fn guarantees_of(
     l: &[u64; game_sets::WORDS],
     r: usize,
     from: usize,
-) -> Stretch
+) -> GoalRange
     requires { ⌜ (g .k ≤ 8) × (r < g .k) × Outlined g given × Lists g (now l) ⌝ }
     ensures { λ s. ⌜ SetsOf guaranteeSide (requirementAt g r) from s ⌝ }
 {
@@ -81,7 +81,7 @@ pub fn guarantees_of(
     let x = b.0;
     let y = c.0;
     let z = d.0;
-    Stretch {
+    GoalRange {
         sets: [w, x, y, z],
         count: given.guaranteed[r],
         from,
@@ -112,7 +112,7 @@ pub fn assumptions_of(
     l: &[u64; game_sets::WORDS],
     r: usize,
     from: usize,
-) -> Stretch
+) -> GoalRange
     requires { ⌜ (g .k ≤ 8) × (r < g .k) × Outlined g given × Lists g (now l) ⌝ }
     ensures { λ s. ⌜ SetsOf assumptionSide (requirementAt g r) from s ⌝ }
 {
@@ -124,7 +124,7 @@ pub fn assumptions_of(
     let x = b.0;
     let y = c.0;
     let z = d.0;
-    Stretch {
+    GoalRange {
         sets: [w, x, y, z],
         count: given.assumed[r],
         from,

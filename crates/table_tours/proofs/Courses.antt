@@ -71,7 +71,7 @@ module _ (z : Layout) (moves : List ℕ) (c over q : ℕ) (p : Course z moves c 
   in-comp s e = ap (λ (k : ℕ → Bool). k s) (sym (comp-has (p .graph) (p .number) moves c (p .same) (p .component))) ∙ e
 
   stays : (s : ℕ) → has c s ≡ true → nontrivial (p .graph) s ≡ true
-  stays s e = sym (nontrivial-same (p .graph) (p .number) s (in-comp s e)) ∙ p .core
+  stays s e = sym (nontrivial-same (p .graph) (p .number) s (in-comp s e)) ∙ p .is-nontrivial
 
   pub course-members : within c (z .states) ≡ true
   course-members =

@@ -1,7 +1,7 @@
 // Tours of a component past sets, for both sides. Nothing here knows of sides.
 use sets::Set;
 use table_counters::CounterSet;
-use table_goals::Stretch;
+use table_goals::GoalRange;
 use table_layout::Layout;
 use table_walks::Stamp;
 ghost use mathlib.Core.Path.{_≡_};
@@ -10,9 +10,9 @@ ghost use lib.ListN.{length};
 ghost use Rattle.bits.specs.Member.{has, within};
 ghost use Rattle.sets.specs.Words.{bitsOf, setsIn};
 ghost use Rattle.table_goals.specs.Goal.{Goals};
-ghost use Rattle.table_goals.specs.Stretches.{Short};
+ghost use Rattle.table_goals.specs.Ranges.{Short};
 ghost use Rattle.table_layout.specs.Rows.{LayoutFits};
-ghost use Rattle.table_tours.specs.Course.{Moving, Stayed, Aimed, Stretched};
+ghost use Rattle.table_tours.specs.Course.{Moving, Stayed, Aimed, RangeWritten};
 
 // The rows of the states of c where no set is to be visited: the preferred move inside c; the counter stays.
 pub fn stay(moves: &[u64; sets::ROW_WORDS], room: &mut [u16], z: Layout, c: Set, over: Set)
@@ -71,10 +71,10 @@ pub fn aim_some(
     c: Set,
     over: Set,
     q: CounterSet,
-    t: Stretch,
+    t: GoalRange,
 )
     requires { ⌜ LayoutFits z (length (now room)) × (within (bitsOf c) (z .states) ≡ true) × Goals (q .0) (z .counters) 0 × Short t ⌝ }
-    ensures { λ r. ⌜ Stretched (setsIn (now (moves .entry))) z (bitsOf c) (bitsOf over) (q .0) t (t .count) (now (room .entry)) (now (room .exit)) ⌝ }
+    ensures { λ r. ⌜ RangeWritten (setsIn (now (moves .entry))) z (bitsOf c) (bitsOf over) (q .0) t (t .count) (now (room .entry)) (now (room .exit)) ⌝ }
 {
     let mut j: usize = 0;
     while j < t.count {

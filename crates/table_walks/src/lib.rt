@@ -55,7 +55,7 @@ struct Tried {
     rest: Set,
 }
 
-// The part of a round that tries the states of the low word: each with a move into `reached` gets its rows. Most sets have no others, and most states no such
+// The part of a round that tries the low states: each with a move into `reached` gets its rows. Most sets have no others, and most states no such
 // move: those are passed over.
 fn settle_low(
     rows: &[u64; sets::ROW_WORDS],

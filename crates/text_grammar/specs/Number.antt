@@ -16,17 +16,18 @@ use lib.Dec.{leb, ltb}
 use Rattle.text_grammar.specs.Format.{Format, Run, mayBegin, child}
 use Rattle.text_grammar.specs.Format.Format.{node}
 use Rattle.text_grammar.specs.Format.Run.{got, fault}
+use Rattle.text_grammar.specs.Marks.{digitZero}
 
 -- the digits of v, given more turns than v has digits
 unfoldable pub digits : ℕ → ℕ → List ℕ
 digits zero v = []
-digits (suc n) v = elim (ltb v 10) [ true ↦ (48 + v) ∷ [] | false ↦ digits n (v / 10) ++ (48 + v % 10) ∷ [] ]
+digits (suc n) v = elim (ltb v 10) [ true ↦ (digitZero + v) ∷ [] | false ↦ digits n (v / 10) ++ (digitZero + v % 10) ∷ [] ]
 
 unfoldable pub decimal : ℕ → List ℕ
 decimal v = digits (suc v) v
 
 unfoldable pub digit : ℕ → Bool
-digit b = leb 48 b && leb b 57
+digit b = leb digitZero b && leb b 57
 
 unfoldable pub withinRange : ℕ → ℕ → ℕ → Bool
 withinRange lo hi v = leb lo v && leb v hi
@@ -38,7 +39,7 @@ unfoldable pub digitsBegin : ℕ → ℕ → ℕ → Bool
 digitsBegin lo hi v = withinRange lo hi v || ltb 0 v && (rangesMeet lo hi (10 * v) (10 * v + 9) || rangesMeet lo hi (100 * v) (100 * v + 99))
 
 unfoldable pub tenfold : ℕ → ℕ → ℕ
-tenfold v b = 10 * v + (b - 48)
+tenfold v b = 10 * v + (b - digitZero)
 
 unfoldable pub extends : ℕ → ℕ → ℕ → ℕ → Bool
 extends lo hi v b = digit b && ltb 0 v && digitsBegin lo hi (tenfold v b)
@@ -51,10 +52,10 @@ after (suc n) lo hi k v =
     (λ b. elim (extends lo hi v b) [ true ↦ after n lo hi k (tenfold v b) | false ↦ child (k v) b ])
 
 unfoldable pub starts : ℕ → ℕ → ℕ → Bool
-starts lo hi b = digit b && digitsBegin lo hi (b - 48)
+starts lo hi b = digit b && digitsBegin lo hi (b - digitZero)
 
 unfoldable pub num : {R : Type 0} → ℕ → ℕ → (ℕ → Format R) → Format R
-num lo hi k = node (λ b. starts lo hi b) (λ b. after 2 lo hi k (b - 48))
+num lo hi k = node (λ b. starts lo hi b) (λ b. after 2 lo hi k (b - digitZero))
 
 unfoldable pub numberEnd : ℕ → ℕ → ℕ → ℕ → Run ℕ
 numberEnd lo hi v j = elim (withinRange lo hi v) [ true ↦ got v j | false ↦ fault j ]
@@ -65,4 +66,4 @@ digitsAt (suc n) lo hi v w j =
     elim (extends lo hi v (w j)) [ true ↦ digitsAt n lo hi (tenfold v (w j)) w (suc j) | false ↦ numberEnd lo hi v j ]
 
 unfoldable pub numberAt : ℕ → ℕ → (ℕ → ℕ) → ℕ → Run ℕ
-numberAt lo hi w i = elim (starts lo hi (w i)) [ true ↦ digitsAt 2 lo hi (w i - 48) w (suc i) | false ↦ fault i ]
+numberAt lo hi w i = elim (starts lo hi (w i)) [ true ↦ digitsAt 2 lo hi (w i - digitZero) w (suc i) | false ↦ fault i ]

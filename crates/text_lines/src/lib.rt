@@ -7,6 +7,7 @@ use text_shape::words;
 ghost use mathlib.Core.Path.{_≡_};
 ghost use mathlib.Core.List.{[], _∷_};
 ghost use Prim.Native.Nat.{_+_, _<_};
+ghost use Rattle.text_grammar.specs.Marks.{newline, closeBracket};
 ghost use Rattle.text_grammar.specs.Format.{run, chars};
 ghost use Rattle.text_grammar.specs.Place.{bytes};
 ghost use Rattle.text_shape.specs.Shape.{opening, outputsFormat, headerFormat, rowFormat, stateFormat};
@@ -46,7 +47,7 @@ pub fn opening_at(s: &[u8], i: usize, w: usize) -> Step
 
 // The closing bracket and the line's end, at place i.
 pub fn end_at(s: &[u8], i: usize) -> Step
-    ensures { λ r. ⌜ r ≡ stepOf (run (chars (41 ∷ 10 ∷ [])) (bytes (now (s .entry))) i) ⌝ }
+    ensures { λ r. ⌜ r ≡ stepOf (run (chars (closeBracket ∷ newline ∷ [])) (bytes (now (s .entry))) i) ⌝ }
 {
     if text_pieces::byte_at(s, i) != text_pieces::CLOSE {
         return Step::Fault(i);

@@ -3,6 +3,7 @@ use sets::Set;
 ghost use mathlib.Core.Path.{_≡_};
 ghost use Prim.Native.Nat.{_+_, _<_, _≤_};
 ghost use Rattle.sets.specs.Words.{capacity, highest, bitsOf};
+ghost use Rattle.text_grammar.specs.Marks.{closeBracket};
 ghost use Rattle.text_grammar.specs.Format.{run, lit};
 ghost use Rattle.text_grammar.specs.Format.Format.{done};
 ghost use Rattle.text_grammar.specs.Number.{digit, withinRange as within, rangesMeet as overlap, digitsBegin as fore, extends as further};
@@ -200,7 +201,7 @@ fn next_member(s: &[u8], i: usize, lo: usize) -> Next
 
 // The set x, closed at place i.
 fn closed_set(s: &[u8], i: usize, x: Set) -> SetScan
-    ensures { λ r. ⌜ r ≡ setScanOf (run (lit 41 (done (bitsOf x))) (bytes (now (s .entry))) i) ⌝ }
+    ensures { λ r. ⌜ r ≡ setScanOf (run (lit closeBracket (done (bitsOf x))) (bytes (now (s .entry))) i) ⌝ }
 {
     if byte_at(s, i) == CLOSE {
         return SetScan::Members(x, i + 1);

@@ -10,6 +10,7 @@ ghost use mathlib.Core.List.{[], _∷_, _++_};
 ghost use Prim.Native.Nat.{_+_, _<_, _≤_, _^_};
 ghost use lib.ListN.{length};
 ghost use Rattle.sets.specs.Words.{capacity, bitsOf};
+ghost use Rattle.text_grammar.specs.Marks.{newline, closeBracket, digitZero};
 ghost use Rattle.text_grammar.specs.Number.{decimal};
 ghost use Rattle.text_shape.specs.Text.{plain, gapText, setText, setsText, headerLine, stateLine, stateLines};
 ghost use Rattle.text_shape.specs.Text.{inWords, outWords, requirementLine, requirementLines, gameText};
@@ -37,7 +38,7 @@ pub fn put_byte(buffer: &mut [u8], at: usize, b: u8) -> usize
 // A digit.
 fn put_digit(buffer: &mut [u8], at: usize, v: usize) -> usize
     requires { ⌜ (v < 10) × (at + 1 ≤ 2 ^ 32) ⌝ }
-    ensures { λ r. ⌜ Puts (now (buffer .entry)) at ((48 + v) ∷ []) r (now (buffer .exit)) ⌝ }
+    ensures { λ r. ⌜ Puts (now (buffer .entry)) at ((digitZero + v) ∷ []) r (now (buffer .exit)) ⌝ }
 {
     put_byte(buffer, at, (ZERO + v) as u8)
 }
@@ -106,7 +107,7 @@ pub fn put_opening(buffer: &mut [u8], at: usize, w: usize) -> usize
 // The closing bracket and the line's end.
 pub fn put_end(buffer: &mut [u8], at: usize) -> usize
     requires { ⌜ at + 2 ≤ 2 ^ 32 ⌝ }
-    ensures { λ r. ⌜ Puts (now (buffer .entry)) at (41 ∷ 10 ∷ []) r (now (buffer .exit)) ⌝ }
+    ensures { λ r. ⌜ Puts (now (buffer .entry)) at (closeBracket ∷ newline ∷ []) r (now (buffer .exit)) ⌝ }
 {
     let m = put_byte(buffer, at, b')');
     put_byte(buffer, m, b'\n')

@@ -37,23 +37,24 @@ use Rattle.game.specs.declared.Graph.{Graph}
 use Rattle.game.specs.declared.Requirement.{Requirement}
 use Rattle.game.specs.declared.Game.{Game}
 use Rattle.text_shape.specs.Text.{word, PlainGraph, recordOf, inSets, outSets, emptyRequirement}
+use Rattle.text_grammar.specs.Marks.{blank, newline, openBracket, closeBracket}
 
 unfoldable pub insert : ℕ → ℕ → ℕ
 insert x v = bitOr x (2 ^ v)
 
 unfoldable pub moreMembers : ℕ → ℕ → ℕ → Format ℕ
-moreMembers zero lo x = lit 41 (done x)
+moreMembers zero lo x = lit closeBracket (done x)
 moreMembers (suc n) lo x =
     elim (leb lo highest) [
-      | true ↦ alt 41 (done x) (lit 32 (num lo highest (λ v. moreMembers n (suc v) (insert x v))))
-      | false ↦ lit 41 (done x)
+      | true ↦ alt closeBracket (done x) (lit blank (num lo highest (λ v. moreMembers n (suc v) (insert x v))))
+      | false ↦ lit closeBracket (done x)
     ]
 
 unfoldable pub membersFormat : Format ℕ
-membersFormat = alt 41 (done 0) (num 0 highest (λ v. moreMembers highest (suc v) (insert 0 v)))
+membersFormat = alt closeBracket (done 0) (num 0 highest (λ v. moreMembers highest (suc v) (insert 0 v)))
 
 unfoldable pub setFormat : Format ℕ
-setFormat = lit 40 membersFormat
+setFormat = lit openBracket membersFormat
 
 pub record Sets : Type 0 where
   pub words : List ℕ
@@ -66,14 +67,14 @@ unfoldable pub push : Sets → ℕ → Sets
 push a x = record { words = set (a .words) (a .count) x; count = suc (a .count) }
 
 unfoldable pub moreSets : ℕ → Sets → Format Sets
-moreSets zero a = lit 41 (done a)
-moreSets (suc n) a = alt 41 (done a) (lit 32 (bind setFormat (λ x. moreSets n (push a x))))
+moreSets zero a = lit closeBracket (done a)
+moreSets (suc n) a = alt closeBracket (done a) (lit blank (bind setFormat (λ x. moreSets n (push a x))))
 
 unfoldable pub setsFormat : Format Sets
-setsFormat = lit 40 (alt 41 (done noSets) (bind setFormat (λ x. moreSets 3 (push noSets x))))
+setsFormat = lit openBracket (alt closeBracket (done noSets) (bind setFormat (λ x. moreSets 3 (push noSets x))))
 
 unfoldable pub opening : ℕ → List ℕ
-opening w = 40 ∷ (word w ++ 32 ∷ [])
+opening w = openBracket ∷ (word w ++ blank ∷ [])
 
 unfoldable pub numThen : ℕ → ℕ → ℕ → Format ℕ
 numThen lo hi b = num lo hi (λ v. lit b (done v))
@@ -87,7 +88,7 @@ unfoldable pub outputsFormat : ℕ → Format Header
 outputsFormat i =
     bind (numThen 1 capacity 32) (λ o.
     bind (numThen 0 8 41) (λ k.
-    lit 10 (done (record { inputs = i; outputs = o; k = k }))))
+    lit newline (done (record { inputs = i; outputs = o; k = k }))))
 
 unfoldable pub headerFormat : Format Header
 headerFormat = bind (chars (opening 0)) (λ _. bind (numThen 1 capacity 32) (λ i. outputsFormat i))
@@ -100,7 +101,7 @@ unfoldable pub rowFormat : Format StateRow
 rowFormat =
     bind (numThen 0 1 32) (λ f.
     bind setFormat (λ x.
-    bind (chars (41 ∷ 10 ∷ [])) (λ _. done (record { initial = f; moves = x }))))
+    bind (chars (closeBracket ∷ newline ∷ [])) (λ _. done (record { initial = f; moves = x }))))
 
 unfoldable pub stateFormat : ℕ → ℕ → Format StateRow
 stateFormat w s = bind (chars (opening w)) (λ _. bind (numThen s s 32) (λ _. rowFormat))
@@ -124,9 +125,9 @@ requirement a b =
 
 unfoldable pub guaranteesFormat : Sets → Format Requirement
 guaranteesFormat a =
-    bind (chars (32 ∷ [])) (λ _.
+    bind (chars (blank ∷ [])) (λ _.
     bind setsFormat (λ b.
-    bind (chars (41 ∷ 10 ∷ [])) (λ _. done (requirement a b))))
+    bind (chars (closeBracket ∷ newline ∷ [])) (λ _. done (requirement a b))))
 
 unfoldable pub requirementFormat : Format Requirement
 requirementFormat = bind (chars (opening 3)) (λ _. bind setsFormat (λ a. guaranteesFormat a))

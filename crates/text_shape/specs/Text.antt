@@ -40,6 +40,7 @@ use Rattle.game.specs.declared.InSet.{InSet}
 use Rattle.game.specs.declared.OutSet.{OutSet}
 use Rattle.game.specs.declared.Requirement.{Requirement}
 use Rattle.game.specs.declared.Game.{Game}
+use Rattle.text_grammar.specs.Marks.{blank, newline, openBracket, closeBracket}
 
 -- "Fixed words are game, in, out, if; in answers wins, start, step, refused, system, environment."
 unfoldable pub words : List (List ℕ)
@@ -61,7 +62,7 @@ word n = getD words n []
 
 -- "one blank separates items, none elsewhere"
 unfoldable pub gapText : Bool → List ℕ
-gapText true = 32 ∷ []
+gapText true = blank ∷ []
 gapText false = []
 
 unfoldable pub items : Bool → List (List ℕ) → List ℕ
@@ -69,11 +70,11 @@ items gap [] = []
 items gap (w ∷ ws) = gapText gap ++ (w ++ items true ws)
 
 unfoldable pub bracket : List (List ℕ) → List ℕ
-bracket ws = 40 ∷ (items false ws ++ 41 ∷ [])
+bracket ws = openBracket ∷ (items false ws ++ closeBracket ∷ [])
 
 -- "Every line ends in byte 10."
 unfoldable pub line : List (List ℕ) → List ℕ
-line ws = bracket ws ++ 10 ∷ []
+line ws = bracket ws ++ newline ∷ []
 
 -- "Moves and sets hold strictly rising numbers 0 to 63."; "Numbers in files run to 127, counts to 128." (M-105)
 unfoldable pub members : ℕ → ℕ → ℕ → List ℕ

@@ -42,7 +42,7 @@ use Rattle.theory.proofs.Environment.{Presses, Lost, turn-lost, cycle-b
 use Rattle.theory.proofs.Entries.{Sized, controller-start, environment-start, read-follows, read-presses}
 
 module _ (S : Separated) where
-  controller-counts : 0 < controllerCounters S
+  pub controller-counts : 0 < controllerCounters S
   unfolding controllerCounters
   controller-counts = le-max-left 1 _
 

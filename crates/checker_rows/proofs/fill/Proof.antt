@@ -30,14 +30,14 @@ abbrev μ-loop : tie.MeasureT-loop
 loop-holds : tie.Need-loop-holds Inv-loop μ-loop
 loop-holds c = (omega arith, filled-start _ _ _ (c .before .before .pre .2))
 
-div-replies : tie.Need-div-replies Inv-loop μ-loop
-div-replies c =
+div-lead : tie.Need-div-lead Inv-loop μ-loop
+div-lead c =
     let i = c .before .before in
     let s = i .before .before .before .before in
     omega (arith, some-inputs _ _ _ (s .pre .0))
 
-div-replies-2 : tie.Need-div-replies-2 Inv-loop μ-loop
-div-replies-2 c =
+div-lead-2 : tie.Need-div-lead-2 Inv-loop μ-loop
+div-lead-2 c =
     let i = c .before .before in
     let s = i .before .before .before .before in
     omega (arith, some-counters _ _ _ (s .pre .0) _ (row-below _ _ _ (s .pre .0) _ _ (s .pre .1) (i .loop-test .taken)))
@@ -138,8 +138,8 @@ fill-spec =
     Inv-loop
     μ-loop
     loop-holds
-    div-replies
-    div-replies-2
+    div-lead
+    div-lead-2
     replies-requires
     rem-t12
     add-lead

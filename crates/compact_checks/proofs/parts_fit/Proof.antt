@@ -18,7 +18,8 @@ use Rattle.compact_checks.proofs.parts_fit.Tie as tie
 
 abbrev Inv-loop : tie.InvT-loop
 Inv-loop g leaders table n rows firsts₀ part₀ firsts part =
-    (n ≡ g .input .states) × (rows ≡ g .output .states * controllerCounters (separatedOf g)) × (length firsts ≡ partSize) × AsFirst (separatedOf g) table rows part
+    (n ≡ g .input .states) × (rows ≡ g .output .states * controllerCounters (separatedOf g)) × (length firsts ≡ partSize)
+    × AsFirst (separatedOf g) table rows part
 
 abbrev μ-loop : tie.MeasureT-loop
 μ-loop g leaders table n rows firsts₀ part₀ firsts part = n - part

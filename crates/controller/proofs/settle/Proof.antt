@@ -1,4 +1,4 @@
--- `settle`: no resident, or the way home and the tour.
+-- `settle`: no input has its home there, or the way home and the tour.
 use Rattle.sets.specs.Words.{bitsOf}
 use Rattle.sets.proofs.Rows.{none, some}
 use Rattle.scratch.proofs.Areas.{out-transitive}
@@ -9,8 +9,8 @@ use borrow.Author.Needs.{needs}
 use Rattle.controller.proofs.settle.Statement.{statement}
 use Rattle.controller.proofs.settle.Tie as tie
 
-residents-requires : tie.Need-residents-requires
-residents-requires c κs =
+inputs-with-home-requires : tie.Need-inputs-with-home-requires
+inputs-with-home-requires c κs =
     let b = c .before .before in
     let t = table-of (b .args .g) (b .args .z) (b .pre .0 .sized) _ (b .pre .2) in
     (t .inputs, omega (arith, b .pre .1, t .outputs), omega (arith, scratch-long (b .pre .0), b .pre .1), b .pre .6)
@@ -23,8 +23,8 @@ returns c =
     let e = c .before in
     let r = e .before in
     let b = r .before .before .before in
-    no-home (b .args .g) (b .args .z) (b .args .s .now) (bitsOf (b .args .c .0)) (b .pre .0) (b .args .d .0) (b .pre .1) (r .residents .result)
-    (r .residents .ensures) (none _ (e .is-empty .ensures) (c .if1 .taken)) (b .args .room .now)
+    no-home (b .args .g) (b .args .z) (b .args .s .now) (bitsOf (b .args .c .0)) (b .pre .0) (b .args .d .0) (b .pre .1) (r .inputs-with-home .result)
+    (r .inputs-with-home .ensures) (none _ (e .is-empty .ensures) (c .if1 .taken)) (b .args .room .now)
 
 row-of-requires : tie.Need-row-of-requires
 row-of-requires c κs =
@@ -49,8 +49,8 @@ approach-requires c κs =
     let r = e .before in
     let b = r .before .before .before in (
       b .pre .0,
-      home-given (b .args .g) (b .args .z) (b .args .s .now) (bitsOf (b .args .c .0)) (b .pre .0) (b .args .d .0) (b .pre .1) (r .residents .result)
-          (r .residents .ensures) _ (some _ (e .is-empty .ensures) (t .if1 .left)) (k .out-component .ensures),
+      home-given (b .args .g) (b .args .z) (b .args .s .now) (bitsOf (b .args .c .0)) (b .pre .0) (b .args .d .0) (b .pre .1) (r .inputs-with-home .result)
+          (r .inputs-with-home .ensures) _ (some _ (e .is-empty .ensures) (t .if1 .left)) (k .out-component .ensures),
       b .pre .2,
       b .pre .4,
       b .pre .6,
@@ -66,7 +66,7 @@ tour-requires c κs =
     let b = r .before .before .before in (
       b .pre .0 .sized,
       home-given (b .args .g) (b .args .z) (b .args .s .now) (bitsOf (b .args .c .0)) (b .pre .0) (b .args .d .0) (b .pre .1)
-          (r .residents .result) (r .residents .ensures) _ (some _ (e .is-empty .ensures) (t .if1 .left)) (k .out-component .ensures),
+          (r .inputs-with-home .result) (r .inputs-with-home .ensures) _ (some _ (e .is-empty .ensures) (t .if1 .left)) (k .out-component .ensures),
       omega (arith, b .pre .2, n .approach .ensures .long),
       b .pre .3,
       b .pre .4,
@@ -86,7 +86,7 @@ pub settle-spec : {M : Type 1} → statement M
 settle-spec =
     tie.close
     (tie.spec
-    residents-requires
+    inputs-with-home-requires
     is-empty-requires
     returns
     row-of-requires

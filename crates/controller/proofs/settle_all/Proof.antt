@@ -9,10 +9,10 @@ use Rattle.controller.proofs.settle_all.Statement.{statement}
 use Rattle.controller.proofs.settle_all.Tie as tie
 
 abbrev Inv-loop : tie.InvT-loop
-Inv-loop g given l outs s room₀ z cores firsts m d₀ room d = (d ≤ m) × ControllerFilled (separatedOf g) z (Below (separatedOf g) d) room₀ room
+Inv-loop g given l outs s room₀ z nontrivials firsts m d₀ room d = (d ≤ m) × ControllerFilled (separatedOf g) z (Below (separatedOf g) d) room₀ room
 
 abbrev μ-loop : tie.MeasureT-loop
-μ-loop g given l outs s room₀ z cores firsts m d₀ room d = m - d
+μ-loop g given l outs s room₀ z nontrivials firsts m d₀ room d = m - d
 
 loop-holds : tie.Need-loop-holds Inv-loop μ-loop
 loop-holds c = (omega arith, homes-none _ _ _)

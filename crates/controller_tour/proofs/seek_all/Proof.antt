@@ -8,7 +8,7 @@ use Rattle.theory.specs.Choice.{guarantees}
 use Rattle.table_sizes.specs.Below.{guaranteeSide, allSets}
 use Rattle.table_sizes.specs.Numbered.{Upto}
 use Rattle.table_sizes.proofs.Below.{guarantees-listed, few, guaranteed-few}
-use Rattle.table_sizes.proofs.Numbered.{upto-none, upto-next, upto-all, stretch-short, stretch-set}
+use Rattle.table_sizes.proofs.Numbered.{upto-none, upto-next, upto-all, range-short, range-set}
 use Rattle.table_layout.proofs.Places.{fits-same}
 use Rattle.controller_table.proofs.Laid.{laid-fits}
 use Rattle.controller_table.proofs.Setting.{table-of}
@@ -59,7 +59,7 @@ aim-some-requires c κs =
       fits-same _ _ _ (i .3 .long) (laid-fits _ _ _ (p .0) z _ (p .4)),
       home-members _ _ _ (p .0) z _ (p .1),
       home-counted _ _ _ (p .0) z _ (p .1) _ (p .2) (p .3),
-      stretch-short guaranteeSide guarantees-listed _ (l .loop .r) _ _ b (i .1) f (i .2) W,
+      range-short guaranteeSide guarantees-listed _ (l .loop .r) _ _ b (i .1) f (i .2) W,
     )
 
 add-n : tie.Need-add-n Inv-loop μ-loop
@@ -98,7 +98,7 @@ loop-again c =
       i .1,
       upto-next guaranteeSide guarantees-listed _ (l .loop .r) _ _ b (i .1) f (i .2) W,
       home-further _ _ _ _ _ (p .6) _ _ (o .guarantees-of .ensures .first)
-          (stretch-set guaranteeSide guarantees-listed _ (l .loop .r) _ _ b (i .1) f (i .2) W) (i .3) (s .aim-some .ensures) refl,
+          (range-set guaranteeSide guarantees-listed _ (l .loop .r) _ _ b (i .1) f (i .2) W) (i .3) (s .aim-some .ensures) refl,
     )
 
 same-length : tie.Need-same-length Inv-loop μ-loop

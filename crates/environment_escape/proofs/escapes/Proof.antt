@@ -13,7 +13,7 @@ use Rattle.environment_table.specs.Table.{EnvironmentFilled}
 use Rattle.environment_table.specs.Pressing.{touringAt}
 use Rattle.environment_table.proofs.Places.{filled-none, roomy-more}
 use Rattle.environment_table.proofs.Laid.{laid-fits}
-use Rattle.environment_escape.specs.Gates.{Gated, Pressed}
+use Rattle.environment_escape.specs.Gates.{Gated, EscapeFits}
 use Rattle.environment_escape.proofs.Leaving.{Passed, own-layout, own-roomy, gated-none, gated-within, way-lent, leave-next, leave-end}
 use Rattle.environment_escape.proofs.escapes.Statement.{statement}
 use Rattle.environment_escape.proofs.escapes.Tie as tie
@@ -34,7 +34,7 @@ pressed : (c : tie.After-escape-arg Inv-loop μ-loop)
     let y = l .before .before .before .before in
     let v = y .before in
     let a = v .before .before .before .args in
-    Pressed (v .layout-of .result) (setsIn (a .ins .now)) (a .s .now) (bitsOf (a .inner .0)) (bitsOf (a .c .0)) (bitsOf (y .leaving .result))
+    EscapeFits (v .layout-of .result) (setsIn (a .ins .now)) (a .s .now) (bitsOf (a .inner .0)) (bitsOf (a .c .0)) (bitsOf (y .leaving .result))
     (a .first .0) (l .loop .o) (bitsOf (c .before .row-of .result)) (length (l .loop .room))
 pressed c =
     let t = c .before .before in

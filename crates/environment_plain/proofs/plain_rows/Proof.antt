@@ -1,7 +1,7 @@
 -- `plain_rows`: the won positions, and then the pushes.
 use borrow.Author.Needs.{needs}
 use Rattle.environment_table.proofs.Places.{roomy-more}
-use Rattle.environment_table.proofs.Known.{lone-of, plain-join}
+use Rattle.environment_table.proofs.Known.{trivials-of, plain-join}
 use Rattle.environment_plain.proofs.plain_rows.Statement.{statement}
 use Rattle.environment_plain.proofs.plain_rows.Tie as tie
 
@@ -22,7 +22,7 @@ push-columns-requires c κs =
     let p = at-start .pre in (
       p .0,
       roomy-more _ (p .1) (at-none-rows .none-rows .ensures),
-      lone-of _ _ _ (d .before .below .ensures) (d .difference .ensures),
+      trivials-of _ _ _ (d .before .below .ensures) (d .difference .ensures),
       p .2,
       p .3,
     )

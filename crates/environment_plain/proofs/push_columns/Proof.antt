@@ -17,11 +17,11 @@ use Rattle.environment_plain.proofs.push_columns.Statement.{statement}
 use Rattle.environment_plain.proofs.push_columns.Tie as tie
 
 abbrev Inv-loop : tie.InvT-loop
-Inv-loop g ins outs s inner counters lone room₀ m o₀ room o =
+Inv-loop g ins outs s inner counters trivials room₀ m o₀ room o =
     (o ≤ m) × EnvironmentFilled g (λ a k b. (b < o) × (unwalked g a b ≡ true) × (region (separatedOf g) a b ≡ false)) room₀ room
 
 abbrev μ-loop : tie.MeasureT-loop
-μ-loop g ins outs s inner counters lone room₀ m o₀ room o = m - o
+μ-loop g ins outs s inner counters trivials room₀ m o₀ room o = m - o
 
 loop-holds : tie.Need-loop-holds Inv-loop μ-loop
 loop-holds c = (omega arith, filled-none _ _ (λ a h b p. omega (arith, p .0)))

@@ -8,10 +8,10 @@ use Rattle.theory.specs.Choice.{assumptions}
 use Rattle.table_sizes.specs.Below.{assumptionSide, allSets}
 use Rattle.table_sizes.specs.Numbered.{Upto}
 use Rattle.table_sizes.proofs.Below.{assumptions-listed, few, assumed-few}
-use Rattle.table_sizes.proofs.Numbered.{upto-none, upto-next, upto-all, stretch-short, stretch-set}
+use Rattle.table_sizes.proofs.Numbered.{upto-none, upto-next, upto-all, range-short, range-set}
 use Rattle.table_layout.specs.Rows.{Filled}
 use Rattle.table_layout.proofs.Places.{fits-same}
-use Rattle.table_tours.specs.Course.{Headed}
+use Rattle.table_tours.specs.Course.{GoalWithin}
 use Rattle.environment_table.specs.Table.{entriesOf}
 use Rattle.environment_table.proofs.Laid.{laid-fits}
 use Rattle.environment_tour.proofs.Courses.{aims-counted, aims-members, aims-none, aims-further, aims-filled}
@@ -20,7 +20,7 @@ use Rattle.environment_tour.proofs.aims.Tie as tie
 
 abbrev Inv-loop : tie.InvT-loop
 Inv-loop g given l ins counters c q over room₀ z n₀ r₀ room n r =
-    (r ≤ g .k) × (g .k ≤ 8) × Upto assumptionSide g r n × Filled z (entriesOf g) (Headed z (bitsOf (c .0)) (bitsOf (over .0)) (q .0) 0 n) room₀ room
+    (r ≤ g .k) × (g .k ≤ 8) × Upto assumptionSide g r n × Filled z (entriesOf g) (GoalWithin z (bitsOf (c .0)) (bitsOf (over .0)) (q .0) 0 n) room₀ room
 
 abbrev μ-loop : tie.MeasureT-loop
 μ-loop g given l ins counters c q over room₀ z n₀ r₀ room n r = g .k - r
@@ -53,7 +53,7 @@ aim-some-requires c κs =
       fits-same _ _ _ (i .3 .grows .long) (laid-fits _ _ _ _ (p .0) z),
       aims-members _ _ _ _ (p .0) z _ _ _ (p .1),
       aims-counted _ _ _ _ (p .0) z _ _ _ (p .1),
-      stretch-short assumptionSide assumptions-listed _ (l .loop .r) _ _ b (i .1) f (i .2) W,
+      range-short assumptionSide assumptions-listed _ (l .loop .r) _ _ b (i .1) f (i .2) W,
     )
 
 add-n : tie.Need-add-n Inv-loop μ-loop
@@ -90,7 +90,7 @@ loop-again c =
       i .1,
       upto-next assumptionSide assumptions-listed _ (l .loop .r) _ _ b (i .1) f (i .2) W,
       aims-further _ _ _ _ (p .0) (l .before .layout-of .ensures) _ _ _ (p .1) (p .3) _ _ (o .assumptions-of .ensures .first)
-          (stretch-set assumptionSide assumptions-listed _ (l .loop .r) _ _ b (i .1) f (i .2) W) (i .3) (s .aim-some .ensures) refl,
+          (range-set assumptionSide assumptions-listed _ (l .loop .r) _ _ b (i .1) f (i .2) W) (i .3) (s .aim-some .ensures) refl,
     )
 
 same-length : tie.Need-same-length Inv-loop μ-loop

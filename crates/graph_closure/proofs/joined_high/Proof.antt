@@ -1,10 +1,10 @@
--- `joined_high` takes in the rows of the members from 64 on, one state after the other.
+-- `joined_high` takes in the rows of the members that are not low, one state after the other.
 use Prim.Native.Nat.{ℕ, _≤_, _-_}
 use mathlib.Core.Path.{_≡_, sym, _∙_, ap}
 use mathlib.Core.Bool.{_||_}
 use mathlib.Core.Logic.{⊎-elim}
 use Rattle.bits.specs.Member.{has}
-use Rattle.sets.specs.Words.{bitsOf, setsIn}
+use Rattle.sets.specs.Words.{lowStates, bitsOf, setsIn}
 use Rattle.graph_closure.specs.Sweep.{grown}
 use Rattle.graph_closure.proofs.Growth.{grown-member, grown-other}
 use native.Mathlib.Omega.{arith}
@@ -14,7 +14,7 @@ use Rattle.graph_closure.proofs.joined_high.Tie as tie
 
 abbrev Inv-loop : tie.InvT-loop
 Inv-loop rows n y₀ t₀ y t =
-    (64 ≤ t) × (t ≤ n) × ((z : ℕ) → bitsOf y₀ ≡ grown (setsIn rows) 64 z → bitsOf y ≡ grown (setsIn rows) t z)
+    (lowStates ≤ t) × (t ≤ n) × ((z : ℕ) → bitsOf y₀ ≡ grown (setsIn rows) lowStates z → bitsOf y ≡ grown (setsIn rows) t z)
 
 abbrev μ-loop : tie.MeasureT-loop
 μ-loop rows n y₀ t₀ y t = n - t

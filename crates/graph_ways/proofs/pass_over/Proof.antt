@@ -1,4 +1,4 @@
--- `pass_over`: where all are of the low word, by that function; else nothing is passed over.
+-- `pass_over`: where all of `near` are low, by `pass_over_low`; else nothing is passed over.
 use mathlib.Core.Path.{sym, _∙_}
 use borrow.Author.Needs.{needs}
 use Rattle.graph_ways.proofs.Passing.{passed-none}

@@ -24,17 +24,17 @@ abbrev μ-loop : tie.MeasureT-loop
 loop-holds : tie.Need-loop-holds Inv-loop μ-loop
 loop-holds c = (omega arith, refl, front-none _ _, λ k. omega (arith, c .slice-known .given k))
 
-add-set-of : tie.Need-add-set-of Inv-loop μ-loop
-add-set-of c = omega arith
+add-of-word : tie.Need-add-of-word Inv-loop μ-loop
+add-of-word c = omega arith
 
-mul-set-of : tie.Need-mul-set-of Inv-loop μ-loop
-mul-set-of c = omega arith
+mul-of-word : tie.Need-mul-of-word Inv-loop μ-loop
+mul-of-word c = omega arith
 
-shared-slice-read-set-of : tie.Need-shared-slice-read-set-of Inv-loop μ-loop
-shared-slice-read-set-of c = omega arith
+shared-slice-read-of-word : tie.Need-shared-slice-read-of-word Inv-loop μ-loop
+shared-slice-read-of-word c = omega arith
 
-set-of-requires : tie.Need-set-of-requires Inv-loop μ-loop
-set-of-requires c κs = search needs
+of-word-requires : tie.Need-of-word-requires Inv-loop μ-loop
+of-word-requires c κs = search needs
 
 put-requires : tie.Need-put-requires Inv-loop μ-loop
 put-requires c κs =
@@ -57,7 +57,7 @@ loop-again c =
       omega arith,
       put .put .kept .0 ∙ l .loop .inv .1,
       rows-more _ _ _ (l .loop .i) (l .loop .inv .2) _ _ (omega (arith, b .pre .3, sets-long (b .args .map .now)))
-          (row .set-of .ensures ∙ b .pre .2 .rows (l .loop .i) (omega arith)) (put .put .ensures),
+          (row .of-word .ensures ∙ b .pre .2 .rows (l .loop .i) (omega arith)) (put .put .ensures),
       λ k. omega (arith, c .slice-known2 .given k),
     )
 
@@ -79,10 +79,10 @@ write-map-spec =
     Inv-loop
     μ-loop
     loop-holds
-    add-set-of
-    mul-set-of
-    shared-slice-read-set-of
-    set-of-requires
+    add-of-word
+    mul-of-word
+    shared-slice-read-of-word
+    of-word-requires
     put-requires
     add-i
     loop-less

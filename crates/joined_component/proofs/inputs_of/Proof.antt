@@ -47,13 +47,13 @@ loop-again c =
       collect-next _ (l .loop .i) _ _ _ (l .loop .inv .1) (inhabited _ _ (b .pre .2) (l .loop .i) (omega arith)) (c .insert-if .ensures),
     )
 
-set-of-requires : tie.Need-set-of-requires Inv-loop μ-loop
-set-of-requires c κs = search needs
+of-word-requires : tie.Need-of-word-requires Inv-loop μ-loop
+of-word-requires c κs = search needs
 
 returns : tie.Need-returns Inv-loop μ-loop
 returns c =
     let l = c .before .before .before in
-    c .set-of .ensures ∙ collect-end _ (l .loop .i) _ _ (omega arith) (omega arith) (l .loop .inv .1)
+    c .of-word .ensures ∙ collect-end _ (l .loop .i) _ _ (omega arith) (omega arith) (l .loop .inv .1)
 
 pub inputs-of-spec : {M : Type 1} → statement M
 inputs-of-spec =
@@ -69,5 +69,5 @@ inputs-of-spec =
     add-i
     loop-less
     loop-again
-    set-of-requires
+    of-word-requires
     returns)

@@ -40,13 +40,13 @@ loop-again c =
     let l = c .before .before .before .before in
     (omega arith, outputs-more _ _ (l .loop .i) _ _ (omega arith) (l .loop .inv .1) (c .union .ensures))
 
-set-of-requires : tie.Need-set-of-requires Inv-loop μ-loop
-set-of-requires c κs = search needs
+of-word-requires : tie.Need-of-word-requires Inv-loop μ-loop
+of-word-requires c κs = search needs
 
 returns : tie.Need-returns Inv-loop μ-loop
 returns c =
     let l = c .before .before .before in
-    λ o. ap (λ (x : ℕ). has x o) (c .set-of .ensures) ∙ outputs-end _ _ (l .loop .i) _ (omega arith) (omega arith) (l .loop .inv .1) o
+    λ o. ap (λ (x : ℕ). has x o) (c .of-word .ensures) ∙ outputs-end _ _ (l .loop .i) _ (omega arith) (omega arith) (l .loop .inv .1) o
 
 pub outputs-of-spec : {M : Type 1} → statement M
 outputs-of-spec =
@@ -62,5 +62,5 @@ outputs-of-spec =
     add-i
     loop-less
     loop-again
-    set-of-requires
+    of-word-requires
     returns)

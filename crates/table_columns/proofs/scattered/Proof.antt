@@ -1,4 +1,4 @@
--- `scattered` writes the lowest place that is left, until none is. Invariant: what the low word left holds of the places that are left.
+-- `scattered` writes the lowest place that is left, until none is. Invariant: what the low places left holds of the places that are left.
 use Prim.Native.Nat.{ℕ, _+_, _<_}
 use mathlib.Core.List.{List}
 use mathlib.Core.Logic.{_≢_}

@@ -1,4 +1,4 @@
--- `scattered_low` writes the lowest place that is left, until it is not of the low word.
+-- `scattered_low` writes the lowest place that is left, until it is not low.
 use Prim.Native.Nat.{_+_, _<_}
 use mathlib.Core.Path.{sym, _∙_}
 use mathlib.Core.Logic.{_≢_}
@@ -8,7 +8,7 @@ use lib.ListN.{length}
 use borrow.Author.Tests.{ltb-true}
 use Rattle.finite.specs.Bounded.{least, count}
 use Rattle.bits.specs.Member.{has}
-use Rattle.sets.specs.Words.{capacity, bitsOf}
+use Rattle.sets.specs.Words.{capacity, lowStates, bitsOf}
 use Rattle.sets.proofs.Rows.{low-some}
 use Rattle.table_columns.specs.Scattering.{Scattering}
 use Rattle.table_columns.proofs.Rows.{scattering-start, scattered-below, scattering-turn, scattering-falls}
@@ -21,8 +21,8 @@ Inv-loop room₀ base width value rest₀ room rest = Scattering (length room₀
 abbrev μ-loop : tie.MeasureT-loop
 μ-loop room₀ base width value rest₀ room rest = count capacity (has (bitsOf rest))
 
-first : (c : tie.Then1 Inv-loop μ-loop) → least capacity (has (bitsOf (c .before .before .loop .rest))) < 64
-first c = ltb-true _ 64 (sym (c .before .begins-low .ensures) ∙ c .if1 .taken)
+first : (c : tie.Then1 Inv-loop μ-loop) → least capacity (has (bitsOf (c .before .before .loop .rest))) < lowStates
+first c = ltb-true _ lowStates (sym (c .before .begins-low .ensures) ∙ c .if1 .taken)
 
 some-left : (c : tie.Then1 Inv-loop μ-loop) → bitsOf (c .before .before .loop .rest) ≢ 0
 some-left c = low-some (first c)

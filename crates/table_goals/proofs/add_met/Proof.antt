@@ -3,8 +3,8 @@ use native.Mathlib.Omega.{arith}
 use borrow.Author.Needs.{needs}
 use Prim.Native.Nat.{_≤_, _-_}
 use Rattle.sets.specs.Words.{bitsOf}
-use Rattle.table_goals.specs.Stretches.{MetMore}
-use Rattle.table_goals.proofs.Stretches.{met-none, met-next, met-end}
+use Rattle.table_goals.specs.Ranges.{MetMore}
+use Rattle.table_goals.proofs.Ranges.{met-none, met-next, met-end}
 use Rattle.table_goals.proofs.add_met.Statement.{statement}
 use Rattle.table_goals.proofs.add_met.Tie as tie
 

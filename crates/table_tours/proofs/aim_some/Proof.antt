@@ -5,19 +5,19 @@ use mathlib.Core.Path.{sym, _∙_}
 use mathlib.Core.Logic.{⊎-elim}
 use Rattle.sets.specs.Words.{bitsOf, setsIn}
 use Rattle.table_layout.proofs.Places.{fits-same}
-use Rattle.table_tours.specs.Course.{Stretched}
-use Rattle.table_tours.proofs.Stretches.{stretched-none, stretched-next, stretched-past, stretched-end}
+use Rattle.table_tours.specs.Course.{RangeWritten}
+use Rattle.table_tours.proofs.Ranges.{range-written-none, range-written-next, range-written-past, range-written-end}
 use Rattle.table_tours.proofs.aim_some.Statement.{statement}
 use Rattle.table_tours.proofs.aim_some.Tie as tie
 
 abbrev Inv-loop : tie.InvT-loop
-Inv-loop moves room₀ z c over q t j₀ room j = (j ≤ t .count) × Stretched (setsIn moves) z (bitsOf c) (bitsOf over) (q .0) t j room₀ room
+Inv-loop moves room₀ z c over q t j₀ room j = (j ≤ t .count) × RangeWritten (setsIn moves) z (bitsOf c) (bitsOf over) (q .0) t j room₀ room
 
 abbrev μ-loop : tie.MeasureT-loop
 μ-loop moves room₀ z c over q t j₀ room j = t .count - j
 
 loop-holds : tie.Need-loop-holds Inv-loop μ-loop
-loop-holds c = (omega arith, stretched-none _ _ _ _ _ _ _)
+loop-holds c = (omega arith, range-written-none _ _ _ _ _ _ _)
 
 add-a : tie.Need-add-a Inv-loop μ-loop
 add-a c = omega (arith, c .before .before .before .pre .3 .numbers)
@@ -49,8 +49,9 @@ loop-again c =
     let l = c .before .before .before in (
       omega arith,
       ⊎-elim
-          (λ v. stretched-next _ _ _ _ _ _ (l .loop .j) (c .before .before .loop-test .taken) (l .loop .inv .1) (v .3 .ensures) (v .6))
-          (λ v. stretched-past _ _ _ _ _ _ (l .loop .j) (l .before .before .pre .2) (sym (c .before .member .ensures) ∙ v .0 .left) (l .loop .inv .1) (v .1))
+          (λ v. range-written-next _ _ _ _ _ _ (l .loop .j) (c .before .before .loop-test .taken) (l .loop .inv .1) (v .3 .ensures) (v .6))
+          (λ v. range-written-past _ _ _ _ _ _ (l .loop .j) (l .before .before .pre .2)
+          (sym (c .before .member .ensures) ∙ v .0 .left) (l .loop .inv .1) (v .1))
           (c .if1 .came),
     )
 
@@ -58,7 +59,7 @@ same-length : tie.Need-same-length Inv-loop μ-loop
 same-length c = c .before .loop .inv .1 .long
 
 returns : tie.Need-returns Inv-loop μ-loop
-returns c = stretched-end _ _ _ _ _ _ (c .before .loop .j) _ (omega arith) (omega arith) (c .before .loop .inv .1)
+returns c = range-written-end _ _ _ _ _ _ (c .before .loop .j) _ (omega arith) (omega arith) (c .before .loop .inv .1)
 
 pub aim-some-spec : {M : Type 1} → statement M
 aim-some-spec =

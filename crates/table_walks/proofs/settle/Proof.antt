@@ -1,4 +1,4 @@
--- `settle` tries the lowest state that is left to try, until none is. Invariant: what the low word left holds of the states that are left.
+-- `settle` tries the lowest state that is left to try, until none is. Invariant: what the low states left holds of the states that are left.
 use Prim.Native.Nat.{ℕ, _<_}
 use mathlib.Core.Path.{ap}
 use mathlib.Core.List.{List}

@@ -1,4 +1,4 @@
--- `settle_low` tries the lowest state that is left to try, until it is not of the low word.
+-- `settle_low` tries the lowest state that is left to try, until it is not low.
 use Prim.Native.Nat.{_<_}
 use mathlib.Core.Path.{sym, _∙_, ap}
 use mathlib.Core.Logic.{⊎-elim, _≢_}
@@ -7,7 +7,7 @@ use native.Mathlib.Omega.{arith}
 use borrow.Author.Tests.{ltb-true}
 use Rattle.finite.specs.Bounded.{least, count}
 use Rattle.bits.specs.Member.{has}
-use Rattle.sets.specs.Words.{capacity, bitsOf, setsIn}
+use Rattle.sets.specs.Words.{capacity, lowStates, bitsOf, setsIn}
 use Rattle.sets.proofs.Rows.{is-none, is-some, low-some}
 use Rattle.graph_ways.proofs.Passing.{passed-few}
 use Rattle.table_layout.proofs.Places.{fits-same}
@@ -24,8 +24,8 @@ Inv-loop rows room₀ z inside left reached w near settled₀ rest₀ room settl
 abbrev μ-loop : tie.MeasureT-loop
 μ-loop rows room₀ z inside left reached w near settled₀ rest₀ room settled rest = count capacity (has (bitsOf rest))
 
-first : (c : tie.Then1 Inv-loop μ-loop) → least capacity (has (bitsOf (c .before .before .loop .rest))) < 64
-first c = ltb-true _ 64 (sym (c .before .begins-low .ensures) ∙ c .if1 .taken)
+first : (c : tie.Then1 Inv-loop μ-loop) → least capacity (has (bitsOf (c .before .before .loop .rest))) < lowStates
+first c = ltb-true _ lowStates (sym (c .before .begins-low .ensures) ∙ c .if1 .taken)
 
 some-left : (c : tie.Then1 Inv-loop μ-loop) → bitsOf (c .before .before .loop .rest) ≢ 0
 some-left c = low-some (first c)

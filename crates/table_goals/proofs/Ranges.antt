@@ -7,14 +7,14 @@ use lib.Dec.{eqb}
 use Rattle.bits.specs.Member.{has, setsMeet}
 use Rattle.bits.proofs.Collect.{collect-next, collect-end}
 use Rattle.sets.specs.Words.{capacity}
-use Rattle.table_goals.specs.declared.Stretch.{Stretch}
-use Rattle.table_goals.specs.Stretches.{stretchSet, MetMore}
+use Rattle.table_goals.specs.declared.GoalRange.{GoalRange}
+use Rattle.table_goals.specs.Ranges.{rangeSet, MetMore}
 
-module _ (s : Stretch) (x q : ℕ) where
+module _ (s : GoalRange) (x q : ℕ) where
   pub met-none : MetMore s x q 0 q
   met-none = record { goals = λ p e h. collect-end p (s .from) (s .from + 0) q (omega arith) (omega arith) e }
 
-  pub met-next : (j m r : ℕ) (b : Bool) → j < s .count → MetMore s x q j m → b ≡ setsMeet capacity (stretchSet s j) x
+  pub met-next : (j m r : ℕ) (b : Bool) → j < s .count → MetMore s x q j m → b ≡ setsMeet capacity (rangeSet s j) x
       → ((t : ℕ) → has r t ≡ (has m t || (b && eqb t (s .from + j)))) → MetMore s x q (j + 1) r
   met-next j m r b l M e f = record {
     goals = λ p o h.

@@ -1,7 +1,7 @@
 -- The goals of a tour: the numbers of the sets that have a state in a set x.
 --
 --   metIn l x a        == set number a of l has a state in the set x
---   stretchSet s i     == the set at place i of s
+--   rangeSet s i     == the set at place i of s
 --   Short s            == at most four sets, with numbers that a set of counters can hold
 --   MetMore s x q j r  == where q has the goals before the sets of s, r also has those among the first j of them
 use Prim.Native.Nat.{ℕ, _+_, _≤_, _<_}
@@ -14,18 +14,18 @@ use Rattle.bits.specs.Member.{has, pack, setsMeet}
 use Rattle.sets.specs.Words.{capacity, bitsOf, noStates}
 use Rattle.table_counters.specs.Counters.{counterCapacity}
 use Rattle.theory.specs.Tour.{goalAt}
-use Rattle.table_goals.specs.declared.Stretch.{Stretch}
+use Rattle.table_goals.specs.declared.GoalRange.{GoalRange}
 
 unfoldable pub metIn : List (ℕ → Bool) → ℕ → ℕ → Bool
 metIn l x a = any capacity (λ t. goalAt l a t && has x t)
 
-abbrev pub stretchSet : Stretch → ℕ → ℕ
-stretchSet s i = bitsOf (getD (s .sets) i noStates)
+abbrev pub rangeSet : GoalRange → ℕ → ℕ
+rangeSet s i = bitsOf (getD (s .sets) i noStates)
 
-pub record Short (s : Stretch) : Type 0 where
+pub record Short (s : GoalRange) : Type 0 where
   pub places : s .count ≤ 4
   pub numbers : s .from + s .count ≤ counterCapacity
 
-pub record MetMore (s : Stretch) (x q j r : ℕ) : Type 0 where
-  pub goals : (p : ℕ → Bool) → q ≡ pack (s .from) p → ((i : ℕ) → i < s .count → setsMeet capacity (stretchSet s i) x ≡ p (s .from + i))
+pub record MetMore (s : GoalRange) (x q j r : ℕ) : Type 0 where
+  pub goals : (p : ℕ → Bool) → q ≡ pack (s .from) p → ((i : ℕ) → i < s .count → setsMeet capacity (rangeSet s i) x ≡ p (s .from + i))
       → r ≡ pack (s .from + j) p
