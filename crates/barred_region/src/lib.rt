@@ -1,5 +1,6 @@
 // The winning region of the game with bars and one requirement, worked out in scratch: source document 002's fixpoint, told in crate barred.
 ghost use Prim.Native.Nat.{_≤_, _<_};
+ghost use Rattle.barred_rows.specs.Areas.{barredSets};
 ghost use Rattle.sets.specs.Words.{bitsOf, setsIn, setCount};
 ghost use Rattle.game.specs.Access.{requirementAt};
 ghost use Rattle.game.specs.Fits.{Fits};
@@ -26,7 +27,7 @@ fn waited(g: Game, j: usize) -> InSet
 
 // Adds to what is reached where the controller can stay. Whether that adds a position.
 fn widen_by(g: Game, s: &mut [u64], goal: OutSet, wait: InSet) -> bool
-    requires { ⌜ Fits g × (384 ≤ setCount (now s)) × Within g (setsIn (now s)) ⌝ }
+    requires { ⌜ Fits g × (barredSets ≤ setCount (now s)) × Within g (setsIn (now s)) ⌝ }
     ensures { λ r. ⌜ WidenedBy g (bitsOf (goal .0)) (bitsOf (wait .0)) (setsIn (now (s .entry))) (setsIn (now (s .exit))) r ⌝ }
 {
     barred_stay::stay(g, s, goal, wait);
@@ -36,7 +37,7 @@ fn widen_by(g: Game, s: &mut [u64], goal: OutSet, wait: InSet) -> bool
 // Adds to what is reached where the controller can stay as long as one of the sets is not visited; it ends with the first that adds a position. The sets of
 // the requirement come before the inputs of every play: where one of them stays away, it adds at once what those add turn by turn.
 fn widen(g: Game, s: &mut [u64], goal: OutSet) -> bool
-    requires { ⌜ Fits g × (384 ≤ setCount (now s)) × Within g (setsIn (now s)) ⌝ }
+    requires { ⌜ Fits g × (barredSets ≤ setCount (now s)) × Within g (setsIn (now s)) ⌝ }
     ensures { λ r. ⌜ Widened g (bitsOf (goal .0)) 0 (setsIn (now (s .entry))) (setsIn (now (s .exit))) r ⌝ }
 {
     let q = g.requirements[0];
@@ -53,7 +54,7 @@ fn widen(g: Game, s: &mut [u64], goal: OutSet) -> bool
 
 // Finds what is reached: where the controller comes to the goal, or some set of the requirement stays away.
 fn reach(g: Game, s: &mut [u64], goal: OutSet)
-    requires { ⌜ Fits g × (384 ≤ setCount (now s)) × Within g (setsIn (now s)) ⌝ }
+    requires { ⌜ Fits g × (barredSets ≤ setCount (now s)) × Within g (setsIn (now s)) ⌝ }
     ensures { λ _. ⌜ ReachFound g (bitsOf (goal .0)) (setsIn (now (s .entry))) (setsIn (now (s .exit))) ⌝ }
 {
     barred_rows::empty(s, g.input.states, REACHED);
@@ -62,7 +63,7 @@ fn reach(g: Game, s: &mut [u64], goal: OutSet)
 
 // Takes out of what is kept the positions in which the controller cannot go on for ever inside it.
 fn trim(g: Game, s: &mut [u64])
-    requires { ⌜ Fits g × (384 ≤ setCount (now s)) × Within g (setsIn (now s)) ⌝ }
+    requires { ⌜ Fits g × (barredSets ≤ setCount (now s)) × Within g (setsIn (now s)) ⌝ }
     ensures { λ _. ⌜ Trimmed g (setsIn (now (s .entry))) (setsIn (now (s .exit))) ⌝ }
 {
     let none = sets::empty();
@@ -73,7 +74,7 @@ fn trim(g: Game, s: &mut [u64])
 
 // Takes out of what is kept the positions in which the goal is not reached. Whether there were any.
 fn settle(g: Game, s: &mut [u64], goal: OutSet) -> bool
-    requires { ⌜ Fits g × (384 ≤ setCount (now s)) × Within g (setsIn (now s)) ⌝ }
+    requires { ⌜ Fits g × (barredSets ≤ setCount (now s)) × Within g (setsIn (now s)) ⌝ }
     ensures { λ r. ⌜ Settled g (bitsOf (goal .0)) (setsIn (now (s .entry))) (setsIn (now (s .exit))) r ⌝ }
 {
     reach(g, s, goal);
@@ -86,7 +87,7 @@ fn settle(g: Game, s: &mut [u64], goal: OutSet) -> bool
 
 // One pass over the output sets of the requirement. Whether it took a position.
 fn pass(g: Game, s: &mut [u64]) -> bool
-    requires { ⌜ Fits g × (384 ≤ setCount (now s)) × Within g (setsIn (now s)) ⌝ }
+    requires { ⌜ Fits g × (barredSets ≤ setCount (now s)) × Within g (setsIn (now s)) ⌝ }
     ensures { λ r. ⌜ Passed g (requirementAt g 0 .guaranteed) (setsIn (now (s .entry))) (setsIn (now (s .exit))) r ⌝ }
 {
     let q = g.requirements[0];
@@ -103,7 +104,7 @@ fn pass(g: Game, s: &mut [u64]) -> bool
 
 // To begin with everything is kept that is not barred.
 fn free(g: Game, bars: &[u64], s: &mut [u64])
-    requires { ⌜ Fits g × (384 ≤ setCount (now s)) × (g .input .states ≤ setCount (now bars)) ⌝ }
+    requires { ⌜ Fits g × (barredSets ≤ setCount (now s)) × (g .input .states ≤ setCount (now bars)) ⌝ }
     ensures { λ _. ⌜ Freed g (g .input .states) (setsIn (now (bars .entry))) (setsIn (now (s .entry))) (setsIn (now (s .exit))) ⌝ }
 {
     let outputs = sets::below(g.output.states);
@@ -116,7 +117,7 @@ fn free(g: Game, bars: &[u64], s: &mut [u64])
 
 // Finds the winning region: row i of what is kept are the outputs that are won with input i and not barred.
 pub fn keep(g: Game, bars: &[u64], s: &mut [u64])
-    requires { ⌜ Fits g × (384 ≤ setCount (now s)) × (g .input .states ≤ setCount (now bars)) ⌝ }
+    requires { ⌜ Fits g × (barredSets ≤ setCount (now s)) × (g .input .states ≤ setCount (now bars)) ⌝ }
     ensures { λ _. ⌜ RegionKept g (setsIn (now (bars .entry))) (setsIn (now (s .entry))) (setsIn (now (s .exit))) ⌝ }
 {
     free(g, bars, s);

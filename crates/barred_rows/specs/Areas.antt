@@ -1,6 +1,7 @@
 -- Sets of positions in scratch: one set of outputs for each input. Three begin at the sets below. Everything here is told of the list l of the sets
 -- that scratch holds, and of the list m of those that it holds afterwards.
 --
+--   barredSets                               == how many sets they have together
 --   keptAt, reachedAt, stayingAt             == where they begin
 --   keptPairs l, reachedPairs l, stayingPairs l  == their positions: Z, Y and X of the winning region's definition
 --   Beside a b n                             == the n sets from a on are others than the n sets from b on
@@ -17,6 +18,9 @@ use lib.ListN.{getD}
 use Rattle.finite.specs.But.{ButFor}
 use Rattle.bits.specs.Member.{has}
 use Rattle.barred.specs.Arena.{Pairs}
+
+abbrev pub barredSets : ℕ
+barredSets = 384
 
 abbrev pub keptAt : ℕ
 keptAt = 0

@@ -1,7 +1,7 @@
 // Sets of positions in scratch: one set of outputs for each input, a row. Whole sets are copied, emptied, united and met, row by row.
 ghost use Prim.Native.Nat.{_+_, _≤_};
 ghost use Rattle.sets.specs.Words.{setsIn, setCount};
-ghost use Rattle.barred_rows.specs.Areas.{Beside, Copied, Emptied, United, Met};
+ghost use Rattle.barred_rows.specs.Areas.{barredSets, Beside, Copied, Emptied, United, Met};
 
 // What is kept (Z) stands first; what is reached (Y), and where the controller stays (X) begin at these sets.
 pub const KEPT: usize = 0;
@@ -12,7 +12,7 @@ pub const STAYING: usize = 256;
 
 // Copies n rows from set number `from` on to those from set number `to` on.
 pub fn copy(s: &mut [u64], n: usize, from: usize, to: usize)
-    requires { ⌜ (384 ≤ setCount (now s)) × (from + n ≤ 384) × (to + n ≤ 384) × Beside from to n ⌝ }
+    requires { ⌜ (barredSets ≤ setCount (now s)) × (from + n ≤ barredSets) × (to + n ≤ barredSets) × Beside from to n ⌝ }
     ensures { λ _. ⌜ Copied n from to (setsIn (now (s .entry))) (setsIn (now (s .exit))) ⌝ }
 {
     let mut i: usize = 0;
@@ -24,7 +24,7 @@ pub fn copy(s: &mut [u64], n: usize, from: usize, to: usize)
 
 // Empties n rows from set number `at` on.
 pub fn empty(s: &mut [u64], n: usize, at: usize)
-    requires { ⌜ (384 ≤ setCount (now s)) × (at + n ≤ 384) ⌝ }
+    requires { ⌜ (barredSets ≤ setCount (now s)) × (at + n ≤ barredSets) ⌝ }
     ensures { λ _. ⌜ Emptied n at (setsIn (now (s .entry))) (setsIn (now (s .exit))) ⌝ }
 {
     let none = sets::empty();
@@ -37,7 +37,7 @@ pub fn empty(s: &mut [u64], n: usize, at: usize)
 
 // Adds to n rows from set number `to` on those from set number `from` on. Whether that adds a position.
 pub fn unite(s: &mut [u64], n: usize, from: usize, to: usize) -> bool
-    requires { ⌜ (384 ≤ setCount (now s)) × (from + n ≤ 384) × (to + n ≤ 384) × Beside from to n ⌝ }
+    requires { ⌜ (barredSets ≤ setCount (now s)) × (from + n ≤ barredSets) × (to + n ≤ barredSets) × Beside from to n ⌝ }
     ensures { λ r. ⌜ United n from to (setsIn (now (s .entry))) (setsIn (now (s .exit))) r ⌝ }
 {
     let mut grew = false;
@@ -56,7 +56,7 @@ pub fn unite(s: &mut [u64], n: usize, from: usize, to: usize) -> bool
 
 // Takes out of n rows from set number `to` on what is not in those from set number `from` on. Whether that takes a position.
 pub fn meet(s: &mut [u64], n: usize, from: usize, to: usize) -> bool
-    requires { ⌜ (384 ≤ setCount (now s)) × (from + n ≤ 384) × (to + n ≤ 384) × Beside from to n ⌝ }
+    requires { ⌜ (barredSets ≤ setCount (now s)) × (from + n ≤ barredSets) × (to + n ≤ barredSets) × Beside from to n ⌝ }
     ensures { λ r. ⌜ Met n from to (setsIn (now (s .entry))) (setsIn (now (s .exit))) r ⌝ }
 {
     let mut shrank = false;

@@ -8,7 +8,7 @@ ghost use Rattle.bits.specs.Member.{has, setsMeet, pack};
 ghost use Rattle.sets.specs.Words.{capacity, bitsOf, setsIn, setCount};
 ghost use Rattle.game.specs.Fits.{Fits};
 ghost use Rattle.barred.specs.Region.{barredTarget as targeted};
-ghost use Rattle.barred_rows.specs.Areas.{keptPairs, reachedPairs, stayingPairs};
+ghost use Rattle.barred_rows.specs.Areas.{barredSets, keptPairs, reachedPairs, stayingPairs};
 ghost use Rattle.barred_stay.specs.Stay.{Within, RowShrunk, Shrunk, Followed, Stayed};
 use barred_rows::KEPT;
 use barred_rows::REACHED;
@@ -21,7 +21,7 @@ use sets::ROW_WORDS;
 
 // The outputs that a reply to input j is to enter: a goal that is kept, or what is reached; or, where j is not waited for, what is staying.
 fn target(s: &[u64], j: InState, goal: OutSet, wait: InSet) -> OutSet
-    requires { ⌜ (j .0 < capacity) × (384 ≤ setCount (now s)) ⌝ }
+    requires { ⌜ (j .0 < capacity) × (barredSets ≤ setCount (now s)) ⌝ }
     ensures { λ r. ⌜ ((p : ℕ) → has (bitsOf (r .0)) p
         ≡ targeted (has (bitsOf (goal .0))) (has (bitsOf (wait .0))) (keptPairs (setsIn (now (s .entry)))) (reachedPairs (setsIn (now (s .entry))))
         (stayingPairs (setsIn (now (s .entry)))) (j .0) p) ⌝ }
@@ -49,7 +49,7 @@ fn answering(moves: &[u64; ROW_WORDS], m: usize, x: OutSet) -> OutSet
 
 // Leaves in row i of what is staying the outputs that are allowed. Where the row shrinks and i is not waited for, i is left to be followed.
 fn shrink_row(s: &mut [u64], i: InState, allowed: OutSet, wait: InSet, left: InSet) -> InSet
-    requires { ⌜ (i .0 < capacity) × (384 ≤ setCount (now s)) ⌝ }
+    requires { ⌜ (i .0 < capacity) × (barredSets ≤ setCount (now s)) ⌝ }
     ensures { λ r. ⌜ RowShrunk (i .0) (bitsOf (allowed .0)) (bitsOf (wait .0)) (bitsOf (left .0)) (bitsOf (r .0))
         (setsIn (now (s .entry))) (setsIn (now (s .exit))) ⌝ }
 {
@@ -76,7 +76,7 @@ fn shrink(
     wait: InSet,
     left: InSet,
 ) -> InSet
-    requires { ⌜ (n ≤ capacity) × (j .0 < capacity) × (384 ≤ setCount (now s)) ⌝ }
+    requires { ⌜ (n ≤ capacity) × (j .0 < capacity) × (barredSets ≤ setCount (now s)) ⌝ }
     ensures { λ r. ⌜ Shrunk (setsIn (now (moves .entry))) n (j .0) (bitsOf (allowed .0)) (bitsOf (wait .0)) (bitsOf (left .0)) (bitsOf (r .0))
         (setsIn (now (s .entry))) (setsIn (now (s .exit))) ⌝ }
 {
@@ -103,7 +103,7 @@ fn follow(
     wait: InSet,
     left: InSet,
 ) -> InSet
-    requires { ⌜ (n ≤ capacity) × (m ≤ capacity) × (384 ≤ setCount (now s)) × (bitsOf (left .0) ≢ 0)
+    requires { ⌜ (n ≤ capacity) × (m ≤ capacity) × (barredSets ≤ setCount (now s)) × (bitsOf (left .0) ≢ 0)
         × ((j : ℕ) → has (bitsOf (left .0)) j ≡ true → j < n) ⌝ }
     ensures { λ r. ⌜ Followed (setsIn (now (ins .entry))) n (setsIn (now (outs .entry))) m (bitsOf (goal .0)) (bitsOf (wait .0)) (bitsOf (left .0))
         (bitsOf (r .0)) (setsIn (now (s .entry))) (setsIn (now (s .exit))) ⌝ }
@@ -116,7 +116,7 @@ fn follow(
 
 // Finds where the controller can stay.
 pub fn stay(g: Game, s: &mut [u64], goal: OutSet, wait: InSet)
-    requires { ⌜ Fits g × (384 ≤ setCount (now s)) × Within g (setsIn (now s)) ⌝ }
+    requires { ⌜ Fits g × (barredSets ≤ setCount (now s)) × Within g (setsIn (now s)) ⌝ }
     ensures { λ _. ⌜ Stayed g (bitsOf (goal .0)) (bitsOf (wait .0)) (setsIn (now (s .entry))) (setsIn (now (s .exit))) ⌝ }
 {
     let h = g.input;

@@ -2,6 +2,7 @@
 use catalogue_names::Kept;
 use catalogue_tally::Outcome;
 use catalogue_tally::Tally;
+use catalogue_verdict::ROOM;
 use libc::STDERR_FILENO;
 use libc::STDIN_FILENO;
 use libc::STDOUT_FILENO;
@@ -11,24 +12,31 @@ ghost use Rattle.catalogue_names.specs.Names.{names};
 ghost use Rattle.catalogue_tally.specs.Figures.{Modest};
 ghost use Rattle.catalogue.specs.Catalogue.{FromFile, ForName, Catalogued, Printed, MoreKept, InputKept, KeptPrinted};
 
+// How many bytes of a file, of a list and of a print there is place for.
+const FILE: usize = 65536;
+
+const LIST: usize = 262144;
+
+const PRINT: usize = 32768;
+
 // A room of the solver, made by a function of its own so that no proof looks into 32,768 zeros.
-fn empty_room() -> [u16; 32768] {
-    [0; 32768]
+fn empty_room() -> [u16; ROOM] {
+    [0; ROOM]
 }
 
 // A buffer that holds every print.
-fn empty_print() -> [u8; 32768] {
-    [0; 32768]
+fn empty_print() -> [u8; PRINT] {
+    [0; PRINT]
 }
 
 // A buffer for the list.
-fn empty_list() -> [u8; 262144] {
-    [0; 262144]
+fn empty_list() -> [u8; LIST] {
+    [0; LIST]
 }
 
 // Whether the reading that gave n bytes ended with the file, and did not fail: one more read tells.
 fn read_whole(fd: i32, n: usize) -> bool {
-    if n == 65536 {
+    if n == FILE {
         return true;
     }
     let mut more = [0u8; 1];
@@ -36,7 +44,7 @@ fn read_whole(fd: i32, n: usize) -> bool {
 }
 
 // Reads at most a buffer of bytes.
-fn read_some(fd: i32, file: &mut [u8; 65536]) -> usize {
+fn read_some(fd: i32, file: &mut [u8; FILE]) -> usize {
     io::read_full(fd, file)
 }
 
@@ -44,8 +52,8 @@ fn read_some(fd: i32, file: &mut [u8; 65536]) -> usize {
 fn judge_front(
     file: &[u8],
     n: usize,
-    controller: &mut [u16; 32768],
-    panel: &mut [u16; 32768],
+    controller: &mut [u16; ROOM],
+    panel: &mut [u16; ROOM],
 ) -> Outcome
     ensures { λ r. ⌜ FromFile r × Modest r ⌝ }
 {
@@ -58,9 +66,9 @@ fn judge_front(
 // What an open file comes to.
 fn judge_open(
     fd: i32,
-    file: &mut [u8; 65536],
-    controller: &mut [u16; 32768],
-    panel: &mut [u16; 32768],
+    file: &mut [u8; FILE],
+    controller: &mut [u16; ROOM],
+    panel: &mut [u16; ROOM],
 ) -> Outcome
     ensures { λ r. ⌜ FromFile r × Modest r ⌝ }
 {
@@ -74,9 +82,9 @@ fn judge_open(
 // What the file of a name comes to.
 fn judge_name(
     name: &[u8],
-    file: &mut [u8; 65536],
-    controller: &mut [u16; 32768],
-    panel: &mut [u16; 32768],
+    file: &mut [u8; FILE],
+    controller: &mut [u16; ROOM],
+    panel: &mut [u16; ROOM],
 ) -> Outcome
     ensures { λ r. ⌜ ForName (now (name .entry)) r × Modest r ⌝ }
 {
@@ -105,9 +113,9 @@ fn tell(terminal: bool, k: usize) {
 // The figures of a list of few enough names.
 fn tally_names(
     list: &[u8],
-    file: &mut [u8; 65536],
-    controller: &mut [u16; 32768],
-    panel: &mut [u16; 32768],
+    file: &mut [u8; FILE],
+    controller: &mut [u16; ROOM],
+    panel: &mut [u16; ROOM],
 ) -> Tally
     requires { ⌜ length (names (now list)) ≤ 1000 ⌝ }
     ensures { λ r. ⌜ Catalogued (now (list .entry)) r ⌝ }
@@ -131,9 +139,9 @@ fn tally_names(
 fn answer(
     buffer: &mut [u8],
     list: &[u8],
-    file: &mut [u8; 65536],
-    controller: &mut [u16; 32768],
-    panel: &mut [u16; 32768],
+    file: &mut [u8; FILE],
+    controller: &mut [u16; ROOM],
+    panel: &mut [u16; ROOM],
 ) -> usize
     ensures { λ r. ⌜ Printed (now (list .entry)) (now (buffer .entry)) r (now (buffer .exit)) ⌝ }
 {
@@ -181,7 +189,7 @@ fn read_list(list: &mut [u8]) -> Kept
 }
 
 // The same of an array.
-fn fill_list(list: &mut [u8; 262144]) -> Kept
+fn fill_list(list: &mut [u8; LIST]) -> Kept
     ensures { λ r. ⌜ InputKept (now (list .exit)) r ⌝ }
 {
     read_list(list)
@@ -192,9 +200,9 @@ fn answer_kept(
     buffer: &mut [u8],
     list: &[u8],
     k: Kept,
-    file: &mut [u8; 65536],
-    controller: &mut [u16; 32768],
-    panel: &mut [u16; 32768],
+    file: &mut [u8; FILE],
+    controller: &mut [u16; ROOM],
+    panel: &mut [u16; ROOM],
 ) -> usize
     requires { ⌜ (257000 < length (now list)) × InputKept (now list) k ⌝ }
     ensures { λ r. ⌜ KeptPrinted (now (list .entry)) k (now (buffer .entry)) r (now (buffer .exit)) ⌝ }
@@ -205,12 +213,12 @@ fn answer_kept(
 
 // The same, in the program's buffers.
 fn put_answer(
-    buffer: &mut [u8; 32768],
-    list: &[u8; 262144],
+    buffer: &mut [u8; PRINT],
+    list: &[u8; LIST],
     k: Kept,
-    file: &mut [u8; 65536],
-    controller: &mut [u16; 32768],
-    panel: &mut [u16; 32768],
+    file: &mut [u8; FILE],
+    controller: &mut [u16; ROOM],
+    panel: &mut [u16; ROOM],
 ) -> usize
     requires { ⌜ InputKept (now list) k ⌝ }
     ensures { λ r. ⌜ KeptPrinted (now (list .entry)) k (now (buffer .entry)) r (now (buffer .exit)) ⌝ }
@@ -226,7 +234,7 @@ fn print(text: &[u8], n: usize)
 }
 
 // Writes the first n bytes of the buffer.
-fn print_front(buffer: &[u8; 32768], n: usize)
+fn print_front(buffer: &[u8; PRINT], n: usize)
     requires { ⌜ n ≤ 32768 ⌝ }
 {
     print(buffer, n);

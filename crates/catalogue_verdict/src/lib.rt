@@ -16,6 +16,11 @@ ghost use Rattle.solver.specs.Promise.{verdictAnswer};
 ghost use Rattle.catalogue_tally.specs.Figures.{Modest};
 ghost use Rattle.catalogue_verdict.specs.Judged.{marks, Census, Comes, Judged};
 
+// How many entries a room for a table has, and how many words scratch for any game.
+pub const ROOM: usize = 32768;
+
+const SCRATCH: usize = 768;
+
 // How many of the first m states a set has.
 fn row_count(x: Set, m: usize) -> usize
     requires { ⌜ m ≤ capacity ⌝ }
@@ -54,18 +59,18 @@ fn won_count(g: Game) -> usize
     requires { ⌜ acceptance g ≡ Accepted ⌝ }
     ensures { λ r. ⌜ Census g r × (r ≤ 16384) ⌝ }
 {
-    let mut scratch = [0u64; 768];
+    let mut scratch = [0u64; SCRATCH];
     let mut map = [0u64; sets::ROW_WORDS];
     map::won_map(g, &mut scratch, &mut map);
     map_count(&map, g.input.states, g.output.states)
 }
 
 // What an accepted game comes to, in the two rooms.
-fn solve(g: Game, controller: &mut [u16; 32768], panel: &mut [u16; 32768]) -> Outcome
+fn solve(g: Game, controller: &mut [u16; ROOM], panel: &mut [u16; ROOM]) -> Outcome
     requires { ⌜ acceptance g ≡ Accepted ⌝ }
     ensures { λ r. ⌜ Comes g (verdictAnswer g (scratchLength g) 32768 32768) r × Modest r ⌝ }
 {
-    let mut scratch = [0u64; 768];
+    let mut scratch = [0u64; SCRATCH];
     let v = solver::solve_into(g, &mut scratch, controller, panel);
     match v {
         Verdict::Refused(n) => Outcome::Refused(n),
@@ -81,7 +86,7 @@ fn solve(g: Game, controller: &mut [u16; 32768], panel: &mut [u16; 32768]) -> Ou
 }
 
 // What a file comes to. The rooms are the solve program's, and what they hold afterwards is nobody's.
-pub fn judge(file: &[u8], controller: &mut [u16; 32768], panel: &mut [u16; 32768]) -> Outcome
+pub fn judge(file: &[u8], controller: &mut [u16; ROOM], panel: &mut [u16; ROOM]) -> Outcome
     ensures { λ r. ⌜ Judged (now (file .entry)) r × Modest r ⌝ }
 {
     let r = text::read(file);

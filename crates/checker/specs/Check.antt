@@ -22,18 +22,18 @@ use Rattle.play.specs.Play.{requirementOf, separatedOf}
 use Rattle.theory.specs.Entries.{controllerCounters, controllerEntries}
 use Rattle.demands.specs.Demands.{playOf, controllerOf}
 use Rattle.player.specs.Player.{fitting}
-use Rattle.checker_places.specs.Place.{placed}
+use Rattle.checker_places.specs.Place.{walkRoom, mostPlaces, placed}
 use Rattle.checker_places.specs.Finding as finding
 use Rattle.checker.specs.declared.Checked.{Checked}
 use Rattle.checker.specs.declared.Checked.the-variants.{Accepted, BadStart, BadRow, BadRound, Refused}
 
 -- "20 inputs × outputs × max(1, G) over 4,096"
 unfoldable pub placesFit : Game → Bool
-placesFit g = leb (g .input .states * g .output .states * controllerCounters (separatedOf g)) 4096
+placesFit g = leb (g .input .states * g .output .states * controllerCounters (separatedOf g)) mostPlaces
 
 -- "19 table not of the controller's length; 20 ..; both after 7 in that order, then 8 for a walk room too short": "a lent room of 24,576 entries"
 unfoldable pub checkTests : Game → List ℕ → ℕ → List (ℕ × Bool)
-checkTests g l n = gameTests g ++ (19, fitting g l) ∷ (20, placesFit g) ∷ (8, leb 24576 n) ∷ []
+checkTests g l n = gameTests g ++ (19, fitting g l) ∷ (20, placesFit g) ∷ (8, leb walkRoom n) ∷ []
 
 abbrev pub checkerNumber : Checked → ℕ
 checkerNumber Accepted = 0

@@ -11,20 +11,21 @@ use Rattle.checker_search.specs.Queues.{at, Copied, Finders}
 use Rattle.checker_reach.specs.Reach.{Stem}
 use Rattle.checker.specs.declared.Checked.{Checked}
 use Rattle.checker.specs.Check.{checkerNumber, walkLength, Told}
+use Rattle.checker_places.specs.Place.{walkRoom, mostPlaces}
 
 pub record RoundFits (queue from : List ℕ) (n : ℕ) (walk : List ℕ) (c : ℕ) (room : List ℕ) : Type 0 where
-  pub few : n ≤ 4096
+  pub few : n ≤ mostPlaces
   pub finders : (k : ℕ) → k < n → Finders k from
   pub there : (k : ℕ) × (k < n) × (at queue k ≡ at walk 0)
-  pub walk-long : length walk ≡ 24576
+  pub walk-long : length walk ≡ walkRoom
   pub turns : 1 < c
   pub short : c ≤ 20481
-  pub room-long : 24576 ≤ length room
+  pub room-long : walkRoom ≤ length room
 
 pub record RoundWritten (queue from : List ℕ) (n : ℕ) (walk : List ℕ) (c : ℕ) (room room′ : List ℕ) (m : ℕ) : Type 0 where
   pub place : ℕ
   pub found : place < n
-  pub short : m ≤ 4096
+  pub short : m ≤ mostPlaces
   pub same : at queue place ≡ at walk 0
   pub way : List ℕ
   pub stem : Stem queue from place room way m

@@ -5,10 +5,12 @@ ghost use lib.ListN.{length};
 ghost use Rattle.game.specs.declared.Acceptance.the-variants.{Accepted};
 ghost use Rattle.game.specs.Acceptance.{acceptance};
 ghost use Rattle.demands.specs.Demands.{playOf};
-ghost use Rattle.checker_places.specs.Place.{placeCount};
+ghost use Rattle.checker_places.specs.Place.{walkRoom, placeCount};
 ghost use Rattle.checker_rows.specs.Rows.{Ready};
 ghost use Rattle.checker.specs.Check.{Checks};
 ghost use Rattle.checker.specs.Steps.{RoundFits, RoundWritten, Found};
+use checker_places::PLACES;
+use checker_places::WALK;
 use game::Acceptance;
 use game::Game;
 use game::InState;
@@ -32,17 +34,17 @@ fn wide(x: u16) -> usize
 
 // Writes the way to the round's first place, then the round, whose c places begin `walk`. The answer is the length of the way.
 fn write_round(
-    queue: &[u16; 4096],
-    from: &[u16; 4096],
+    queue: &[u16; PLACES],
+    from: &[u16; PLACES],
     n: usize,
-    walk: &[u16; 24576],
+    walk: &[u16; WALK],
     c: usize,
     room: &mut [u16],
 ) -> usize
     requires { ⌜ RoundFits (now queue) (now from) n (now walk) c (now room) ⌝ }
     ensures { λ r. ⌜ RoundWritten (now (queue .entry)) (now (from .entry)) n (now (walk .entry)) c (now (room .entry)) (now (room .exit)) r ⌝ }
 {
-    let mut way = [0u16; 4096];
+    let mut way = [0u16; PLACES];
     let k = checker_search::first_at(queue, n, wide(walk[0]));
     let m = checker_reach::stem(queue, from, k, &mut way, room);
     checker_search::copy(walk, 1, c, room, m);
@@ -51,16 +53,16 @@ fn write_round(
 
 // Checks a table of the controller's length. The room is written once the answer is known.
 fn check_table(g: Game, counters: usize, places: usize, table: &[u16], room: &mut [u16]) -> Checked
-    requires { ⌜ Ready g counters (now table) × (places ≡ placeCount (playOf g) counters) × (24576 ≤ length (now room)) ⌝ }
+    requires { ⌜ Ready g counters (now table) × (places ≡ placeCount (playOf g) counters) × (walkRoom ≤ length (now room)) ⌝ }
     ensures { λ r. ⌜ Found g (now (table .entry)) (now (room .entry)) (now (room .exit)) r ⌝ }
 {
-    let all = [1u8; 4096];
-    let mut to = [0u16; 4096];
-    let mut mark = [0u8; 4096];
-    let mut queue = [0u16; 4096];
-    let mut from = [0u16; 4096];
-    let mut way = [0u16; 4096];
-    let mut walk = [0u16; 24576];
+    let all = [1u8; PLACES];
+    let mut to = [0u16; PLACES];
+    let mut mark = [0u8; PLACES];
+    let mut queue = [0u16; PLACES];
+    let mut from = [0u16; PLACES];
+    let mut way = [0u16; PLACES];
+    let mut walk = [0u16; WALK];
     let h = g.input;
     let inputs = h.states;
     checker_rows::fill(g, counters, places, table, &mut to);
@@ -111,10 +113,10 @@ fn check_accepted(g: Game, table: &[u16], room: &mut [u16]) -> Checked
         return Checked::Refused(19);
     }
     let places = length - g.input.states;
-    if places > 4096 {
+    if places > PLACES {
         return Checked::Refused(20);
     }
-    if room.len() < 24576 {
+    if room.len() < WALK {
         return Checked::Refused(8);
     }
     check_table(g, table_sizes::controller_counters(g), places, table, room)

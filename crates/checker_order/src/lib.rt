@@ -1,10 +1,12 @@
 // An order in which to try places: those of last components first, so that what a place reaches is its own component. It is advice: the checker's
 // answer is right in any order, and nothing is shown of this one.
+use checker_places::PLACES;
 use sets::Set;
 ghost use mathlib.Core.Path.{_≡_};
 ghost use mathlib.Core.Bool.{true};
 ghost use Prim.Native.Nat.{_≤_, _<_};
 ghost use lib.ListN.{length};
+ghost use Rattle.checker_places.specs.Place.{mostPlaces};
 ghost use Rattle.sets.specs.Words.{capacity, rowWords, wordsFor};
 ghost use Rattle.checker_order.specs.Picks.{Tries};
 
@@ -40,8 +42,8 @@ fn turn_round(inputs: usize, moves: &[u64; sets::ROW_WORDS], into: &mut [u64; se
 }
 
 // Lists the rows that lead to each place: `head` has the first of them, `link` the next after each; 65,535 ends a list.
-fn list_rows(places: usize, to: &[u16; 4096], head: &mut [u16; 4096], link: &mut [u16; 4096])
-    requires { ⌜ places ≤ 4096 ⌝ }
+fn list_rows(places: usize, to: &[u16; PLACES], head: &mut [u16; PLACES], link: &mut [u16; PLACES])
+    requires { ⌜ places ≤ mostPlaces ⌝ }
 {
     let mut r: usize = 0;
     while r < places {
@@ -58,13 +60,13 @@ fn list_rows(places: usize, to: &[u16; 4096], head: &mut [u16; 4096], link: &mut
 
 // Whether place c is not seen yet. Row x of `unseen` has the inputs of the places with output and counter x.
 fn is_unseen(inputs: usize, unseen: &[u64], c: usize) -> bool
-    requires { ⌜ (0 < inputs) × (inputs ≤ capacity) × (c < 4096) × (wordsFor 4096 ≤ length (now unseen)) ⌝ }
+    requires { ⌜ (0 < inputs) × (inputs ≤ capacity) × (c < mostPlaces) × (wordsFor mostPlaces ≤ length (now unseen)) ⌝ }
 {
     sets::member(sets::row(unseen, c / inputs), c % inputs)
 }
 
 fn see(inputs: usize, unseen: &mut [u64], c: usize)
-    requires { ⌜ (0 < inputs) × (inputs ≤ capacity) × (c < 4096) × (wordsFor 4096 ≤ length (now unseen)) ⌝ }
+    requires { ⌜ (0 < inputs) × (inputs ≤ capacity) × (c < mostPlaces) × (wordsFor mostPlaces ≤ length (now unseen)) ⌝ }
 {
     let x = sets::row(unseen, c / inputs);
     let y = sets::insert(sets::empty(), c % inputs);
@@ -73,7 +75,7 @@ fn see(inputs: usize, unseen: &mut [u64], c: usize)
 
 // Makes place c unseen where it is kept. Most are not, and their input is not worked out.
 fn add(inputs: usize, kept: u8, unseen: &mut [u64], c: usize)
-    requires { ⌜ (0 < inputs) × (inputs ≤ capacity) × (c < 4096) × (wordsFor 4096 ≤ length (now unseen)) ⌝ }
+    requires { ⌜ (0 < inputs) × (inputs ≤ capacity) × (c < mostPlaces) × (wordsFor mostPlaces ≤ length (now unseen)) ⌝ }
 {
     if kept != 1 {
         return;
@@ -83,8 +85,8 @@ fn add(inputs: usize, kept: u8, unseen: &mut [u64], c: usize)
 }
 
 // Makes the kept places unseen.
-fn gather(inputs: usize, places: usize, kept: &[u8; 4096], unseen: &mut [u64])
-    requires { ⌜ (0 < inputs) × (inputs ≤ capacity) × (places ≤ 4096) × (wordsFor 4096 ≤ length (now unseen)) ⌝ }
+fn gather(inputs: usize, places: usize, kept: &[u8; PLACES], unseen: &mut [u64])
+    requires { ⌜ (0 < inputs) × (inputs ≤ capacity) × (places ≤ mostPlaces) × (wordsFor mostPlaces ≤ length (now unseen)) ⌝ }
 {
     let mut c: usize = 0;
     while c < places {
@@ -95,18 +97,18 @@ fn gather(inputs: usize, places: usize, kept: &[u8; 4096], unseen: &mut [u64])
 
 // The lowest input of an unseen place from which row r is followed; CAPACITY where there is none.
 fn source(inputs: usize, back: &[u64; sets::ROW_WORDS], unseen: &[u64], r: usize) -> usize
-    requires { ⌜ (0 < inputs) × (inputs ≤ capacity) × (r < 4096) × (wordsFor 4096 ≤ length (now unseen)) ⌝ }
+    requires { ⌜ (0 < inputs) × (inputs ≤ capacity) × (r < mostPlaces) × (wordsFor mostPlaces ≤ length (now unseen)) ⌝ }
 {
     let x = sets::row(unseen, r / inputs);
     sets::lowest(sets::intersection(x, sets::row_of(back, r % inputs)))
 }
 
 // Puts c behind the order's n places.
-fn append(order: &mut [u16; 4096], n: usize, c: usize) -> usize
-    requires { ⌜ (n ≤ 4096) × (c < 4096) ⌝ }
-    ensures { λ r. ⌜ r ≤ 4096 ⌝ }
+fn append(order: &mut [u16; PLACES], n: usize, c: usize) -> usize
+    requires { ⌜ (n ≤ mostPlaces) × (c < mostPlaces) ⌝ }
+    ensures { λ r. ⌜ r ≤ mostPlaces ⌝ }
 {
-    if n == 4096 {
+    if n == PLACES {
         return n;
     }
     order[n] = c as u16;
@@ -116,20 +118,20 @@ fn append(order: &mut [u16; 4096], n: usize, c: usize) -> usize
 // Sees place d and puts it on the stack of `top` places, with the first row that leads to it.
 fn push(
     inputs: usize,
-    head: &[u16; 4096],
+    head: &[u16; PLACES],
     unseen: &mut [u64],
-    stack: &mut [u16; 4096],
-    row: &mut [u16; 4096],
+    stack: &mut [u16; PLACES],
+    row: &mut [u16; PLACES],
     top: usize,
     d: usize,
 ) -> usize
-    requires { ⌜ (0 < inputs) × (inputs ≤ capacity) × (wordsFor 4096 ≤ length (now unseen)) × (top ≤ 4096) ⌝ }
-    ensures { λ r. ⌜ r ≤ 4096 ⌝ }
+    requires { ⌜ (0 < inputs) × (inputs ≤ capacity) × (wordsFor mostPlaces ≤ length (now unseen)) × (top ≤ mostPlaces) ⌝ }
+    ensures { λ r. ⌜ r ≤ mostPlaces ⌝ }
 {
-    if top == 4096 {
+    if top == PLACES {
         return top;
     }
-    if d >= 4096 {
+    if d >= PLACES {
         return top;
     }
     see(inputs, unseen, d);
@@ -144,17 +146,18 @@ fn finish(
     inputs: usize,
     places: usize,
     back: &[u64; sets::ROW_WORDS],
-    head: &[u16; 4096],
-    link: &[u16; 4096],
+    head: &[u16; PLACES],
+    link: &[u16; PLACES],
     unseen: &mut [u64],
-    stack: &mut [u16; 4096],
-    row: &mut [u16; 4096],
-    order: &mut [u16; 4096],
+    stack: &mut [u16; PLACES],
+    row: &mut [u16; PLACES],
+    order: &mut [u16; PLACES],
     n: usize,
     v: usize,
 ) -> usize
-    requires { ⌜ (0 < inputs) × (inputs ≤ capacity) × (places ≤ 4096) × (wordsFor 4096 ≤ length (now unseen)) × (n ≤ 4096) × (v < 4096) ⌝ }
-    ensures { λ r. ⌜ r ≤ 4096 ⌝ }
+    requires { ⌜ (0 < inputs) × (inputs ≤ capacity) × (places ≤ mostPlaces) × (wordsFor mostPlaces ≤ length (now unseen))
+        × (n ≤ mostPlaces) × (v < mostPlaces) ⌝ }
+    ensures { λ r. ⌜ r ≤ mostPlaces ⌝ }
 {
     if !is_unseen(inputs, unseen, v) {
         return n;
@@ -167,7 +170,7 @@ fn finish(
         if top == 0 {
             return count;
         }
-        let c = wide(stack[top - 1]) % 4096;
+        let c = wide(stack[top - 1]) % PLACES;
         let r = wide(row[c]);
         if r >= places {
             count = append(order, count, c);
@@ -197,19 +200,19 @@ pub fn advise(
     inputs: usize,
     places: usize,
     moves: &[u64; sets::ROW_WORDS],
-    to: &[u16; 4096],
-    kept: &[u8; 4096],
-    order: &mut [u16; 4096],
+    to: &[u16; PLACES],
+    kept: &[u8; PLACES],
+    order: &mut [u16; PLACES],
 ) -> usize
-    requires { ⌜ (0 < inputs) × (inputs ≤ capacity) × (places ≤ 4096) ⌝ }
-    ensures { λ r. ⌜ r ≤ 4096 ⌝ }
+    requires { ⌜ (0 < inputs) × (inputs ≤ capacity) × (places ≤ mostPlaces) ⌝ }
+    ensures { λ r. ⌜ r ≤ mostPlaces ⌝ }
 {
     let mut back = [0u64; sets::ROW_WORDS];
-    let mut head = [65535u16; 4096];
-    let mut link = [65535u16; 4096];
+    let mut head = [65535u16; PLACES];
+    let mut link = [65535u16; PLACES];
     let mut unseen = [0u64; 8192];
-    let mut stack = [0u16; 4096];
-    let mut row = [0u16; 4096];
+    let mut stack = [0u16; PLACES];
+    let mut row = [0u16; PLACES];
     turn_round(inputs, moves, &mut back);
     list_rows(places, to, &mut head, &mut link);
     gather(inputs, places, kept, &mut unseen);
@@ -239,8 +242,8 @@ pub fn advise(
 }
 
 // Whether p is a place that is kept.
-fn holds(places: usize, kept: &[u8; 4096], p: usize) -> bool
-    requires { ⌜ places ≤ 4096 ⌝ }
+fn holds(places: usize, kept: &[u8; PLACES], p: usize) -> bool
+    requires { ⌜ places ≤ mostPlaces ⌝ }
     ensures { λ r. ⌜ (r ≡ true → Tries places (now (kept .entry)) p) ⌝ }
 {
     if p >= places {
@@ -250,9 +253,9 @@ fn holds(places: usize, kept: &[u8; 4096], p: usize) -> bool
 }
 
 // How many of the order's first n places are left without those at its end that are not kept.
-pub fn left(places: usize, kept: &[u8; 4096], order: &[u16; 4096], n: usize) -> usize
-    requires { ⌜ (places ≤ 4096) × (n ≤ 4096) ⌝ }
-    ensures { λ r. ⌜ r ≤ 4096 ⌝ }
+pub fn left(places: usize, kept: &[u8; PLACES], order: &[u16; PLACES], n: usize) -> usize
+    requires { ⌜ (places ≤ mostPlaces) × (n ≤ mostPlaces) ⌝ }
+    ensures { λ r. ⌜ r ≤ mostPlaces ⌝ }
 {
     let mut k = n;
     while k > 0 {
@@ -265,8 +268,8 @@ pub fn left(places: usize, kept: &[u8; 4096], order: &[u16; 4096], n: usize) -> 
 }
 
 // The last of the order's n places where it is kept, else v.
-pub fn pick(places: usize, kept: &[u8; 4096], order: &[u16; 4096], n: usize, v: usize) -> usize
-    requires { ⌜ (places ≤ 4096) × (n ≤ 4096) × Tries places (now kept) v ⌝ }
+pub fn pick(places: usize, kept: &[u8; PLACES], order: &[u16; PLACES], n: usize, v: usize) -> usize
+    requires { ⌜ (places ≤ mostPlaces) × (n ≤ mostPlaces) × Tries places (now kept) v ⌝ }
     ensures { λ r. ⌜ Tries places (now (kept .entry)) r ⌝ }
 {
     if n == 0 {

@@ -22,6 +22,7 @@ use Rattle.checker_search.specs.Queues.{Sized, Held}
 use Rattle.checker_rounds.specs.Rounds.{Removed, Round}
 use Rattle.checker_rounds.specs.declared.Tried.{Tried}
 use Rattle.checker_pairs.specs.declared.Verdict.{Verdict}
+use Rattle.checker_places.specs.Place.{walkRoom, mostPlaces}
 
 abbrev pub guarantee : Requirement → ℕ → ℕ
 guarantee q b = bitsOf (getD (q .guarantees) b noOutput .0)
@@ -29,12 +30,12 @@ guarantee q b = bitsOf (getD (q .guarantees) b noOutput .0)
 pub record KeepFits (I M N : ℕ) (kept : List ℕ) : Type 0 where
   pub inputs : 0 < I
   pub counters : 0 < M
-  pub places : N ≤ 4096
+  pub places : N ≤ mostPlaces
   pub output : (c : ℕ) → c < N → c / I / M < capacity
-  pub long : length kept ≡ 4096
+  pub long : length kept ≡ mostPlaces
 
 pub record Keep (I M N : ℕ) (reached : List ℕ) (x : ℕ) (kept : List ℕ) (n : ℕ) : Type 0 where
-  pub size : length kept ≡ 4096
+  pub size : length kept ≡ mostPlaces
   pub upto : n ≤ N
   pub each : (c : ℕ) → c < n → marked kept c ≡ (marked reached c && not (has x (c / I / M)))
 
@@ -48,19 +49,19 @@ module _ (I N : ℕ) (rows to : List ℕ) where
     pub few : q .assumed ≤ 4
     pub sized : Sized mark queue from
     pub held : Held mark queue n
-    pub kept-long : length kept ≡ 4096
-    pub way-long : length way ≡ 4096
-    pub walk-long : length walk ≡ 24576
+    pub kept-long : length kept ≡ mostPlaces
+    pub way-long : length way ≡ mostPlaces
+    pub walk-long : length walk ≡ walkRoom
 
   pub record Left (mark queue from way walk : List ℕ) (n : ℕ) : Type 0 where
     pub sized : Sized mark queue from
     pub held : Held mark queue n
-    pub way-long : length way ≡ 4096
-    pub walk-long : length walk ≡ 24576
+    pub way-long : length way ≡ mostPlaces
+    pub walk-long : length walk ≡ walkRoom
 
   pub record Emptied (q : Requirement) (kept kept′ mark′ queue′ from′ way′ walk′ : List ℕ) (r : Tried) : Type 0 where
     pub left : Left mark′ queue′ from′ way′ walk′ (r .found)
-    pub kept-long : length kept′ ≡ 4096
+    pub kept-long : length kept′ ≡ mostPlaces
     pub removals : r .round ≡ 0 → Removals q kept kept′
     pub none : r .round ≡ 0 → (k : ℕ) → k < N → marked kept′ k ≡ false
     pub round : 0 < r .round → (X : List ℕ) × ((k : ℕ) → marked X k ≡ true → marked kept k ≡ true) × Round I N rows to q X walk′ (r .round)
@@ -92,17 +93,17 @@ module _ (I N : ℕ) (rows to : List ℕ) where
       pub few : g .k ≤ 8
       pub assumed : (r : ℕ) → r < 8 → requirementAt g r .assumed ≤ 4
       pub guaranteed : (r : ℕ) → r < 8 → requirementAt g r .guaranteed ≤ 4
-      pub walk-long : length walk ≡ 24576
+      pub walk-long : length walk ≡ walkRoom
 
     -- the guarantees of q
     pub record Served (q : Requirement) (reached kept′ mark′ queue′ from′ way′ walk′ : List ℕ) (r : Tried) : Type 0 where
       pub left : Left mark′ queue′ from′ way′ walk′ (r .found)
-      pub kept-long : length kept′ ≡ 4096
+      pub kept-long : length kept′ ≡ mostPlaces
       pub clear : r .round ≡ 0 → (b : ℕ) → b < q .guaranteed → Cleared q b reached
       pub broken : 0 < r .round → (b : ℕ) × (b < q .guaranteed) × Broken q b reached walk′ (r .round)
 
     pub record Judged (g : Game) (reached walk′ : List ℕ) (r : Verdict) : Type 0 where
-      pub walk-long : length walk′ ≡ 24576
+      pub walk-long : length walk′ ≡ walkRoom
       pub clear : r .round ≡ 0 → (i : ℕ) → i < g .k → (b : ℕ) → b < requirementAt g i .guaranteed → Cleared (requirementAt g i) b reached
       pub broken : 0 < r .round → (r .requirement < g .k) × ((b : ℕ) × (b < requirementAt g (r .requirement) .guaranteed)
           × Broken (requirementAt g (r .requirement)) b reached walk′ (r .round))

@@ -1,4 +1,6 @@
 // For each requirement and each of its guarantees: the reachable places outside the guarantee are emptied by attempts, or one finds a round.
+use checker_places::PLACES;
+use checker_places::WALK;
 use checker_rounds::Tried;
 use game::Game;
 use game::OutSet;
@@ -37,9 +39,9 @@ fn keep(
     inputs: usize,
     counters: usize,
     places: usize,
-    reached: &[u8; 4096],
+    reached: &[u8; PLACES],
     x: OutSet,
-    kept: &mut [u8; 4096],
+    kept: &mut [u8; PLACES],
 )
     requires { ⌜ KeepFits inputs counters places (now kept) ⌝ }
     ensures { λ _. ⌜ Keep inputs counters places (now (reached .entry)) (bitsOf (x .0)) (now (kept .exit)) places ⌝ }
@@ -57,21 +59,21 @@ fn empty(
     inputs: usize,
     places: usize,
     moves: &[u64; sets::ROW_WORDS],
-    to: &[u16; 4096],
+    to: &[u16; PLACES],
     q: Requirement,
-    kept: &mut [u8; 4096],
-    mark: &mut [u8; 4096],
-    queue: &mut [u16; 4096],
-    from: &mut [u16; 4096],
-    way: &mut [u16; 4096],
-    walk: &mut [u16; 24576],
+    kept: &mut [u8; PLACES],
+    mark: &mut [u8; PLACES],
+    queue: &mut [u16; PLACES],
+    from: &mut [u16; PLACES],
+    way: &mut [u16; PLACES],
+    walk: &mut [u16; WALK],
     n: usize,
 ) -> Tried
     requires { ⌜ PairFits inputs places (now moves) (now to) q (now kept) (now mark) (now queue) (now from) (now way) (now walk) n ⌝ }
     ensures { λ r. ⌜ Emptied inputs places (now (moves .entry)) (now (to .entry)) q (now (kept .entry)) (now (kept .exit)) (now (mark .exit))
         (now (queue .exit)) (now (from .exit)) (now (way .exit)) (now (walk .exit)) r ⌝ }
 {
-    let mut order = [0u16; 4096];
+    let mut order = [0u16; PLACES];
     let mut k = checker_order::advise(inputs, places, moves, to, kept, &mut order);
     let mut found = n;
     let mut v: usize = 0;
@@ -111,15 +113,15 @@ fn serve(
     counters: usize,
     places: usize,
     moves: &[u64; sets::ROW_WORDS],
-    to: &[u16; 4096],
-    reached: &[u8; 4096],
+    to: &[u16; PLACES],
+    reached: &[u8; PLACES],
     q: Requirement,
-    kept: &mut [u8; 4096],
-    mark: &mut [u8; 4096],
-    queue: &mut [u16; 4096],
-    from: &mut [u16; 4096],
-    way: &mut [u16; 4096],
-    walk: &mut [u16; 24576],
+    kept: &mut [u8; PLACES],
+    mark: &mut [u8; PLACES],
+    queue: &mut [u16; PLACES],
+    from: &mut [u16; PLACES],
+    way: &mut [u16; PLACES],
+    walk: &mut [u16; WALK],
     n: usize,
 ) -> Tried
     requires { ⌜ ServeFits inputs places (now moves) (now to) counters q (now kept) (now mark) (now queue) (now from) (now way) (now walk) n ⌝ }
@@ -161,18 +163,18 @@ pub fn judge(
     counters: usize,
     places: usize,
     moves: &[u64; sets::ROW_WORDS],
-    to: &[u16; 4096],
-    reached: &[u8; 4096],
-    walk: &mut [u16; 24576],
+    to: &[u16; PLACES],
+    reached: &[u8; PLACES],
+    walk: &mut [u16; WALK],
 ) -> Verdict
     requires { ⌜ JudgeFits inputs places (now moves) (now to) counters g (now walk) ⌝ }
     ensures { λ r. ⌜ Judged inputs places (now (moves .entry)) (now (to .entry)) counters g (now (reached .entry)) (now (walk .exit)) r ⌝ }
 {
-    let mut kept = [0u8; 4096];
-    let mut mark = [0u8; 4096];
-    let mut queue = [0u16; 4096];
-    let mut from = [0u16; 4096];
-    let mut way = [0u16; 4096];
+    let mut kept = [0u8; PLACES];
+    let mut mark = [0u8; PLACES];
+    let mut queue = [0u16; PLACES];
+    let mut from = [0u16; PLACES];
+    let mut way = [0u16; PLACES];
     let mut found: usize = 0;
     let mut r: usize = 0;
     while r < g.k {

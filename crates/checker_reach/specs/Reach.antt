@@ -16,7 +16,7 @@ use Rattle.bits.specs.Member.{has}
 use Rattle.sets.specs.Words.{capacity, setsIn}
 use Rattle.game.specs.declared.Game.{Game}
 use Rattle.demands.specs.Demands.{playOf, controllerOf}
-use Rattle.checker_places.specs.Place.{placeCount, starting}
+use Rattle.checker_places.specs.Place.{walkRoom, mostPlaces, placeCount, starting}
 use Rattle.checker_search.specs.Turns.{marked}
 use Rattle.checker_search.specs.Queues.{at, InQueue, Sized, Queued, Unmarked, Finders, Root, Link}
 use Rattle.checker_rows.specs.Rows.{Ready}
@@ -45,7 +45,7 @@ pub record NoneAfter (I : ℕ) (rows to : List ℕ) (c r : ℕ) : Type 0 where
   pub nowhere : r ≡ capacity → (j : ℕ) → has (getD (setsIn rows) (c % I) 0) j ≡ true → at to (c / I * I + j) ≢ 65535
 
 pub record ScanFits (N : ℕ) (queue : List ℕ) (n : ℕ) : Type 0 where
-  pub short : n ≤ 4096
+  pub short : n ≤ mostPlaces
   pub below : (k : ℕ) → k < n → at queue k < N
 
 pub record Scanned (I : ℕ) (rows to queue : List ℕ) (n : ℕ) (r : Gap) : Type 0 where
@@ -56,10 +56,10 @@ pub record Scanned (I : ℕ) (rows to queue : List ℕ) (n : ℕ) (r : Gap) : Ty
       → at to (at queue k / I * I + j) ≢ 65535
 
 pub record StemFits (from : List ℕ) (k : ℕ) (way room : List ℕ) : Type 0 where
-  pub place : k < 4096
+  pub place : k < mostPlaces
   pub finders : Finders k from
-  pub way-long : length way ≡ 4096
-  pub room-long : 24576 ≤ length room
+  pub way-long : length way ≡ mostPlaces
+  pub room-long : walkRoom ≤ length room
 
 pub record Stem (queue from : List ℕ) (k : ℕ) (room room′ : List ℕ) (n : ℕ) : Type 0 where
   pub long : length room′ ≡ length room

@@ -1,4 +1,5 @@
 // What a controller's table reaches: its starts, every place that turns lead to, and the first row that is none.
+use checker_places::PLACES;
 use game::Game;
 use game::InState;
 ghost use mathlib.Core.Path.{_≡_};
@@ -31,10 +32,10 @@ pub fn open(
     counters: usize,
     places: usize,
     table: &[u16],
-    all: &[u8; 4096],
-    mark: &mut [u8; 4096],
-    queue: &mut [u16; 4096],
-    from: &mut [u16; 4096],
+    all: &[u8; PLACES],
+    mark: &mut [u8; PLACES],
+    queue: &mut [u16; PLACES],
+    from: &mut [u16; PLACES],
 ) -> Opened
     requires { ⌜ OpenFits g counters places (now table) (now all) (now mark) (now queue) (now from) ⌝ }
     ensures { λ r. ⌜ Opens g places (now (table .entry)) (now (mark .exit)) (now (queue .exit)) (now (from .exit)) r ⌝ }
@@ -61,7 +62,7 @@ fn none_after(
     inputs: usize,
     places: usize,
     moves: &[u64; sets::ROW_WORDS],
-    to: &[u16; 4096],
+    to: &[u16; PLACES],
     c: usize,
 ) -> usize
     requires { ⌜ Grid inputs places (now moves) (now to) × (c < places) ⌝ }
@@ -84,8 +85,8 @@ pub fn scan(
     inputs: usize,
     places: usize,
     moves: &[u64; sets::ROW_WORDS],
-    to: &[u16; 4096],
-    queue: &[u16; 4096],
+    to: &[u16; PLACES],
+    queue: &[u16; PLACES],
     n: usize,
 ) -> Gap
     requires { ⌜ Grid inputs places (now moves) (now to) × ScanFits places (now queue) n ⌝ }
@@ -104,16 +105,16 @@ pub fn scan(
 
 // Writes the way to queue place k to the front of the room.
 pub fn stem(
-    queue: &[u16; 4096],
-    from: &[u16; 4096],
+    queue: &[u16; PLACES],
+    from: &[u16; PLACES],
     k: usize,
-    way: &mut [u16; 4096],
+    way: &mut [u16; PLACES],
     room: &mut [u16],
 ) -> usize
     requires { ⌜ StemFits (now from) k (now way) (now room) ⌝ }
     ensures { λ r. ⌜ Stem (now (queue .entry)) (now (from .entry)) k (now (room .entry)) (now (room .exit)) r ⌝ }
 {
     let first = checker_search::chain(queue, from, k, way);
-    checker_search::copy(way, first, 4096, room, 0);
-    4096 - first
+    checker_search::copy(way, first, PLACES, room, 0);
+    PLACES - first
 }

@@ -23,33 +23,34 @@ use Rattle.checker_search.specs.Turns.{marked, follows, Grid}
 use Rattle.checker_search.specs.Queues.{at, Sized, Held, Reach, Finders, Root, Link}
 use Rattle.checker_rounds.specs.declared.Course.{Course}
 use Rattle.checker_rounds.specs.declared.Tried.{Tried}
+use Rattle.checker_places.specs.Place.{walkRoom, mostPlaces}
 
 abbrev pub assumption : Requirement → ℕ → ℕ
 assumption q j = bitsOf (getD (q .assumptions) j noInput .0)
 
 pub record CutFits (kept queue : List ℕ) (n u : ℕ) : Type 0 where
-  pub long : length kept ≡ 4096
-  pub short : n ≤ 4096
-  pub inside : (k : ℕ) → k < n → at queue k < 4096
-  pub here : u < 4096
+  pub long : length kept ≡ mostPlaces
+  pub short : n ≤ mostPlaces
+  pub inside : (k : ℕ) → k < n → at queue k < mostPlaces
+  pub here : u < mostPlaces
 
 pub record Cut (kept queue : List ℕ) (n u : ℕ) (kept′ : List ℕ) : Type 0 where
-  pub size : length kept′ ≡ 4096
+  pub size : length kept′ ≡ mostPlaces
   pub only : (k : ℕ) → marked kept′ k ≡ true → marked kept k ≡ true
   pub gone : marked kept′ u ≡ false
   pub taken : (k : ℕ) → marked kept k ≡ true → marked kept′ k ≡ false → ((i : ℕ) × (i < n) × (at queue i ≡ k)) ⊎ (k ≡ u)
 
 pub record LegFits (from : List ℕ) (k : ℕ) (way walk : List ℕ) (n : ℕ) : Type 0 where
-  pub place : k < 4096
+  pub place : k < mostPlaces
   pub finders : Finders k from
-  pub way-long : length way ≡ 4096
-  pub walk-long : length walk ≡ 24576
-  pub room : n + suc k ≤ 24576
+  pub way-long : length way ≡ mostPlaces
+  pub walk-long : length walk ≡ walkRoom
+  pub room : n + suc k ≤ walkRoom
 
 -- the way from a root to queue place k stands behind the walk's n entries
 pub record Leg (queue from : List ℕ) (k : ℕ) (walk : List ℕ) (n : ℕ) (way walk′ : List ℕ) (n′ : ℕ) : Type 0 where
-  pub way-long : length way ≡ 4096
-  pub walk-long : length walk′ ≡ 24576
+  pub way-long : length way ≡ mostPlaces
+  pub walk-long : length walk′ ≡ walkRoom
   pub more : n < n′
   pub short : n′ ≤ n + suc k
   pub before : (i : ℕ) → i < n → at walk′ i ≡ at walk i
@@ -59,7 +60,7 @@ pub record Leg (queue from : List ℕ) (k : ℕ) (walk : List ℕ) (n : ℕ) (wa
 
 module _ (I N : ℕ) (rows to : List ℕ) where
   pub record Walking (X : List ℕ) (v w : ℕ) (walk : List ℕ) (n : ℕ) : Type 0 where
-    pub long : length walk ≡ 24576
+    pub long : length walk ≡ walkRoom
     pub some : 0 < n
     pub first : at walk 0 ≡ v
     pub last : at walk (n - 1) ≡ w
@@ -91,15 +92,15 @@ module _ (I N : ℕ) (rows to : List ℕ) where
     pub grid : Grid I N rows to
     pub few : q .assumed ≤ 4
     pub reach : Reach I N rows to X v mark queue from n
-    pub way-long : length way ≡ 4096
+    pub way-long : length way ≡ mostPlaces
     pub walking : Walking X v v walk 1
 
   -- the legs visit the assumptions in turn; the last search is the one from where they end
   pub record Legs (q : Requirement) (X : List ℕ) (v : ℕ) (mark mark′ queue′ from′ way′ walk′ : List ℕ) (r : Course) : Type 0 where
     pub reach : Reach I N rows to X (r .end) mark′ queue′ from′ (r .found)
-    pub way-long : length way′ ≡ 4096
+    pub way-long : length way′ ≡ mostPlaces
     pub walking : Walking X v (r .end) walk′ (r .length)
-    pub short : r .length ≤ 1 + q .assumed * 4096
+    pub short : r .length ≤ 1 + q .assumed * mostPlaces
     pub less : (a : ℕ) → marked mark′ a ≡ true → marked mark a ≡ true
     pub lacks : r .missed ≡ true → (j : ℕ) × (j < q .assumed) × ((k : ℕ) → k < r .found → has (assumption q j) (at queue′ k % I) ≡ false)
     pub visits : r .missed ≡ false → (j : ℕ) → j < q .assumed → (k : ℕ) × (k < r .length) × (has (assumption q j) (at walk′ k % I) ≡ true)
@@ -109,17 +110,17 @@ module _ (I N : ℕ) (rows to : List ℕ) where
     pub few : q .assumed ≤ 4
     pub sized : Sized mark queue from
     pub held : Held mark queue n
-    pub kept-long : length kept ≡ 4096
-    pub way-long : length way ≡ 4096
-    pub walk-long : length walk ≡ 24576
+    pub kept-long : length kept ≡ mostPlaces
+    pub way-long : length way ≡ mostPlaces
+    pub walk-long : length walk ≡ walkRoom
     pub below : v < N
     pub inside : marked kept v ≡ true
 
   pub record Attempted (q : Requirement) (kept kept′ mark′ queue′ from′ way′ walk′ : List ℕ) (r : Tried) : Type 0 where
     pub sized : Sized mark′ queue′ from′
     pub held : Held mark′ queue′ (r .found)
-    pub kept-long : length kept′ ≡ 4096
-    pub way-long : length way′ ≡ 4096
-    pub walk-long : length walk′ ≡ 24576
+    pub kept-long : length kept′ ≡ mostPlaces
+    pub way-long : length way′ ≡ mostPlaces
+    pub walk-long : length walk′ ≡ walkRoom
     pub removed : r .round ≡ 0 → Removed q kept kept′
     pub round : 0 < r .round → Round q kept walk′ (r .round)

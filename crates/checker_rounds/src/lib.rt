@@ -1,4 +1,6 @@
 // Attempts at a round: one pivot and what it reaches inside a set of places show a round that visits every assumption, or places that lie on none.
+use checker_places::PLACES;
+use checker_places::WALK;
 use game::Requirement;
 ghost use mathlib.Core.Path.{_≡_};
 ghost use Prim.Native.Nat.{_<_};
@@ -26,7 +28,7 @@ fn wide(x: u16) -> usize
 }
 
 // Takes u and the queue's n places out of `kept`.
-fn cut(kept: &mut [u8; 4096], queue: &[u16; 4096], n: usize, u: usize)
+fn cut(kept: &mut [u8; PLACES], queue: &[u16; PLACES], n: usize, u: usize)
     requires { ⌜ CutFits (now kept) (now queue) n u ⌝ }
     ensures { λ _. ⌜ Cut (now (kept .entry)) (now (queue .entry)) n u (now (kept .exit)) ⌝ }
 {
@@ -41,19 +43,19 @@ fn cut(kept: &mut [u8; 4096], queue: &[u16; 4096], n: usize, u: usize)
 
 // Takes the walk of `length` places on to queue place k.
 fn leg(
-    queue: &[u16; 4096],
-    from: &[u16; 4096],
+    queue: &[u16; PLACES],
+    from: &[u16; PLACES],
     k: usize,
-    way: &mut [u16; 4096],
-    walk: &mut [u16; 24576],
+    way: &mut [u16; PLACES],
+    walk: &mut [u16; WALK],
     length: usize,
 ) -> usize
     requires { ⌜ LegFits (now from) k (now way) (now walk) length ⌝ }
     ensures { λ r. ⌜ Leg (now (queue .entry)) (now (from .entry)) k (now (walk .entry)) length (now (way .exit)) (now (walk .exit)) r ⌝ }
 {
     let first = checker_search::chain(queue, from, k, way);
-    checker_search::copy(way, first, 4096, walk, length);
-    length + (4096 - first)
+    checker_search::copy(way, first, PLACES, walk, length);
+    length + (PLACES - first)
 }
 
 // Walks from v through the assumptions in turn, each leg to the first place that the search from the last one found; `queue` has what v reaches.
@@ -61,14 +63,14 @@ fn legs(
     inputs: usize,
     places: usize,
     moves: &[u64; sets::ROW_WORDS],
-    to: &[u16; 4096],
+    to: &[u16; PLACES],
     q: Requirement,
-    kept: &[u8; 4096],
-    mark: &mut [u8; 4096],
-    queue: &mut [u16; 4096],
-    from: &mut [u16; 4096],
-    way: &mut [u16; 4096],
-    walk: &mut [u16; 24576],
+    kept: &[u8; PLACES],
+    mark: &mut [u8; PLACES],
+    queue: &mut [u16; PLACES],
+    from: &mut [u16; PLACES],
+    way: &mut [u16; PLACES],
+    walk: &mut [u16; WALK],
     n: usize,
     v: usize,
 ) -> Course
@@ -121,14 +123,14 @@ pub fn attempt(
     inputs: usize,
     places: usize,
     moves: &[u64; sets::ROW_WORDS],
-    to: &[u16; 4096],
+    to: &[u16; PLACES],
     q: Requirement,
-    kept: &mut [u8; 4096],
-    mark: &mut [u8; 4096],
-    queue: &mut [u16; 4096],
-    from: &mut [u16; 4096],
-    way: &mut [u16; 4096],
-    walk: &mut [u16; 24576],
+    kept: &mut [u8; PLACES],
+    mark: &mut [u8; PLACES],
+    queue: &mut [u16; PLACES],
+    from: &mut [u16; PLACES],
+    way: &mut [u16; PLACES],
+    walk: &mut [u16; WALK],
     n: usize,
     v: usize,
 ) -> Tried

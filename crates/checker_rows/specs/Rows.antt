@@ -12,15 +12,15 @@ use Rattle.game.specs.Acceptance.{acceptance}
 use Rattle.play.specs.Play.{separatedOf}
 use Rattle.theory.specs.Entries.{controllerCounters, controllerEntries}
 use Rattle.demands.specs.Demands.{playOf, controllerOf}
-use Rattle.checker_places.specs.Place.{placeCount, leads}
+use Rattle.checker_places.specs.Place.{mostPlaces, placeCount, leads}
 
 pub record Ready (g : Game) (M : ℕ) (l : List ℕ) : Type 0 where
   pub accepted : acceptance g ≡ Accepted
   pub counters : M ≡ controllerCounters (separatedOf g)
   pub long : length l ≡ length (controllerEntries (separatedOf g))
-  pub few : placeCount (playOf g) M ≤ 4096
+  pub few : placeCount (playOf g) M ≤ mostPlaces
 
 pub record Filled (g : Game) (l to : List ℕ) (n : ℕ) : Type 0 where
-  pub size : length to ≡ 4096
+  pub size : length to ≡ mostPlaces
   pub upto : n ≤ placeCount (playOf g) (controllerCounters (separatedOf g))
   pub row : (k : ℕ) → k < n → getD to k 0 ≡ leads (playOf g) (controllerOf g l) k

@@ -1,4 +1,5 @@
 // A controller's table as places: where each start and each row leads.
+use checker_places::PLACES;
 use game::Game;
 use game::InState;
 use game::OutSet;
@@ -11,7 +12,7 @@ ghost use Rattle.bits.specs.Member.{has};
 ghost use Rattle.sets.specs.Words.{capacity, setAt, bitsOf};
 ghost use Rattle.demands.specs.Demands.{playOf, controllerOf};
 ghost use Rattle.theory.specs.Entries.{answer};
-ghost use Rattle.checker_places.specs.Place.{placeCount, lead as leadOf, starting};
+ghost use Rattle.checker_places.specs.Place.{mostPlaces, placeCount, lead as leadOf, starting};
 ghost use Rattle.checker_rows.specs.Rows.{Ready, Filled};
 
 // The place that an entry leads to with the next input j, the outputs allowed being those of a set; 65,535 for an entry that is none.
@@ -43,8 +44,8 @@ fn replies(moves: &[u64; sets::ROW_WORDS], o: OutState) -> OutSet
 }
 
 // Fills `to` with where each row leads.
-pub fn fill(g: Game, counters: usize, places: usize, table: &[u16], to: &mut [u16; 4096])
-    requires { ⌜ Ready g counters (now table) × (places ≡ placeCount (playOf g) counters) × (length (now to) ≡ 4096) ⌝ }
+pub fn fill(g: Game, counters: usize, places: usize, table: &[u16], to: &mut [u16; PLACES])
+    requires { ⌜ Ready g counters (now table) × (places ≡ placeCount (playOf g) counters) × (length (now to) ≡ mostPlaces) ⌝ }
     ensures { λ _. ⌜ Filled g (now (table .entry)) (now (to .exit)) places ⌝ }
 {
     let h = g.output;

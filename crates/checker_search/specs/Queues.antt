@@ -23,6 +23,7 @@ use Rattle.finite.specs.Bounded.{count}
 use Rattle.bits.specs.Member.{has}
 use Rattle.checker_places.specs.Search.{Listed}
 use Rattle.checker_search.specs.Turns.{marked, enters}
+use Rattle.checker_places.specs.Place.{mostPlaces}
 
 abbrev pub at : List ℕ → ℕ → ℕ
 at l k = getD l k 0
@@ -32,13 +33,13 @@ abbrev pub InQueue : (ℕ → Bool) → (ℕ → ℕ → Bool) → ℕ → List 
 InQueue p r N mark queue from n = Listed (λ a. p a ≡ true) (λ a b. r a b ≡ true) N n (at queue) (at from) (marked mark)
 
 pub record Sized (mark queue from : List ℕ) : Type 0 where
-  pub marks : length mark ≡ 4096
-  pub places : length queue ≡ 4096
-  pub finders : length from ≡ 4096
+  pub marks : length mark ≡ mostPlaces
+  pub places : length queue ≡ mostPlaces
+  pub finders : length from ≡ mostPlaces
 
 pub record Queued (N : ℕ) (mark queue from : List ℕ) (n : ℕ) : Type 0 where
   pub sized : Sized mark queue from
-  pub places : N ≤ 4096
+  pub places : N ≤ mostPlaces
   pub few : n ≤ count N (marked mark)
   pub below : (k : ℕ) → k < n → at queue k < N
 
@@ -71,13 +72,13 @@ pub record Exhausted (I N : ℕ) (rows to X mark queue from : List ℕ) (n : ℕ
   pub listed : (p : ℕ → Bool) → InQueue p (enters I rows to X) N mark queue from n → InQueue p (enters I rows to X) N mark′ queue′ from′ n′
 
 pub record Held (mark queue : List ℕ) (n : ℕ) : Type 0 where
-  pub short : n ≤ 4096
-  pub long : length mark ≡ 4096
-  pub inside : (k : ℕ) → k < n → at queue k < 4096
+  pub short : n ≤ mostPlaces
+  pub long : length mark ≡ mostPlaces
+  pub inside : (k : ℕ) → k < n → at queue k < mostPlaces
   pub found : (a : ℕ) → marked mark a ≡ true → (k : ℕ) × (k < n) × (at queue k ≡ a)
 
 pub record Unmarked (mark : List ℕ) : Type 0 where
-  pub long : length mark ≡ 4096
+  pub long : length mark ≡ mostPlaces
   pub none : (a : ℕ) → marked mark a ≡ false
 
 pub record Reach (I N : ℕ) (rows to X : List ℕ) (u : ℕ) (mark queue from : List ℕ) (n : ℕ) : Type 0 where
@@ -105,12 +106,12 @@ pub record Root (queue from : List ℕ) (k a : ℕ) : Type 0 where
   pub here : a ≡ at queue found
 
 pub record Chained (queue from : List ℕ) (k : ℕ) (out : List ℕ) (i : ℕ) : Type 0 where
-  pub long : length out ≡ 4096
-  pub some : i < 4096
-  pub short : 4096 ≤ i + suc k
+  pub long : length out ≡ mostPlaces
+  pub some : i < mostPlaces
+  pub short : mostPlaces ≤ i + suc k
   pub first : Root queue from k (at out i)
   pub last : at out 4095 ≡ at queue k
-  pub link : (m : ℕ) → i ≤ m → suc m < 4096 → Link queue from k (at out m) (at out (suc m))
+  pub link : (m : ℕ) → i ≤ m → suc m < mostPlaces → Link queue from k (at out m) (at out (suc m))
 
 pub record Copied (src : List ℕ) (a e : ℕ) (dst : List ℕ) (p : ℕ) (out : List ℕ) : Type 0 where
   pub long : length out ≡ length dst

@@ -12,6 +12,7 @@ use lib.Dec.{eqb}
 use lib.ListN.{getD}
 use Rattle.bits.specs.Member.{has}
 use Rattle.sets.specs.Words.{capacity, setsIn}
+use Rattle.checker_places.specs.Place.{mostPlaces}
 
 unfoldable pub marked : List ℕ → ℕ → Bool
 marked l a = eqb (getD l a 0) 1
@@ -27,7 +28,7 @@ enters I rows to X c d = follows I rows to c d && marked X d
 pub record Grid (I N : ℕ) (rows to : List ℕ) : Type 0 where
   pub some : 0 < I
   pub few : I ≤ capacity
-  pub places : N ≤ 4096
+  pub places : N ≤ mostPlaces
   pub whole : (c j : ℕ) → c < N → j < I → c / I * I + j < N
   pub move : (i j : ℕ) → i < I → has (getD (setsIn rows) i 0) j ≡ true → j < I
   pub input : (c j : ℕ) → c < N → j < I → getD to (c / I * I + j) 0 < N → getD to (c / I * I + j) 0 % I ≡ j

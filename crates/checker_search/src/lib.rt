@@ -1,8 +1,10 @@
 // Searches over places. A place's turns are told by the moves of its input and by `to`: the place that each row leads to.
+use checker_places::PLACES;
 use sets::Set;
 ghost use mathlib.Core.Path.{_≡_};
 ghost use Prim.Native.Nat.{_+_, _-_, _≤_, _<_};
 ghost use lib.ListN.{length};
+ghost use Rattle.checker_places.specs.Place.{mostPlaces};
 ghost use Rattle.sets.specs.Words.{capacity, bitsOf};
 ghost use Rattle.checker_search.specs.Turns.{Grid};
 ghost use Rattle.checker_search.specs.Queues.{Sized, Queued, FinderFits, Visited, Spread, Exhausted, Held, Unmarked, Reach};
@@ -11,10 +13,10 @@ ghost use Rattle.checker_search.specs.Queues.{Finders, Chained, Copied, 
 // Puts place d behind the queue's n, with its finder, where it may be entered and is not marked yet.
 pub fn visit(
     places: usize,
-    within: &[u8; 4096],
-    mark: &mut [u8; 4096],
-    queue: &mut [u16; 4096],
-    from: &mut [u16; 4096],
+    within: &[u8; PLACES],
+    mark: &mut [u8; PLACES],
+    queue: &mut [u16; PLACES],
+    from: &mut [u16; PLACES],
     n: usize,
     finder: usize,
     d: usize,
@@ -50,11 +52,11 @@ fn spread(
     inputs: usize,
     places: usize,
     moves: &[u64; sets::ROW_WORDS],
-    to: &[u16; 4096],
-    within: &[u8; 4096],
-    mark: &mut [u8; 4096],
-    queue: &mut [u16; 4096],
-    from: &mut [u16; 4096],
+    to: &[u16; PLACES],
+    within: &[u8; PLACES],
+    mark: &mut [u8; PLACES],
+    queue: &mut [u16; PLACES],
+    from: &mut [u16; PLACES],
     n: usize,
     finder: usize,
     at: usize,
@@ -80,11 +82,11 @@ pub fn exhaust(
     inputs: usize,
     places: usize,
     moves: &[u64; sets::ROW_WORDS],
-    to: &[u16; 4096],
-    within: &[u8; 4096],
-    mark: &mut [u8; 4096],
-    queue: &mut [u16; 4096],
-    from: &mut [u16; 4096],
+    to: &[u16; PLACES],
+    within: &[u8; PLACES],
+    mark: &mut [u8; PLACES],
+    queue: &mut [u16; PLACES],
+    from: &mut [u16; PLACES],
     n: usize,
 ) -> usize
     requires { ⌜ Grid inputs places (now moves) (now to) × Queued places (now mark) (now queue) (now from) n ⌝ }
@@ -114,7 +116,7 @@ pub fn exhaust(
 }
 
 // Takes the marks of the queue's n places away: an attempt costs what it finds.
-fn unmark(mark: &mut [u8; 4096], queue: &[u16; 4096], n: usize)
+fn unmark(mark: &mut [u8; PLACES], queue: &[u16; PLACES], n: usize)
     requires { ⌜ Held (now mark) (now queue) n ⌝ }
     ensures { λ _. ⌜ Unmarked (now (mark .exit)) ⌝ }
 {
@@ -131,11 +133,11 @@ pub fn reach(
     inputs: usize,
     places: usize,
     moves: &[u64; sets::ROW_WORDS],
-    to: &[u16; 4096],
-    within: &[u8; 4096],
-    mark: &mut [u8; 4096],
-    queue: &mut [u16; 4096],
-    from: &mut [u16; 4096],
+    to: &[u16; PLACES],
+    within: &[u8; PLACES],
+    mark: &mut [u8; PLACES],
+    queue: &mut [u16; PLACES],
+    from: &mut [u16; PLACES],
     n: usize,
     at: usize,
 ) -> usize
@@ -161,8 +163,13 @@ pub fn reach(
 }
 
 // Writes the way to queue place k at the end of `out`, from its finders; the answer is where it begins.
-pub fn chain(queue: &[u16; 4096], from: &[u16; 4096], k: usize, out: &mut [u16; 4096]) -> usize
-    requires { ⌜ (k < 4096) × Finders k (now from) × (length (now out) ≡ 4096) ⌝ }
+pub fn chain(
+    queue: &[u16; PLACES],
+    from: &[u16; PLACES],
+    k: usize,
+    out: &mut [u16; PLACES],
+) -> usize
+    requires { ⌜ (k < mostPlaces) × Finders k (now from) × (length (now out) ≡ mostPlaces) ⌝ }
     ensures { λ r. ⌜ Chained (now (queue .entry)) (now (from .entry)) k (now (out .exit)) r ⌝ }
 {
     let mut k = k;
@@ -189,8 +196,8 @@ pub fn copy(src: &[u16], a: usize, e: usize, dst: &mut [u16], at: usize)
 }
 
 // The first of the queue's n places whose input belongs to x; n where there is none.
-pub fn first_in(inputs: usize, queue: &[u16; 4096], n: usize, x: Set) -> usize
-    requires { ⌜ (0 < inputs) × (inputs ≤ capacity) × (n ≤ 4096) ⌝ }
+pub fn first_in(inputs: usize, queue: &[u16; PLACES], n: usize, x: Set) -> usize
+    requires { ⌜ (0 < inputs) × (inputs ≤ capacity) × (n ≤ mostPlaces) ⌝ }
     ensures { λ r. ⌜ FirstIn inputs (now (queue .entry)) n (bitsOf x) r ⌝ }
 {
     let mut k: usize = 0;
@@ -204,8 +211,8 @@ pub fn first_in(inputs: usize, queue: &[u16; 4096], n: usize, x: Set) -> usize
 }
 
 // The first of the queue's n places that is v; n where there is none.
-pub fn first_at(queue: &[u16; 4096], n: usize, v: usize) -> usize
-    requires { ⌜ n ≤ 4096 ⌝ }
+pub fn first_at(queue: &[u16; PLACES], n: usize, v: usize) -> usize
+    requires { ⌜ n ≤ mostPlaces ⌝ }
     ensures { λ r. ⌜ FirstAt (now (queue .entry)) n v r ⌝ }
 {
     let mut k: usize = 0;

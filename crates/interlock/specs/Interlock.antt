@@ -10,6 +10,7 @@
 --   verdictTests g b s                            == all tests of the verdict's call
 --   barredJudged n w, barredVerdictAnswer g b s w == its answer where n is that number, w telling whether the system wins; its answer
 --   BarredJudged g b s s′ r                       == the verdict's call answers r and leaves scratch s as s′
+--   barredWords                                   == how many words of scratch the calls take
 use Prim.Native.Nat.{ℕ, zero, suc, _<_}
 use mathlib.Core.Path.{_≡_}
 use mathlib.Core.Bool.{Bool, true, false, _&&_}
@@ -36,9 +37,12 @@ use Rattle.interlock.specs.declared.Judged.{Judged}
 use Rattle.interlock.specs.declared.Judged.the-variants.{System, Environment, Refused as NotJudged}
 use Rattle.interlock.specs.Bars.{bars, barsInside, someBarred, oneRequirement, systemWins, BarredFilled}
 
+abbrev pub barredWords : ℕ
+barredWords = 4096
+
 -- "8 a list of bars too short for the inputs .., scratch under 4,096 words"
 unfoldable pub barsFit : Game → ℕ → ℕ → Bool
-barsFit g b s = leb (wordsFor (g .input .states)) b && leb 4096 s
+barsFit g b s = leb (wordsFor (g .input .states)) b && leb barredWords s
 
 unfoldable pub barTests : Game → List ℕ → ℕ → List (ℕ × Bool)
 barTests g b s = (29, barsInside g b) ∷ (28, oneRequirement g b) ∷ (8, barsFit g (length b) s) ∷ []
@@ -65,7 +69,7 @@ BarredMapAfter g b Done m m′ = BarredFilled g b m m′
 BarredMapAfter g b (NotMapped n) m m′ = m′ ≡ m
 
 unfoldable pub barredMapScratch : Mapped → List ℕ → List ℕ
-barredMapScratch Done s = cleared 4096 s
+barredMapScratch Done s = cleared barredWords s
 barredMapScratch (NotMapped n) s = s
 
 pub record BarredMap (g : Game) (b s s′ m m′ : List ℕ) (r : Mapped) : Type 0 where
@@ -97,8 +101,8 @@ barredNumber Environment = 0
 barredNumber (NotJudged n) = n
 
 unfoldable pub barredVerdictScratch : Judged → List ℕ → List ℕ
-barredVerdictScratch System s = cleared 4096 s
-barredVerdictScratch Environment s = cleared 4096 s
+barredVerdictScratch System s = cleared barredWords s
+barredVerdictScratch Environment s = cleared barredWords s
 barredVerdictScratch (NotJudged n) s = s
 
 pub record BarredJudged (g : Game) (b s s′ : List ℕ) (r : Judged) : Type 0 where

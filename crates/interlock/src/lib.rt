@@ -16,7 +16,7 @@ ghost use Rattle.barred.specs.Region.{barredVerdict};
 ghost use Rattle.barred_region.specs.Region.{only};
 ghost use Rattle.interlock.specs.Bars.{bars as barsOf, barrable as barrableOf, barsInside, someBarred, oneRequirement};
 ghost use Rattle.interlock.specs.Bars.{systemWins, RegionFilled, BarredFilled, opensRow};
-ghost use Rattle.interlock.specs.Interlock.{barTests, BarredMap, BarredJudged};
+ghost use Rattle.interlock.specs.Interlock.{barredWords, barTests, BarredMap, BarredJudged};
 use game::Acceptance;
 use game::Game;
 use game::InState;
@@ -28,6 +28,9 @@ pub enum Judged {
     Environment,
     Refused(u8),
 }
+
+// How many words of scratch the calls take.
+const WORDS: usize = 4096;
 
 // ---- what is lent
 
@@ -95,7 +98,7 @@ fn fault(g: Game, bars: &[u64], words: usize) -> u8
     if bars.len() < sets::words(g.input.states) {
         return 8;
     }
-    if words < 4096 {
+    if words < WORDS {
         return 8;
     }
     0
@@ -117,29 +120,31 @@ fn write_map(g: Game, s: &[u64], map: &mut [u64])
 
 // Marks the positions that are won with bars.
 fn mark_barred(g: Game, bars: &[u64], scratch: &mut [u64], map: &mut [u64])
-    requires { ⌜ (acceptance g ≡ Accepted) × (wordsFor (g .input .states) ≤ length (now bars)) × (4096 ≤ length (now scratch))
+    requires { ⌜ (acceptance g ≡ Accepted) × (wordsFor (g .input .states) ≤ length (now bars)) × (barredWords ≤ length (now scratch))
         × (wordsFor (g .input .states) ≤ length (now map)) × (someBarred (now bars) ≡ true) ⌝ }
-    ensures { λ _. ⌜ (now (scratch .exit) ≡ cleared 4096 (now (scratch .entry))) × BarredFilled g (now (bars .entry)) (now (map .entry)) (now (map .exit)) ⌝ }
+    ensures { λ _. ⌜ (now (scratch .exit) ≡ cleared barredWords (now (scratch .entry)))
+        × BarredFilled g (now (bars .entry)) (now (map .entry)) (now (map .exit)) ⌝ }
 {
     barred_region::keep(g, bars, scratch);
     write_map(g, scratch, map);
-    scratch_clearing::clear(scratch, 4096);
+    scratch_clearing::clear(scratch, WORDS);
 }
 
 // Marks the positions that are won without bars.
 fn mark_unbarred(g: Game, scratch: &mut [u64], map: &mut [u64])
-    requires { ⌜ (acceptance g ≡ Accepted) × (4096 ≤ length (now scratch)) × (wordsFor (g .input .states) ≤ length (now map)) ⌝ }
-    ensures { λ _. ⌜ (now (scratch .exit) ≡ cleared 4096 (now (scratch .entry))) × MapFilled g (now (map .entry)) (now (map .exit)) ⌝ }
+    requires { ⌜ (acceptance g ≡ Accepted) × (barredWords ≤ length (now scratch)) × (wordsFor (g .input .states) ≤ length (now map)) ⌝ }
+    ensures { λ _. ⌜ (now (scratch .exit) ≡ cleared barredWords (now (scratch .entry))) × MapFilled g (now (map .entry)) (now (map .exit)) ⌝ }
 {
     map::won_map(g, scratch, map);
-    scratch_clearing::clear(scratch, 4096);
+    scratch_clearing::clear(scratch, WORDS);
 }
 
 // Marks the won positions of an accepted game, bars and buffers being as they must be.
 fn mark(g: Game, bars: &[u64], scratch: &mut [u64], map: &mut [u64])
-    requires { ⌜ (acceptance g ≡ Accepted) × (wordsFor (g .input .states) ≤ length (now bars)) × (4096 ≤ length (now scratch))
+    requires { ⌜ (acceptance g ≡ Accepted) × (wordsFor (g .input .states) ≤ length (now bars)) × (barredWords ≤ length (now scratch))
         × (wordsFor (g .input .states) ≤ length (now map)) ⌝ }
-    ensures { λ _. ⌜ (now (scratch .exit) ≡ cleared 4096 (now (scratch .entry))) × BarredFilled g (now (bars .entry)) (now (map .entry)) (now (map .exit)) ⌝ }
+    ensures { λ _. ⌜ (now (scratch .exit) ≡ cleared barredWords (now (scratch .entry)))
+        × BarredFilled g (now (bars .entry)) (now (map .entry)) (now (map .exit)) ⌝ }
 {
     if some_barred(bars) {
         mark_barred(g, bars, scratch, map);
@@ -208,19 +213,20 @@ fn all_open(g: Game, s: &[u64]) -> bool
 
 // Whether the system wins with bars.
 fn wins_barred(g: Game, bars: &[u64], scratch: &mut [u64]) -> bool
-    requires { ⌜ (acceptance g ≡ Accepted) × (wordsFor (g .input .states) ≤ length (now bars)) × (4096 ≤ length (now scratch)) ⌝ }
-    ensures { λ r. ⌜ (r ≡ barredVerdict (separatedOf g) (barsOf (now (bars .entry))) (only g)) × (now (scratch .exit) ≡ cleared 4096 (now (scratch .entry))) ⌝ }
+    requires { ⌜ (acceptance g ≡ Accepted) × (wordsFor (g .input .states) ≤ length (now bars)) × (barredWords ≤ length (now scratch)) ⌝ }
+    ensures { λ r. ⌜ (r ≡ barredVerdict (separatedOf g) (barsOf (now (bars .entry))) (only g))
+        × (now (scratch .exit) ≡ cleared barredWords (now (scratch .entry))) ⌝ }
 {
     barred_region::keep(g, bars, scratch);
     let r = all_open(g, scratch);
-    scratch_clearing::clear(scratch, 4096);
+    scratch_clearing::clear(scratch, WORDS);
     r
 }
 
 // Whether the system wins without bars.
 fn wins_unbarred(g: Game, scratch: &mut [u64]) -> bool
-    requires { ⌜ (acceptance g ≡ Accepted) × (4096 ≤ length (now scratch)) ⌝ }
-    ensures { λ r. ⌜ (r ≡ verdict (separatedOf g)) × (now (scratch .exit) ≡ cleared 4096 (now (scratch .entry))) ⌝ }
+    requires { ⌜ (acceptance g ≡ Accepted) × (barredWords ≤ length (now scratch)) ⌝ }
+    ensures { λ r. ⌜ (r ≡ verdict (separatedOf g)) × (now (scratch .exit) ≡ cleared barredWords (now (scratch .entry))) ⌝ }
 {
     let l = game_sets::list_of(g);
     let x = region::prepare(
@@ -233,14 +239,14 @@ fn wins_unbarred(g: Game, scratch: &mut [u64]) -> bool
         scratch,
     );
     let r = region_verdict::system_wins(g, scratch, x.inputs);
-    scratch_clearing::clear(scratch, 4096);
+    scratch_clearing::clear(scratch, WORDS);
     r
 }
 
 // Whether the system wins.
 fn wins(g: Game, bars: &[u64], scratch: &mut [u64]) -> bool
-    requires { ⌜ (acceptance g ≡ Accepted) × (wordsFor (g .input .states) ≤ length (now bars)) × (4096 ≤ length (now scratch)) ⌝ }
-    ensures { λ r. ⌜ (r ≡ systemWins g (now (bars .entry))) × (now (scratch .exit) ≡ cleared 4096 (now (scratch .entry))) ⌝ }
+    requires { ⌜ (acceptance g ≡ Accepted) × (wordsFor (g .input .states) ≤ length (now bars)) × (barredWords ≤ length (now scratch)) ⌝ }
+    ensures { λ r. ⌜ (r ≡ systemWins g (now (bars .entry))) × (now (scratch .exit) ≡ cleared barredWords (now (scratch .entry))) ⌝ }
 {
     if some_barred(bars) {
         return wins_barred(g, bars, scratch);

@@ -24,6 +24,7 @@ use Rattle.scratch_clearing.specs.Clearing.{cleared}
 use Rattle.map_marks.specs.Marks.{MapFilled}
 use Rattle.joined.specs.declared.Mapped.{Mapped}
 use Rattle.joined.specs.declared.Mapped.the-variants.{Done, Refused as NotMapped}
+use Rattle.joined_reach.specs.Words.{joinedWords}
 
 -- "24 a count over 32, after 7 and before 8" (document 02, M-108)
 unfoldable pub countsSmall : Game → Bool
@@ -31,7 +32,7 @@ countsSmall g = leb (g .input .states) 32 && leb (g .output .states) 32
 
 -- "Its scratch is 4,096 words, under the same rules."; "or, where the call writes the map, map room under one word an input"
 unfoldable pub joinedFits : Game → ℕ → ℕ → Bool
-joinedFits g s m = leb 4096 s && leb (wordsFor (g .input .states)) m
+joinedFits g s m = leb joinedWords s && leb (wordsFor (g .input .states)) m
 
 unfoldable pub joinedRoom : Game → ℕ → ℕ → Mapped
 joinedRoom g s m = elim (joinedFits g s m) [ true ↦ Done | false ↦ NotMapped 8 ]
@@ -56,7 +57,7 @@ JoinedAfter g (NotMapped n) m m′ = m′ ≡ m
 
 -- "after an answer the first that many words are zero and the rest unchanged"; "Each returns its number only .. and changes no lent memory"
 unfoldable pub joinedScratch : Mapped → List ℕ → List ℕ
-joinedScratch Done s = cleared 4096 s
+joinedScratch Done s = cleared joinedWords s
 joinedScratch (NotMapped n) s = s
 
 pub record JoinedMade (g : Game) (s s′ m m′ : List ℕ) (r : Mapped) : Type 0 where

@@ -11,7 +11,7 @@ ghost use Rattle.game.specs.Acceptance.{acceptance};
 ghost use Rattle.play.specs.Play.{separatedOf};
 ghost use Rattle.scratch_clearing.specs.Clearing.{cleared};
 ghost use Rattle.map_marks.specs.Marks.{MapFilled};
-ghost use Rattle.joined_reach.specs.Words.{Small};
+ghost use Rattle.joined_reach.specs.Words.{joinedWords, Small};
 ghost use Rattle.joined_component.specs.Component.{known};
 ghost use Rattle.joined.specs.Order.{Backward, SettledWith, Passed, JoinedSolved};
 ghost use Rattle.joined.specs.Joined.{JoinedMade};
@@ -34,7 +34,7 @@ fn settle_component(
     o: OutState,
     n: u64,
 )
-    requires { ⌜ Small g × (4096 ≤ length (now s)) × Backward g n (now s) × (i .0 < g .input .states) × (o .0 < g .output .states)
+    requires { ⌜ Small g × (joinedWords ≤ length (now s)) × Backward g n (now s) × (i .0 < g .input .states) × (o .0 < g .output .states)
         × (rankAt (separatedOf g) (i .0) (o .0) ≡ n) × (known g (now s) (i .0) (o .0) ≡ false) × (now ins ≡ g .input .moves)
         × (now outs ≡ g .output .moves) ⌝ }
     ensures { λ _. ⌜ SettledWith g n (i .0) (o .0) (now (s .entry)) (now (s .exit)) ⌝ }
@@ -55,7 +55,7 @@ fn settle_position(
     o: OutState,
     n: u64,
 )
-    requires { ⌜ Small g × (4096 ≤ length (now s)) × Backward g n (now s) × (i .0 < g .input .states) × (o .0 < g .output .states)
+    requires { ⌜ Small g × (joinedWords ≤ length (now s)) × Backward g n (now s) × (i .0 < g .input .states) × (o .0 < g .output .states)
         × (rankAt (separatedOf g) (i .0) (o .0) ≡ n) × (now ins ≡ g .input .moves) × (now outs ≡ g .output .moves) ⌝ }
     ensures { λ _. ⌜ SettledWith g n (i .0) (o .0) (now (s .entry)) (now (s .exit)) ⌝ }
 {
@@ -67,7 +67,7 @@ fn settle_position(
 
 // Settles all components with n positions ahead.
 fn settle_rank(g: Game, ins: &[u64; ROW_WORDS], outs: &[u64; ROW_WORDS], s: &mut [u64], n: u64)
-    requires { ⌜ Small g × (4096 ≤ length (now s)) × Backward g n (now s) × (now ins ≡ g .input .moves) × (now outs ≡ g .output .moves) ⌝ }
+    requires { ⌜ Small g × (joinedWords ≤ length (now s)) × Backward g n (now s) × (now ins ≡ g .input .moves) × (now outs ≡ g .output .moves) ⌝ }
     ensures { λ _. ⌜ Passed g n (g .input .states * g .output .states) (now (s .entry)) (now (s .exit)) ⌝ }
 {
     let m = g.output.states;
@@ -85,7 +85,7 @@ fn settle_rank(g: Game, ins: &[u64; ROW_WORDS], outs: &[u64; ROW_WORDS], s: &mut
 
 // Marks the won positions. The last components have the fewest positions ahead, so they are settled first.
 fn solve<'a>(g: Game, ins: &'a [u64; ROW_WORDS], outs: &'a [u64; ROW_WORDS], s: &mut [u64])
-    requires { ⌜ Small g × (4096 ≤ length (now s)) × (now ins ≡ g .input .moves) × (now outs ≡ g .output .moves) ⌝ }
+    requires { ⌜ Small g × (joinedWords ≤ length (now s)) × (now ins ≡ g .input .moves) × (now outs ≡ g .output .moves) ⌝ }
     ensures { λ _. ⌜ ButFor 0 2048 (now (s .entry)) (now (s .exit)) × JoinedSolved g (now (s .exit)) ⌝ }
 {
     joined_reach::count_ahead(g, ins, outs, s);
@@ -100,7 +100,7 @@ fn solve<'a>(g: Game, ins: &'a [u64; ROW_WORDS], outs: &'a [u64; ROW_WORDS], s: 
 
 // Writes the marks to the map.
 fn write_map(g: Game, s: &[u64], map: &mut [u64])
-    requires { ⌜ Small g × (4096 ≤ length (now s)) × JoinedSolved g (now s) × (g .input .states ≤ setCount (now map)) ⌝ }
+    requires { ⌜ Small g × (joinedWords ≤ length (now s)) × JoinedSolved g (now s) × (g .input .states ≤ setCount (now map)) ⌝ }
     ensures { λ _. ⌜ MapFilled g (now (map .entry)) (now (map .exit)) ⌝ }
 {
     let mut i: usize = 0;
@@ -112,12 +112,12 @@ fn write_map(g: Game, s: &[u64], map: &mut [u64])
 
 // Writes the map of a small accepted game and clears scratch.
 fn make_map(g: Game, scratch: &mut [u64], map: &mut [u64])
-    requires { ⌜ Small g × (4096 ≤ length (now scratch)) × (g .input .states ≤ setCount (now map)) ⌝ }
-    ensures { λ _. ⌜ (now (scratch .exit) ≡ cleared 4096 (now (scratch .entry))) × MapFilled g (now (map .entry)) (now (map .exit)) ⌝ }
+    requires { ⌜ Small g × (joinedWords ≤ length (now scratch)) × (g .input .states ≤ setCount (now map)) ⌝ }
+    ensures { λ _. ⌜ (now (scratch .exit) ≡ cleared joinedWords (now (scratch .entry))) × MapFilled g (now (map .entry)) (now (map .exit)) ⌝ }
 {
     solve(g, &g.input.moves, &g.output.moves, scratch);
     write_map(g, scratch, map);
-    scratch_clearing::clear(scratch, 4096);
+    scratch_clearing::clear(scratch, joined_reach::WORDS);
 }
 
 // The answer of the call.
@@ -137,7 +137,7 @@ fn map_accepted(g: Game, scratch: &mut [u64], map: &mut [u64]) -> Mapped
     if g.output.states > 32 {
         return Mapped::Refused(24);
     }
-    if scratch.len() < 4096 {
+    if scratch.len() < joined_reach::WORDS {
         return Mapped::Refused(8);
     }
     if map.len() < sets::words(g.input.states) {

@@ -7,7 +7,7 @@ ghost use Rattle.bits.specs.Member.{has, pack};
 ghost use Rattle.sets.specs.Words.{bitsOf};
 ghost use Rattle.joint.specs.Solver.{inputsOf, outputsOf, returns, recurring};
 ghost use Rattle.play.specs.Play.{separatedOf};
-ghost use Rattle.joined_reach.specs.Words.{Small};
+ghost use Rattle.joined_reach.specs.Words.{joinedWords, Small};
 ghost use Rattle.joined_reach.specs.Reach.{Within};
 ghost use Rattle.joined_component.specs.Component.{component, rankedIn, Drawn, dueOn, servedOn, acceptsAt, acceptsOn, Rows, Joined};
 use game::Game;
@@ -25,7 +25,7 @@ use sets::ROW_WORDS;
 
 // The outputs o that are found with input `at` and have n positions ahead of the position that they make. There are m outputs.
 fn ranked_row(s: &[u64], m: usize, at: InState, n: u64) -> OutWord
-    requires { ⌜ (m ≤ 32) × (at .0 < 32) × (4096 ≤ length (now s)) × ((o : ℕ) → has (getD (now s) (at .0) 0) o ≡ true → o < m) ⌝ }
+    requires { ⌜ (m ≤ 32) × (at .0 < 32) × (joinedWords ≤ length (now s)) × ((o : ℕ) → has (getD (now s) (at .0) 0) o ≡ true → o < m) ⌝ }
     ensures { λ r. ⌜ ((o : ℕ) → has (r .0) o ≡ (has (getD (now (s .entry)) (at .0) 0) o && rankedIn (now (s .entry)) m (at .0) n o)) ⌝ }
 {
     let i = at.0;
@@ -41,7 +41,7 @@ fn ranked_row(s: &[u64], m: usize, at: InState, n: u64) -> OutWord
 
 // The component of the position from which everything was found, n positions being ahead of it: what has fewer ahead does not lead back.
 pub fn draw_component(g: Game, s: &mut [u64], n: u64)
-    requires { ⌜ Small g × (4096 ≤ length (now s)) × Within g (now s) ⌝ }
+    requires { ⌜ Small g × (joinedWords ≤ length (now s)) × Within g (now s) ⌝ }
     ensures { λ _. ⌜ Drawn g n (now (s .entry)) (now (s .exit)) ⌝ }
 {
     let mut i: usize = 0;
@@ -54,7 +54,7 @@ pub fn draw_component(g: Game, s: &mut [u64], n: u64)
 
 // Adds the component to the set that begins at word a.
 pub fn join(g: Game, s: &mut [u64], a: usize)
-    requires { ⌜ Small g × (a + 32 ≤ 128) × (4096 ≤ length (now s)) ⌝ }
+    requires { ⌜ Small g × (a + 32 ≤ 128) × (joinedWords ≤ length (now s)) ⌝ }
     ensures { λ _. ⌜ Joined g a (now (s .entry)) (now (s .exit)) ⌝ }
 {
     let mut i: usize = 0;
@@ -68,7 +68,7 @@ pub fn join(g: Game, s: &mut [u64], a: usize)
 
 // The inputs of the component's positions.
 fn inputs_of(g: Game, s: &[u64]) -> InSet
-    requires { ⌜ Small g × (4096 ≤ length (now s)) × Rows g (now s) ⌝ }
+    requires { ⌜ Small g × (joinedWords ≤ length (now s)) × Rows g (now s) ⌝ }
     ensures { λ r. ⌜ bitsOf (r .0) ≡ pack (g .input .states) (inputsOf (separatedOf g) (component g (now (s .entry)))) ⌝ }
 {
     let mut c: u64 = 0;
@@ -82,7 +82,7 @@ fn inputs_of(g: Game, s: &[u64]) -> InSet
 
 // The outputs of the component's positions.
 fn outputs_of(g: Game, s: &[u64]) -> OutSet
-    requires { ⌜ Small g × (4096 ≤ length (now s)) ⌝ }
+    requires { ⌜ Small g × (joinedWords ≤ length (now s)) ⌝ }
     ensures { λ r. ⌜ ((o : ℕ) → has (bitsOf (r .0)) o ≡ outputsOf (separatedOf g) (component g (now (s .entry))) o) ⌝ }
 {
     let mut c: u64 = 0;
@@ -165,7 +165,7 @@ fn returns_to(
     i: InState,
     o: OutState,
 ) -> bool
-    requires { ⌜ Small g × (i .0 < g .input .states) × (o .0 < g .output .states) × (4096 ≤ length (now s)) × (now ins ≡ g .input .moves)
+    requires { ⌜ Small g × (i .0 < g .input .states) × (o .0 < g .output .states) × (joinedWords ≤ length (now s)) × (now ins ≡ g .input .moves)
         × (now outs ≡ g .output .moves) ⌝ }
     ensures { λ r. ⌜ r ≡ returns (separatedOf g) (component g (now (s .entry))) (i .0) (o .0) ⌝ }
 {
@@ -191,7 +191,7 @@ pub fn accepting(
     i: InState,
     o: OutState,
 ) -> bool
-    requires { ⌜ Small g × (i .0 < g .input .states) × (o .0 < g .output .states) × (4096 ≤ length (now s)) × Rows g (now s)
+    requires { ⌜ Small g × (i .0 < g .input .states) × (o .0 < g .output .states) × (joinedWords ≤ length (now s)) × Rows g (now s)
         × (now ins ≡ g .input .moves) × (now outs ≡ g .output .moves) ⌝ }
     ensures { λ r. ⌜ r ≡ recurring (separatedOf g) (component g (now (s .entry))) (i .0) (o .0) ⌝ }
 {

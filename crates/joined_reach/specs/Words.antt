@@ -1,6 +1,7 @@
 -- Sets of joined positions in scratch. A set is one word an input: word i has the outputs o with (i, o) in the set. Five sets begin at the words
 -- below; from word 1,024 on stands, for each position, how many positions it reaches, the output running fastest.
 --
+--   joinedWords            == how many words of scratch the map takes
 --   foundAt, followedAt, wonAt, knownAt, componentAt, aheadAt    == where they begin
 --   belongs n a l i o      == (i, o) belongs to the set of n inputs that begins at word a of l
 --   Small g                == g is accepted, and has at most 32 states a graph
@@ -16,6 +17,10 @@ use Rattle.joint.specs.Joint.{rankAt}
 use Rattle.game.specs.declared.Game.{Game}
 use Rattle.game.specs.Fits.{Fits}
 use Rattle.play.specs.Play.{separatedOf}
+
+-- "Its scratch is 4,096 words" (M-108)
+abbrev pub joinedWords : ℕ
+joinedWords = 4096
 
 abbrev pub foundAt : ℕ
 foundAt = 0

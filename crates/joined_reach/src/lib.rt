@@ -7,7 +7,7 @@ ghost use lib.ListN.{length};
 ghost use Rattle.bits.specs.Member.{has};
 ghost use Rattle.graphs.specs.Graph.{edge};
 ghost use Rattle.play.specs.Play.{graphOf};
-ghost use Rattle.joined_reach.specs.Words.{Small};
+ghost use Rattle.joined_reach.specs.Words.{joinedWords, Small};
 ghost use Rattle.joined_reach.specs.Reach.{Next, Grown, Entered, Within, Waiting, Followed, Reached, foundBelow, Counted};
 use game::Game;
 use game::InState;
@@ -18,6 +18,9 @@ use sets::ROW_WORDS;
 pub struct InWord(pub u64);
 
 pub struct OutWord(pub u64);
+
+// How many words of scratch the map on joined positions takes.
+pub const WORDS: usize = 4096;
 
 // Where the sets begin in scratch: what is found, what of it has been followed, what is won, what is known, and a component. Each has 32 words.
 pub const FOUND: usize = 0;
@@ -68,7 +71,7 @@ fn next_outputs(g: Game, outs: &[u64; ROW_WORDS], x: OutWord) -> OutWord
 
 // Adds the outputs y to row j of what is found. Where the row grows, j waits to be followed.
 fn grow(s: &mut [u64], j: InState, y: OutWord, waiting: InWord) -> InWord
-    requires { ⌜ (j .0 < 32) × (4096 ≤ length (now s)) ⌝ }
+    requires { ⌜ (j .0 < 32) × (joinedWords ≤ length (now s)) ⌝ }
     ensures { λ r. ⌜ Grown (j .0) (y .0) (waiting .0) (r .0) (now (s .entry)) (now (s .exit)) ⌝ }
 {
     let place = j.0;
@@ -89,7 +92,7 @@ fn enter(
     y: OutWord,
     waiting: InWord,
 ) -> InWord
-    requires { ⌜ Small g × (r .0 < g .input .states) × (4096 ≤ length (now s)) × (now ins ≡ g .input .moves) ⌝ }
+    requires { ⌜ Small g × (r .0 < g .input .states) × (joinedWords ≤ length (now s)) × (now ins ≡ g .input .moves) ⌝ }
     ensures { λ w. ⌜ Entered g (r .0) (y .0) (waiting .0) (w .0) (now (s .entry)) (now (s .exit)) ⌝ }
 {
     let moves = input_moves(g, ins, r);
@@ -110,7 +113,7 @@ fn follow(
     s: &mut [u64],
     waiting: InWord,
 ) -> InWord
-    requires { ⌜ Small g × (4096 ≤ length (now s)) × (waiting .0 ≢ 0) × Waiting g (waiting .0) (now s)
+    requires { ⌜ Small g × (joinedWords ≤ length (now s)) × (waiting .0 ≢ 0) × Waiting g (waiting .0) (now s)
         × (now ins ≡ g .input .moves) × (now outs ≡ g .output .moves) ⌝ }
     ensures { λ w. ⌜ Followed g (waiting .0) (w .0) (now (s .entry)) (now (s .exit)) ⌝ }
 {
@@ -132,7 +135,7 @@ pub fn close(
     i: InState,
     o: OutState,
 )
-    requires { ⌜ Small g × (i .0 < g .input .states) × (o .0 < g .output .states) × (4096 ≤ length (now s)) × (now ins ≡ g .input .moves)
+    requires { ⌜ Small g × (i .0 < g .input .states) × (o .0 < g .output .states) × (joinedWords ≤ length (now s)) × (now ins ≡ g .input .moves)
         × (now outs ≡ g .output .moves) ⌝ }
     ensures { λ _. ⌜ Reached g (i .0) (o .0) (now (s .entry)) (now (s .exit)) ⌝ }
 {
@@ -148,7 +151,7 @@ pub fn close(
 
 // How many positions are found.
 fn count_found(g: Game, s: &[u64]) -> usize
-    requires { ⌜ Small g × (4096 ≤ length (now s)) × Within g (now s) ⌝ }
+    requires { ⌜ Small g × (joinedWords ≤ length (now s)) × Within g (now s) ⌝ }
     ensures { λ r. ⌜ r ≡ foundBelow g (now (s .entry)) (g .input .states * g .output .states) ⌝ }
 {
     let mut n: usize = 0;
@@ -162,7 +165,7 @@ fn count_found(g: Game, s: &[u64]) -> usize
 
 // Writes down for each position how many positions are ahead of it: those that it reaches, itself counted.
 pub fn count_ahead(g: Game, ins: &[u64; ROW_WORDS], outs: &[u64; ROW_WORDS], s: &mut [u64])
-    requires { ⌜ Small g × (4096 ≤ length (now s)) × (now ins ≡ g .input .moves) × (now outs ≡ g .output .moves) ⌝ }
+    requires { ⌜ Small g × (joinedWords ≤ length (now s)) × (now ins ≡ g .input .moves) × (now outs ≡ g .output .moves) ⌝ }
     ensures { λ _. ⌜ Counted g (now (s .entry)) (now (s .exit)) ⌝ }
 {
     let m = g.output.states;

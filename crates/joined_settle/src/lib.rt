@@ -7,7 +7,7 @@ ghost use Rattle.bits.specs.Member.{has};
 ghost use Rattle.theory.specs.Region.{replies};
 ghost use Rattle.joint.specs.Solver.{Forced, Safe};
 ghost use Rattle.play.specs.Play.{separatedOf};
-ghost use Rattle.joined_reach.specs.Words.{Small};
+ghost use Rattle.joined_reach.specs.Words.{joinedWords, Small};
 ghost use Rattle.joined_component.specs.Component.{won, component};
 ghost use Rattle.joined_settle.specs.Settle.{Growing, Shrinking, Swept, Grew, Shrank, Unsettled, ComponentSettled};
 use game::Game;
@@ -27,7 +27,7 @@ fn forces(
     i: InState,
     o: OutState,
 ) -> bool
-    requires { ⌜ Small g × (i .0 < g .input .states) × (o .0 < g .output .states) × (4096 ≤ length (now s)) × (now ins ≡ g .input .moves)
+    requires { ⌜ Small g × (i .0 < g .input .states) × (o .0 < g .output .states) × (joinedWords ≤ length (now s)) × (now ins ≡ g .input .moves)
         × (now outs ≡ g .output .moves) ⌝ }
     ensures { λ r. ⌜ r ≡ replies (separatedOf g) (won g (now (s .entry))) (i .0) (o .0) ⌝ }
 {
@@ -53,7 +53,7 @@ fn forcing(
     i: InState,
     x: OutWord,
 ) -> OutWord
-    requires { ⌜ Small g × (i .0 < g .input .states) × (4096 ≤ length (now s)) × ((o : ℕ) → has (x .0) o ≡ true → o < g .output .states)
+    requires { ⌜ Small g × (i .0 < g .input .states) × (joinedWords ≤ length (now s)) × ((o : ℕ) → has (x .0) o ≡ true → o < g .output .states)
         × (now ins ≡ g .input .moves) × (now outs ≡ g .output .moves) ⌝ }
     ensures { λ r. ⌜ ((o : ℕ) → has (r .0) o ≡ (has (x .0) o && replies (separatedOf g) (won g (now (s .entry))) (i .0) o)) ⌝ }
 {
@@ -69,7 +69,7 @@ fn forcing(
 
 // One sweep over the component that marks each position that forces what is marked. Whether it marked any.
 fn add_forced(g: Game, ins: &[u64; ROW_WORDS], outs: &[u64; ROW_WORDS], s: &mut [u64]) -> bool
-    requires { ⌜ Small g × (4096 ≤ length (now s)) × Growing g (now s) × (now ins ≡ g .input .moves) × (now outs ≡ g .output .moves) ⌝ }
+    requires { ⌜ Small g × (joinedWords ≤ length (now s)) × Growing g (now s) × (now ins ≡ g .input .moves) × (now outs ≡ g .output .moves) ⌝ }
     ensures { λ b. ⌜ Grew g (now (s .entry)) (now (s .exit)) b ⌝ }
 {
     let mut added = false;
@@ -89,7 +89,7 @@ fn add_forced(g: Game, ins: &[u64; ROW_WORDS], outs: &[u64; ROW_WORDS], s: &mut 
 
 // One sweep over the component that takes out each marked position that does not force what is marked. Whether it took any.
 fn drop_unsafe(g: Game, ins: &[u64; ROW_WORDS], outs: &[u64; ROW_WORDS], s: &mut [u64]) -> bool
-    requires { ⌜ Small g × (4096 ≤ length (now s)) × Shrinking g (now s) × (now ins ≡ g .input .moves) × (now outs ≡ g .output .moves) ⌝ }
+    requires { ⌜ Small g × (joinedWords ≤ length (now s)) × Shrinking g (now s) × (now ins ≡ g .input .moves) × (now outs ≡ g .output .moves) ⌝ }
     ensures { λ b. ⌜ Shrank g (now (s .entry)) (now (s .exit)) b ⌝ }
 {
     let mut dropped = false;
@@ -110,7 +110,7 @@ fn drop_unsafe(g: Game, ins: &[u64; ROW_WORDS], outs: &[u64; ROW_WORDS], s: &mut
 
 // Marks the positions of the component from which what is won behind it can be forced.
 fn force(g: Game, ins: &[u64; ROW_WORDS], outs: &[u64; ROW_WORDS], s: &mut [u64])
-    requires { ⌜ Small g × (4096 ≤ length (now s)) × Growing g (now s) × (now ins ≡ g .input .moves) × (now outs ≡ g .output .moves) ⌝ }
+    requires { ⌜ Small g × (joinedWords ≤ length (now s)) × Growing g (now s) × (now ins ≡ g .input .moves) × (now outs ≡ g .output .moves) ⌝ }
     ensures { λ _. ⌜ Swept g (now (s .entry)) (now (s .exit)) × Growing g (now (s .exit))
         × Forced (separatedOf g) (component g (now (s .exit))) (won g (now (s .exit))) ⌝ }
 {
@@ -119,7 +119,7 @@ fn force(g: Game, ins: &[u64; ROW_WORDS], outs: &[u64; ROW_WORDS], s: &mut [u64]
 
 // Leaves those positions of the component marked from which the system can stay in it, or in what is won behind it, for ever.
 fn keep_safe(g: Game, ins: &[u64; ROW_WORDS], outs: &[u64; ROW_WORDS], s: &mut [u64])
-    requires { ⌜ Small g × (4096 ≤ length (now s)) × Shrinking g (now s) × (now ins ≡ g .input .moves) × (now outs ≡ g .output .moves) ⌝ }
+    requires { ⌜ Small g × (joinedWords ≤ length (now s)) × Shrinking g (now s) × (now ins ≡ g .input .moves) × (now outs ≡ g .output .moves) ⌝ }
     ensures { λ _. ⌜ Swept g (now (s .entry)) (now (s .exit)) × Shrinking g (now (s .exit))
         × Safe (separatedOf g) (component g (now (s .exit))) (won g (now (s .exit))) ⌝ }
 {
@@ -135,7 +135,7 @@ pub fn settle(
     i: InState,
     o: OutState,
 )
-    requires { ⌜ Small g × (4096 ≤ length (now s)) × Unsettled g (i .0) (o .0) (now s) × (now ins ≡ g .input .moves) × (now outs ≡ g .output .moves) ⌝ }
+    requires { ⌜ Small g × (joinedWords ≤ length (now s)) × Unsettled g (i .0) (o .0) (now s) × (now ins ≡ g .input .moves) × (now outs ≡ g .output .moves) ⌝ }
     ensures { λ _. ⌜ ComponentSettled g (now (s .entry)) (now (s .exit)) ⌝ }
 {
     if joined_component::accepting(g, ins, outs, s, i, o) {

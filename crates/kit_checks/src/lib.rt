@@ -39,7 +39,13 @@ fn commands_fit(k: Kit) -> bool
 }
 
 // Whether the place of mode m and command u is barred, or within the counts and names a mode.
-fn entry_fits(next: &[u8; 2048], modes: usize, commands: usize, m: usize, u: usize) -> bool
+fn entry_fits(
+    next: &[u8; kit_drives::NEXT],
+    modes: usize,
+    commands: usize,
+    m: usize,
+    u: usize,
+) -> bool
     requires { ⌜ (m < capacity) × (u < 16) ⌝ }
     ensures { λ r. ⌜ r ≡ entryFits (now (next .entry)) modes commands m u ⌝ }
 {
@@ -57,7 +63,7 @@ fn entry_fits(next: &[u8; 2048], modes: usize, commands: usize, m: usize, u: usi
 }
 
 // Whether all places of mode m fit.
-fn mode_fits(next: &[u8; 2048], modes: usize, commands: usize, m: usize) -> bool
+fn mode_fits(next: &[u8; kit_drives::NEXT], modes: usize, commands: usize, m: usize) -> bool
     requires { ⌜ m < capacity ⌝ }
     ensures { λ r. ⌜ r ≡ all 16 (entryFits (now (next .entry)) modes commands m) ⌝ }
 {

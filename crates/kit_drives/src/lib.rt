@@ -9,13 +9,16 @@ ghost use Rattle.bits.specs.Member.{pack};
 ghost use Rattle.sets.specs.Words.{capacity, bitsOf};
 ghost use Rattle.kit_drives.specs.Drive.{nextIn, madeBy, Small, graphFrom, gameFrom};
 
+// How many places the next modes of a drive have: 16 commands for each of 128 modes.
+pub const NEXT: usize = 2048;
+
 // Place 16 × mode + command of `next` is the mode that the command leads to, 255 where it is barred.
 #[repr(C)]
 pub struct Drive {
     pub modes: usize,
     pub initial: Set,
     pub commands: usize,
-    pub next: [u8; 2048],
+    pub next: [u8; NEXT],
 }
 
 // The panel gives the old drive's commands. Of the eight places for requirements k are in use.
@@ -35,7 +38,7 @@ fn wide(x: u8) -> usize
 }
 
 // The mode that command u leads to from mode m, 255 where it is barred.
-pub fn next_mode(next: &[u8; 2048], m: usize, u: usize) -> usize
+pub fn next_mode(next: &[u8; NEXT], m: usize, u: usize) -> usize
     requires { ⌜ (m < capacity) × (u < 16) ⌝ }
     ensures { λ r. ⌜ r ≡ nextIn (now (next .entry)) m u ⌝ }
 {
@@ -43,7 +46,7 @@ pub fn next_mode(next: &[u8; 2048], m: usize, u: usize) -> usize
 }
 
 // The modes that some command leads to from mode m.
-fn moves_from(next: &[u8; 2048], modes: usize, commands: usize, m: usize) -> Set
+fn moves_from(next: &[u8; NEXT], modes: usize, commands: usize, m: usize) -> Set
     requires { ⌜ (modes ≤ capacity) × (commands ≤ 16) × (m < capacity) ⌝ }
     ensures { λ r. ⌜ bitsOf r ≡ pack modes (madeBy (now (next .entry)) commands m) ⌝ }
 {

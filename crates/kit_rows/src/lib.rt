@@ -19,7 +19,7 @@ struct Origin {
 }
 
 // The lowest command that leads from o to t, the count of commands where none does.
-fn lowest_command(next: &[u8; 2048], commands: usize, o: usize, t: usize) -> usize
+fn lowest_command(next: &[u8; kit_drives::NEXT], commands: usize, o: usize, t: usize) -> usize
     requires { ⌜ (commands ≤ 16) × (o < capacity) ⌝ }
     ensures { λ r. ⌜ r ≡ lowestIn (now (next .entry)) commands o t ⌝ }
 {
@@ -34,7 +34,7 @@ fn lowest_command(next: &[u8; 2048], commands: usize, o: usize, t: usize) -> usi
 }
 
 // The entry that says by a command of the new drive what the controller's entry e says by a mode.
-fn translated(new: &[u8; 2048], from: Origin, e: u16) -> u16
+fn translated(new: &[u8; kit_drives::NEXT], from: Origin, e: u16) -> u16
     requires { ⌜ (from .commands ≤ 16) × (from .mode < capacity) ⌝ }
     ensures { λ r. ⌜ r ≡ translatedOf (commandsOf (now (new .entry)) (from .commands) (from .mode)) e ⌝ }
 {
@@ -49,7 +49,7 @@ fn translated(new: &[u8; 2048], from: Origin, e: u16) -> u16
 // command that leads to a mode has the same entry, so that its command is searched once. The caller lends kept: a list for all modes would be an array
 // of over eight words (M-103).
 fn translate(
-    new: &[u8; 2048],
+    new: &[u8; kit_drives::NEXT],
     from: Origin,
     controller: &[u16],
     base: usize,
@@ -68,7 +68,7 @@ fn translate(
 }
 
 // The row of old mode i and old command u: none where the command is barred, else the entry of the mode that it leads to.
-fn row(next: &[u8; 2048], kept: &[u64], i: usize, u: usize) -> u16
+fn row(next: &[u8; kit_drives::NEXT], kept: &[u64], i: usize, u: usize) -> u16
     requires { ⌜ (i < capacity) × (u < 16) × ReadsIn (now next) (now kept) i u ⌝ }
     ensures { λ r. ⌜ r ≡ told (now (next .entry)) (now (kept .entry)) i u ⌝ }
 {
@@ -81,7 +81,7 @@ fn row(next: &[u8; 2048], kept: &[u64], i: usize, u: usize) -> u16
 
 // The rows of old mode i, at the places from `at` on.
 fn mode_rows(
-    next: &[u8; 2048],
+    next: &[u8; kit_drives::NEXT],
     commands: usize,
     kept: &[u64],
     i: usize,
@@ -100,7 +100,7 @@ fn mode_rows(
 
 // The rows of one output and one counter: a block for each old mode, from block number `first` on.
 fn counter_rows(
-    next: &[u8; 2048],
+    next: &[u8; kit_drives::NEXT],
     modes: usize,
     commands: usize,
     kept: &[u64],

@@ -15,6 +15,13 @@ use libc::STDIN_FILENO;
 use libc::STDOUT_FILENO;
 use text::Answer;
 
+// How many entries a room for a table has, how many words scratch for any game, and how many bytes of a print there is place for.
+const ROOM: usize = 32768;
+
+const SCRATCH: usize = 768;
+
+const PRINT: usize = 1048576;
+
 // Says on standard error that the print was not written whole. A program has no status to say so with.
 fn tell_unwritten(written: bool) {
     if !written {
@@ -38,7 +45,7 @@ fn print(text: &[u8], n: usize)
 }
 
 // The first n bytes of the buffer.
-fn print_front(buffer: &[u8; 1048576], n: usize)
+fn print_front(buffer: &[u8; PRINT], n: usize)
     requires { ⌜ n ≤ 1048576 ⌝ }
 {
     print(buffer, n);
@@ -65,15 +72,15 @@ fn put_panel(buffer: &mut [u8], g: Game, table: &[u16]) -> usize
 }
 
 // A room, made by a function of its own so that no proof looks into 32,768 zeros.
-fn empty_room() -> [u16; 32768]
+fn empty_room() -> [u16; ROOM]
     ensures { λ r. ⌜ 32768 ≡ length r ⌝ }
 {
-    [0; 32768]
+    [0; ROOM]
 }
 
 // A buffer that holds every print.
-fn empty_print() -> [u8; 1048576] {
-    [0; 1048576]
+fn empty_print() -> [u8; PRINT] {
+    [0; PRINT]
 }
 
 // The print for an accepted game.
@@ -81,7 +88,7 @@ fn solve(buffer: &mut [u8], g: Game) -> usize
     requires { ⌜ acceptance g ≡ Accepted ⌝ }
     ensures { λ r. ⌜ Made (now (buffer .entry)) (gamePrint g) r (now (buffer .exit)) ⌝ }
 {
-    let mut scratch = [0u64; 768];
+    let mut scratch = [0u64; SCRATCH];
     let mut refusal: u8 = 0;
     let mut system = false;
     let mut controller = empty_room();
@@ -120,7 +127,7 @@ fn answer(buffer: &mut [u8], file: &[u8]) -> usize
 }
 
 // The same, in the program's buffer.
-fn put_answer(buffer: &mut [u8; 1048576], file: &[u8]) -> usize
+fn put_answer(buffer: &mut [u8; PRINT], file: &[u8]) -> usize
     ensures { λ r. ⌜ Printed (now (file .entry)) (now (buffer .entry)) r (now (buffer .exit)) ⌝ }
 {
     answer(buffer, file)
