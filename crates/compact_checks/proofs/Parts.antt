@@ -18,9 +18,9 @@ use Rattle.compact_checks.specs.Parts.{entryFits, rowAgrees, rowAt, part
 
 -- one row number
 
-all-same : (i : ℕ) (p : ℕ → Bool) → p i ≡ true → all (i + 1) p ≡ all i p
+all-longer : (i : ℕ) (p : ℕ → Bool) → p i ≡ true → all (i + 1) p ≡ all i p
 unfolding all
-all-same i p e = rw add-one (rw e refl)
+all-longer i p e = rw add-one (rw e refl)
 
 module _ (T F : List ℕ) (row part : ℕ) where
   pub row-start : true ≡ rowAgrees T F row part 0
@@ -31,7 +31,7 @@ module _ (T F : List ℕ) (row part : ℕ) where
       → b ≡ rowAgrees T F row part (k + 1)
   unfolding rowAgrees entryFits
   row-same k {c} q e h =
-      h ∙ sym (all-same k (entryFits T F row part)
+      h ∙ sym (all-longer k (entryFits T F row part)
       (eq-eqb (getD T (row + part + k) 0) (getD T (row + getD F k 0) 0) (e ∙ ap (λ (x : ℕ). getD T (row + x) 0) q)))
 
   pub row-other : (k : ℕ) {c : ℕ} → c ≡ getD F k 0 → getD T (row + part + k) 0 ≢ getD T (row + c) 0 → false ≡ rowAgrees T F row part (k + 1)

@@ -29,7 +29,7 @@ fn wide(x: u8) -> usize
 }
 
 // Whether the entries of `count` inputs from `part` on are those of the inputs named by firsts, in the row number that begins at `row`. The loop has no way out
-// in the middle: most tables fit, and so it takes half the time.
+// in the middle: most tables fit, and without one a table is moved in a sixth less time.
 fn row_fits(table: &[u16], row: usize, part: usize, count: usize, firsts: &[u8; PART]) -> bool
     requires { ⌜ (count ≤ partSize) × (row + part + count ≤ length (now table))
         × ((k : ℕ) → k < count → row + getD (now firsts) k 0 < length (now table)) ⌝ }
