@@ -15,6 +15,7 @@ use mathlib.Core.List.{List·Memᴰ}
 use mathlib.Core.Logic.{inl, inr}
 use native.Mathlib.Omega.{arith}
 use lib.ListN.{length, getD}
+use Rattle.finite.proofs.Lists.{place-member}
 use Rattle.finite.proofs.Truth.{clash, and-intro, same-test}
 use Rattle.graphs.specs.Graph.{edge}
 use Rattle.arena.specs.Arena.{Requirement, Separated}
@@ -45,7 +46,7 @@ use Rattle.barred.proofs.Rounds.{
   region-reach,
   region-greatest,
 }
-use Rattle.barred.proofs.Sets.{member, assumed-some, guaranteed-some}
+use Rattle.barred.proofs.Sets.{assumed-some, guaranteed-some}
 use Rattle.barred.proofs.Reply.{goes-reply, goes-in}
 
 abbrev pub never : ℕ → Bool
@@ -193,7 +194,7 @@ module _ (S : Separated) (q : Requirement) (Z : Pairs)
     all-reach : (n : ℕ) → n < length (guaranteed q) → Sub S Z (reach S q (goalAt (guaranteed q) n) Z)
     unfolding guaranteed goalAt
     all-reach zero l = trimmed-first
-    all-reach (suc k) l = settled (getD (q .guarantees) k (λ s. false)) (member (q .guarantees) (λ s. false) k (omega arith))
+    all-reach (suc k) l = settled (getD (q .guarantees) k (λ s. false)) (place-member (q .guarantees) (λ s. false) k (omega arith))
 
     -- where Z is trimmed and a pass over the guarantees changes nothing, the region is found
     pub region-found : (bar : Pairs) → Sub S (barredRegion S bar q) Z → Sub S Z (free S bar)

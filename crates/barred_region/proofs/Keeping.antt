@@ -13,6 +13,7 @@ use lib.Dec.{ltb}
 use lib.ListN.{length, getD, set}
 use lib.Seq.{getD-set-same, getD-set-other}
 use borrow.Author.Tests.{ltb-true, lt-ltb}
+use Rattle.finite.proofs.Lists.{member-place}
 use Rattle.finite.proofs.Tabulate.{length-tabulate, getD-tabulate}
 use Rattle.finite.proofs.Truth.{and-intro, and-left, and-right, not-true, same-test}
 use Rattle.finite.specs.But.{ButFor}
@@ -24,7 +25,6 @@ use Rattle.barred.specs.Region.{reach, barredRegion}
 use Rattle.barred.proofs.Arena.{free-intro, free-unbarred}
 use Rattle.barred.proofs.Rounds.{Sub, sub-intro, region-free}
 use Rattle.barred.proofs.Passes.{region-found, region-trimmed}
-use Rattle.barred.proofs.Sets.{place}
 use Rattle.game.specs.declared.Game.{Game}
 use Rattle.game.specs.Access.{noOutput, requirementAt}
 use Rattle.game.specs.Fits.{Fits}
@@ -115,7 +115,7 @@ module _ (g : Game) (F : Fits g) (b l : List ℕ) where
       where
         settled : (s : ℕ → Bool) → List·Memᴰ s (only g .guarantees) → Sub (separatedOf g) (keptPairs n) (reach (separatedOf g) (only g) s (keptPairs n))
         settled s mem =
-            let u = place (only g .guarantees) (λ k. false) mem in
+            let u = member-place (only g .guarantees) (λ k. false) mem in
             let h : u .0 < requirementAt g 0 .guaranteed = omega (arith, u .1, length-tabulate sets (requirementAt g 0 .guaranteed)) in
             let is : s ≡ sets (u .0) = sym (u .2) ∙ getD-tabulate sets (requirementAt g 0 .guaranteed) (u .0) (λ k. false) h in
             rw is (among-sub g (record {

@@ -16,7 +16,7 @@ use mathlib.Core.Logic.{_≢_}
 use native.Mathlib.Omega.{arith}
 use native.Mathlib.Decide.{ℕ-discrete}
 use lib.ListN.{length, getD, set}
-use Rattle.finite.proofs.Truth.{clash, and-left, and-right, not-true}
+use Rattle.finite.proofs.Truth.{clash, and-left, and-right, not-true, or-none}
 use Rattle.finite.specs.But.{ButFor}
 use Rattle.finite.proofs.But.{but-self}
 use Rattle.bits.specs.Member.{has}
@@ -146,8 +146,7 @@ abbrev pub gained : Bool → Bool → Bool
 gained p q = q && not p
 
 pub or-same : (p : Bool) → (p || false) ≡ p
-or-same true = refl
-or-same false = refl
+or-same p = or-none p refl
 
 pub united : {n a b : ℕ} {l m : List ℕ} {r : Bool} → Merged gained _||_ n a b l m r → United n a b l m r
 united {a = a} {b} {l} M = record {

@@ -2,7 +2,7 @@
 use mathlib.Core.Path.{_≡_, refl, sym, ap, ap₂, _∙_}
 use mathlib.Core.Logic.{_⊎_, inl, inr, _≢_}
 use mathlib.Core.Bool.{Bool, true, false, not, _&&_, _||_}
-use Prim.Native.Nat.{ℕ, zero, suc, _+_, _/_, _%_, _^_, _<_}
+use Prim.Native.Nat.{ℕ, zero, suc, _+_, _/_, _%_, _^_, _≤_, _<_}
 use native.Mathlib.Nat.{div-add-mod', mod-lt, le-of-suc-le-suc, not-suc-le-zero}
 use native.Mathlib.Numerals.{one-add}
 use native.Mathlib.Omega.{arith}
@@ -12,11 +12,11 @@ use lib.Bits.{bitAnd}
 use lib.Pow.{pow-pos, split, shr-lt}
 use lib.Count.{ones, ones-cat, trailingZeros, under}
 use borrow.Author.Tests.{eqb-true, eqb-false, eq-eqb, ne-eqb}
-use Rattle.finite.specs.Bounded.{least, leastFrom, count, one}
+use Rattle.finite.specs.Bounded.{any, least, leastFrom, count, one}
 use Rattle.finite.proofs.Truth.{decide, clash, and-intro, and-left, and-right, same-test, not-true}
 use Rattle.finite.proofs.Bounded.{all-intro, all-elim, any-intro, any-elim, count-same, least-same}
-use Rattle.bits.specs.Member.{has, implies, both, subset, setsMeet}
-use Rattle.bits.proofs.Membership.{digit, has-low, has-suc, has-zero, has-and, has-lt, ext, has-block-low}
+use Rattle.bits.specs.Member.{has, pack, implies, both, subset, setsMeet}
+use Rattle.bits.proofs.Membership.{digit, has-low, has-suc, has-zero, has-and, has-lt, ext, has-block-low, has-pack-below, pack-below, pack-holds}
 
 -- ---- a set that is not empty has a member
 
@@ -89,6 +89,18 @@ unfolding setsMeet both
 meets-elim w x y e =
     let k = any-elim w (both x y) e in
     (k .0, k .1, and-left (has x (k .0)) (has y (k .0)) (k .2), and-right (has x (k .0)) (has y (k .0)) (k .2))
+
+-- two sets meet, one of them told by its members
+pub meets-pack : (w n x : ℕ) (p : ℕ → Bool) → n ≤ w → setsMeet w x (pack n p) ≡ any n (λ t. has x t && p t)
+meets-pack w n x p b =
+    same-test (setsMeet w x (pack n p)) (any n (λ t. has x t && p t))
+    (λ e.
+    let v = meets-elim w x (pack n p) e in
+    any-intro n (λ t. has x t && p t) (v .0) (pack-below n p (v .0) (v .3)) (and-intro (v .2) (pack-holds n p (v .0) (v .3))))
+    (λ e.
+    let v = any-elim n (λ t. has x t && p t) e in
+    meets-intro w x (pack n p) (v .0) (omega (arith, v .1)) (and-left (has x (v .0)) (p (v .0)) (v .2))
+    (has-pack-below n p (v .0) (v .1) ∙ and-right (has x (v .0)) (p (v .0)) (v .2)))
 
 -- the test on words: `x & y != 0`
 pub meets-word : (w x y : ℕ) → x < 2 ^ w → not (eqb (bitAnd x y) 0) ≡ setsMeet w x y

@@ -29,7 +29,7 @@ use lib.Bits.{bitAnd, bitOr, bitXor, and-shr, or-shr, xor-shr, and-mod, or-mod, 
 use lib.Pow.{pow-pos, pow-mono, shl-exact, shr-shr, shr-lt, split, high, ones-split, ones-lt}
 use borrow.Author.Tests.{eqb-true, lt-ltb, le-ltb, eq-eqb, ne-eqb}
 use Rattle.finite.specs.Bounded.{one}
-use Rattle.finite.proofs.Truth.{decide}
+use Rattle.finite.proofs.Truth.{decide, same-test}
 use Rattle.bits.specs.Member.{has, within, pack}
 
 two-pos : zero < 2
@@ -262,6 +262,17 @@ has-pack-below (suc n) p s l = go (decLt s n) (has-pack-below n p s)
 
 pub has-pack-past : (n : ℕ) (p : ℕ → Bool) (s : ℕ) → n ≤ s → has (pack n p) s ≡ false
 has-pack-past n p s l = has-past n (pack n p) s (pack-lt n p) l
+
+-- a member of a packed set
+pub pack-below : (n : ℕ) (p : ℕ → Bool) (s : ℕ) → has (pack n p) s ≡ true → s < n
+pack-below n p s h = has-lt n (pack n p) s (pack-lt n p) h
+
+pub pack-holds : (n : ℕ) (p : ℕ → Bool) (s : ℕ) → has (pack n p) s ≡ true → p s ≡ true
+pack-holds n p s h = sym (has-pack-below n p s (pack-below n p s h)) ∙ h
+
+-- a set is its members, past the count too
+pub has-pack-all : (n : ℕ) (p : ℕ → Bool) → ((t : ℕ) → p t ≡ true → t < n) → (t : ℕ) → has (pack n p) t ≡ p t
+has-pack-all n p b t = same-test (has (pack n p) t) (p t) (pack-holds n p t) (λ e. has-pack-below n p t (b t e) ∙ e)
 
 pub has-pack : (n : ℕ) (p : ℕ → Bool) (s : ℕ) → has (pack n p) s ≡ (ltb s n && p s)
 has-pack n p s = go (decLt s n)

@@ -8,11 +8,12 @@ use mathlib.Core.Logic.{inl, inr}
 use mathlib.Core.Path.{_≡_, refl, sym, _∙_, ap, subst}
 use lib.ListN.{length, take, drop, length-append, length-drop, length-map}
 use borrow.Author.Tests.{le-leb, lt-leb}
+use Rattle.text_shape.proofs.WordTable.{opening-short}
 use Rattle.text_grammar.specs.Number.{decimal}
 use Rattle.text_shape.specs.Shape.{opening}
 use Rattle.text_put.specs.Put.{Puts}
 use Rattle.print_lines.specs.Line.{refusedLine}
-use Rattle.print_lines.proofs.Lines.{number-short, opening-short, refused-pieces}
+use Rattle.print_lines.proofs.Lines.{number-short, refused-pieces}
 use Rattle.catalogue_names.specs.Names.{names, front, fitName, NextName}
 use Rattle.catalogue_names.proofs.Splitting.{past, take-front, front-short}
 use Rattle.catalogue_names.specs.declared.Kept.{Kept}

@@ -25,7 +25,7 @@ use Rattle.catalogue_tally.specs.declared.Outcome.the-variants.{Refused}
 use Rattle.catalogue_tally.specs.declared.Tally.{Tally}
 use Rattle.catalogue_tally.specs.Figures.{Tallied}
 use Rattle.catalogue_verdict.specs.Judged.{Judged}
-use Rattle.catalogue_lines.specs.Figures.{figuresPrint}
+use Rattle.catalogue_lines.specs.Figures.{figuresPrint, figuresBytes}
 
 -- "26 a file that can't be opened or read"; which bytes a file has no contract can say
 unfoldable pub FromFile : Outcome → Type 0
@@ -56,7 +56,7 @@ Prints l d n e =
 
 pub record Printed (l d : List ℕ) (n : ℕ) (e : List ℕ) : Type 0 where
   pub prints : Prints l d n e
-  pub fits : n ≤ 32768
+  pub fits : n ≤ figuresBytes
 
 -- "named on standard input"; which bytes standard input gives no contract can say
 pub record MoreKept (d : List ℕ) (k r : Kept) (e : List ℕ) : Type 0 where
@@ -70,4 +70,4 @@ pub record InputKept (d : List ℕ) (k : Kept) : Type 0 where
 -- so the print is said of whatever bytes the buffer holds
 pub record KeptPrinted (l : List ℕ) (k : Kept) (d : List ℕ) (n : ℕ) (e : List ℕ) : Type 0 where
   pub printed : (s : List ℕ) → Held s l k → Printed s d n e
-  pub fits : n ≤ 32768
+  pub fits : n ≤ figuresBytes

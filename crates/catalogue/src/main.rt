@@ -2,14 +2,15 @@
 use catalogue_names::Kept;
 use catalogue_tally::Outcome;
 use catalogue_tally::Tally;
-use catalogue_verdict::ROOM;
 use libc::STDERR_FILENO;
 use libc::STDIN_FILENO;
 use libc::STDOUT_FILENO;
+use prints::ROOM;
 ghost use Prim.Native.Nat.{_≤_, _<_};
 ghost use lib.ListN.{length};
 ghost use Rattle.catalogue_names.specs.Names.{names};
 ghost use Rattle.catalogue_tally.specs.Figures.{Modest};
+ghost use Rattle.catalogue_lines.specs.Figures.{figuresBytes};
 ghost use Rattle.catalogue.specs.Catalogue.{FromFile, ForName, Catalogued, Printed, MoreKept, InputKept, KeptPrinted};
 
 // How many bytes of a file, of a list and of a print there is place for.
@@ -19,7 +20,7 @@ const LIST: usize = 262144;
 
 const PRINT: usize = 32768;
 
-// A room of the solver, made by a function of its own so that no proof looks into 32,768 zeros.
+// A room of the solver, made by a function of its own so that no proof looks into its zeros.
 fn empty_room() -> [u16; ROOM] {
     [0; ROOM]
 }
@@ -235,7 +236,7 @@ fn print(text: &[u8], n: usize)
 
 // Writes the first n bytes of the buffer.
 fn print_front(buffer: &[u8; PRINT], n: usize)
-    requires { ⌜ n ≤ 32768 ⌝ }
+    requires { ⌜ n ≤ figuresBytes ⌝ }
 {
     print(buffer, n);
 }

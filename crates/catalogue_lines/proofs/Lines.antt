@@ -7,13 +7,14 @@ use mathlib.Core.Path.{_≡_, refl, sym, _∙_, ap}
 use lib.Dec.{eqb}
 use lib.ListN.{length, getD, length-append}
 use borrow.Author.Tests.{eq-eqb, ne-eqb}
+use Rattle.text_shape.proofs.WordTable.{opening-short}
 use Rattle.text_grammar.specs.Number.{decimal}
 use Rattle.text_grammar.proofs.Format.{by-cases}
 use Rattle.text_shape.specs.Text.{line, bracket, items, gapText}
 use Rattle.text_shape.specs.Shape.{opening}
 use Rattle.text_put.specs.Put.{Puts}
 use Rattle.text_put.proofs.Buffer.{puts-as}
-use Rattle.print_lines.proofs.Lines.{number-short, opening-short, puts-nothing}
+use Rattle.print_lines.proofs.Lines.{number-short, puts-nothing}
 use Rattle.catalogue_lines.specs.Figures.{numberWord, wonWord, countLine, pairText, numberLine, numberLines, wonLine}
 
 pub count-pieces : (w n : ℕ) → opening w ++ ((decimal n ++ 41 ∷ []) ++ 10 ∷ []) ≡ countLine w n

@@ -7,7 +7,8 @@
 --   numberLines k r ns    == such lines for the k numbers from r on, rising
 --   wonLine w p           == (won W P)
 --   figuresPrint t        == the print of the tally t
---   Made d t n e          == the buffer d has become e by writing the print t at its front, n bytes, which 32 KiB hold
+--   figuresBytes          == how many bytes of a print the catalogue has place for: 32 KiB
+--   Made d t n e          == the buffer d has become e by writing the print t at its front, n bytes, for which there is place
 use Prim.Native.Nat.{ℕ, zero, suc, _≤_}
 use mathlib.Core.Bool.{true, false}
 use mathlib.Core.List.{List, [], _∷_, _++_}
@@ -47,6 +48,9 @@ figuresPrint t =
     countLine 8 (t .system) ++ (countLine 9 (t .environment) ++
     (countLine 7 (t .refused) ++ (numberLines 256 0 (t .numbers) ++ wonLine (t .won) (t .positions))))
 
+abbrev pub figuresBytes : ℕ
+figuresBytes = 32768
+
 pub record Made (d t : List ℕ) (n : ℕ) (e : List ℕ) : Type 0 where
   pub puts : Puts d 0 t n e
-  pub fits : n ≤ 32768
+  pub fits : n ≤ figuresBytes

@@ -9,9 +9,10 @@ use mathlib.Core.Path.{_≡_, refl, sym, _∙_, ap, subst}
 use lib.Dec.{eqb}
 use lib.ListN.{length, take, length-map}
 use lib.Seq.{take-all, take-nil, length-take-le}
+use Rattle.finite.proofs.Truth.{decide}
 use Rattle.catalogue_names.specs.Names.{pushByte, names, fitName}
 use Rattle.catalogue_names.specs.Keeping.{cut}
-use Rattle.catalogue_names.proofs.Splitting.{unfit-long, decide, names-stop, names-on}
+use Rattle.catalogue_names.proofs.Splitting.{unfit-long, names-stop, names-on}
 use Rattle.catalogue_names.proofs.Keeping.{cut-line, cut-on, cut-past}
 
 -- the names, each cut to its first 256 bytes

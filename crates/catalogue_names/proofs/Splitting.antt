@@ -2,7 +2,7 @@
 use Prim.Native.Nat.{ℕ, zero, suc, _+_, _≤_, _<_}
 use native.Mathlib.Omega.{arith}
 use mathlib.Core.Bool.{Bool, true, false, not}
-use mathlib.Core.Logic.{_≢_, _⊎_, inl, inr}
+use mathlib.Core.Logic.{_≢_, inl, inr}
 use mathlib.Core.List.{List, [], _∷_}
 use mathlib.Core.Path.{_≡_, refl, sym, _∙_, ap}
 use native.Mathlib.Numerals.{add-one}
@@ -10,6 +10,7 @@ use lib.Dec.{eqb}
 use lib.ListN.{length, take, drop, getD, length-drop}
 use lib.Seq.{drop-cons, drop-drop}
 use borrow.Author.Tests.{eq-eqb, ne-eqb, le-leb, lt-leb}
+use Rattle.finite.proofs.Truth.{decide}
 use Rattle.catalogue_names.specs.Names.{pushByte, names, front, hasZero, fitName, NextName}
 
 pub past : {A : Type 0} (l : List A) (n : ℕ) → length l ≤ n → drop n l ≡ []
@@ -69,10 +70,6 @@ take-front (b ∷ l) = go (eqb b 10) (take-front l)
         ≡ elim t as (λ x. List ℕ) [ true ↦ [] | false ↦ b ∷ front l ]
     go true h = refl
     go false h = ap (λ (x : List ℕ). b ∷ x) h
-
-pub decide : (t : Bool) → (t ≡ true) ⊎ (t ≡ false)
-decide true = inl refl
-decide false = inr refl
 
 names-first : (b : ℕ) (l : List ℕ) → eqb b 10 ≡ true → names (b ∷ l) ≡ front (b ∷ l) ∷ names (drop (suc (length (front (b ∷ l)))) (b ∷ l))
 names-first b l h = names-stop b l h ∙ rw (front-stop b l h) refl

@@ -1,14 +1,16 @@
 -- A tally that is right stays right as one outcome more is counted.
-use Prim.Native.Nat.{ℕ, zero, suc, _+_, _≤_, _<_}
+use Prim.Native.Nat.{ℕ, suc, _+_, _≤_, _<_}
 use native.Mathlib.Omega.{arith}
 use mathlib.Core.Bool.{Bool, true, false}
-use mathlib.Core.Logic.{_⊎_, inl, inr}
+use mathlib.Core.Logic.{inl, inr}
 use mathlib.Core.List.{List, [], _∷_, _++_}
 use mathlib.Core.Path.{_≡_, refl, sym, _∙_, ap}
 use lib.Dec.{eqb}
-use lib.ListN.{length, getD, set, replicate, length-append, length-set}
+use lib.ListN.{length, getD, set, length-append, length-set}
 use lib.Seq.{getD-set-same, getD-set-other}
 use borrow.Author.Tests.{eqb-true, eqb-false}
+use Rattle.finite.proofs.Truth.{decide}
+use Rattle.finite.proofs.Lists.{all-default}
 use Rattle.finite.specs.Bounded.{one}
 use Rattle.catalogue_tally.specs.declared.Outcome.{Outcome}
 use Rattle.catalogue_tally.specs.declared.Outcome.the-variants.{System, Environment, Refused}
@@ -67,10 +69,6 @@ number-added : (l : List ℕ) (n r : ℕ) → r < length l → getD (set l n (ge
 unfolding one
 number-added l n r h = elim (decide (eqb n r)) [ inl e ↦ same e | inr e ↦ other e ]
   where
-    decide : (b : Bool) → (b ≡ true) ⊎ (b ≡ false)
-    decide true = inl refl
-    decide false = inr refl
-
     same : eqb n r ≡ true → getD (set l n (getD l n 0 + 1)) r 0 ≡ getD l r 0 + one (eqb n r)
     same e =
         let q = eqb-true n r e in
@@ -165,12 +163,6 @@ within-add {os} (Refused n) W M = record {
       (arith, W .positions, length-snoc os (Refused n));
 }
 
-getD-zeros : (n r : ℕ) → getD {A = ℕ} (replicate n 0) r 0 ≡ 0
-getD-zeros zero zero = refl
-getD-zeros zero (suc r) = refl
-getD-zeros (suc n) zero = refl
-getD-zeros (suc n) (suc r) = getD-zeros n r
-
 pub tallied-nothing : Tallied [] emptyTally
 unfolding emptyTally howMany sumOf
 tallied-nothing =
@@ -180,7 +172,7 @@ tallied-nothing =
       refused = refl;
       games = refl;
       counts = refl;
-      numbers = λ r h. getD-zeros 256 r;
+      numbers = λ r h. all-default 256 r 0;
       won = refl;
       positions = refl;
     }

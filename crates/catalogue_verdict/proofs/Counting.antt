@@ -7,6 +7,8 @@ use mathlib.Core.Bool.{Bool, true, false}
 use mathlib.Core.List.{List}
 use mathlib.Core.Path.{_≡_, refl, sym, _∙_, ap, subst}
 use lib.ListN.{length, getD}
+use Rattle.scratch.proofs.Most.{most-scratch}
+use Rattle.prints.specs.Prints.{roomEntries}
 use Rattle.finite.specs.Bounded.{one, count}
 use Rattle.bits.specs.Member.{has}
 use Rattle.sets.specs.Words.{rowWords, setsIn, setCount, wordsFor}
@@ -17,10 +19,10 @@ use Rattle.game.specs.declared.Game.{Game}
 use Rattle.game.specs.declared.Acceptance.the-variants.{Accepted}
 use Rattle.game.specs.Acceptance.{acceptance}
 use Rattle.table_sizes.proofs.Lengths.{inputs-most, outputs-most}
-use Rattle.map.specs.declared.Mapped.{Mapped}
-use Rattle.map.specs.declared.Mapped.the-variants.{Done}
+use Rattle.map_marks.specs.declared.Mapped.{Mapped}
+use Rattle.map_marks.specs.declared.Mapped.the-variants.{Done}
 use Rattle.map.specs.Map.{mapFits, mapRoom, mapAnswer, MapMade}
-use Rattle.scratch.specs.Scratch.{scratchLength}
+use Rattle.scratch.specs.Scratch.{scratchLength, mostScratch}
 use Rattle.solver.specs.declared.Verdict.{Verdict}
 use Rattle.solver.specs.declared.Verdict.the-variants.{System, Environment, Refused as NotSolved}
 use Rattle.solver.specs.Promise.{verdictAnswer, Solved}
@@ -62,19 +64,17 @@ module _ (l : List ℕ) (m : ℕ) where
   unfolding marks
   marks-next i e q = omega (arith, ap (λ (j : ℕ). marks l m j) (add-one i))
 
--- no game asks for more than 768 words of scratch
-most-scratch : (g : Game) → acceptance g ≡ Accepted → scratchLength g ≤ 768
-most-scratch g a = omega (arith, inputs-most g a, outputs-most g a)
-
 pub map-long : (g : Game) (m : List ℕ) → acceptance g ≡ Accepted → length m ≡ rowWords → g .input .states ≤ setCount m
 map-long g m a q = words-held m (g .input .states) (omega (arith, q, inputs-most g a))
 
 -- the map is made, so what it marks is what is won
-module _ {g : Game} {s s′ m m′ : List ℕ} {r : Mapped} (a : acceptance g ≡ Accepted) (M : MapMade g s s′ m m′ r) (p : length s ≡ 768)
+module _ {g : Game} {s s′ m m′ : List ℕ} {r : Mapped} (a : acceptance g ≡ Accepted) (M : MapMade g s s′ m m′ r) (p : length s ≡ mostScratch)
     (q : length m ≡ rowWords) where
-  map-fits : mapFits g 768 rowWords ≡ true
+  map-fits : mapFits g mostScratch rowWords ≡ true
   unfolding mapFits
-  map-fits = and-intro (le-leb (scratchLength g) 768 (most-scratch g a)) (le-leb (wordsFor (g .input .states)) rowWords (omega (arith, inputs-most g a)))
+  map-fits =
+      and-intro (le-leb (scratchLength g) mostScratch (most-scratch g a))
+      (le-leb (wordsFor (g .input .states)) rowWords (omega (arith, inputs-most g a)))
 
   map-done : r ≡ Done
   unfolding mapAnswer mapRoom
@@ -84,27 +84,28 @@ module _ {g : Game} {s s′ m m′ : List ℕ} {r : Mapped} (a : acceptance g �
   map-census e = record { map = setsIn m′; won = M .won map-done; sum = e }
 
 -- the solver's answer for the rooms of the solve program
-module _ {g : Game} {s s′ c c′ e e′ : List ℕ} {v : Verdict} (a : acceptance g ≡ Accepted) (S : Solved g s s′ c c′ e e′ v) (p : length s ≡ 768)
-    (q : length c ≡ 32768) (h : length e ≡ 32768) where
-  answered : v ≡ verdictAnswer g (scratchLength g) 32768 32768
-  answered = S .answer ∙ (λ i. verdictAnswer g (p i) (q i) (h i)) ∙ more-scratch g 768 32768 32768 (most-scratch g a)
+module _ {g : Game} {s s′ c c′ e e′ : List ℕ} {v : Verdict} (a : acceptance g ≡ Accepted) (S : Solved g s s′ c c′ e e′ v) (p : length s ≡ mostScratch)
+    (q : length c ≡ roomEntries) (h : length e ≡ roomEntries) where
+  answered : v ≡ verdictAnswer g (scratchLength g) roomEntries roomEntries
+  answered = S .answer ∙ (λ i. verdictAnswer g (p i) (q i) (h i)) ∙ more-scratch g mostScratch roomEntries roomEntries (most-scratch g a)
 
-  comes-as : (o : Outcome) (u : Verdict) → v ≡ u → Comes g u o → Comes g (verdictAnswer g (scratchLength g) 32768 32768) o
+  comes-as : (o : Outcome) (u : Verdict) → v ≡ u → Comes g u o → Comes g (verdictAnswer g (scratchLength g) roomEntries roomEntries) o
   comes-as o u k C = subst (λ (x : Verdict). Comes g x o) (sym k ∙ answered) C
 
-  pub comes-refused : {n : ℕ} → v ≡ NotSolved n → Comes g (verdictAnswer g (scratchLength g) 32768 32768) (NoGame n) × Modest (NoGame n)
+  pub comes-refused : {n : ℕ} → v ≡ NotSolved n → Comes g (verdictAnswer g (scratchLength g) roomEntries roomEntries) (NoGame n) × Modest (NoGame n)
   unfolding Comes wonOf positionsOf
   comes-refused {n} k = (comes-as _ (NotSolved n) k refl, record { won = omega arith; positions = omega arith })
 
   module _ {w : ℕ} (C : Census g w) (b : w ≤ 16384) where
-    pub comes-system : {n : ℕ} → v ≡ System n → Comes g (verdictAnswer g (scratchLength g) 32768 32768) (SystemGame w (g .input .states * g .output .states))
+    pub comes-system : {n : ℕ} → v ≡ System n
+        → Comes g (verdictAnswer g (scratchLength g) roomEntries roomEntries) (SystemGame w (g .input .states * g .output .states))
         × Modest (SystemGame w (g .input .states * g .output .states))
     unfolding Comes wonOf positionsOf positions
     comes-system {n} k =
         (comes-as _ (System n) k (w, C, refl), record { won = b; positions = mul-le-mul (inputs-most g a) (outputs-most g a) })
 
     pub comes-environment : {n : ℕ} → v ≡ Environment n
-        → Comes g (verdictAnswer g (scratchLength g) 32768 32768) (EnvironmentGame w (g .input .states * g .output .states))
+        → Comes g (verdictAnswer g (scratchLength g) roomEntries roomEntries) (EnvironmentGame w (g .input .states * g .output .states))
         × Modest (EnvironmentGame w (g .input .states * g .output .states))
     unfolding Comes wonOf positionsOf positions
     comes-environment {n} k =
@@ -112,7 +113,8 @@ module _ {g : Game} {s s′ c c′ e e′ : List ℕ} {v : Verdict} (a : accepta
 
 -- the answer to a file
 module _ {s : List ℕ} {x : Reading} (R : Reads s x) where
-  pub judged-game : {o : Outcome} → x .answer ≡ Read → Comes (x .game) (verdictAnswer (x .game) (scratchLength (x .game)) 32768 32768) o → Judged s o
+  pub judged-game : {o : Outcome} → x .answer ≡ Read
+      → Comes (x .game) (verdictAnswer (x .game) (scratchLength (x .game)) roomEntries roomEntries) o → Judged s o
   unfolding Answers
   judged-game {o} h C = record { reading = x; reads = R; answers = subst (λ (a : Answer). Answers (x .game) a o) (sym h) C }
 

@@ -12,6 +12,7 @@ use mathlib.Core.List.{List}
 use mathlib.Core.Logic.{_↔_}
 use mathlib.Core.Path.{_≡_}
 use lib.ListN.{getD}
+use Rattle.prints.specs.Prints.{roomEntries}
 use Rattle.finite.specs.Bounded.{count}
 use Rattle.bits.specs.Member.{has}
 use Rattle.arena.specs.Win.{Won}
@@ -50,7 +51,7 @@ Comes g (NotSolved n) o = o ≡ NoGame n
 
 -- "Rooms are the solve program's.", scratch as much as the game asks for
 unfoldable pub Answers : Game → Answer → Outcome → Type 0
-Answers g Read o = Comes g (verdictAnswer g (scratchLength g) 32768 32768) o
+Answers g Read o = Comes g (verdictAnswer g (scratchLength g) roomEntries roomEntries) o
 Answers g (Misshapen p) o = o ≡ NoGame 11
 Answers g (NotRead n) o = o ≡ NoGame n
 

@@ -1,6 +1,7 @@
 // What one file of a catalogue comes to: the solve program's verdict, with the game's won positions and all its positions.
 use catalogue_tally::Outcome;
 use game::Game;
+use prints::ROOM;
 use sets::Set;
 use solver::Verdict;
 use text::Answer;
@@ -13,13 +14,9 @@ ghost use Rattle.game.specs.declared.Acceptance.the-variants.{Accepted};
 ghost use Rattle.game.specs.Acceptance.{acceptance};
 ghost use Rattle.scratch.specs.Scratch.{scratchLength};
 ghost use Rattle.solver.specs.Promise.{verdictAnswer};
+ghost use Rattle.prints.specs.Prints.{roomEntries};
 ghost use Rattle.catalogue_tally.specs.Figures.{Modest};
 ghost use Rattle.catalogue_verdict.specs.Judged.{marks, Census, Comes, Judged};
-
-// How many entries a room for a table has, and how many words scratch for any game.
-pub const ROOM: usize = 32768;
-
-const SCRATCH: usize = 768;
 
 // How many of the first m states a set has.
 fn row_count(x: Set, m: usize) -> usize
@@ -59,7 +56,7 @@ fn won_count(g: Game) -> usize
     requires { ⌜ acceptance g ≡ Accepted ⌝ }
     ensures { λ r. ⌜ Census g r × (r ≤ 16384) ⌝ }
 {
-    let mut scratch = [0u64; SCRATCH];
+    let mut scratch = [0u64; scratch::MOST];
     let mut map = [0u64; sets::ROW_WORDS];
     map::won_map(g, &mut scratch, &mut map);
     map_count(&map, g.input.states, g.output.states)
@@ -68,9 +65,9 @@ fn won_count(g: Game) -> usize
 // What an accepted game comes to, in the two rooms.
 fn solve(g: Game, controller: &mut [u16; ROOM], panel: &mut [u16; ROOM]) -> Outcome
     requires { ⌜ acceptance g ≡ Accepted ⌝ }
-    ensures { λ r. ⌜ Comes g (verdictAnswer g (scratchLength g) 32768 32768) r × Modest r ⌝ }
+    ensures { λ r. ⌜ Comes g (verdictAnswer g (scratchLength g) roomEntries roomEntries) r × Modest r ⌝ }
 {
-    let mut scratch = [0u64; SCRATCH];
+    let mut scratch = [0u64; scratch::MOST];
     let v = solver::solve_into(g, &mut scratch, controller, panel);
     match v {
         Verdict::Refused(n) => Outcome::Refused(n),

@@ -12,7 +12,7 @@ use mathlib.Core.List.{List, [], _∷_, _++_, map, List·Memᴰ, List·Memᴰ·n
 use lib.Dec.{eqb, ltb, leb}
 use lib.ListN.{length, getD}
 use borrow.Author.Tests.{eqb-true, ltb-true, leb-true}
-use Rattle.finite.proofs.Truth.{and-left, and-right}
+use Rattle.finite.proofs.Truth.{and-left, and-right, and-both}
 use Rattle.finite.proofs.Bounded.{all-elim}
 use Rattle.finite.proofs.Lists.{allOf-elim}
 use Rattle.finite.specs.Bounded.{all, any, least, leastFrom, count, one}
@@ -189,9 +189,6 @@ records : allOf (λ (c : Case). lengths (c .game) && narrowWords (c .game)) tabl
 unfolding made all allOf fours lengths narrow narrowSet narrowSets narrowWords table
 records = refl
 
-both : {a b : Bool} → (a && b) ≡ true → (a ≡ true) × (b ≡ true)
-both {a} {b} h = (and-left a b h, and-right a b h)
-
 -- a test that holds of every member and of what is read past the end
 each : {A : Type 0} (p : A → Bool) (d : A) → p d ≡ true → (l : List A) → allOf p l ≡ true → (i : ℕ) → p (getD l i d) ≡ true
 unfolding allOf
@@ -202,7 +199,7 @@ each p d h (a ∷ l) q (suc i) = each p d h l (and-right (p a) (allOf p l) q) i
 fits : (x : Set) → narrowSet x ≡ true → WordsFit x
 unfolding narrow narrowSet
 fits x h =
-    let v = both {a = narrow (x .low)} {b = narrow (x .high)} h in
+    let v = and-both (narrow (x .low)) (narrow (x .high)) h in
     (ltb-true (x .low) (2 ^ 64) (v .0), ltb-true (x .high) (2 ^ 64) (v .1))
 
 row-fits : (l : List ℕ) → allOf narrow l ≡ true → (i : ℕ) → getD l i 0 < 2 ^ 64
@@ -214,7 +211,7 @@ sets-fit : (g : Game) → allOf narrowSets (g .requirements) ≡ true → (r j :
 unfolding narrow narrowSet narrowSets allOf
 sets-fit g h r j =
     let q = requirementAt g r in
-    let v = both {a = allOf (λ (x : InSet). narrowSet (x .0)) (q .assumptions)} {b = allOf (λ (x : OutSet). narrowSet (x .0)) (q .guarantees)}
+    let v = and-both (allOf (λ (x : InSet). narrowSet (x .0)) (q .assumptions)) (allOf (λ (x : OutSet). narrowSet (x .0)) (q .guarantees))
     (each narrowSets noRequirement refl (g .requirements) h r) in (
       fits (assumptionAt g r j .0) (each (λ (x : InSet). narrowSet (x .0)) noInput refl (q .assumptions) (v .0) j),
       fits (guaranteeAt g r j .0) (each (λ (x : OutSet). narrowSet (x .0)) noOutput refl (q .guarantees) (v .1) j),
@@ -226,23 +223,23 @@ unfolding fours
 four-sets g h r l =
     let ins = length (requirementAt g r .assumptions) in
     let outs = length (requirementAt g r .guarantees) in
-    let v = both {a = eqb ins 4} {b = eqb outs 4} (all-elim 8 (λ k. fours (requirementAt g k)) h r l) in
+    let v = and-both (eqb ins 4) (eqb outs 4) (all-elim 8 (λ k. fours (requirementAt g k)) h r l) in
     (eqb-true ins 4 (v .0), eqb-true outs 4 (v .1))
 
 are-arrays : (g : Game) → (lengths g && narrowWords g) ≡ true → Arrays g
 unfolding lengths narrowWords
 are-arrays g h =
     let four : ℕ → Bool = λ r. fours (requirementAt g r) in
-    let parts = both {a = lengths g} {b = narrowWords g} h in
-    let halves = both {a = eqb (length (g .input .moves)) rowWords && eqb (length (g .output .moves)) rowWords}
-    {b = eqb (length (g .requirements)) 8 && all 8 four} (parts .0) in
-    let rows = both {a = eqb (length (g .input .moves)) rowWords} {b = eqb (length (g .output .moves)) rowWords} (halves .0) in
-    let qs = both {a = eqb (length (g .requirements)) 8} {b = all 8 four} (halves .1) in
-    let words = both {a = allOf narrow (g .input .moves) && allOf narrow (g .output .moves)}
-    {b = (narrowSet (g .input .initial) && narrowSet (g .output .initial)) && allOf narrowSets (g .requirements)} (parts .1) in
-    let moves = both {a = allOf narrow (g .input .moves)} {b = allOf narrow (g .output .moves)} (words .0) in
-    let sets = both {a = narrowSet (g .input .initial) && narrowSet (g .output .initial)} {b = allOf narrowSets (g .requirements)} (words .1) in
-    let initial = both {a = narrowSet (g .input .initial)} {b = narrowSet (g .output .initial)} (sets .0) in
+    let parts = and-both (lengths g) (narrowWords g) h in
+    let halves = and-both (eqb (length (g .input .moves)) rowWords && eqb (length (g .output .moves)) rowWords)
+    (eqb (length (g .requirements)) 8 && all 8 four) (parts .0) in
+    let rows = and-both (eqb (length (g .input .moves)) rowWords) (eqb (length (g .output .moves)) rowWords) (halves .0) in
+    let qs = and-both (eqb (length (g .requirements)) 8) (all 8 four) (halves .1) in
+    let words = and-both (allOf narrow (g .input .moves) && allOf narrow (g .output .moves))
+    ((narrowSet (g .input .initial) && narrowSet (g .output .initial)) && allOf narrowSets (g .requirements)) (parts .1) in
+    let moves = and-both (allOf narrow (g .input .moves)) (allOf narrow (g .output .moves)) (words .0) in
+    let sets = and-both (narrowSet (g .input .initial) && narrowSet (g .output .initial)) (allOf narrowSets (g .requirements)) (words .1) in
+    let initial = and-both (narrowSet (g .input .initial)) (narrowSet (g .output .initial)) (sets .0) in
     record {
       input = eqb-true (length (g .input .moves)) rowWords (rows .0);
       output = eqb-true (length (g .output .moves)) rowWords (rows .1);

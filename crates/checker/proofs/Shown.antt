@@ -6,7 +6,7 @@
 --   row-shown            : a row that is none, after the way to its place
 --   wins-shown           : the table wins
 --   round-shown          : a round that breaks a requirement, behind the way to its first place
-use Prim.Native.Nat.{ℕ, zero, suc, _+_, _-_, _*_, _/_, _%_, _≤_, _<_}
+use Prim.Native.Nat.{ℕ, zero, _+_, _-_, _*_, _/_, _%_, _≤_, _<_}
 use native.Mathlib.Nat.{mod-lt}
 use mathlib.Core.Path.{_≡_, refl, sym, _∙_, ap, subst}
 use mathlib.Core.Bool.{true}
@@ -15,6 +15,7 @@ use native.Mathlib.Omega.{arith}
 use native.Mathlib.Decide.{decLt}
 use lib.ListN.{length, getD, replicate, length-replicate, getD-replicate}
 use borrow.Author.Tests.{eq-eqb}
+use Rattle.finite.proofs.Lists.{all-default}
 use Rattle.finite.proofs.Bounded.{count-le}
 use Rattle.arena.specs.Arena.{arenaOf}
 use Rattle.arena.specs.Play.{Configuration}
@@ -50,19 +51,14 @@ every : (a : ℕ) → a < 4096 → marked (replicate 4096 1) a ≡ true
 unfolding marked
 every a b = eq-eqb (getD (replicate 4096 1) a 0) 1 (getD-replicate 4096 a 1 0 b)
 
-zeros : (n a : ℕ) → getD (replicate n zero) a zero ≡ zero
-zeros zero a = refl
-zeros (suc n) zero = refl
-zeros (suc n) (suc a) = zeros n a
-
 unmarked : Unmarked (replicate 4096 0)
-unmarked = record { long = length-replicate 4096 zero; none = λ a. marked-not (replicate 4096 0) a (λ e. omega (arith, e, zeros 4096 a)) }
+unmarked = record { long = length-replicate 4096 zero; none = λ a. marked-not (replicate 4096 0) a (λ e. omega (arith, e, all-default {A = ℕ} 4096 a 0)) }
 
 -- ---- a round written behind the way to its first place
 
 module _ {queue from : List ℕ} {n : ℕ} {walk : List ℕ} {c : ℕ} {room : List ℕ} (P : RoundFits queue from n walk c room) {v k : ℕ} (e : v ≡ at walk 0)
     (A : FirstAt queue n v k) where
-  pub first-found : k < n
+  first-found : k < n
   first-found = go (decLt k n)
     where
       go : Dec (k < n) → k < n

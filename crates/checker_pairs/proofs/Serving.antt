@@ -2,13 +2,14 @@
 --
 --   Serving, serving-*    : the first b guarantees
 --   Judging, judging-*    : the first r requirements
-use Prim.Native.Nat.{ℕ, zero, suc, _+_, _≤_, _<_}
-use mathlib.Core.Path.{_≡_, refl, sym, subst}
+use Prim.Native.Nat.{ℕ, zero, _+_, _≤_, _<_}
+use mathlib.Core.Path.{_≡_, sym, subst}
 use mathlib.Core.Bool.{false}
 use mathlib.Core.List.{List}
 use mathlib.Core.Logic.{_≢_, inl, inr}
 use native.Mathlib.Omega.{arith}
-use lib.ListN.{length, getD, replicate, length-replicate}
+use lib.ListN.{length, replicate, length-replicate}
+use Rattle.finite.proofs.Lists.{all-default}
 use Rattle.finite.proofs.Truth.{clash}
 use Rattle.checker_search.proofs.Turns.{marked-not}
 use Rattle.finite.proofs.Bounded.{below-suc}
@@ -19,11 +20,6 @@ use Rattle.checker_search.specs.Turns.{marked}
 use Rattle.checker_rounds.specs.declared.Tried.{Tried}
 use Rattle.checker_pairs.specs.Pairs.{guarantee, KeepFits, Keep, PairFits, Left, Emptied, Cleared, ServeFits, Served, JudgeFits, Judged}
 use Rattle.checker_pairs.proofs.Keeping.{keep-outside, keep-reached, keep-misses}
-
-zeros : (n a : ℕ) → getD (replicate n zero) a zero ≡ zero
-zeros zero a = refl
-zeros (suc n) zero = refl
-zeros (suc n) (suc a) = zeros n a
 
 module _ (I N : ℕ) (rows to : List ℕ) (M : ℕ) where
   pub record Serving (q : Requirement) (reached kept mark queue from way walk : List ℕ) (n b : ℕ) : Type 0 where
@@ -135,7 +131,7 @@ module _ (I N : ℕ) (rows to : List ℕ) (M : ℕ) where
     }
       where
         unmarked : (a : ℕ) → marked (replicate 4096 0) a ≡ false
-        unmarked a = marked-not (replicate 4096 0) a (λ e. omega (arith, e, zeros 4096 a))
+        unmarked a = marked-not (replicate 4096 0) a (λ e. omega (arith, e, all-default {A = ℕ} 4096 a 0))
 
     module _ (kept mark queue from way walk : List ℕ) (n r : ℕ) (J : Judging g reached kept mark queue from way walk n r) where
       pub judging-end : g .k ≤ r → Judged I N rows to M g reached walk (record { round = 0; requirement = 0 })

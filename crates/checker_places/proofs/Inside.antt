@@ -3,10 +3,11 @@
 --   enters, stays-in, to-end    : one step; a walk from a member; a walk that passes u or a member
 --   round-inside                : a round inside X that passes u or a member of F, F being closed, lies in F
 --   cycle-inside                : the same, of a round of configurations
-use mathlib.Core.Path.{_≡_, sym, _∙_, ap, subst}
+use mathlib.Core.Path.{_≡_, _∙_, ap, subst}
 use mathlib.Core.Bool.{Bool, true}
-use mathlib.Core.List.{List·Memᴰ, List·Memᴰ·tail, List·Memᴰ·not-nil, List·Memᴰ·cases-cons, Memᴰ·cast}
+use mathlib.Core.List.{List·Memᴰ, List·Memᴰ·tail, List·Memᴰ·not-nil, List·Memᴰ·cases-cons}
 use mathlib.Core.Logic.{_⊎_, inl, inr}
+use Rattle.arena.proofs.Reach.{cycle-rest}
 use Rattle.graphs.specs.Walk.{Walk, stay, step, passed}
 use Rattle.graphs.proofs.Walk.{passed-first, passed-last}
 use Rattle.arena.specs.Play.{Configuration, Cycle, configurations}
@@ -49,15 +50,10 @@ module _ {A : Type 0} (R : A → A → Type 0) (X : A → Bool) (u : A) (F : A �
       stays-in w x (enters a b begin r (x b (passed-first w))) d n
 
 module _ (First : Configuration → Type 0) (Turn : Configuration → Configuration → Type 0) where
-  -- a round comes back to its beginning, which its rest therefore passes
-  in-rest : (r : Cycle First Turn) (c : Configuration) → List·Memᴰ c (configurations First Turn r) → List·Memᴰ c (passed (r .rest))
-  unfolding configurations
-  in-rest r c m = elim (List·Memᴰ·cases-cons m) [ inl e ↦ Memᴰ·cast (e ∙ sym (r .back)) (passed-last (r .rest)) | inr n ↦ n ]
-
   pub cycle-inside : (X F : Configuration → Bool) (u : Configuration) → Closed Turn X u F → (r : Cycle First Turn)
       → ((c : Configuration) → List·Memᴰ c (configurations First Turn r) → X c ≡ true)
       → (c : Configuration) → List·Memᴰ c (configurations First Turn r) → (F c ≡ true) ⊎ (c ≡ u)
       → (d : Configuration) → List·Memᴰ d (configurations First Turn r) → F d ≡ true
   unfolding configurations
   cycle-inside X F u C r x c m h d n =
-      round-inside Turn X u F C (r .turn) (r .rest) (r .back) (λ z k. x z (List·Memᴰ·tail k)) c (in-rest r c m) h d (in-rest r d n)
+      round-inside Turn X u F C (r .turn) (r .rest) (r .back) (λ z k. x z (List·Memᴰ·tail k)) c (cycle-rest First Turn r c m) h d (cycle-rest First Turn r d n)

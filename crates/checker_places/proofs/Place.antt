@@ -7,8 +7,8 @@
 --   turn-inside                                           : a turn makes a configuration that has a place
 --   turn-place, place-turn                                : a turn is a test on places
 --   first-place, place-first                              : and so is a first configuration
-use Prim.Native.Nat.{ℕ, zero, suc, _+_, _*_, _/_, _%_, _≤_, _<_}
-use native.Mathlib.Nat.{mul-zero, mod-lt, div-lt-iff-lt-mul, div-add-mod'}
+use Prim.Native.Nat.{ℕ, _+_, _*_, _/_, _%_, _≤_, _<_}
+use native.Mathlib.Nat.{mod-lt, div-lt-iff-lt-mul, div-add-mod'}
 use mathlib.Core.Path.{_≡_, refl, sym, _∙_, ap, subst}
 use mathlib.Core.Bool.{Bool, true, false, _&&_}
 use mathlib.Core.Logic.{_⊎_, inl, inr}
@@ -16,6 +16,7 @@ use native.Mathlib.Omega.{arith}
 use lib.Arith.{digits-lt, digits-div, digits-mod}
 use lib.Dec.{eqb, ltb}
 use borrow.Author.Tests.{eqb-true, eq-eqb, ltb-true, lt-ltb}
+use Rattle.finite.proofs.Rounds.{factor}
 use Rattle.finite.proofs.Truth.{decide, and-intro, and-left, and-right}
 use Rattle.arena.specs.Arena.{Arena}
 use Rattle.arena.specs.Table.{Answer, none, gives, Names, Some, ControllerTable}
@@ -23,11 +24,6 @@ use Rattle.arena.specs.Play.{Configuration, ControllerFirst, ControllerTurn}
 use Rattle.arena.specs.Bounds.{Bounded}
 use Rattle.arena.proofs.Bounds.{Inside}
 use Rattle.checker_places.specs.Place.{placeCount, place, placed, lead, starting, leads, turns}
-
--- a number below a product has a positive factor on the right
-factor : (k a n : ℕ) → k < a * n → 0 < n
-factor k a zero l = absurd (omega (arith, l, mul-zero a))
-factor k a (suc n) l = omega arith
 
 module _ (A : Arena) (M : ℕ) where
   module _ (c : Configuration) (C : Inside A M c) where

@@ -78,18 +78,15 @@ module _ (S : Separated) where
   ranked : ℕ → ℕ → Bool
   ranked c s = leads S s && eqb (count s (leads S)) c
 
-  first-found : (c : ℕ) → c < componentCount S → leaderOf S c < S .input .states
+  pub first-below : (c : ℕ) → c < componentCount S → leaderOf S c < S .input .states
   unfolding leaderOf componentCount ranked
-  first-found c h =
+  first-below c h =
       let w = count-reached (leads S) (S .input .states) c h in
       least-below (S .input .states) (ranked c) (w .0) (w .1) (and-intro (w .2) (eq-eqb (count (w .0) (leads S)) c (w .3)))
 
   first-ranked : (c : ℕ) → c < componentCount S → ranked c (leaderOf S c) ≡ true
   unfolding leaderOf ranked
-  first-ranked c h = least-member (S .input .states) (ranked c) (first-found c h)
-
-  pub first-below : (c : ℕ) → c < componentCount S → leaderOf S c < S .input .states
-  first-below c h = first-found c h
+  first-ranked c h = least-member (S .input .states) (ranked c) (first-below c h)
 
   -- it is the smallest of its component
   first-number : (c : ℕ) → c < componentCount S → number (S .input) (leaderOf S c) ≡ leaderOf S c

@@ -1,6 +1,5 @@
 -- Laws of the smallest inputs, and of the test by them.
 --
---   number-leads                                        : an input that leads is its component's smallest
 --   named-none, named-leader, named-other, named-end    : the turns of the loop that names them, and its end
 --   row-is                                              : row numbers, told by output and counter
 --   same-next, same-stop, same-end                      : the parts, one after the other
@@ -14,7 +13,7 @@ use native.Mathlib.Omega.{arith}
 use native.Mathlib.Decide.{ℕ-discrete, decLt}
 use lib.ListN.{length, getD}
 use lib.Arith.{digits-div, digits-mod, digits-lt}
-use borrow.Author.Tests.{eqb-true, eqb-false, eq-eqb}
+use borrow.Author.Tests.{eqb-true, eqb-false}
 use Rattle.finite.proofs.Truth.{decide, clash}
 use Rattle.finite.proofs.Bounded.{all-elim, all-false}
 use Rattle.bits.specs.Member.{has, pack}
@@ -26,7 +25,7 @@ use Rattle.theory.specs.Entries.{noneEntry, controllerCounters}
 use Rattle.compact.specs.Rank.{leads, rankOf, leaderOf}
 use Rattle.compact.specs.Compact.{fullLength, fullRow}
 use Rattle.compact.specs.Moving.{rowsFit}
-use Rattle.compact.proofs.Rank.{rank-first}
+use Rattle.compact.proofs.Rank.{rank-first, leads-number, number-leads}
 use Rattle.compact.proofs.Tests.{row-first, rows-fit-first}
 use Rattle.finite.proofs.Lists.{any-default}
 use Rattle.compact_rows.proofs.Copying.{row-last, row-below, last-below}
@@ -37,16 +36,6 @@ module _ (S : Separated) where
   abbrev I : ℕ
   I = S .input .states
 
-  pub number-leads : (j : ℕ) → leads S j ≡ true → number (S .input) j ≡ j
-  unfolding leads
-  number-leads j h = eqb-true (number (S .input) j) j h
-
-  leads-number : (t : ℕ) → t < I → leads S (number (S .input) t) ≡ true
-  unfolding leads
-  leads-number t b =
-      let s = number (S .input) t in
-      eq-eqb (number (S .input) s) s (sym (number-same (S .input) t s (number-joined (S .input) t b)))
-
   module _ (part n : ℕ) (in-graph : part + n ≤ I) where
     pub named-none : (F : List ℕ) → length F ≡ partSize → Named S part n 0 F
     named-none F e = record { long = e; name = λ k b h. absurd (omega arith) }
@@ -56,7 +45,7 @@ module _ (S : Separated) where
       named-other h = record { long = D .long; name = λ k b l. D .name k b (below k b l (ℕ-discrete (number (S .input) (part + k)) j)) }
         where
           below : (k : ℕ) → k < n → number (S .input) (part + k) < j + 1 → Dec (number (S .input) (part + k) ≡ j) → number (S .input) (part + k) < j
-          below k b l (yes q) = clash (ap (leads S) (sym q) ∙ leads-number (part + k) (omega arith)) h
+          below k b l (yes q) = clash (ap (leads S) (sym q) ∙ leads-number S (part + k) (omega arith)) h
           below k b l (no q) = omega arith
 
       pub named-leader : {c : ℕ} {F′ : List ℕ} → j < I → leads S j ≡ true → c ≡ pack I (joined (S .input) j) → Marked part n c j F F′
@@ -75,7 +64,7 @@ module _ (S : Separated) where
           named : (k : ℕ) → k < n → number (S .input) (part + k) < j + 1 → (has c (part + k) ≡ true) ⊎ (has c (part + k) ≡ false)
               → getD F′ k 0 ≡ number (S .input) (part + k)
           named k b l (inl t) =
-              M .inside k b t ∙ sym (number-leads j h) ∙ number-same (S .input) j (part + k) (sym (member k b) ∙ t)
+              M .inside k b t ∙ sym (number-leads S j h) ∙ number-same (S .input) j (part + k) (sym (member k b) ∙ t)
           named k b l (inr t) =
               M .outside k b t ∙ D .name k b (below (ℕ-discrete (number (S .input) (part + k)) j))
             where

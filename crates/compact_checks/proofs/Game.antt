@@ -13,6 +13,7 @@ use native.Mathlib.Omega.{arith}
 use lib.Dec.{ltb}
 use lib.ListN.{length, getD}
 use borrow.Author.Tests.{lt-ltb}
+use Rattle.compact.proofs.Rank.{number-leads}
 use Rattle.bits.specs.Member.{has, pack}
 use Rattle.bits.proofs.Membership.{has-pack-below}
 use Rattle.graphs.specs.Component.{joined, number}
@@ -26,7 +27,7 @@ use Rattle.compact.specs.Compact.{fullLength}
 use Rattle.compact.specs.Moving.{rowsFit}
 use Rattle.compact_checks.specs.Parts.{partSize, partFits, Marked}
 use Rattle.compact_checks.specs.Firsts.{Named, Firsts, AsFirst}
-use Rattle.compact_checks.proofs.Firsts.{number-leads, named-none, named-leader, named-other, named-end, same-next, same-stop, same-end}
+use Rattle.compact_checks.proofs.Firsts.{named-none, named-leader, named-other, named-end, same-next, same-stop, same-end}
 
 module _ (g : Game) where
   abbrev S : Separated

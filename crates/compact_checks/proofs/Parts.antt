@@ -5,22 +5,16 @@ use mathlib.Core.Bool.{Bool, true, false}
 use mathlib.Core.List.{List}
 use mathlib.Core.Logic.{_≢_}
 use native.Mathlib.Omega.{arith}
-use native.Mathlib.Numerals.{add-one}
-use Rattle.finite.specs.Bounded.{all}
 use native.Mathlib.Decide.{ℕ-discrete}
 use lib.ListN.{length, getD, set, length-set}
 use lib.Seq.{getD-set-same, getD-set-other}
 use borrow.Author.Tests.{eq-eqb, ne-eqb}
 use Rattle.finite.proofs.Truth.{clash}
-use Rattle.finite.proofs.Loops.{all-start, all-turn, all-stop, all-end}
+use Rattle.finite.proofs.Loops.{all-start, all-turn, all-stop, all-end, all-longer}
 use Rattle.bits.specs.Member.{has}
 use Rattle.compact_checks.specs.Parts.{entryFits, rowAgrees, rowAt, partFits, Marked}
 
 -- one row number
-
-all-longer : (i : ℕ) (p : ℕ → Bool) → p i ≡ true → all (i + 1) p ≡ all i p
-unfolding all
-all-longer i p e = rw add-one (rw e refl)
 
 module _ (T F : List ℕ) (row part : ℕ) where
   pub row-start : true ≡ rowAgrees T F row part 0

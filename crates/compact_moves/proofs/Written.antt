@@ -27,9 +27,9 @@ use Rattle.compact.proofs.Moving.{to-length, start-over, rank-over, row-over, f
 use Rattle.graph_ranks.specs.Ranks.{RanksWritten}
 use Rattle.theory.proofs.Demands.{controller-counts}
 use Rattle.table_sizes.proofs.Lengths.{inputs-most}
-use Rattle.finite.proofs.Lists.{any-default}
+use Rattle.finite.proofs.Lists.{any-default, drop-same}
 use Rattle.compact_rows.specs.Copying.{FullFits, FullAgrees, FullFilled, CompactFits, CompactAgrees, CompactFilled}
-use Rattle.compact_rows.proofs.Copying.{drop-same, row-last, row-below, last-below}
+use Rattle.compact_rows.proofs.Copying.{row-last, row-below, last-below}
 use Rattle.compact_checks.proofs.Firsts.{row-is}
 
 module _ (S : Separated) where

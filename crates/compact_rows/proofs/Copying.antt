@@ -1,23 +1,19 @@
 -- Laws of copying: for each function, nothing written yet, one more, all of it.
-use Prim.Native.Nat.{ℕ, zero, suc, _+_, _*_, _-_, _/_, _%_, _≤_, _<_}
-use native.Mathlib.Nat.{add-mul, one-mul, mul-zero, mul-le-mul-right, mod-lt, div-lt-iff-lt-mul, div-add-mod'}
+use Prim.Native.Nat.{ℕ, _+_, _*_, _-_, _/_, _%_, _≤_, _<_}
+use native.Mathlib.Nat.{add-mul, one-mul, mul-le-mul-right, mod-lt, div-lt-iff-lt-mul, div-add-mod'}
 use mathlib.Core.Path.{_≡_, refl, sym, _∙_, ap, subst}
 use mathlib.Core.List.{List, _++_}
 use mathlib.Core.Logic.{_≢_}
 use native.Mathlib.Omega.{arith}
 use native.Mathlib.Decide.{decLt, ℕ-discrete}
-use lib.ListN.{length, getD, drop, set, length-set, length-drop}
-use lib.Seq.{getD-set-same, getD-set-other, getD-drop, ext-getD}
+use lib.ListN.{length, getD, drop, set, length-set}
+use lib.Seq.{getD-set-same, getD-set-other}
+use Rattle.finite.proofs.Lists.{drop-same}
+use Rattle.finite.proofs.Rounds.{factor}
 use Rattle.table_filling.specs.Grows.{Right, Grows}
 use Rattle.table_filling.proofs.Grows.{grows-none, grows-more, grows-set, right-set, grows-done}
 use Rattle.compact_rows.specs.Copying.{PutAt, Started, GatherFits, Gathered, FullFits, FullAgrees, GatheredRows, FullFilled}
 use Rattle.compact_rows.specs.Copying.{RepresentFits, Represented, PickFits, Picked, PickRowsFits, PickedRows, CompactFits, CompactAgrees, CompactFilled}
-
--- what stands behind a place is known by what stands at each
-pub drop-same : (n : ℕ) (l m : List ℕ) → length m ≡ length l → ((k : ℕ) → n ≤ k → getD m k 0 ≡ getD l k 0) → drop n m ≡ drop n l
-drop-same n l m e h =
-    ext-getD 0 (drop n m) (drop n l) (length-drop n m ∙ ap (λ (k : ℕ). k - n) e ∙ sym (length-drop n l))
-    (λ i b. getD-drop n m i 0 ∙ h (n + i) (omega arith) ∙ sym (getD-drop n l i 0))
 
 module _ (E : List ℕ) (place : ℕ → ℕ) where
   puts-none : (l : List ℕ) → PutAt E l l place 0
@@ -163,10 +159,6 @@ next-row x y = omega (arith, add-mul x 1 y, one-mul y)
 pub row-last : (a x y R n : ℕ) → x < R → a + R * y ≤ n → a + x * y + y ≤ n
 row-last a x y R n b h = omega (arith, next-row x y, mul-le-mul-right {m = x + 1} {n = R} y (omega arith))
 
-factor-pos : (a c r : ℕ) → r < a * c → 0 < c
-factor-pos a zero r h = absurd (omega (arith, subst (λ (k : ℕ). r < k) (mul-zero a) h))
-factor-pos a (suc c) r h = omega arith
-
 -- ---- all row numbers of the full layout
 
 module _ (T : List ℕ) (I C R : ℕ) where
@@ -205,10 +197,10 @@ module _ (T : List ℕ) (I C R : ℕ) where
 -- a place among the row numbers, taken apart
 module _ (R y r : ℕ) (h : r < R * y) where
   pub row-below : r / y < R
-  row-below = div-lt-iff-lt-mul (factor-pos R y r h) .1 h
+  row-below = div-lt-iff-lt-mul (factor r R y h) .1 h
 
   pub last-below : r % y < y
-  last-below = mod-lt r (factor-pos R y r h)
+  last-below = mod-lt r (factor r R y h)
 
 -- the starts, then the rows
 module _ (E T : List ℕ) (I C R : ℕ) {l m n : List ℕ} (S : Started T I I l m) where

@@ -3,16 +3,16 @@
 --   components-columns    : there are as many columns as components
 --   ranks-room            : the starts and the ranks come first
 --   component-long, component-products, component-filled : the table
-use Prim.Native.Nat.{ℕ, zero, suc, _+_, _*_, _-_, _≤_, _<_}
+use Prim.Native.Nat.{ℕ, _+_, _*_, _-_, _≤_, _<_}
 use native.Mathlib.Nat.{mul-le-mul}
-use mathlib.Core.Path.{_≡_, refl, sym, _∙_, ap, ap₂}
+use mathlib.Core.Path.{_≡_, sym, _∙_, ap, ap₂}
 use mathlib.Core.Bool.{Bool, _&&_}
-use mathlib.Core.List.{List, [], _∷_, _++_}
+use mathlib.Core.List.{List, [], _++_}
 use native.Mathlib.Omega.{arith}
 use native.Mathlib.Decide.{decLt}
 use lib.Dec.{eqb}
-use lib.ListN.{length, getD, drop, length-drop}
-use lib.Seq.{ext-getD, getD-drop}
+use lib.ListN.{length, getD, drop}
+use Rattle.finite.proofs.Lists.{any-default, drop-same}
 use Rattle.finite.specs.Bounded.{least, count}
 use Rattle.finite.proofs.Bounded.{least-same, count-le, count-same}
 use Rattle.bits.specs.Member.{has, pack}
@@ -38,18 +38,6 @@ use Rattle.controller_table.proofs.Cells.{place-room}
 use Rattle.controller_table.proofs.Setting.{fits-of, sizes-of}
 use Rattle.controller_table.proofs.Table.{starts-grown, starts-stand, table-filled}
 use Rattle.controller.specs.Sizes.{ByComponent}
-
--- what is read inside a list is no default
-read-any : (l : List ℕ) (i a b : ℕ) → i < length l → getD l i a ≡ getD l i b
-read-any [] i a b h = absurd (omega arith)
-read-any (x ∷ l) zero a b h = refl
-read-any (x ∷ l) (suc i) a b h = read-any l i a b (omega arith)
-
--- lists with the same entries from n on
-rest-same : (n : ℕ) (l m : List ℕ) → length m ≡ length l → ((k : ℕ) → n ≤ k → getD m k 0 ≡ getD l k 0) → drop n m ≡ drop n l
-rest-same n l m e f =
-    ext-getD 0 (drop n m) (drop n l) (length-drop n m ∙ ap (λ (k : ℕ). k - n) e ∙ sym (length-drop n l))
-    (λ i b. getD-drop n m i 0 ∙ f (n + i) (omega arith) ∙ sym (getD-drop n l i 0))
 
 pub components-columns : (g : Game) (x : ℕ) → x ≡ pack (g .input .states) (leads (separatedOf g))
     → componentCount (separatedOf g) ≡ count (g .input .states) (has x)
@@ -108,7 +96,7 @@ module _ (g : Game) (z : Size) (Z : Sized g z) (C : ByComponent g z) where
         rows = record {
           long = sym list-long;
           row = λ o c b lo lc lb.
-              read-any (compactEntries (separatedOf g)) (place (layoutOf z) o c b) 0 noneEntry
+              any-default (compactEntries (separatedOf g)) (place (layoutOf z) o c b) 0 noneEntry
               (rw (← list-long) (place-room (layoutOf z) o c b lo lc lb))
               ∙ rw (input-at b, C .base, C .width, e .inputs, e .counters)
               (ap (λ (k : ℕ). getD (compactEntries (separatedOf g)) k noneEntry) (omega arith)
@@ -119,7 +107,7 @@ module _ (g : Game) (z : Size) (Z : Sized g z) (C : ByComponent g z) where
   starts-at : (i : ℕ) → i < separatedOf g .input .states
       → getD (compactEntries (separatedOf g)) i 0 ≡ entry (controllerStart (separatedOf g) i)
   starts-at i b =
-      read-any (compactEntries (separatedOf g)) i 0 noneEntry (inside i (omega (arith, C .base, sizes-of g z Z .inputs))) ∙ compact-start (separatedOf g) i b
+      any-default (compactEntries (separatedOf g)) i 0 noneEntry (inside i (omega (arith, C .base, sizes-of g z Z .inputs))) ∙ compact-start (separatedOf g) i b
 
   -- the ranks
   module _ {l m : List ℕ} (R : RanksWritten g l m) where
@@ -129,7 +117,7 @@ module _ (g : Game) (z : Size) (Z : Sized g z) (C : ByComponent g z) where
           is =
               ap (λ (n : ℕ). getD m (n + t) 0) (Z .inputs) ∙ R .rank t (rw (Z .inputs) at b)
               ∙ sym
-              (read-any (compactEntries (separatedOf g)) (z .inputs + t) 0 noneEntry (inside (z .inputs + t) (omega (arith, C .base)))
+              (any-default (compactEntries (separatedOf g)) (z .inputs + t) 0 noneEntry (inside (z .inputs + t) (omega (arith, C .base)))
               ∙ ap (λ (n : ℕ). getD (compactEntries (separatedOf g)) (n + t) noneEntry) e ∙ compact-rank (separatedOf g) t (omega arith));
         }
 
@@ -141,7 +129,7 @@ module _ (g : Game) (z : Size) (Z : Sized g z) (C : ByComponent g z) where
     ranks-grown : Grows (compactEntries (separatedOf g)) l m
     ranks-grown = record {
       long = R .long;
-      rest = rest-same (length (compactEntries (separatedOf g))) l m (R .long) (λ k b. R .rest k (omega (arith, list-long, C .base, Z .inputs)));
+      rest = drop-same (length (compactEntries (separatedOf g))) l m (R .long) (λ k b. R .rest k (omega (arith, list-long, C .base, Z .inputs)));
       kept = λ k b r. go k r (decLt k (z .inputs)) (decLt k (z .base));
     }
       where

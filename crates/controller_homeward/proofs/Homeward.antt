@@ -15,10 +15,10 @@ use native.Mathlib.Omega.{arith}
 use lib.Dec.{eqb, ltb}
 use borrow.Author.Tests.{eqb-true, eq-eqb, ltb-true, lt-ltb}
 use Rattle.finite.specs.Bounded.{least, count}
-use Rattle.finite.proofs.Truth.{decide, clash, same-test, false-of, and-intro, and-left, and-right, and-false-right, not-true}
+use Rattle.finite.proofs.Truth.{decide, clash, same-test, false-of, and-intro, and-left, and-right, and-false-right, not-true, and-assoc}
 use Rattle.finite.proofs.Bounded.{least-before, least-unique, count-less}
 use Rattle.bits.specs.Member.{has, pack, within, setsMeet}
-use Rattle.bits.proofs.Membership.{ext, has-zero, has-within, within-has, has-pack, has-pack-below}
+use Rattle.bits.proofs.Membership.{ext, has-zero, has-within, within-has, has-pack, has-pack-below, pack-below, pack-holds}
 use Rattle.bits.proofs.Compare.{meets-intro, meets-elim}
 use Rattle.bits.proofs.Visit.{small-word, lowest-in, lowest-below}
 use Rattle.sets.specs.Words.{capacity, bitsOf, setsIn, setCount}
@@ -38,7 +38,7 @@ use Rattle.theory.specs.Choice.{home, controllerRow}
 use Rattle.theory.proofs.Region.{settles-intro}
 use Rattle.theory.proofs.ControllerRow.{near-reaches, home-leads, homeward-away}
 use Rattle.graph_ways.specs.Kept.{kept}
-use Rattle.graph_ways.proofs.Kept.{kept-pack, pack-below, pack-holds}
+use Rattle.graph_ways.proofs.Kept.{kept-pack}
 use Rattle.graph_ways.proofs.Narrow.{toward-narrow, leads-narrow}
 use Rattle.scratch.specs.Scratch.{scratchSets}
 use Rattle.scratch.specs.Stored.{rowAt, outReachAt}
@@ -118,11 +118,7 @@ unfolding nearAt
 near-both s n m homes d x y e f =
     ext y (pack m (nearAt s n homes d))
     (λ o. f o ∙ ap (λ (k : ℕ). has k o && avoidsAt s n homes o) e ∙ ap (λ (k : Bool). k && avoidsAt s n homes o) (has-pack m (reachesAt s n d) o)
-    ∙ both (ltb o m) (reachesAt s n d o) (avoidsAt s n homes o) ∙ sym (has-pack m (nearAt s n homes d) o))
-  where
-    both : (a b c : Bool) → ((a && b) && c) ≡ (a && (b && c))
-    both true b c = refl
-    both false b c = refl
+    ∙ and-assoc (ltb o m) (reachesAt s n d o) (avoidsAt s n homes o) ∙ sym (has-pack m (nearAt s n homes d) o))
 
 -- group after group: x are the inputs that are left
 pub record Homing (g : Game) (z : Size) (w : Home) (x : ℕ) (l m : List ℕ) : Type 0 where

@@ -16,7 +16,7 @@ use native.Mathlib.Decide.{ℕ-discrete, decLt}
 use lib.Dec.{eqb, ltb}
 use borrow.Author.Tests.{eqb-true, eq-eqb, lt-ltb, le-ltb}
 use Rattle.finite.specs.Bounded.{count}
-use Rattle.finite.proofs.Truth.{decide, and-intro, and-left, and-right}
+use Rattle.finite.proofs.Truth.{decide, and-intro, and-left, and-right, and-all, and-false-right}
 use Rattle.finite.proofs.Bounded.{least-below, least-member, count-in, count-out, count-past, count-reached, count-all}
 use Rattle.bits.specs.Member.{has}
 use Rattle.controller_rows.specs.declared.Size.{Size}
@@ -148,17 +148,9 @@ module _ (z : Size) (e : z .width ≡ count (z .inputs) (leading z)) (x : ℕ) w
       → (k : ℕ) → has r k ≡ (ltb k (z .width) && has x (inputOf z k))
   among-all full b r f i k = i k ∙ ap (λ (y : Bool). has x k && y) (f k) ∙ go (decLt k (z .inputs))
     where
-      swap : (y : Bool) → (y && true) ≡ (true && y)
-      swap true = refl
-      swap false = refl
-
-      none : (y v : Bool) → (y && false) ≡ (false && v)
-      none true v = refl
-      none false v = refl
-
       go : Dec (k < z .inputs) → (has x k && ltb k (z .inputs)) ≡ (ltb k (z .width) && has x (inputOf z k))
-      go (yes l) = rw (lt-ltb k (z .inputs) l, lt-ltb k (z .width) (rw full l), own-column z e full k l) (swap (has x k))
-      go (no l) = rw (le-ltb k (z .inputs) (omega arith), le-ltb k (z .width) (omega arith)) (none (has x k) (has x (inputOf z k)))
+      go (yes l) = rw (lt-ltb k (z .inputs) l, lt-ltb k (z .width) (rw full l), own-column z e full k l) (and-all (has x k) refl)
+      go (no l) = rw (le-ltb k (z .inputs) (omega arith), le-ltb k (z .width) (omega arith)) (and-false-right (has x k) refl)
 
   -- where the set has every leader it has every column
   pub among-led : ((j : ℕ) → j < z .inputs → leading z j ≡ true → has x j ≡ true) → (r : ℕ) → ((k : ℕ) → has r k ≡ ltb k (z .width))

@@ -14,7 +14,7 @@ use native.Mathlib.Omega.{arith}
 use Rattle.finite.proofs.Truth.{decide, clash}
 use Rattle.finite.proofs.Bounded.{below-suc}
 use Rattle.bits.specs.Member.{has, pack}
-use Rattle.bits.proofs.Membership.{has-zero, has-pack-below}
+use Rattle.bits.proofs.Membership.{has-zero, has-pack-below, pack-below, pack-holds}
 use Rattle.bits.proofs.Compare.{nonzero-member}
 use Rattle.sets.specs.Words.{bitsOf, setsIn}
 use Rattle.scratch.specs.Stored.{outArea}
@@ -27,7 +27,6 @@ use Rattle.game.specs.declared.OutSet.{OutSet}
 use Rattle.play.specs.Play.{graphOf, separatedOf}
 use Rattle.graph_components.specs.Component.{together}
 use Rattle.graph_components.proofs.Closed.{component-closed}
-use Rattle.graph_ways.proofs.Kept.{pack-below, pack-holds}
 use Rattle.theory.specs.Choice.{home}
 use Rattle.controller_rows.specs.declared.Size.{Size}
 use Rattle.controller_rows.specs.declared.Home.{Home}

@@ -9,9 +9,10 @@ use mathlib.Core.Bool.{true, false}
 use mathlib.Core.List.{List}
 use mathlib.Core.Logic.{_⊎_, inl, inr}
 use native.Mathlib.Omega.{arith}
+use Rattle.play.proofs.Moves.{moved-edge}
 use Rattle.finite.proofs.Truth.{decide}
 use Rattle.bits.specs.Member.{has}
-use Rattle.bits.proofs.Membership.{has-pack-below}
+use Rattle.bits.proofs.Membership.{has-pack-below, has-pack-all}
 use Rattle.graphs.specs.Closure.{reaches}
 use Rattle.graphs.specs.Component.{nontrivial}
 use Rattle.graphs.proofs.Graph.{edge-from}
@@ -21,7 +22,6 @@ use Rattle.arena.specs.Arena.{Separated}
 use Rattle.game.specs.declared.Game.{Game}
 use Rattle.game.proofs.Laws.{Fits, accepted-fits}
 use Rattle.play.specs.Play.{graphOf, separatedOf}
-use Rattle.graph_components.proofs.Closed.{has-pack-all, moved-edge}
 use Rattle.sets.specs.Words.{capacity, setsIn, setCount}
 use Rattle.scratch.specs.Scratch.{scratchSets}
 use Rattle.scratch.specs.Stored.{rowAt, storedAt, storedRow}

@@ -18,7 +18,7 @@ use borrow.Author.Tests.{eqb-true, eq-eqb, ne-eqb}
 use Rattle.finite.proofs.Truth.{decide, clash, and-right, or-left, or-right, or-cases}
 use Rattle.finite.specs.Bounded.{least}
 use Rattle.bits.specs.Member.{has, pack, within, both, setsMeet}
-use Rattle.bits.proofs.Membership.{has-zero, has-within}
+use Rattle.bits.proofs.Membership.{has-zero, has-within, pack-below, pack-holds}
 use Rattle.sets.specs.Words.{capacity, setsIn, setCount}
 use Rattle.graphs.specs.Graph.{stuck}
 use Rattle.graphs.specs.Component.{joined}
@@ -26,7 +26,6 @@ use Rattle.graphs.specs.Way.{toward}
 use Rattle.graphs.proofs.Component.{joined-to}
 use Rattle.graphs.proofs.Way.{Leads}
 use Rattle.graph_ways.specs.Kept.{kept}
-use Rattle.graph_ways.proofs.Kept.{pack-below, pack-holds}
 use Rattle.game.specs.declared.Game.{Game}
 use Rattle.play.specs.Play.{graphOf, separatedOf}
 use Rattle.arena.specs.Table.{gives}

@@ -12,6 +12,7 @@ use mathlib.Core.List.{List, _++_}
 use mathlib.Core.Logic.{_⊎_, inl, inr}
 use native.Mathlib.Omega.{arith}
 use lib.ListN.{length, getD, drop, set}
+use Rattle.theory.proofs.Demands.{environment-counts}
 use Rattle.finite.proofs.Truth.{decide}
 use Rattle.game.specs.declared.Game.{Game}
 use Rattle.game.proofs.Laws.{accepted-fits}
@@ -23,7 +24,7 @@ use Rattle.table_filling.specs.Grows.{Right, Grows}
 use Rattle.table_filling.proofs.Grows.{grows-set, grows-more, right-set, grows-done}
 use Rattle.environment_table.specs.Table.{entriesOf, environmentPlace, Solved, Roomy, EnvironmentFilled}
 use Rattle.environment_table.specs.Reading.{plain}
-use Rattle.environment_table.proofs.Places.{entries-length, some-counter}
+use Rattle.environment_table.proofs.Places.{entries-length}
 
 module _ (g : Game) (s : List ℕ) (inner n : ℕ) (D : Solved g s inner n) where
   pub roomy-of : {M k : ℕ} → M ≡ environmentCounters (separatedOf g) → k ≡ n → Roomy g M k
@@ -50,11 +51,11 @@ module _ (g : Game) (s : List ℕ) (inner n : ℕ) (D : Solved g s inner n) wher
     output-in = mod-lt r (accepted-fits g (D .known .accepted) .output .some)
 
     counter-in : r / g .output .states % environmentCounters (separatedOf g) < environmentCounters (separatedOf g)
-    counter-in = mod-lt (r / g .output .states) (some-counter (separatedOf g))
+    counter-in = mod-lt (r / g .output .states) (environment-counts (separatedOf g))
 
     input-in : r / g .output .states / environmentCounters (separatedOf g) < g .input .states
     input-in =
-        div-lt-iff-lt-mul (some-counter (separatedOf g)) .1
+        div-lt-iff-lt-mul (environment-counts (separatedOf g)) .1
         (div-lt-iff-lt-mul (accepted-fits g (D .known .accepted) .output .some) .1 b)
 
     digits : environmentPlace (environmentCounters (separatedOf g)) (g .output .states) (r / g .output .states / environmentCounters (separatedOf g))

@@ -17,13 +17,14 @@ use native.Mathlib.Omega.{arith}
 use lib.ListN.{getD}
 use lib.Dec.{eqb, ltb}
 use borrow.Author.Tests.{lt-ltb, ltb-true, eqb-true, eqb-false, eq-eqb, ne-eqb}
+use Rattle.play.proofs.Moves.{moved-edge}
+use Rattle.theory.proofs.Demands.{environment-counts}
 use Rattle.finite.specs.Bounded.{any, least}
 use Rattle.finite.proofs.Truth.{decide, clash, and-intro, and-left, and-right, and-false-left, or-cases, or-right, or-none, not-true, true-of, false-of}
 use Rattle.finite.proofs.Bounded.{any-same, least-same, least-any, least-found, least-member, least-before, least-unique}
 use Rattle.bits.specs.Member.{has, pack, within, both, setsMeet}
-use Rattle.bits.proofs.Membership.{has-zero, has-pack-below, has-within}
+use Rattle.bits.proofs.Membership.{has-zero, has-pack-below, has-within, pack-below}
 use Rattle.bits.proofs.Compare.{meets-intro, nonzero-member}
-use Rattle.graph_ways.proofs.Kept.{pack-below}
 use Rattle.sets.specs.Words.{capacity, bitsOf, setsIn, setCount}
 use Rattle.graphs.specs.Graph.{edge, begins, stuck}
 use Rattle.graphs.specs.Component.{nontrivial}
@@ -33,7 +34,6 @@ use Rattle.game.specs.declared.InSet.{InSet}
 use Rattle.game.specs.declared.OutSet.{OutSet}
 use Rattle.game.specs.Access.{outInitial}
 use Rattle.game.proofs.Laws.{accepted-fits}
-use Rattle.graph_components.proofs.Closed.{moved-edge}
 use Rattle.play.specs.Play.{graphOf, separatedOf}
 use Rattle.theory.specs.Region.{region, answers, opens}
 use Rattle.theory.specs.Choice.{environmentRow, environmentStart, refused}
@@ -48,7 +48,7 @@ use Rattle.environment_table.specs.Pressing.{lostIn}
 use Rattle.table_layout.specs.declared.Layout.{Layout}
 use Rattle.table_layout.specs.Rows.{Entries, Wrote}
 use Rattle.environment_table.proofs.Laid.{laid-block}
-use Rattle.environment_table.proofs.Places.{pushed-state, some-counter, filled-none, filled-join, filled-same, below-next}
+use Rattle.environment_table.proofs.Places.{pushed-state, filled-none, filled-join, filled-same, below-next}
 use Rattle.environment_table.proofs.Reading.{unanswered-both}
 
 -- what is read of the game's sets
@@ -177,7 +177,7 @@ module _ (g : Game) (s : List ℕ) (inner : ℕ) (K : Known g s inner) where
         → j ≡ unansweredAt (setsIn s) (g .input .states) (g .output .states) inner (getD (setsIn (g .input .moves)) i 0) (getD (setsIn (g .output .moves)) o 0)
         → j < g .input .states
     pushed-below-n j e t f =
-        pushed-state g i 0 o a (some-counter (separatedOf g)) b (K .accepted) (sym (known-won i o a b) ∙ e) 0 j (row-push 0 j e t f)
+        pushed-state g i 0 o a (environment-counts (separatedOf g)) b (K .accepted) (sym (known-won i o a b) ∙ e) 0 j (row-push 0 j e t f)
 
   -- the rows of an input that are none
 

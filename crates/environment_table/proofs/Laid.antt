@@ -12,6 +12,7 @@ use native.Mathlib.Omega.{arith}
 use lib.Dec.{ltb}
 use lib.ListN.{length, getD}
 use borrow.Author.Tests.{ltb-true}
+use Rattle.theory.proofs.Demands.{environment-counts}
 use Rattle.bits.specs.Member.{has}
 use Rattle.game.specs.declared.Game.{Game}
 use Rattle.play.specs.Play.{separatedOf}
@@ -21,7 +22,7 @@ use Rattle.table_layout.specs.declared.Layout.{Layout}
 use Rattle.table_layout.specs.Rows.{place as placeOf, LayoutFits, Rows, Wrote}
 use Rattle.table_layout.specs.Rows.{Filled as FilledIn}
 use Rattle.environment_table.specs.Table.{entriesOf, environmentPlace, Roomy, EnvironmentLayout, EnvironmentFilled}
-use Rattle.environment_table.proofs.Places.{entries-length, entry-at, some-counter, filled-same, every-counter}
+use Rattle.environment_table.proofs.Places.{entries-length, entry-at, filled-same, every-counter}
 
 module _ (g : Game) (M n : ℕ) (z : Layout) (R : Roomy g M n) (Z : EnvironmentLayout (g .input .states) M (g .output .states) z) where
   -- a row's place is the same
@@ -36,7 +37,7 @@ module _ (g : Game) (M n : ℕ) (z : Layout) (R : Roomy g M n) (Z : EnvironmentL
   laid-fits = record {
     front = omega (arith, Z .base);
     states = omega (arith, Z .states, R .inputs);
-    some = rw (Z .counters, R .counters) (some-counter (separatedOf g));
+    some = rw (Z .counters, R .counters) (environment-counts (separatedOf g));
     counters = omega (arith, Z .counters, R .few);
     width = omega (arith, Z .width, R .outputs);
     room = rw size (R .room);

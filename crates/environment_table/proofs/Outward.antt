@@ -19,7 +19,7 @@ use Rattle.finite.specs.Bounded.{any, least}
 use Rattle.finite.proofs.Truth.{clash, and-intro, and-left, and-right, and-false-left, and-false-right, not-true, same-test, false-of}
 use Rattle.finite.proofs.Bounded.{any-intro, any-elim, any-none, least-member, least-before, least-found, least-unique}
 use Rattle.bits.specs.Member.{has, pack, within, both, setsMeet}
-use Rattle.bits.proofs.Membership.{has-zero, has-pack-below, has-within}
+use Rattle.bits.proofs.Membership.{has-zero, has-pack-below, has-within, pack-below, pack-holds}
 use Rattle.bits.proofs.Compare.{meets-intro, meets-elim, nonzero-member}
 use Rattle.sets.specs.Words.{capacity, setsIn}
 use Rattle.graphs.specs.Graph.{stuck}
@@ -29,7 +29,6 @@ use Rattle.graphs.proofs.Graph.{edge-to}
 use Rattle.graphs.proofs.Component.{joined-to, joined-self, joined-same, number-same, nontrivial-same}
 use Rattle.graphs.proofs.Way.{Leads}
 use Rattle.graph_ways.specs.Kept.{kept}
-use Rattle.graph_ways.proofs.Kept.{pack-below, pack-holds}
 use Rattle.game.specs.declared.Game.{Game}
 use Rattle.play.specs.Play.{graphOf, separatedOf}
 use Rattle.arena.specs.Table.{gives}

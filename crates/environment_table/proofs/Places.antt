@@ -5,7 +5,6 @@
 --   filled-none, filled-join  : nothing written, and one writing after the other
 --   filled-same               : fewer rows than were written
 use Prim.Native.Nat.{ℕ, suc, _+_, _*_, _<_}
-use native.Mathlib.Nat.{le-max-left}
 use mathlib.Core.Path.{_≡_, sym, _∙_}
 use mathlib.Core.Bool.{true, false}
 use mathlib.Core.List.{List}
@@ -22,10 +21,9 @@ use Rattle.game.specs.declared.Game.{Game}
 use Rattle.game.specs.declared.Acceptance.the-variants.{Accepted}
 use Rattle.game.specs.Acceptance.{acceptance}
 use Rattle.play.specs.Play.{graphOf, separatedOf}
-use Rattle.arena.specs.Arena.{Separated}
 use Rattle.arena.specs.Table.{gives}
 use Rattle.theory.specs.Region.{region}
-use Rattle.theory.specs.Choice.{assumptions, environmentRow}
+use Rattle.theory.specs.Choice.{environmentRow}
 use Rattle.theory.specs.Entries.{entry, environmentCounters}
 use Rattle.theory.proofs.Entries.{place-below, environment-long, environment-row-at}
 use Rattle.theory.proofs.EnvironmentRow.{pushed}
@@ -95,10 +93,6 @@ module _ (g : Game) where
     outputs = R .outputs;
     room = omega (arith, R .room, p .grows .long);
   }
-
-pub some-counter : (S : Separated) → 0 < environmentCounters S
-unfolding environmentCounters
-some-counter S = le-max-left 1 (length (assumptions S))
 
 -- every counter belongs to the set of all
 pub every-counter : (g : Game) (M n every h : ℕ) → Roomy g M n → ((t : ℕ) → has every t ≡ ltb t M) → h < environmentCounters (separatedOf g)

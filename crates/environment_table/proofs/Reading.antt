@@ -15,11 +15,10 @@ use Rattle.finite.specs.Bounded.{least, count}
 use Rattle.finite.proofs.Truth.{clash, and-right, or-left, or-right, or-cases}
 use Rattle.finite.proofs.Bounded.{least-le, least-same, least-unique, least-before, least-member}
 use Rattle.bits.specs.Member.{has, pack, within, both}
-use Rattle.bits.proofs.Membership.{has-zero, has-pack-below, has-within, within-has}
+use Rattle.bits.proofs.Membership.{has-zero, has-pack-below, has-within, within-has, pack-below}
 use Rattle.bits.proofs.Remove.{less-in, less-other, less-falls}
 use Rattle.bits.proofs.Visit.{small-word, lowest-below, lowest-in, lowest-less}
 use Rattle.sets.specs.Words.{capacity}
-use Rattle.graph_ways.proofs.Kept.{pack-below}
 use Rattle.scratch.specs.Stored.{outReachAt, someWonAt, Reached}
 use Rattle.environment_table.specs.Reading.{refusedAt, openAt, unansweredAt}
 

@@ -10,6 +10,7 @@ use mathlib.Core.Bool.{Bool, true, not}
 use mathlib.Core.Logic.{_≢_}
 use native.Mathlib.Omega.{arith}
 use lib.ListN.{length}
+use Rattle.bits.proofs.Membership.{pack-below}
 use Rattle.finite.proofs.Truth.{and-left, and-right, not-true}
 use Rattle.bits.specs.Member.{has, pack}
 use Rattle.bits.proofs.Compare.{nonzero-member}
@@ -17,7 +18,6 @@ use Rattle.sets.specs.Words.{capacity}
 use Rattle.graphs.specs.Graph.{stuck}
 use Rattle.graphs.specs.Component.{joined, meetsAt}
 use Rattle.graphs.proofs.Component.{joined-self}
-use Rattle.graph_ways.proofs.Kept.{pack-below}
 use Rattle.game.specs.declared.Game.{Game}
 use Rattle.game.specs.declared.Acceptance.the-variants.{Accepted}
 use Rattle.game.specs.Acceptance.{acceptance}

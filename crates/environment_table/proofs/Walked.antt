@@ -6,7 +6,7 @@
 --   number-in        : the states whose component has a number
 use Prim.Native.Nat.{ℕ, _+_, _≤_, _<_}
 use mathlib.Core.Path.{_≡_, refl, sym, _∙_, ap, subst}
-use mathlib.Core.Bool.{Bool, true, false, not, _&&_}
+use mathlib.Core.Bool.{true, false, not, _&&_}
 use mathlib.Core.List.{List}
 use mathlib.Core.Logic.{_⊎_, inl, inr}
 use native.Mathlib.Omega.{arith}
@@ -14,7 +14,7 @@ use native.Mathlib.Decide.{ℕ-discrete}
 use lib.Dec.{leb}
 use borrow.Author.Tests.{leb-true, le-leb}
 use Rattle.finite.specs.Bounded.{least}
-use Rattle.finite.proofs.Truth.{decide, clash, false-of, same-test, and-intro, and-left, and-right, not-true, not-false, or-false-left, or-false-right}
+use Rattle.finite.proofs.Truth.{decide, clash, false-of, same-test, and-intro, and-left, and-right, not-true, not-false, or-false-left, or-false-right, and-all}
 use Rattle.bits.specs.Member.{has, pack}
 use Rattle.bits.proofs.Membership.{has-pack-below}
 use Rattle.sets.specs.Words.{setsIn}
@@ -84,12 +84,8 @@ unfolding separatedOf
 ahead-start g s inner K = record {
   is = λ a l.
       known-core g s inner K a l
-      ∙ rw (le-leb 0 (number (graphOf (g .input)) a) (omega arith)) (all (nontrivial (graphOf (g .input)) a));
+      ∙ rw (le-leb 0 (number (graphOf (g .input)) a) (omega arith)) (sym (and-all (nontrivial (graphOf (g .input)) a) refl));
 }
-  where
-    all : (b : Bool) → b ≡ (b && true)
-    all true = refl
-    all false = refl
 
 module _ (g : Game) (i : ℕ) (li : i < g .input .states) (x : ℕ) (A : Ahead g i x) where
   -- a component with the number i is ahead

@@ -9,9 +9,9 @@ use mathlib.Core.Bool.{true}
 use mathlib.Core.List.{List}
 use native.Mathlib.Omega.{arith}
 use lib.ListN.{length}
+use Rattle.bits.proofs.Membership.{pack-holds}
 use Rattle.bits.specs.Member.{has, pack, within}
 use Rattle.sets.specs.Words.{setsIn}
-use Rattle.graph_ways.proofs.Kept.{pack-holds}
 use Rattle.game.specs.declared.Game.{Game}
 use Rattle.play.specs.Play.{graphOf, separatedOf}
 use Rattle.theory.specs.Tour.{goalAt}

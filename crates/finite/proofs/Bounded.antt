@@ -184,6 +184,12 @@ one-false : {b : Bool} → b ≡ false → one b ≡ 0
 unfolding one
 one-false e = rw e refl
 
+-- counting goes by parts
+pub count-add : (n m : ℕ) (p : ℕ → Bool) → count (n + m) p ≡ count n p + count m (λ k. p (n + k))
+unfolding count
+count-add n zero p = rw (add-zero n) (sym (add-zero (count n p)))
+count-add n (suc m) p = let h = count-add n m p in rw add-suc (omega (arith, h))
+
 pub count-le : (n : ℕ) (p : ℕ → Bool) → count n p ≤ n
 unfolding count
 count-le zero p = omega arith

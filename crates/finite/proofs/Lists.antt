@@ -6,14 +6,18 @@
 --   allOf-same, anyOf-same       : tests that agree
 --   map-same, anyOf-map          : the images of a list
 --   any-default                  : inside a list the default is not read
+--   all-default                  : a list of defaults
+--   drop-same                    : lists with the same entries from a place on
+--   member-place, place-member   : the place of a member, and the member at a place
 --   allOf-anyOf                  : where a test holds of every member and another of some member, they hold of one together
-use Prim.Native.Nat.{ℕ, zero, suc, _<_}
+use Prim.Native.Nat.{ℕ, zero, suc, _+_, _-_, _≤_, _<_}
 use mathlib.Core.Path.{_≡_, refl, sym, _∙_, ap}
 use mathlib.Core.Bool.{Bool, true, false, _||_}
 use mathlib.Core.List.{List, [], _∷_, map, List·Memᴰ, List·Memᴰ·head, List·Memᴰ·tail, List·Memᴰ·not-nil, List·Memᴰ·cases-cons}
 use mathlib.Core.Logic.{_⊎_, inl, inr}
 use native.Mathlib.Omega.{arith}
-use lib.ListN.{length, getD}
+use lib.ListN.{length, getD, drop, replicate, length-drop}
+use lib.Seq.{getD-drop, ext-getD}
 use Rattle.finite.specs.Lists.{allOf, anyOf}
 use Rattle.finite.proofs.Truth.{clash, false-of, and-intro, and-left, and-right, and-cases, or-left, or-right, or-cases}
 
@@ -96,3 +100,26 @@ pub any-default : {A : Type 0} (l : List A) (i : ℕ) (d e : A) → i < length l
 any-default [] i d e h = absurd (omega arith)
 any-default (x ∷ l) zero d e h = refl
 any-default (x ∷ l) (suc i) d e h = any-default l i d e (omega arith)
+
+pub all-default : {A : Type 0} (n i : ℕ) (d : A) → getD (replicate n d) i d ≡ d
+all-default zero i d = refl
+all-default (suc n) zero d = refl
+all-default (suc n) (suc i) d = all-default n i d
+
+pub drop-same : (n : ℕ) (l m : List ℕ) → length m ≡ length l → ((k : ℕ) → n ≤ k → getD m k 0 ≡ getD l k 0) → drop n m ≡ drop n l
+drop-same n l m e h =
+    ext-getD 0 (drop n m) (drop n l) (length-drop n m ∙ ap (λ (k : ℕ). k - n) e ∙ sym (length-drop n l))
+    (λ i b. getD-drop n m i 0 ∙ h (n + i) (omega arith) ∙ sym (getD-drop n l i 0))
+
+pub member-place : {A : Type 0} {a : A} (l : List A) (d : A) → List·Memᴰ a l → (k : ℕ) × (k < length l) × (getD l k d ≡ a)
+member-place [] d m = absurd (List·Memᴰ·not-nil m)
+member-place {A} {a} (x ∷ l) d m = go (List·Memᴰ·cases-cons m) (λ n. member-place l d n)
+  where
+    go : (a ≡ x) ⊎ List·Memᴰ a l → (List·Memᴰ a l → (k : ℕ) × (k < length l) × (getD l k d ≡ a)) → (k : ℕ) × (k < suc (length l)) × (getD (x ∷ l) k d ≡ a)
+    go (inl e) rec = (zero, omega arith, sym e)
+    go (inr n) rec = let v = rec n in (suc (v .0), omega (arith, v .1), v .2)
+
+pub place-member : {A : Type 0} (l : List A) (d : A) (k : ℕ) → k < length l → List·Memᴰ (getD l k d) l
+place-member [] d k b = absurd (omega arith)
+place-member (x ∷ l) d zero b = List·Memᴰ·head refl
+place-member (x ∷ l) d (suc k) b = List·Memᴰ·tail (place-member l d k (omega arith))

@@ -16,6 +16,10 @@ pub all-turn : (i : ℕ) (p : ℕ → Bool) → all i p ≡ true → p i ≡ tru
 unfolding all
 all-turn i p h e = rw add-one (rw e h)
 
+pub all-longer : (i : ℕ) (p : ℕ → Bool) → p i ≡ true → all (i + 1) p ≡ all i p
+unfolding all
+all-longer i p e = rw add-one (rw e refl)
+
 pub all-stop : (n i : ℕ) (p : ℕ → Bool) → i < n → p i ≡ false → false ≡ all n p
 all-stop n i p l e = sym (all-fails n p i l e)
 

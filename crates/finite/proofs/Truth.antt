@@ -44,6 +44,21 @@ pub and-cases : (a b : Bool) → (a && b) ≡ false → (a ≡ false) ⊎ (b ≡
 and-cases true b h = inr h
 and-cases false b h = inl refl
 
+pub and-both : (a b : Bool) → (a && b) ≡ true → (a ≡ true) × (b ≡ true)
+and-both a b h = (and-left a b h, and-right a b h)
+
+pub and-all : (a : Bool) {b : Bool} → b ≡ true → (a && b) ≡ a
+and-all true q = q
+and-all false q = refl
+
+pub and-assoc : (a b c : Bool) → ((a && b) && c) ≡ (a && (b && c))
+and-assoc true b c = refl
+and-assoc false b c = refl
+
+pub and-comm : (a b : Bool) → (a && b) ≡ (b && a)
+and-comm true b = sym (and-all b refl)
+and-comm false b = sym (and-false-right b refl)
+
 pub or-left : {a : Bool} (b : Bool) → a ≡ true → (a || b) ≡ true
 or-left b p = rw p refl
 
@@ -83,3 +98,12 @@ pub same-test : (a b : Bool) → (a ≡ true → b ≡ true) → (b ≡ true →
 same-test true b f g = sym (f refl)
 same-test false true f g = g refl
 same-test false false f g = refl
+
+-- an implication between tests
+pub implies-intro : (a b : Bool) → (a ≡ true → b ≡ true) → (not a || b) ≡ true
+implies-intro true b f = f refl
+implies-intro false b f = refl
+
+pub implies-elim : (a b : Bool) → (not a || b) ≡ true → a ≡ true → b ≡ true
+implies-elim true b h e = h
+implies-elim false b h e = clash e refl

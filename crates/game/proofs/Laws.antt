@@ -1,7 +1,7 @@
 -- What acceptance says of a game, for the crates above: they need none of its tests.
 use mathlib.Core.Path.{_≡_, sym, ap, _∙_}
 use mathlib.Core.Logic.{_≢_}
-use mathlib.Core.Bool.{Bool, true, not, _&&_, _||_}
+use mathlib.Core.Bool.{true, not, _&&_, _||_}
 use Prim.Native.Nat.{ℕ, _≤_, _<_}
 use native.Mathlib.Decide.{decLt}
 use native.Mathlib.Omega.{arith}
@@ -10,7 +10,7 @@ use lib.ListN.{getD}
 use borrow.Author.Tests.{leb-true, eqb-true, eqb-false, le-leb, lt-ltb, le-ltb, eq-eqb, ne-eqb, not-true}
 use Rattle.sets.specs.Words.{capacity, bitsOf, setsIn}
 use Rattle.finite.specs.Bounded.{all}
-use Rattle.finite.proofs.Truth.{and-intro, and-left, and-right, or-left, or-right}
+use Rattle.finite.proofs.Truth.{and-intro, and-left, and-right, or-left, or-right, and-both}
 use Rattle.finite.proofs.Bounded.{all-intro, all-elim}
 use Rattle.bits.specs.Member.{has, within}
 use Rattle.bits.proofs.Membership.{within-has, has-within, within-zero, zero-within}
@@ -193,22 +193,18 @@ module _ (q : Requirement) where
 
 -- ---- a game
 
--- two tests at once
-split-and : (a b : Bool) → (a && b) ≡ true → (a ≡ true) × (b ≡ true)
-split-and a b e = (and-left a b e, and-right a b e)
-
 module _ (g : Game) where
   both-counts : countsFit g ≡ true → (countFits (g .input) ≡ true) × (countFits (g .output) ≡ true)
   unfolding countsFit
-  both-counts e = split-and (countFits (g .input)) (countFits (g .output)) e
+  both-counts e = and-both (countFits (g .input)) (countFits (g .output)) e
 
   both-states : statesInCount g ≡ true → (statesFit (g .input) ≡ true) × (statesFit (g .output) ≡ true)
   unfolding statesInCount
-  both-states e = split-and (statesFit (g .input)) (statesFit (g .output)) e
+  both-states e = and-both (statesFit (g .input)) (statesFit (g .output)) e
 
   both-initial : initialsExist g ≡ true → (hasInitial (g .input) ≡ true) × (hasInitial (g .output) ≡ true)
   unfolding initialsExist
-  both-initial e = split-and (hasInitial (g .input)) (hasInitial (g .output)) e
+  both-initial e = and-both (hasInitial (g .input)) (hasInitial (g .output)) e
 
   few-of : fewRequirements g ≡ true → g .k ≤ 8
   unfolding fewRequirements
@@ -223,8 +219,8 @@ module _ (g : Game) where
       → (inUse g r q ≡ true) × (all 4 (inSetFits q (g .input .states)) ≡ true) × (all 4 (outSetFits q (g .output .states)) ≡ true)
   unfolding requirementFits
   parts-of r q e =
-      let h = split-and (inUse g r q) (all 4 (inSetFits q (g .input .states)) && all 4 (outSetFits q (g .output .states))) e in
-      let t = split-and (all 4 (inSetFits q (g .input .states))) (all 4 (outSetFits q (g .output .states))) (h .1) in
+      let h = and-both (inUse g r q) (all 4 (inSetFits q (g .input .states)) && all 4 (outSetFits q (g .output .states))) e in
+      let t = and-both (all 4 (inSetFits q (g .input .states))) (all 4 (outSetFits q (g .output .states))) (h .1) in
       (h .0, t .0, t .1)
 
   sets-of : setsFit g ≡ true → (r : ℕ) → r < 8 → requirementFits g r (requirementAt g r) ≡ true
@@ -234,7 +230,7 @@ module _ (g : Game) where
   unused-of : (r : ℕ) (q : Requirement) → inUse g r q ≡ true → g .k ≤ r → (q .assumed ≡ 0) × (q .guaranteed ≡ 0)
   unfolding inUse
   unused-of r q e l =
-      let h = split-and (eqb (q .assumed) 0) (eqb (q .guaranteed) 0) (rw (le-ltb r (g .k) l) at e) in
+      let h = and-both (eqb (q .assumed) 0) (eqb (q .guaranteed) 0) (rw (le-ltb r (g .k) l) at e) in
       (eqb-true (q .assumed) 0 (h .0), eqb-true (q .guaranteed) 0 (h .1))
 
   use-of : (r : ℕ) (q : Requirement) → (g .k ≤ r → (q .assumed ≡ 0) × (q .guaranteed ≡ 0)) → inUse g r q ≡ true

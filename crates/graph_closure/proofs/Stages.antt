@@ -9,26 +9,20 @@ use native.Mathlib.Omega.{arith}
 use lib.Dec.{eqb}
 use lib.ListN.{length, getD, drop}
 use borrow.Author.Tests.{eqb-true, eq-eqb}
-use Rattle.finite.proofs.Truth.{clash, or-left, or-right, or-cases, same-test}
+use Rattle.finite.proofs.Truth.{clash, or-cases, same-test}
 use Rattle.bits.specs.Member.{has, pack}
-use Rattle.bits.proofs.Membership.{has-pack-below, has-pack-past, ext}
+use Rattle.bits.proofs.Membership.{has-pack-below, ext, pack-holds}
 use Rattle.graphs.specs.Graph.{Graph, edge}
 use Rattle.graphs.specs.Rows.{rel, rowsOf}
 use Rattle.graphs.specs.Walk.{stay, step}
 use Rattle.graphs.specs.Closure.{nearby, reaches}
 use Rattle.graphs.specs.Way.{near}
 use Rattle.graphs.proofs.Graph.{edge-from, edge-to}
-use Rattle.graphs.proofs.Closure.{Path, reaches-from, reaches-to, reaches-self, reaches-edge, reaches-trans, reaches-path}
+use Rattle.graphs.proofs.Closure.{Path, reaches-from, reaches-to, reaches-self, reaches-edge, reaches-trans, reaches-path, near-intro-same, near-intro-edge}
 use Rattle.graphs.proofs.Way.{near-zero, near-below, near-more, near-cases, near-some, near-short}
 use Rattle.graph_closure.specs.Sweep.{swept, adds}
 use Rattle.graphs.proofs.Front.{rows-length, rows-at, rows-rest, rows-intro}
 use Rattle.graph_closure.proofs.Sweeps.{swept-length, swept-rest, swept-keeps, swept-takes, swept-sound, Still, none-same, none-still, still-none}
-
-pack-to : (n : ℕ) (p : ℕ → Bool) (u : ℕ) → has (pack n p) u ≡ true → u < n
-pack-to n p u h = elim (decLt u n) [ yes b ↦ b | no b ↦ clash h (has-pack-past n p u (omega arith)) ]
-
-pub pack-holds : (n : ℕ) (p : ℕ → Bool) (u : ℕ) → has (pack n p) u ≡ true → p u ≡ true
-pack-holds n p u h = sym (has-pack-below n p u (pack-to n p u h)) ∙ h
 
 module _ (G : Graph) where
   -- a way of at most k moves from a to u
@@ -50,14 +44,6 @@ module _ (G : Graph) where
   unfolding nearby
   nearby-cases a u h = elim (or-cases (eqb a u) (edge G a u) h) [ inl e ↦ inl (eqb-true a u e) | inr e ↦ inr e ]
 
-  nearby-self : (a : ℕ) → nearby G a a ≡ true
-  unfolding nearby
-  nearby-self a = or-left (edge G a a) (eq-eqb a a refl)
-
-  nearby-edge : (a u : ℕ) → edge G a u ≡ true → nearby G a u ≡ true
-  unfolding nearby
-  nearby-edge a u h = or-right (eqb a u) h
-
   nearby-reaches : (a u : ℕ) → a < G .states → nearby G a u ≡ true → reaches G a u ≡ true
   nearby-reaches a u b h = elim (nearby-cases a u h) [ inl e ↦ ap (reaches G a) (sym e) ∙ reaches-self G a b | inr e ↦ reaches-edge G a u e ]
 
@@ -78,11 +64,11 @@ module _ (G : Graph) where
       long = omega (arith, rows-length (G .states) (nearby G) l (G .states) fits e);
       rest = rows-rest (G .states) (nearby G) l (G .states) e;
       sound = λ a u b h. nearby-reaches a u b (pack-holds (G .states) (nearby G a) u (sym (first-row a u b) ∙ h));
-      self = λ a b. first-has a a b b (nearby-self a);
-      moves = λ a u h. first-has a u (edge-from G a u h) (edge-to G a u h) (nearby-edge a u h);
+      self = λ a b. first-has a a b b (near-intro-same G a);
+      moves = λ a u h. first-has a u (edge-from G a u h) (edge-to G a u h) (near-intro-edge G a u h);
       ways = λ a u h.
           let w = way-none u a h in
-          ap (rel m a) (sym (w .1)) ∙ first-has a a (w .0) (w .0) (nearby-self a);
+          ap (rel m a) (sym (w .1)) ∙ first-has a a (w .0) (w .0) (near-intro-same G a);
     }
 
   -- ---- one sweep more

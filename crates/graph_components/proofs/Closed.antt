@@ -10,10 +10,11 @@ use mathlib.Core.Bool.{Bool, true, _&&_, not}
 use mathlib.Core.List.{List}
 use native.Mathlib.Omega.{arith}
 use lib.ListN.{getD}
+use Rattle.play.proofs.Moves.{moved-edge}
 use Rattle.finite.proofs.Truth.{same-test}
 use Rattle.finite.proofs.Bounded.{any-same}
 use Rattle.bits.specs.Member.{has, pack, setsMeet}
-use Rattle.bits.proofs.Membership.{has-pack-below, pack-ext, pack-lt, has-lt}
+use Rattle.bits.proofs.Membership.{has-pack-below, pack-ext, pack-lt, has-lt, has-pack-all}
 use Rattle.bits.proofs.Compare.{meets-intro, meets-elim}
 use Rattle.sets.specs.Words.{capacity, setsIn}
 use Rattle.graphs.specs.Graph.{Graph, edge}
@@ -85,18 +86,7 @@ module _ (h : Record) (l : List ℕ) (C : Closes h l) where
   pub nontrivial-closed : h .states ≤ capacity → pack (h .states) (nontrivialAt (setsIn (h .moves)) l (h .states)) ≡ pack (h .states) (nontrivial (graphOf h))
   nontrivial-closed n = pack-ext (h .states) (nontrivialAt (setsIn (h .moves)) l (h .states)) (nontrivial (graphOf h)) (λ s b. nontrivial-at-closed n s b)
 
--- a set is its members, past the count too
-pub has-pack-all : (n : ℕ) (p : ℕ → Bool) → ((t : ℕ) → p t ≡ true → t < n) → (t : ℕ) → has (pack n p) t ≡ p t
-has-pack-all n p b t =
-    same-test (has (pack n p) t) (p t)
-    (λ e. let l = has-lt n (pack n p) t (pack-lt n p) e in sym (has-pack-below n p t l) ∙ e)
-    (λ e. has-pack-below n p t (b t e) ∙ e)
-
 module _ (h : Record) (F : GraphFits h) where
-  pub moved-edge : (k t : ℕ) → k < h .states → has (getD (setsIn (h .moves)) k 0) t ≡ edge (graphOf h) k t
-  moved-edge k t a =
-      same-test (has (getD (setsIn (h .moves)) k 0) t) (edge (graphOf h) k t) (λ e. edge-moved h k t a (F .row-below k t a e) e) (λ e. moves-edge h k t e)
-
   -- the exits of a component
   pub leaving-closed : (s r : ℕ)
       → ((t : ℕ) → has r t ≡ (enters (setsIn (h .moves)) (pack (h .states) (joined (graphOf h) s)) (h .states) t && not
@@ -107,7 +97,7 @@ module _ (h : Record) (F : GraphFits h) where
       e t
       ∙ ap₂ (λ (a b : Bool). a && not b)
       (any-same (h .states) (λ k. has comp k && has (getD (setsIn (h .moves)) k 0) t) (λ k. joined (graphOf h) s k && edge (graphOf h) k t)
-      (λ k b. ap₂ _&&_ (has-pack-below (h .states) (joined (graphOf h) s) k b) (moved-edge k t b)))
+      (λ k b. ap₂ _&&_ (has-pack-below (h .states) (joined (graphOf h) s) k b) (moved-edge h F k t b)))
       (has-pack-all (h .states) (joined (graphOf h) s) (λ u j. joined-to (graphOf h) s u j) t)
     where
       comp : ℕ

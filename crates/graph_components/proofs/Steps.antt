@@ -12,7 +12,7 @@ use borrow.Author.Tests.{ltb-true}
 use Rattle.finite.specs.Bounded.{any, least, count}
 use Rattle.finite.proofs.Bounded.{any-intro, any-elim}
 use Rattle.bits.specs.Member.{has, pack, setsMeet}
-use Rattle.finite.proofs.Truth.{clash, false-of, not-true, same-test, and-intro, and-left, and-right, or-left, or-right, or-cases}
+use Rattle.finite.proofs.Truth.{clash, false-of, not-true, same-test, and-intro, and-left, and-right, or-left, or-right, or-cases, and-all}
 use Rattle.bits.proofs.Membership.{has-zero, has-pack, has-pack-below}
 use Rattle.bits.proofs.Compare.{meets-intro, meets-elim}
 use Rattle.bits.proofs.Passing.{Passing, passing-end}
@@ -22,18 +22,8 @@ use Rattle.sets.specs.Words.{capacity}
 use Rattle.graphs.specs.Rows.{rel}
 use Rattle.graph_components.specs.Component.{together, nontrivialAt, enters}
 
-pub both-true : (a b : Bool) {r : Bool} → r ≡ b → a ≡ true → r ≡ (a && b)
-both-true a b e h = rw h e
-
-pub both-false : (a b : Bool) → a ≡ false → false ≡ (a && b)
-both-false a b h = rw h refl
-
 pub spared-whole : (x y s t : ℕ) → has y s ≡ true → has x t ≡ (has x t && (has y s || not (has y t)))
-spared-whole x y s t h = rw h (same (has x t))
-  where
-    same : (b : Bool) → b ≡ (b && true)
-    same true = refl
-    same false = refl
+spared-whole x y s t h = rw h (sym (and-all (has x t) refl))
 
 pub spared-less : (x y s t : ℕ) {r : Bool} → has y s ≡ false → r ≡ (has x t && not (has y t)) → r ≡ (has x t && (has y s || not (has y t)))
 spared-less x y s t h e = rw h e

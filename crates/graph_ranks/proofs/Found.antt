@@ -10,6 +10,7 @@ use native.Mathlib.Decide.{decLt}
 use lib.Dec.{ltb}
 use lib.ListN.{getD}
 use borrow.Author.Tests.{lt-ltb}
+use Rattle.play.proofs.Moves.{moved-edge}
 use Rattle.finite.proofs.Truth.{clash, same-test, and-intro, and-right}
 use Rattle.bits.specs.Member.{has, pack}
 use Rattle.bits.proofs.Membership.{has-zero, has-pack, ext}
@@ -24,7 +25,6 @@ use Rattle.graphs.proofs.Component.{joined-intro, joined-there, joined-back, jo
 use Rattle.game.specs.declared.Graph.{Graph as Record}
 use Rattle.game.specs.Fits.{GraphFits}
 use Rattle.play.specs.Play.{graphOf}
-use Rattle.graph_components.proofs.Closed.{moved-edge}
 use Rattle.graph_ranks.specs.Search.{Narrow, Onward, Backward, Component}
 
 module _ (h : Record) (F : GraphFits h) where

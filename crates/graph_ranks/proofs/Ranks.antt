@@ -17,6 +17,7 @@ use lib.Dec.{eqb, ltb}
 use lib.ListN.{length, getD, set, length-set}
 use lib.Seq.{getD-set-same, getD-set-other}
 use borrow.Author.Tests.{eqb-true, eq-eqb, ne-eqb, ltb-true, ltb-false, lt-ltb, le-ltb}
+use Rattle.compact.proofs.Rank.{number-leads}
 use Rattle.finite.specs.Bounded.{least, count}
 use Rattle.finite.proofs.Truth.{decide, clash, false-of, same-test, and-intro, and-left, and-right}
 use Rattle.finite.proofs.Truth.{or-left, or-right, or-cases, or-false, or-false-left, or-false-right, not-true, not-false}
@@ -70,10 +71,6 @@ module _ (S : Separated) where
   pub left-start : (left : ℕ) → ((t : ℕ) → has left t ≡ ltb t n) → Left 0 left
   left-start left d = left-is 0 left (λ t m. (ltb-true t n (sym (d t) ∙ m), omega arith)) (λ t a b. d t ∙ lt-ltb t n a)
 
-  leads-elim : (j : ℕ) → leads S j ≡ true → number (S .input) j ≡ j
-  unfolding leads
-  leads-elim j e = eqb-true (number (S .input) j) j e
-
   leads-intro : (j : ℕ) → number (S .input) j ≡ j → leads S j ≡ true
   unfolding leads
   leads-intro j e = eq-eqb (number (S .input) j) j e
@@ -84,11 +81,11 @@ module _ (S : Separated) where
   pub left-leads : (j left : ℕ) → Left j left → j < n → has left j ≡ leads S j
   left-leads j left L b =
       same-test (has left j) (leads S j) (λ m. leads-intro j (omega (arith, number-le j b, left-number j left j L m)))
-      (λ m. left-intro j left j L b (omega (arith, leads-elim j m)))
+      (λ m. left-intro j left j L b (omega (arith, number-leads S j m)))
 
   -- the members of a component have its smallest state for their number
   member-number : (j t : ℕ) → leads S j ≡ true → joined (S .input) j t ≡ true → number (S .input) t ≡ j
-  member-number j t l m = sym (number-same (S .input) j t m) ∙ leads-elim j l
+  member-number j t l m = sym (number-same (S .input) j t m) ∙ number-leads S j l
 
   number-member : (j t : ℕ) → t < n → number (S .input) t ≡ j → joined (S .input) j t ≡ true
   number-member j t b e =

@@ -7,12 +7,10 @@ use Prim.Native.Nat.{ℕ, _<_}
 use mathlib.Core.Path.{_≡_, sym, _∙_, fun-ext}
 use mathlib.Core.Bool.{Bool, true, _&&_}
 use mathlib.Core.List.{List}
-use native.Mathlib.Decide.{decLt}
-use native.Mathlib.Omega.{arith}
 use lib.ListN.{getD}
-use Rattle.finite.proofs.Truth.{clash, and-intro, and-left, and-right, same-test}
+use Rattle.finite.proofs.Truth.{and-intro, and-left, and-right, same-test}
 use Rattle.bits.specs.Member.{has, pack}
-use Rattle.bits.proofs.Membership.{has-pack-below, has-pack-past}
+use Rattle.bits.proofs.Membership.{has-pack-below, has-pack-all, pack-below, pack-holds}
 use Rattle.graphs.specs.Graph.{Graph, edge}
 use Rattle.graphs.proofs.Graph.{edge-from, edge-to, edge-moves, edge-intro}
 use Rattle.graph_ways.specs.Kept.{kept}
@@ -34,17 +32,8 @@ module _ (rows : List ℕ) (c s t : ℕ) where
   unfolding kept
   kept-move h = and-right (has c t) (has (getD rows s 0) t) (and-right (has c s) (has c t && has (getD rows s 0) t) h)
 
--- a member of a packed set
-pub pack-below : (n : ℕ) (p : ℕ → Bool) (s : ℕ) → has (pack n p) s ≡ true → s < n
-pack-below n p s h = elim (decLt s n) [ yes b ↦ b | no b ↦ clash h (has-pack-past n p s (omega arith)) ]
-
-pub pack-holds : (n : ℕ) (p : ℕ → Bool) (s : ℕ) → has (pack n p) s ≡ true → p s ≡ true
-pack-holds n p s h = sym (has-pack-below n p s (pack-below n p s h)) ∙ h
-
 pub members-pack : (n : ℕ) (q : ℕ → Bool) → ((k : ℕ) → q k ≡ true → k < n) → has (pack n q) ≡ q
-members-pack n q below =
-    fun-ext
-    (λ k. same-test (has (pack n q) k) (q k) (pack-holds n q k) (λ h. has-pack-below n q k (below k h) ∙ h))
+members-pack n q below = fun-ext (has-pack-all n q below)
 
 -- rows that hold the moves of a graph
 module _ (G : Graph) (rows : List ℕ)

@@ -14,29 +14,23 @@ use mathlib.Core.List.{List}
 use mathlib.Core.Logic.{_⊎_, inl, inr}
 use native.Mathlib.Decide.{decLt}
 use native.Mathlib.Omega.{arith}
-use Rattle.finite.specs.Bounded.{any, count}
-use Rattle.finite.proofs.Truth.{decide, clash, false-of, and-intro, and-left, and-right, and-cases, or-left, or-right, or-cases, same-test, not-true, not-false}
-use Rattle.finite.proofs.Bounded.{any-intro, least-at-most, count-less, below-suc}
+use Rattle.finite.specs.Bounded.{count}
+use Rattle.finite.proofs.Truth.{decide, clash, false-of, and-left, and-right, and-cases, or-left, or-right, or-cases, same-test, not-true, not-false}
+use Rattle.finite.proofs.Bounded.{count-less, below-suc}
 use Rattle.bits.specs.Member.{has, within, pack}
-use Rattle.bits.proofs.Membership.{ext, has-zero, within-lt, has-within, has-pack-below, pack-has}
+use Rattle.bits.proofs.Membership.{ext, has-zero, within-lt, has-within, has-pack-below, pack-has, pack-below}
 use Rattle.bits.proofs.Compare.{nonzero-member}
 use Rattle.sets.specs.Words.{capacity}
 use Rattle.graphs.specs.Way.{layer, near, approach, shortest, prefer, toward}
-use Rattle.graphs.proofs.Way.{Leads, prefer-same, prefer-wider, near-below, near-more, near-step, near-cases, toward-move, toward-near}
+use Rattle.graphs.proofs.Way.{Leads, prefer-same, prefer-wider, near-below, near-more, near-step, near-cases, toward-move, toward-near, approach-best}
 use Rattle.graph_ways.specs.Kept.{kept}
 use Rattle.graph_ways.specs.Search.{choices, movesInto}
-use Rattle.graph_ways.proofs.Kept.{kept-from, pack-below}
+use Rattle.graph_ways.proofs.Kept.{kept-from}
 use Rattle.graph_ways.proofs.Round.{has-choices, settles-intro, settles-nonzero, settles-left, settles-move}
 
 -- ---- shortest ways along any relation
 
 module _ (n : ℕ) (r : ℕ → ℕ → Bool) (p : ℕ → Bool) where
-  approach-most : (s t k : ℕ) → r s t ≡ true → near n r p k t ≡ true → approach n r p s ≤ k
-  unfolding approach
-  approach-most s t k e h =
-      least-at-most n (λ j. any n (λ u. r s u && near n r p j u)) k
-      (any-intro n (λ u. r s u && near n r p k u) t (near-below n r p k t h) (and-intro e h))
-
   -- the first layer that a move of s lands in
   approach-first : (s t k : ℕ) → r s t ≡ true → near n r p k t ≡ true → ((u j : ℕ) → j < k → r s u ≡ true → near n r p j u ≡ false) → approach n r p s ≡ k
   approach-first s t k e h none = go (decLt (approach n r p s) k)
@@ -46,7 +40,7 @@ module _ (n : ℕ) (r : ℕ → ℕ → Bool) (p : ℕ → Bool) where
 
       go : Dec (approach n r p s < k) → approach n r p s ≡ k
       go (yes b) = clash (toward-near n r p s way) (none (toward n r p s) (approach n r p s) b (toward-move n r p s way))
-      go (no b) = omega (arith, approach-most s t k e h)
+      go (no b) = omega (arith, approach-best n r p s t k e h)
 
   near-at : (k l t : ℕ) → l ≡ layer n r p k → near n r p k t ≡ has l t
   unfolding near

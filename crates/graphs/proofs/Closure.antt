@@ -10,7 +10,7 @@ use borrow.Author.Tests.{eqb-true, eq-eqb}
 use Rattle.finite.proofs.Truth.{and-intro, and-left, and-right, or-left, or-right, or-cases}
 use Rattle.finite.proofs.Bounded.{below-suc}
 use Rattle.graphs.specs.Walk.{Walk, stay, step}
-use Rattle.graphs.specs.Graph.{Graph, edge}
+use Rattle.graphs.specs.Graph.{Graph, edge, Moves}
 use Rattle.graphs.specs.Rows.{rel}
 use Rattle.graphs.specs.Closure.{nearby, joins, via, reaches}
 use Rattle.graphs.proofs.Walk.{join}
@@ -19,14 +19,19 @@ use Rattle.graphs.proofs.Rows.{rel-rows, rel-from, rel-to, rel-holds}
 
 -- a walk along the graph's moves
 abbrev pub Path : Graph → ℕ → ℕ → Type 0
-Path G s t = Walk (λ (a b : ℕ). edge G a b ≡ true) s t
+Path G s t = Walk (Moves G) s t
 
 module _ (G : Graph) where
-  near-intro-same : (s : ℕ) → nearby G s s ≡ true
+  -- where a walk from a state ends
+  pub path-below : {s t : ℕ} → Path G s t → s < G .states → t < G .states
+  path-below stay b = b
+  path-below (step {a = s} {b = u} e w) b = path-below w (edge-to G s u e)
+
+  pub near-intro-same : (s : ℕ) → nearby G s s ≡ true
   unfolding nearby
   near-intro-same s = or-left (edge G s s) (eq-eqb s s refl)
 
-  near-intro-edge : (s t : ℕ) → edge G s t ≡ true → nearby G s t ≡ true
+  pub near-intro-edge : (s t : ℕ) → edge G s t ≡ true → nearby G s t ≡ true
   unfolding nearby
   near-intro-edge s t h = or-right (eqb s t) h
 

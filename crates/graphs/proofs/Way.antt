@@ -215,7 +215,7 @@ module _ (n : ℕ) (r : ℕ → ℕ → Bool) (p : ℕ → Bool) where
   pub approach-below : (s : ℕ) → Leads s → approach n r p s < n
   approach-below s w = rw (approach-at s) (found s w)
 
-  approach-best : (s t k : ℕ) → r s t ≡ true → near n r p k t ≡ true → approach n r p s ≤ k
+  pub approach-best : (s t k : ℕ) → r s t ≡ true → near n r p k t ≡ true → approach n r p s ≤ k
   approach-best s t k e h = rw (approach-at s) (least-at-most n (some-near s) k (some-near-intro s t k e h))
 
   shortest-some : (s : ℕ) → Leads s → (t : ℕ) × (t < n) × (shortest n r p s t ≡ true)

@@ -1,10 +1,12 @@
 -- A graph: states numbered from 0, which of them are initial, and moves.
 --
 --   edge G s t    == the graph moves from s to t, both being states of it
+--   Moves G s t   == the same, for walks
 --   begins G s    == s is an initial state
 --   stuck G s     == s has no move
 use Prim.Native.Nat.{ℕ}
-use mathlib.Core.Bool.{Bool, _&&_, not}
+use mathlib.Core.Path.{_≡_}
+use mathlib.Core.Bool.{Bool, true, _&&_, not}
 use lib.Dec.{ltb}
 use Rattle.finite.specs.Bounded.{any}
 
@@ -17,6 +19,9 @@ pub record Graph : Type 0 where
 -- "A state is past the count when its number is not below it." What is past the count is no state, and so neither end of a move.
 unfoldable pub edge : Graph → ℕ → ℕ → Bool
 edge G s t = ltb s (G .states) && (ltb t (G .states) && G .moves s t)
+
+abbrev pub Moves : Graph → ℕ → ℕ → Type 0
+Moves G s t = edge G s t ≡ true
 
 unfoldable pub begins : Graph → ℕ → Bool
 begins G s = ltb s (G .states) && G .initial s

@@ -1,27 +1,27 @@
 -- What is read from scratch and from a game's records, told with the theory's tests.
 --
---   meets-pack                       : two sets meet, one of them told by its members
---   row-edge, row-stuck              : a row of moves
+--   row-stuck                        : a row without moves
 --   home-means                       : the lowest home ahead
 --   answered-means                   : whether a next input has a won reply
 --   unreplied-yes, unreplied-no      : the two returns of `unreplied`
 --   exits-means                      : the states that moves out of a component enter
 --   exit-yes, exit-no                : the two returns of `exit_lost`
 --   inside-means, output-means       : whether the input, the output is in a nontrivial component
-use Prim.Native.Nat.{ℕ, _≤_, _<_}
+use Prim.Native.Nat.{ℕ, _<_}
 use mathlib.Core.Path.{_≡_, sym, _∙_, ap, ap₂}
 use mathlib.Core.Bool.{Bool, true, false, _&&_, not}
 use mathlib.Core.List.{List}
 use native.Mathlib.Omega.{arith}
 use lib.Dec.{eqb}
 use borrow.Author.Tests.{eqb-true, eqb-false}
-use Rattle.finite.specs.Bounded.{any, least}
-use Rattle.finite.proofs.Truth.{clash, true-of, same-test, and-intro, and-left, and-right}
-use Rattle.finite.proofs.Bounded.{any-intro, any-elim, any-same, least-member, least-before, least-below, least-unique}
+use Rattle.play.proofs.Moves.{row-edge}
+use Rattle.finite.specs.Bounded.{least}
+use Rattle.finite.proofs.Truth.{clash, true-of, same-test, and-intro}
+use Rattle.finite.proofs.Bounded.{any-same, least-member, least-before, least-below, least-unique}
 use Rattle.finite.proofs.Loops.{and-next, and-stop}
 use Rattle.bits.specs.Member.{has, pack, setsMeet}
-use Rattle.bits.proofs.Membership.{has-zero, has-pack-below, has-lt, pack-lt}
-use Rattle.bits.proofs.Compare.{meets-intro, meets-elim, nonzero-member}
+use Rattle.bits.proofs.Membership.{has-zero, has-pack-below}
+use Rattle.bits.proofs.Compare.{nonzero-member, meets-pack}
 use Rattle.sets.specs.Words.{capacity, bitsOf, setsIn, setAt}
 use Rattle.sets.proofs.Rows.{set-bits}
 use Rattle.graphs.specs.Graph.{edge, stuck}
@@ -43,42 +43,27 @@ use Rattle.game.specs.Access.{inMoves, outMoves}
 use Rattle.game.specs.Fits.{GraphFits}
 use Rattle.play.specs.Play.{graphOf, separatedOf}
 use Rattle.graph_components.specs.Component.{together, nontrivialAt, enters}
-use Rattle.graph_components.proofs.Closed.{component-closed, nontrivial-closed, moved-edge, leaving-closed}
+use Rattle.graph_components.proofs.Closed.{component-closed, nontrivial-closed, leaving-closed}
 use Rattle.scratch.specs.Stored.{rowAt, outReachAt, outArea, wonAt}
 use Rattle.scratch.proofs.Areas.{in-closes, area-closes}
 use Rattle.scratch.proofs.Read.{stored-nontrivial, ready-won, ready-row}
 use Rattle.grounds.specs.Ground.{unreplied, lostExit}
 use Rattle.ground_search.specs.Asked.{PositionAsked, Exits}
 
-pub meets-pack : (n x : ℕ) (p : ℕ → Bool) → n ≤ capacity → setsMeet capacity x (pack n p) ≡ any n (λ t. has x t && p t)
-meets-pack n x p b =
-    same-test (setsMeet capacity x (pack n p)) (any n (λ t. has x t && p t))
-    (λ e.
-    let v = meets-elim capacity x (pack n p) e in
-    let l = has-lt n (pack n p) (v .0) (pack-lt n p) (v .3) in
-    any-intro n (λ t. has x t && p t) (v .0) l (and-intro (v .2) (sym (has-pack-below n p (v .0) l) ∙ v .3)))
-    (λ e.
-    let v = any-elim n (λ t. has x t && p t) e in
-    meets-intro capacity x (pack n p) (v .0) (omega (arith, v .1)) (and-left (has x (v .0)) (p (v .0)) (v .2))
-    (has-pack-below n p (v .0) (v .1) ∙ and-right (has x (v .0)) (p (v .0)) (v .2)))
-
 -- ---- a row of moves
 
 module _ (h : Graph) (F : GraphFits h) (s : ℕ) (a : s < h .states) where
-  pub row-edge : (t : ℕ) → has (bitsOf (setAt (h .moves) s)) t ≡ edge (graphOf h) s t
-  row-edge t = ap (λ (x : ℕ). has x t) (set-bits (h .moves) s) ∙ moved-edge h F s t a
-
   pub row-stuck : eqb (bitsOf (setAt (h .moves) s)) 0 ≡ stuck (graphOf h) s
   row-stuck =
       same-test (eqb x 0) (stuck (graphOf h) s)
       (λ e. true-of (stuck (graphOf h) s)
       (λ n.
       let v = stuck-moves (graphOf h) s n in
-      clash (row-edge (v .0) ∙ v .1) (ap (λ (y : ℕ). has y (v .0)) (eqb-true x 0 e) ∙ has-zero (v .0))))
+      clash (row-edge h F s (v .0) a ∙ v .1) (ap (λ (y : ℕ). has y (v .0)) (eqb-true x 0 e) ∙ has-zero (v .0))))
       (λ e. true-of (eqb x 0)
       (λ n.
       let v = nonzero-member x (eqb-false x 0 n) in
-      clash (v .1) (row-edge (v .0) ∙ stuck-none (graphOf h) s (v .0) e)))
+      clash (v .1) (row-edge h F s (v .0) a ∙ stuck-none (graphOf h) s (v .0) e)))
     where
       x : ℕ
       x = bitsOf (setAt (h .moves) s)
@@ -105,16 +90,16 @@ module _ {g : Game} {s : List ℕ} {c : InSet} {i : InState} {o : OutState} (A :
   answered-means e f h =
       h
       ∙ ap₂ (λ (u v : ℕ). setsMeet capacity u v) (ap (λ (u : OutSet). bitsOf (u .0)) e) (f ∙ ready-row (A .ready) (i .0) (A .input))
-      ∙ meets-pack m row (region (separatedOf g) (i .0)) (A .ready .fits .output .most)
+      ∙ meets-pack capacity m row (region (separatedOf g) (i .0)) (A .ready .fits .output .most)
       ∙ any-same m (λ p. has row p && region (separatedOf g) (i .0) p) (λ p. edge (graphOf (g .output)) (o .0) p && region (separatedOf g) (i .0) p)
-      (λ p b. ap (λ (t : Bool). t && region (separatedOf g) (i .0) p) (row-edge (g .output) (A .ready .fits .output) (o .0) (A .output) p))
+      (λ p b. ap (λ (t : Bool). t && region (separatedOf g) (i .0) p) (row-edge (g .output) (A .ready .fits .output) (o .0) p (A .output)))
     where
       row : ℕ
       row = bitsOf (setAt (g .output .moves) (o .0))
 
   module _ (j : InState) {x : InSet} {t : Bool} (e : x ≡ inMoves g i) (h : t ≡ has (bitsOf (x .0)) (j .0)) where
     moves-to : t ≡ edge (graphOf (g .input)) (i .0) (j .0)
-    moves-to = h ∙ ap (λ (u : InSet). has (bitsOf (u .0)) (j .0)) e ∙ row-edge (g .input) (A .ready .fits .input) (i .0) (A .input) (j .0)
+    moves-to = h ∙ ap (λ (u : InSet). has (bitsOf (u .0)) (j .0)) e ∙ row-edge (g .input) (A .ready .fits .input) (i .0) (j .0) (A .input)
 
     pub unreplied-yes : {r : Bool} → t ≡ true → r ≡ answers S (region S) (j .0) (o .0) → not r ≡ unreplied S (i .0) (o .0) (j .0)
     unfolding unreplied separatedOf

@@ -10,6 +10,7 @@ use mathlib.Core.List.{List, []}
 use lib.Dec.{ltb}
 use lib.ListN.{length, getD}
 use borrow.Author.Tests.{ltb-true, lt-ltb}
+use Rattle.bits.proofs.Compare.{meets-pack}
 use Rattle.finite.specs.Bounded.{all, least}
 use Rattle.finite.proofs.Truth.{clash, true-of, same-test, not-true, not-false}
 use Rattle.finite.proofs.Bounded.{all-same, all-elim, all-false, least-member, least-below, least-same}
@@ -35,12 +36,11 @@ use Rattle.scratch.proofs.Areas.{in-closes, area-closes}
 use Rattle.region_dues.specs.Dues.{inMeets, inMeetsAt, outMeets, outMeetsAt, dueIn, servedIn}
 use Rattle.grounds.specs.Ground.{nthRequirement, owed, missed, firstOwed, firstMissed}
 use Rattle.ground_search.specs.Asked.{PositionAsked, missedIn, owedIn}
-use Rattle.ground_search.proofs.Meaning.{meets-pack}
 
 component-meets : (h : Graph) (s x : ℕ) → h .states ≤ capacity
     → setsMeet capacity x (pack (h .states) (joined (graphOf h) s)) ≡ meetsAt (graphOf h) s (has x)
 unfolding meetsAt graphOf
-component-meets h s x b = meets-pack (h .states) x (joined (graphOf h) s) b
+component-meets h s x b = meets-pack capacity (h .states) x (joined (graphOf h) s) b
 
 nth : (g : Game) (r : ℕ) → r < g .k → nthRequirement (separatedOf g) r ≡ requirementOf (requirementAt g r)
 unfolding nthRequirement separatedOf requirementsOf

@@ -5,7 +5,7 @@
 --   trivial-told, told-trivial          : the same of a component that is trivial
 --   meets-told, told-meets              : Meets, from meetsAt and back
 --   leaves-told, told-leaves            : Leaves, from leaves and back
---   walk-below, entered-below           : where a walk and a move out lead is in range
+--   entered-below                       : where a move out leads is in range
 --   allOf-at, allOf-place               : a test on every member of a list, by places
 use Prim.Native.Nat.{ℕ, zero, suc, _<_}
 use mathlib.Core.Path.{_≡_, refl}
@@ -16,11 +16,10 @@ use native.Mathlib.Omega.{arith}
 use lib.ListN.{length, getD}
 use Rattle.finite.specs.Lists.{allOf}
 use Rattle.finite.proofs.Truth.{clash, false-of, and-left, and-right, and-cases}
-use Rattle.graphs.specs.Walk.{Walk, stay, step}
 use Rattle.graphs.specs.Graph.{Graph}
 use Rattle.graphs.specs.Component.{joined, nontrivial, leaves, meetsAt}
 use Rattle.graphs.proofs.Graph.{edge-to}
-use Rattle.graphs.proofs.Closure.{reaches-path, path-reaches}
+use Rattle.graphs.proofs.Closure.{reaches-path, path-reaches, path-below}
 use Rattle.graphs.proofs.Component.{
   joined-intro,
   joined-there,
@@ -35,18 +34,14 @@ use Rattle.graphs.proofs.Component.{
   meetsAt-intro,
   meetsAt-elim,
 }
-use Rattle.grounds.specs.Component.{Moves, Together, Nontrivial, Meets, Leaves}
+use Rattle.grounds.specs.Component.{Together, Nontrivial, Meets, Leaves}
 
 module _ (G : Graph) where
-  walk-below : {s t : ℕ} → Walk (Moves G) s t → s < G .states → t < G .states
-  walk-below stay b = b
-  walk-below (step {a = s} {b = u} e w) b = walk-below w (edge-to G s u e)
-
   pub joined-told : (s t : ℕ) → joined G s t ≡ true → Together G s t
   joined-told s t h = record { there = reaches-path G s t (joined-there G s t h); back = reaches-path G t s (joined-back G s t h) }
 
   pub told-joined : (s t : ℕ) → s < G .states → Together G s t → joined G s t ≡ true
-  told-joined s t b w = joined-intro G s t (path-reaches G s t b (w .there)) (path-reaches G t s (walk-below (w .there) b) (w .back))
+  told-joined s t b w = joined-intro G s t (path-reaches G s t b (w .there)) (path-reaches G t s (path-below G (w .there) b) (w .back))
 
   pub nontrivial-told : (s : ℕ) → s < G .states → nontrivial G s ≡ true → Nontrivial G s
   nontrivial-told s b h =

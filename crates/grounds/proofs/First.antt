@@ -27,7 +27,7 @@ use Rattle.theory.specs.Region.{due, served, answers, homeFor, region}
 use Rattle.theory.specs.Tour.{goalAt}
 use Rattle.theory.specs.Choice.{home}
 use Rattle.theory.proofs.Region.{answers-elim}
-use Rattle.theory.proofs.Demands.{won-region}
+use Rattle.theory.proofs.Demands.{won-region, region-won}
 use Rattle.grounds.specs.Ground.{
   Ground,
   inputStuck,
@@ -67,7 +67,6 @@ use Rattle.grounds.specs.Holds.{
 }
 use Rattle.grounds.proofs.Component.{joined-told, told-nontrivial, told-trivial, meets-told, told-meets, leaves-told, told-leaves, entered-below}
 use Rattle.grounds.proofs.Tests.{
-  won-at,
   region-lost,
   unreplied-intro,
   lostExit-intro,
@@ -201,7 +200,7 @@ module _ (S : Separated) (i o : ℕ) (a : i < S .input .states) (b : o < S .outp
       none : answers S (region S) j o ≡ false
       none =
           false-of (answers S (region S) j o)
-          (λ h. let x = answers-elim S (region S) j o h in v .unreplied (x .0) (x .1) (won-at S j (x .0) (x .2)))
+          (λ h. let x = answers-elim S (region S) j o h in v .unreplied (x .0) (x .1) (region-won S j (x .0) (x .2)))
 
   first-byWayOut : (j : ℕ) → ByWayOut S i o j → UpTo (ground S i o) (byWayOut j)
   unfolding groundNumber firstNamed secondNamed

@@ -8,6 +8,7 @@ use mathlib.Core.Path.{_≡_, sym, _∙_, subst⁻¹}
 use mathlib.Core.Bool.{true, false}
 use mathlib.Core.Logic.{inl, inr}
 use lib.ListN.{length}
+use Rattle.theory.proofs.Demands.{region-won}
 use Rattle.finite.specs.Bounded.{any, least}
 use Rattle.finite.proofs.Truth.{decide, clash}
 use Rattle.finite.proofs.Bounded.{least-below, least-found, least-member, least-before}
@@ -47,7 +48,6 @@ use Rattle.grounds.specs.Holds.{
 }
 use Rattle.grounds.proofs.Component.{told-joined, nontrivial-told, trivial-told, meets-told, told-meets, leaves-told, told-leaves, entered-below}
 use Rattle.grounds.proofs.Tests.{
-  won-at,
   lost-at,
   unreplied-intro,
   unreplied-move,
@@ -83,20 +83,20 @@ module _ (S : Separated) (i o : ℕ) (a : i < S .input .states) (b : o < S .outp
 
   module _ (w : region S i o ≡ true) where
     holds-inputStuck : stuck (S .input) i ≡ true → InputStuck S i o
-    holds-inputStuck t = record { won = won-at S i o w; stuck = λ j. stuck-none (S .input) i j t }
+    holds-inputStuck t = record { won = region-won S i o w; stuck = λ j. stuck-none (S .input) i j t }
 
     holds-byReplies : nontrivial (S .input) i ≡ false → ByReplies S i o
     holds-byReplies n = record {
-      won = won-at S i o w;
+      won = region-won S i o w;
       trivial = trivial-told (S .input) i a n;
       replies = λ j e.
           let v = answers-elim S (region S) j o (reply S i o j w e) in
-          record { output = v .0; move = v .1; won = won-at S j (v .0) (v .2) };
+          record { output = v .0; move = v .1; won = region-won S j (v .0) (v .2) };
     }
 
     holds-atHome : nontrivial (S .input) i ≡ true → AtHome S i o (home S i o)
     holds-atHome n = record {
-      won = won-at S i o w;
+      won = region-won S i o w;
       staying = nontrivial-told (S .input) i a n;
       number = λ e t. home-number S i o e settled (told-joined (S .output) d e below t);
       lasting = nontrivial-told (S .output) d below (homeFor-nontrivial S (region S) i d (home-homeFor S i o settled));
@@ -106,7 +106,7 @@ module _ (S : Separated) (i o : ℕ) (a : i < S .input .states) (b : o < S .outp
           (served-at S d k m
           (accepting-at S i d k (homeFor-accepting S (region S) i d (home-homeFor S i o settled)) (u .number) (due-test S i k a u)) c);
       safe = λ j e l t.
-          won-at S j e
+          region-won S j e
           (safe-elim S (region S) i d j e (homeFor-safe S (region S) i d (home-homeFor S i o settled)) (told-leaves (S .input) i j a l)
           (told-joined (S .output) d e below t));
     }

@@ -12,7 +12,7 @@ use mathlib.Core.Bool.{Bool, true, false, _&&_, _||_, not}
 use mathlib.Core.List.{[]}
 use lib.ListN.{length}
 use Rattle.finite.specs.Bounded.{any}
-use Rattle.finite.proofs.Truth.{clash, true-of, false-of, and-intro, not-false, or-false-left, or-false-right}
+use Rattle.finite.proofs.Truth.{clash, true-of, false-of, and-intro, not-false, or-false-left, or-false-right, implies-intro, implies-elim}
 use Rattle.finite.proofs.Bounded.{any-intro, least-at-most}
 use Rattle.finite.proofs.Lists.{allOf-same}
 use Rattle.graphs.specs.Closure.{reaches}
@@ -24,8 +24,6 @@ use Rattle.arena.specs.Arena.{Separated}
 use Rattle.theory.specs.Region.{due, served, accepting, safe, homeFor, settles, region}
 use Rattle.theory.specs.Choice.{home}
 use Rattle.theory.proofs.Region.{
-  implies-intro,
-  implies-elim,
   safe-intro,
   safe-elim,
   homeFor-intro,

@@ -1,6 +1,6 @@
 -- What the tests of a ground say, of won and lost positions.
 --
---   won-at, lost-at                 : in the region, and won; not in it, and lost
+--   lost-at                         : not in the region, and lost
 --   region-lost                     : lost, and not in the region
 --   unreplied-intro, unreplied-move, unreplied-none
 --   lostExit-intro, lostExit-leaves, lostExit-lost
@@ -15,25 +15,20 @@ use lib.ListN.{length}
 use Rattle.finite.proofs.Truth.{clash, true-of, false-of, and-intro, and-left, and-right, not-true, not-false}
 use Rattle.graphs.specs.Graph.{edge}
 use Rattle.graphs.specs.Component.{leaves, meetsAt}
-use Rattle.arena.specs.Arena.{Separated, arenaOf}
-use Rattle.arena.specs.Win.{Won}
+use Rattle.arena.specs.Arena.{Separated}
 use Rattle.theory.specs.Region.{due, served, answers, region}
 use Rattle.theory.specs.Tour.{goalAt}
-use Rattle.theory.proofs.Region.{region-in, region-out}
-use Rattle.theory.proofs.Demands.{demand-two, won-region}
+use Rattle.theory.proofs.Demands.{won-region, region-won}
 use Rattle.grounds.specs.Ground.{nthRequirement, unreplied, lostExit, owed, missed}
 use Rattle.grounds.specs.Holds.{Lost, Due}
 use Rattle.grounds.proofs.Component.{meets-told, told-meets, allOf-at, allOf-place}
 
 module _ (S : Separated) where
-  pub won-at : (i o : ℕ) → region S i o ≡ true → Won (arenaOf S) i o
-  won-at i o h = demand-two S i o (region-in S i o h) (region-out S i o h) .0 h
-
   pub lost-at : (i o : ℕ) → i < S .input .states → o < S .output .states → region S i o ≡ false → Lost S i o
   lost-at i o a b h w = clash (won-region S i o a b w) h
 
   pub region-lost : (i o : ℕ) → Lost S i o → region S i o ≡ false
-  region-lost i o n = false-of (region S i o) (λ h. n (won-at i o h))
+  region-lost i o n = false-of (region S i o) (λ h. n (region-won S i o h))
 
   pub unreplied-intro : (i o j : ℕ) → edge (S .input) i j ≡ true → answers S (region S) j o ≡ false → unreplied S i o j ≡ true
   unfolding unreplied

@@ -1,6 +1,5 @@
 -- Components of a graph, told of walks.
 --
---   Moves G s t       == a move
 --   Together G s t    == s and t are in one component
 --   Nontrivial G s    == the component of s is nontrivial (document 01: stayable)
 --   Meets G s p       == the set p meets the component of s
@@ -9,10 +8,7 @@ use Prim.Native.Nat.{ℕ}
 use mathlib.Core.Path.{_≡_}
 use mathlib.Core.Bool.{Bool, true}
 use Rattle.graphs.specs.Walk.{Walk}
-use Rattle.graphs.specs.Graph.{Graph, edge}
-
-abbrev pub Moves : Graph → ℕ → ℕ → Type 0
-Moves G s t = edge G s t ≡ true
+use Rattle.graphs.specs.Graph.{Graph, Moves}
 
 -- "A component is a largest set of states that reach one another, or a lone state": a state reaches itself by the walk without a move.
 pub record Together (G : Graph) (s t : ℕ) : Type 0 where

@@ -14,7 +14,7 @@ use mathlib.Core.Bool.{true, false}
 use mathlib.Core.Logic.{_↔_}
 use lib.ListN.{length}
 use Rattle.graphs.specs.Walk.{Walk}
-use Rattle.graphs.specs.Graph.{edge}
+use Rattle.graphs.specs.Graph.{edge, Moves}
 use Rattle.arena.specs.Arena.{Separated, arenaOf}
 use Rattle.arena.specs.Win.{Won}
 use Rattle.theory.specs.Tour.{goalAt}
@@ -35,7 +35,7 @@ use Rattle.grounds.specs.Ground.{
   secondNamed,
   nthRequirement,
 }
-use Rattle.grounds.specs.Component.{Moves, Together, Nontrivial, Meets, Leaves}
+use Rattle.grounds.specs.Component.{Together, Nontrivial, Meets, Leaves}
 
 abbrev pub Lost : Separated → ℕ → ℕ → Type 0
 Lost S i o = Won (arenaOf S) i o → ⊥

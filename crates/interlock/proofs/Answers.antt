@@ -14,6 +14,8 @@ use lib.Dec.{leb}
 use lib.ListN.{length, getD, drop, length-drop}
 use lib.Seq.{drop-drop, ext-getD, getD-drop}
 use borrow.Author.Tests.{leb-true, le-leb, lt-leb}
+use Rattle.map_marks.proofs.Answer.{not-done}
+use Rattle.map_marks.specs.Answer.{mapNumber, MapAfter}
 use Rattle.finite.proofs.Truth.{clash, and-intro}
 use Rattle.finite.proofs.Front.{front-rest}
 use Rattle.finite.specs.But.{ButFor}
@@ -33,14 +35,12 @@ use Rattle.scratch_clearing.specs.Clearing.{cleared}
 use Rattle.scratch_clearing.proofs.Clearing.{cleared-same}
 use Rattle.scratch.specs.Scratch.{scratchLength}
 use Rattle.map_marks.specs.Marks.{MapFilled}
-use Rattle.map.specs.declared.Mapped.{Mapped}
-use Rattle.map.specs.declared.Mapped.the-variants.{Done, Refused as NotMapped}
+use Rattle.map_marks.specs.declared.Mapped.{Mapped}
+use Rattle.map_marks.specs.declared.Mapped.the-variants.{Done, Refused as NotMapped}
 use Rattle.map.specs.Map.{
-  mapNumber as mapNumber,
   mapAnswer as plainAnswer,
   mapRoom as plainRoom,
   mapFits as plainFits,
-  MapAfter as PlainAfter,
   mapScratch as plainScratch,
   MapMade,
 }
@@ -101,7 +101,7 @@ prepared-rest g F s t u e q = q ∙ cleared-same 4096 s t (shorter g F s t e)
 
 pub map-made : (g : Game) (s s′ m m′ t : List ℕ) (r : Mapped) → acceptance g ≡ Accepted → 4096 ≤ length s → wordsFor (g .input .states) ≤ length m
     → MapMade g s s′ m m′ r → t ≡ cleared 4096 s′ → (t ≡ cleared 4096 s) × MapFilled g m m′
-unfolding plainAnswer plainRoom plainFits PlainAfter plainScratch cleared
+unfolding plainAnswer plainRoom plainFits MapAfter plainScratch cleared
 map-made g s s′ m m′ t r a h k M c =
     let F = accepted-fits g a in
     let fits : plainFits g (length s) (length m) ≡ true =
@@ -109,7 +109,7 @@ map-made g s s′ m m′ t r a h k M c =
     let done : r ≡ Done = M .answer ∙ rw (a, plainAnswer) (rw (fits, plainRoom) refl) in (
       prepared-rest g F s s′ t
           (ap (drop (scratchLength g)) (M .scratch ∙ ap (λ (x : Mapped). plainScratch g x s) done) ∙ front-rest (λ k. 0) s (scratchLength g)) c,
-      subst (λ (x : Mapped). PlainAfter g x m m′) done (M .map),
+      subst (λ (x : Mapped). MapAfter g x m m′) done (M .map),
     )
 
 -- ---- the first fault
@@ -175,9 +175,6 @@ module _ (g : Game) (b s m : List ℕ) where
     won = λ q. not-done q;
     unbarred = λ q. not-done q;
   }
-    where
-      not-done : {n : ℕ} {A : Type 0} → NotMapped n ≡ Done → A
-      not-done q = let z : _≡_ {A = ℕ} 0 1 = cc in absurd (omega arith)
 
   pub map-faulty : (n : ℕ) → acceptance g ≡ Faulty n → BarredMap g b s s m m (NotMapped n)
   unfolding barredMapAnswer

@@ -29,9 +29,9 @@ use Rattle.game.specs.Numbers.{firstOf, gameTests}
 use Rattle.play.specs.Play.{separatedOf}
 use Rattle.scratch_clearing.specs.Clearing.{cleared}
 use Rattle.map_marks.specs.Marks.{MapFilled}
-use Rattle.map.specs.declared.Mapped.{Mapped}
-use Rattle.map.specs.declared.Mapped.the-variants.{Done, Refused as NotMapped}
-use Rattle.map.specs.Map.{mapNumber}
+use Rattle.map_marks.specs.declared.Mapped.{Mapped}
+use Rattle.map_marks.specs.declared.Mapped.the-variants.{Done, Refused as NotMapped}
+use Rattle.map_marks.specs.Answer.{mapNumber}
 use Rattle.barred.specs.Arena.{barredArena}
 use Rattle.interlock.specs.declared.Judged.{Judged}
 use Rattle.interlock.specs.declared.Judged.the-variants.{System, Environment, Refused as NotJudged}

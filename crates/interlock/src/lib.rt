@@ -20,7 +20,7 @@ ghost use Rattle.interlock.specs.Interlock.{barredWords, barTests, Barre
 use game::Acceptance;
 use game::Game;
 use game::InState;
-use map::Mapped;
+use map_marks::Mapped;
 
 // A refusal holds its code.
 pub enum Judged {

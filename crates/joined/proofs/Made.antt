@@ -3,10 +3,11 @@ use Prim.Native.Nat.{ℕ, _≤_, _<_}
 use mathlib.Core.Path.{_≡_, refl, sym, _∙_, ap}
 use mathlib.Core.Bool.{Bool, true, false}
 use mathlib.Core.List.{List, [], _∷_}
-use native.Mathlib.Omega.{arith}
 use lib.Dec.{leb}
 use lib.ListN.{length}
 use borrow.Author.Tests.{le-leb, lt-leb}
+use Rattle.map_marks.proofs.Answer.{not-done}
+use Rattle.map_marks.specs.Answer.{mapNumber, MapAfter}
 use Rattle.finite.proofs.Truth.{and-intro, and-false-left, and-false-right}
 use Rattle.sets.specs.Words.{wordsFor}
 use Rattle.game.specs.declared.Game.{Game}
@@ -18,8 +19,8 @@ use Rattle.game.proofs.Numbers.{after, game-after}
 use Rattle.scratch_clearing.specs.Clearing.{cleared}
 use Rattle.map_marks.specs.Marks.{MapFilled}
 use Rattle.map_marks.proofs.Marks.{marks}
-use Rattle.joined.specs.declared.Mapped.{Mapped}
-use Rattle.joined.specs.declared.Mapped.the-variants.{Done, Refused as NotMapped}
+use Rattle.map_marks.specs.declared.Mapped.{Mapped}
+use Rattle.map_marks.specs.declared.Mapped.the-variants.{Done, Refused as NotMapped}
 use Rattle.joined.specs.Joined.{
   countsSmall,
   joinedFits,
@@ -27,41 +28,36 @@ use Rattle.joined.specs.Joined.{
   joinedSize,
   joinedAnswer,
   joinedTests,
-  joinedNumber,
-  JoinedAfter,
   joinedScratch,
   JoinedMade,
 }
 
 -- ---- numbers
 
-joined-number : (g : Game) (s m : ℕ) → joinedNumber (joinedAnswer g s m) ≡ firstOf (joinedTests g s m)
+joined-number : (g : Game) (s m : ℕ) → mapNumber (joinedAnswer g s m) ≡ firstOf (joinedTests g s m)
 unfolding joinedTests joinedAnswer joinedSize joinedRoom firstOf
 joined-number g s m = go (acceptance g) ∙ sym (game-after g ((24, countsSmall g) ∷ (8, joinedFits g s m) ∷ []))
   where
     room : (a b : Bool)
-        → joinedNumber (elim a as (λ x. Mapped) [ true ↦ elim b as (λ x. Mapped) [ true ↦ Done | false ↦ NotMapped 8 ] | false ↦ NotMapped 24 ])
+        → mapNumber (elim a as (λ x. Mapped) [ true ↦ elim b as (λ x. Mapped) [ true ↦ Done | false ↦ NotMapped 8 ] | false ↦ NotMapped 24 ])
         ≡ firstOf ((24, a) ∷ (8, b) ∷ [])
     room true true = refl
     room true false = refl
     room false b = refl
 
     go : (a : Acceptance)
-        → joinedNumber (elim a as (λ x. Mapped) [ Accepted ↦ joinedSize g s m | Faulty n ↦ NotMapped n ])
+        → mapNumber (elim a as (λ x. Mapped) [ Accepted ↦ joinedSize g s m | Faulty n ↦ NotMapped n ])
         ≡ after a (firstOf ((24, countsSmall g) ∷ (8, joinedFits g s m) ∷ []))
     go Accepted = room (countsSmall g) (joinedFits g s m)
     go (Faulty n) = refl
 
-told : (g : Game) (s m : List ℕ) {r : Mapped} → r ≡ joinedAnswer g (length s) (length m) → joinedNumber r ≡ firstOf (joinedTests g (length s) (length m))
-told g s m e = ap joinedNumber e ∙ joined-number g (length s) (length m)
+told : (g : Game) (s m : List ℕ) {r : Mapped} → r ≡ joinedAnswer g (length s) (length m) → mapNumber r ≡ firstOf (joinedTests g (length s) (length m))
+told g s m e = ap mapNumber e ∙ joined-number g (length s) (length m)
 
 -- ---- refusals
 
-not-done : {n : ℕ} {A : Type 0} → NotMapped n ≡ Done → A
-not-done q = let z : _≡_ {A = ℕ} 0 1 = cc in absurd (omega arith)
-
 refused : (g : Game) (s m : List ℕ) (n : ℕ) → NotMapped n ≡ joinedAnswer g (length s) (length m) → JoinedMade g s s m m (NotMapped n)
-unfolding JoinedAfter joinedScratch
+unfolding MapAfter joinedScratch
 refused g s m n e = record { answer = e; number = told g s m e; map = refl; scratch = refl; won = λ q. not-done q }
 
 pub joined-faulty : (g : Game) (s m : List ℕ) (n : ℕ) → acceptance g ≡ Faulty n → JoinedMade g s s m m (NotMapped n)
@@ -107,7 +103,7 @@ module _ (g : Game) (s m : List ℕ) (a : acceptance g ≡ Accepted) (c : counts
 
   pub joined-done : (s′ m′ : List ℕ) → 4096 ≤ length s → wordsFor (g .input .states) ≤ length m → s′ ≡ cleared 4096 s → MapFilled g m m′
       → JoinedMade g s s′ m m′ Done
-  unfolding JoinedAfter joinedScratch joinedFits
+  unfolding MapAfter joinedScratch joinedFits
   joined-done s′ m′ b d e f = record { answer = done; number = told g s m done; map = f; scratch = e; won = λ q. marks g m m′ f }
     where
       done : Done ≡ joinedAnswer g (length s) (length m)

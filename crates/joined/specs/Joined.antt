@@ -2,8 +2,6 @@
 --
 --   joinedAnswer g s m        == the answer of the call, scratch being of s words and the map of m
 --   joinedTests g s m         == its tests under their numbers
---   joinedNumber r            == document 01's number of the answer r, 0 for a map that is made
---   JoinedAfter g r m m′      == on answer r the map m is left as m′
 --   JoinedMade g s s′ m m′ r  == the call answers r and leaves scratch s as s′ and the map m as m′
 use Prim.Native.Nat.{ℕ, _<_}
 use mathlib.Core.Path.{_≡_}
@@ -21,9 +19,9 @@ use Rattle.game.specs.Acceptance.{acceptance}
 use Rattle.game.specs.Numbers.{firstOf, gameTests}
 use Rattle.demands.specs.Demands.{playOf}
 use Rattle.scratch_clearing.specs.Clearing.{cleared}
-use Rattle.map_marks.specs.Marks.{MapFilled}
-use Rattle.joined.specs.declared.Mapped.{Mapped}
-use Rattle.joined.specs.declared.Mapped.the-variants.{Done, Refused as NotMapped}
+use Rattle.map_marks.specs.declared.Mapped.{Mapped}
+use Rattle.map_marks.specs.declared.Mapped.the-variants.{Done, Refused as NotMapped}
+use Rattle.map_marks.specs.Answer.{mapNumber, MapAfter}
 use Rattle.joined_reach.specs.Words.{joinedWords}
 
 -- "24 a count over 32, after 7 and before 8" (document 02, M-108)
@@ -46,15 +44,6 @@ joinedAnswer g s m = elim (acceptance g) [ Accepted ↦ joinedSize g s m | Fault
 unfoldable pub joinedTests : Game → ℕ → ℕ → List (ℕ × Bool)
 joinedTests g s m = gameTests g ++ (24, countsSmall g) ∷ (8, joinedFits g s m) ∷ []
 
-abbrev pub joinedNumber : Mapped → ℕ
-joinedNumber Done = 0
-joinedNumber (NotMapped n) = n
-
--- "Its won map equals ours on every game both accept, dead ends included.": the rows are those of the won map, later words stay; "changes no lent memory"
-unfoldable pub JoinedAfter : Game → Mapped → List ℕ → List ℕ → Type 0
-JoinedAfter g Done m m′ = MapFilled g m m′
-JoinedAfter g (NotMapped n) m m′ = m′ ≡ m
-
 -- "after an answer the first that many words are zero and the rest unchanged"; "Each returns its number only .. and changes no lent memory"
 unfoldable pub joinedScratch : Mapped → List ℕ → List ℕ
 joinedScratch Done s = cleared joinedWords s
@@ -62,7 +51,8 @@ joinedScratch (NotMapped n) s = s
 
 pub record JoinedMade (g : Game) (s s′ m m′ : List ℕ) (r : Mapped) : Type 0 where
   pub answer : r ≡ joinedAnswer g (length s) (length m)
-  pub number : joinedNumber r ≡ firstOf (joinedTests g (length s) (length m))
-  pub map : JoinedAfter g r m m′
+  pub number : mapNumber r ≡ firstOf (joinedTests g (length s) (length m))
+  -- "Its won map equals ours on every game both accept, dead ends included."
+  pub map : MapAfter g r m m′
   pub scratch : s′ ≡ joinedScratch r s
   pub won : r ≡ Done → (i o : ℕ) → i < g .input .states → o < g .output .states → (has (getD (setsIn m′) i 0) o ≡ true) ↔ Won (playOf g) i o

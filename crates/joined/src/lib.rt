@@ -22,6 +22,7 @@ use game::OutState;
 use joined_reach::AHEAD;
 use joined_reach::KNOWN;
 use joined_reach::WON;
+use map_marks::Mapped;
 use sets::ROW_WORDS;
 
 // Settles the component of (i, o), n positions being ahead of it: all components that it leads to are settled.
@@ -118,12 +119,6 @@ fn make_map(g: Game, scratch: &mut [u64], map: &mut [u64])
     solve(g, &g.input.moves, &g.output.moves, scratch);
     write_map(g, scratch, map);
     scratch_clearing::clear(scratch, joined_reach::WORDS);
-}
-
-// The answer of the call.
-pub enum Mapped {
-    Done,
-    Refused(u8),
 }
 
 // The map of an accepted game, where the counts are small and the buffers long enough.

@@ -24,8 +24,8 @@ use Rattle.finite.proofs.Bounded.{all-same, any-intro, any-elim, any-none}
 use Rattle.finite.proofs.Tabulate.{allOf-tabulate}
 use Rattle.bits.specs.Member.{has, pack, setsMeet}
 use Rattle.sets.specs.Words.{capacity, bitsOf}
-use Rattle.bits.proofs.Membership.{ext, has-zero, has-pack-below, has-pack-past, has-lt, pack-lt}
-use Rattle.bits.proofs.Compare.{member-nonzero, nonzero-member, meets-intro, meets-elim}
+use Rattle.bits.proofs.Membership.{ext, has-zero, has-pack-below, has-pack-past}
+use Rattle.bits.proofs.Compare.{member-nonzero, nonzero-member, meets-intro, meets-elim, meets-pack}
 use Rattle.bits.proofs.Passing.{Passing, passing-whole, passing-end}
 use Rattle.graphs.specs.Graph.{edge}
 use Rattle.graphs.proofs.Graph.{edge-to}
@@ -81,19 +81,6 @@ unfolding outputsBelow outputsOf separatedOf graphOf
 outputs-end g l i c a b h o = let e : i ≡ g .input .states = omega arith in h o ∙ ap (λ (n : ℕ). any n (λ k. component g l k o)) e
 
 -- ---- requirements
-
--- a set meets another
-meets-pack : (w n x : ℕ) (p : ℕ → Bool) → n ≤ w → setsMeet w x (pack n p) ≡ any n (λ t. has x t && p t)
-meets-pack w n x p b =
-    same-test (setsMeet w x (pack n p)) (any n (λ t. has x t && p t))
-    (λ e.
-    let v = meets-elim w x (pack n p) e in
-    let l = has-lt n (pack n p) (v .0) (pack-lt n p) (v .3) in
-    any-intro n (λ t. has x t && p t) (v .0) l (and-intro (v .2) (sym (has-pack-below n p (v .0) l) ∙ v .3)))
-    (λ e.
-    let v = any-elim n (λ t. has x t && p t) e in
-    meets-intro w x (pack n p) (v .0) (omega (arith, v .1)) (and-left (has x (v .0)) (p (v .0)) (v .2))
-    (has-pack-below n p (v .0) (v .1) ∙ and-right (has x (v .0)) (p (v .0)) (v .2)))
 
 module _ (g : Game) (S : Small g) (l : List ℕ) (R : Rows g l) where
   -- the outputs of the component, as a set of states

@@ -12,14 +12,15 @@ use native.Mathlib.Decide.{ℕ-discrete}
 use lib.Arith.{digits-div, digits-mod}
 use lib.ListN.{length, getD, set}
 use lib.Seq.{getD-set-same, getD-set-other}
+use Rattle.finite.proofs.Rounds.{factor}
 use Rattle.finite.specs.Bounded.{count}
 use Rattle.finite.proofs.Truth.{false-of}
-use Rattle.finite.proofs.Bounded.{count-same, count-wide}
+use Rattle.finite.proofs.Bounded.{count-same, count-wide, count-add}
 use Rattle.finite.specs.But.{ButFor}
 use Rattle.finite.proofs.But.{but-self, but-set, but-then, but-wider}
 use Rattle.bits.specs.Member.{has}
 use Rattle.joint.specs.Joint.{rankAt}
-use Rattle.joint.proofs.Reached.{count-add, rankAt-count, factor}
+use Rattle.joint.proofs.Reached.{rankAt-count}
 use Rattle.game.specs.declared.Game.{Game}
 use Rattle.play.specs.Play.{graphOf, separatedOf}
 use Rattle.joined_reach.specs.Words.{belongs, Small, Ranked}

@@ -18,15 +18,15 @@ use lib.Dec.{ltb}
 use lib.ListN.{length, getD, set, drop}
 use lib.Seq.{getD-drop}
 use borrow.Author.Tests.{lt-ltb, ltb-true}
+use Rattle.play.proofs.Moves.{row-edge}
 use Rattle.finite.proofs.Truth.{same-test, and-left, and-right, and-intro}
 use Rattle.finite.proofs.Front.{front-length, front-rest, front-at}
 use Rattle.finite.specs.But.{ButFor}
 use Rattle.bits.specs.Member.{has}
 use Rattle.sets.specs.declared.Set.{Set}
-use Rattle.sets.specs.Words.{bitsOf, setsIn, setAt}
-use Rattle.sets.proofs.Rows.{set-bits}
+use Rattle.sets.specs.Words.{bitsOf, setAt}
 use Rattle.graphs.specs.Graph.{edge}
-use Rattle.graphs.proofs.Graph.{edge-to, edge-intro, edge-moves}
+use Rattle.graphs.proofs.Graph.{edge-to}
 use Rattle.game.specs.declared.Game.{Game}
 use Rattle.game.specs.declared.Graph.{Graph as Record}
 use Rattle.game.specs.declared.InState.{InState}
@@ -39,30 +39,24 @@ use Rattle.joined_reach.specs.Words.{belongs, Small}
 -- ---- moves
 
 module _ (h : Record) (F : GraphFits h) where
-  moved-edge : (k t : ℕ) → k < h .states → has (getD (setsIn (h .moves)) k 0) t ≡ edge (graphOf h) k t
-  unfolding graphOf
-  moved-edge k t a =
-      same-test (has (getD (setsIn (h .moves)) k 0) t) (edge (graphOf h) k t) (λ e. edge-intro (graphOf h) k t a (F .row-below k t a e) e)
-      (λ e. edge-moves (graphOf h) k t e)
-
   -- of a row that was read
-  row-edge : (k : ℕ) (x : Set) → k < h .states → x ≡ setAt (h .moves) k → (t : ℕ) → has (bitsOf x) t ≡ edge (graphOf h) k t
-  row-edge k x a e t = ap (λ (y : Set). has (bitsOf y) t) e ∙ ap (λ (y : ℕ). has y t) (set-bits (h .moves) k) ∙ moved-edge k t a
+  read-edge : (k : ℕ) (x : Set) → k < h .states → x ≡ setAt (h .moves) k → (t : ℕ) → has (bitsOf x) t ≡ edge (graphOf h) k t
+  read-edge k x a e t = ap (λ (y : Set). has (bitsOf y) t) e ∙ row-edge h F k t a
 
   row-word : (k : ℕ) (x : Set) → k < h .states → h .states ≤ 32 → x ≡ setAt (h .moves) k → (t : ℕ) → has (bitsOf x) t ≡ true → t < 64
   unfolding graphOf
-  row-word k x a b e t q = omega (arith, edge-to (graphOf h) k t (sym (row-edge k x a e t) ∙ q))
+  row-word k x a b e t q = omega (arith, edge-to (graphOf h) k t (sym (read-edge k x a e t) ∙ q))
 
 module _ {g : Game} (S : Small g) (i : InState) (b : i .0 < g .input .states) (x : Set) (e : x ≡ setAt (g .input .moves) (i .0)) where
   pub small-in : (j : ℕ) → has (bitsOf x) j ≡ edge (graphOf (g .input)) (i .0) j
-  small-in j = row-edge (g .input) (S .fits .input) (i .0) x b e j
+  small-in j = read-edge (g .input) (S .fits .input) (i .0) x b e j
 
   pub small-in-word : (j : ℕ) → has (bitsOf x) j ≡ true → j < 64
   small-in-word j h = row-word (g .input) (S .fits .input) (i .0) x b (S .inputs) e j h
 
 module _ {g : Game} (S : Small g) (o : OutState) (b : o .0 < g .output .states) (x : Set) (e : x ≡ setAt (g .output .moves) (o .0)) where
   pub small-out : (p : ℕ) → has (bitsOf x) p ≡ edge (graphOf (g .output)) (o .0) p
-  small-out p = row-edge (g .output) (S .fits .output) (o .0) x b e p
+  small-out p = read-edge (g .output) (S .fits .output) (o .0) x b e p
 
   pub small-out-word : (p : ℕ) → has (bitsOf x) p ≡ true → p < 64
   small-out-word p h = row-word (g .output) (S .fits .output) (o .0) x b (S .outputs) e p h

@@ -55,7 +55,8 @@ use Rattle.kit_runs.specs.Exchange.{Exchanged}
 use Rattle.kit_runs.proofs.Turns.{kit-reads}
 use Rattle.kit_runs.proofs.Exchange.{kit-exchanged}
 use Rattle.kit.proofs.Lengths.{controller-long}
-use Rattle.kit.specs.Promise.{kitNamed, kitTenth, kitNinth, kitEighth, kitAnswer, solveKitTests, solverAnswer, kitAfter, KitKept, KitSolved}
+use Rattle.kit.specs.Promise.{kitNamed, kitEnvironmentTested, kitRoomsTested, kitScratchTested, kitAnswer}
+use Rattle.kit.specs.Promise.{solveKitTests, solverAnswer, kitAfter, KitKept, KitSolved}
 
 -- what an answer of the solver is for the kit
 unfoldable lifted : Kit → Verdict → Verdict
@@ -101,9 +102,9 @@ module _ (k : Kit) (s c e t : ℕ) where
   environment-test-number false = refl
 
   controller-test-number : (b : Bool)
-      → verdictNumber (elim b as (λ x. Verdict) [ true ↦ kitTenth k e | false ↦ Refused 9 ])
+      → verdictNumber (elim b as (λ x. Verdict) [ true ↦ kitEnvironmentTested k e | false ↦ Refused 9 ])
       ≡ firstOf ((9, b) ∷ (10, leb (environmentLength (gameFrom k)) e) ∷ [])
-  unfolding kitTenth firstOf
+  unfolding kitEnvironmentTested firstOf
   controller-test-number true = environment-test-number (leb (environmentLength (gameFrom k)) e)
   controller-test-number false = refl
 
@@ -113,15 +114,15 @@ module _ (k : Kit) (s c e t : ℕ) where
   abbrev rooms : Bool → List (ℕ × Bool)
   rooms b = (8, b) ∷ (9, enough) ∷ (10, leb (environmentLength (gameFrom k)) e) ∷ []
 
-  scratch-test-number : (b : Bool) → verdictNumber (elim b as (λ x. Verdict) [ true ↦ kitNinth k c e t | false ↦ Refused 8 ]) ≡ firstOf (rooms b)
-  unfolding kitNinth firstOf
+  scratch-test-number : (b : Bool) → verdictNumber (elim b as (λ x. Verdict) [ true ↦ kitRoomsTested k c e t | false ↦ Refused 8 ]) ≡ firstOf (rooms b)
+  unfolding kitRoomsTested firstOf
   scratch-test-number true = controller-test-number enough
   scratch-test-number false = refl
 
   acceptance-number : (a : Acceptance)
-      → verdictNumber (elim a as (λ x. Verdict) [ Accepted ↦ kitEighth k s c e t | Faulty n ↦ Refused n ])
+      → verdictNumber (elim a as (λ x. Verdict) [ Accepted ↦ kitScratchTested k s c e t | Faulty n ↦ Refused n ])
       ≡ after a (firstOf (rooms (leb (scratchLength (gameFrom k)) s)))
-  unfolding kitEighth
+  unfolding kitScratchTested
   acceptance-number Accepted = scratch-test-number (leb (scratchLength (gameFrom k)) s)
   acceptance-number (Faulty n) = refl
 
@@ -143,22 +144,23 @@ module _ (k : Kit) (s c e t : List ℕ) where
   kit-faulty n a = refused n (rw (a, kitAnswer) refl)
 
   module _ (a : kitAcceptance k ≡ Accepted) where
-    at-eight : kitAnswer k (length s) (length c) (length e) (length t) ≡ kitEighth k (length s) (length c) (length e) (length t)
+    at-scratch-test : kitAnswer k (length s) (length c) (length e) (length t) ≡ kitScratchTested k (length s) (length c) (length e) (length t)
     unfolding kitAnswer
-    at-eight = rw (a, kitAnswer) refl
+    at-scratch-test = rw (a, kitAnswer) refl
 
     pub kit-scratch-short : length s < scratchLength (gameFrom k) → KitSolved k s s c c e e t t (Refused 8)
-    unfolding kitEighth
-    kit-scratch-short b = refused 8 (sym (at-eight ∙ rw (lt-leb (scratchLength (gameFrom k)) (length s) b, kitEighth) refl))
+    unfolding kitScratchTested
+    kit-scratch-short b = refused 8 (sym (at-scratch-test ∙ rw (lt-leb (scratchLength (gameFrom k)) (length s) b, kitScratchTested) refl))
 
-    at-nine : scratchLength (gameFrom k) ≤ length s → kitAnswer k (length s) (length c) (length e) (length t) ≡ kitNinth k (length c) (length e) (length t)
-    unfolding kitEighth
-    at-nine b = at-eight ∙ rw (le-leb (scratchLength (gameFrom k)) (length s) b, kitEighth) refl
+    at-rooms-test : scratchLength (gameFrom k) ≤ length s
+        → kitAnswer k (length s) (length c) (length e) (length t) ≡ kitRoomsTested k (length c) (length e) (length t)
+    unfolding kitScratchTested
+    at-rooms-test b = at-scratch-test ∙ rw (le-leb (scratchLength (gameFrom k)) (length s) b, kitScratchTested) refl
 
     short : scratchLength (gameFrom k) ≤ length s → (leb (controllerLength (gameFrom k)) (length c) && leb (kitLength k) (length t)) ≡ false
         → KitSolved k s s c c e e t t (Refused 9)
-    unfolding kitNinth
-    short b d = refused 9 (sym (at-nine b ∙ rw (d, kitNinth) refl))
+    unfolding kitRoomsTested
+    short b d = refused 9 (sym (at-rooms-test b ∙ rw (d, kitRoomsTested) refl))
 
     pub kit-controller-short : scratchLength (gameFrom k) ≤ length s → length c < controllerLength (gameFrom k) → KitSolved k s s c c e e t t (Refused 9)
     kit-controller-short b d = short b (ap (λ (x : Bool). x && leb (kitLength k) (length t)) (lt-leb (controllerLength (gameFrom k)) (length c) d))
@@ -170,22 +172,22 @@ module _ (k : Kit) (s c e t : List ℕ) where
 
     -- past the tests: what the solver answers, lifted
     module _ (b : scratchLength (gameFrom k) ≤ length s) (d : controllerLength (gameFrom k) ≤ length c) (f : kitLength k ≤ length t) where
-      at-ten : kitAnswer k (length s) (length c) (length e) (length t) ≡ kitTenth k (length e)
-      unfolding kitNinth
-      at-ten =
-          at-nine b
-          ∙ rw (and-intro (le-leb (controllerLength (gameFrom k)) (length c) d) (le-leb (kitLength k) (length t) f), kitNinth) refl
+      at-environment-test : kitAnswer k (length s) (length c) (length e) (length t) ≡ kitEnvironmentTested k (length e)
+      unfolding kitRoomsTested
+      at-environment-test =
+          at-rooms-test b
+          ∙ rw (and-intro (le-leb (controllerLength (gameFrom k)) (length c) d) (le-leb (kitLength k) (length t) f), kitRoomsTested) refl
 
-      solver-ten : verdictAnswer (gameFrom k) (length s) (length c) (length e) ≡ environmentTested (gameFrom k) (length e)
+      solver-environment-test : verdictAnswer (gameFrom k) (length s) (length c) (length e) ≡ environmentTested (gameFrom k) (length e)
       unfolding verdictAnswer scratchTested controllerTested
-      solver-ten =
+      solver-environment-test =
           rw (kit-fitting k a .game, verdictAnswer)
           (rw (le-leb (scratchLength (gameFrom k)) (length s) b, scratchTested)
           (rw (le-leb (controllerLength (gameFrom k)) (length c) d, controllerTested) refl))
 
-      same-ten : kitTenth k (length e) ≡ lifted k (environmentTested (gameFrom k) (length e))
-      unfolding kitTenth environmentTested kitNamed named lifted
-      same-ten = go (leb (environmentLength (gameFrom k)) (length e)) (verdict (separatedOf (gameFrom k)))
+      environment-test-same : kitEnvironmentTested k (length e) ≡ lifted k (environmentTested (gameFrom k) (length e))
+      unfolding kitEnvironmentTested environmentTested kitNamed named lifted
+      environment-test-same = go (leb (environmentLength (gameFrom k)) (length e)) (verdict (separatedOf (gameFrom k)))
         where
           go : (x y : Bool)
               → elim x as (λ v. Verdict) [
@@ -201,11 +203,11 @@ module _ (k : Kit) (s c e t : List ℕ) where
 
       answer-lifted : (r : Verdict) → r ≡ verdictAnswer (gameFrom k) (length s) (length c) (length e)
           → lifted k r ≡ kitAnswer k (length s) (length c) (length e) (length t)
-      answer-lifted r q = ap (lifted k) (q ∙ solver-ten) ∙ sym (at-ten ∙ same-ten)
+      answer-lifted r q = ap (lifted k) (q ∙ solver-environment-test) ∙ sym (at-environment-test ∙ environment-test-same)
 
       pub system-length : (n : ℕ) → System n ≡ verdictAnswer (gameFrom k) (length s) (length c) (length e) → n ≡ controllerLength (gameFrom k)
       unfolding environmentTested named
-      system-length n q = go (leb (environmentLength (gameFrom k)) (length e)) (verdict (separatedOf (gameFrom k))) (q ∙ solver-ten)
+      system-length n q = go (leb (environmentLength (gameFrom k)) (length e)) (verdict (separatedOf (gameFrom k))) (q ∙ solver-environment-test)
         where
           go : (x y : Bool)
               → System n ≡ elim x [

@@ -31,19 +31,19 @@ use Rattle.kit_runs.specs.Exchange.{Exchanged}
 unfoldable pub kitNamed : Kit → Verdict
 kitNamed k = elim (verdict (separatedOf (gameFrom k))) [ true ↦ System (kitLength k) | false ↦ Environment (environmentLength (gameFrom k)) ]
 
-unfoldable pub kitTenth : Kit → ℕ → Verdict
-kitTenth k e = elim (leb (environmentLength (gameFrom k)) e) [ true ↦ kitNamed k | false ↦ Refused 10 ]
+unfoldable pub kitEnvironmentTested : Kit → ℕ → Verdict
+kitEnvironmentTested k e = elim (leb (environmentLength (gameFrom k)) e) [ true ↦ kitNamed k | false ↦ Refused 10 ]
 
 -- "9 also covers a kit's room too short, whoever wins."
-unfoldable pub kitNinth : Kit → ℕ → ℕ → ℕ → Verdict
-kitNinth k c e t = elim (leb (controllerLength (gameFrom k)) c && leb (kitLength k) t) [ true ↦ kitTenth k e | false ↦ Refused 9 ]
+unfoldable pub kitRoomsTested : Kit → ℕ → ℕ → ℕ → Verdict
+kitRoomsTested k c e t = elim (leb (controllerLength (gameFrom k)) c && leb (kitLength k) t) [ true ↦ kitEnvironmentTested k e | false ↦ Refused 9 ]
 
 -- "The kit and later calls that take scratch and name no length keep this rule." (document 02, M-103)
-unfoldable pub kitEighth : Kit → ℕ → ℕ → ℕ → ℕ → Verdict
-kitEighth k s c e t = elim (leb (scratchLength (gameFrom k)) s) [ true ↦ kitNinth k c e t | false ↦ Refused 8 ]
+unfoldable pub kitScratchTested : Kit → ℕ → ℕ → ℕ → ℕ → Verdict
+kitScratchTested k s c e t = elim (leb (scratchLength (gameFrom k)) s) [ true ↦ kitRoomsTested k c e t | false ↦ Refused 8 ]
 
 unfoldable pub kitAnswer : Kit → ℕ → ℕ → ℕ → ℕ → Verdict
-kitAnswer k s c e t = elim (kitAcceptance k) [ Accepted ↦ kitEighth k s c e t | Faulty n ↦ Refused n ]
+kitAnswer k s c e t = elim (kitAcceptance k) [ Accepted ↦ kitScratchTested k s c e t | Faulty n ↦ Refused n ]
 
 unfoldable pub solveKitTests : Kit → ℕ → ℕ → ℕ → ℕ → List (ℕ × Bool)
 solveKitTests k s c e t =

@@ -4,11 +4,11 @@
 --   start-in, row-in  : what stands at the place of a start and of a row
 --   counters-small, first-small, rows-below, count-fits : what the rows of one output and counter ask
 --   outputs-*         : the rows of one output, of one after the other, and of all
-use Prim.Native.Nat.{ℕ, zero, suc, _+_, _*_, _/_, _%_, _≤_, _<_}
+use Prim.Native.Nat.{ℕ, _+_, _*_, _/_, _%_, _≤_, _<_}
 use native.Mathlib.Nat.{zero-mul, add-zero, add-assoc, mul-le-mul, mul-le-mul-right}
 use mathlib.Core.Path.{_≡_, refl, sym, _∙_, ap, ap₂, subst}
 use mathlib.Core.Bool.{true, false}
-use mathlib.Core.List.{List, [], _∷_, _++_}
+use mathlib.Core.List.{List, [], _++_}
 use mathlib.Core.Logic.{_⊎_, inl, inr, _≢_}
 use native.Mathlib.Omega.{arith}
 use native.Mathlib.Decide.{ℕ-discrete}
@@ -17,6 +17,7 @@ use lib.Arith.{digits-lt, digits-div, digits-mod}
 use lib.ListN.{length, getD, take, drop, length-append, List·getD-append}
 use lib.Seq.{length-take-le, getD-take, getD-append-add}
 use borrow.Author.Tests.{eq-eqb}
+use Rattle.finite.proofs.Lists.{any-default}
 use Rattle.finite.specs.Tabulate.{tabulate}
 use Rattle.finite.proofs.Truth.{decide, clash}
 use Rattle.finite.proofs.Tabulate.{length-tabulate, getD-tabulate}
@@ -32,12 +33,6 @@ use Rattle.kit_rows.specs.Rows.{counters, kitLength, commanded, kitRow, 
 use Rattle.kit_rows.specs.Writing.{lowestIn, commandsOf, translated, commandRow, Said, Into, CountFits, Outputs}
 use Rattle.kit_rows.proofs.Search.{translated-none, translated-some}
 use Rattle.kit_rows.proofs.Blocks.{CountSays, Rounds, into-none, into-join, into-front, into-done}
-
--- within a list, the value for places past its end is never seen
-inside : (l : List ℕ) (k d e : ℕ) → k < length l → getD l k d ≡ getD l k e
-inside [] k d e h = absurd (omega arith)
-inside (x ∷ l) zero d e h = refl
-inside (x ∷ l) (suc k) d e h = inside l k d e (omega arith)
 
 -- the entries
 
@@ -136,7 +131,7 @@ module _ (k : Kit) (T : List ℕ) (M n : ℕ) (R : KitReady k M (length T) n) wh
           rw (q, commandRow, kitRow)
           (ap (translated (commandsTo o))
           (ap (λ (x : ℕ). getD T x 0) (add-assoc (k .old .modes) ((o * counters k + c) * k .old .modes) (nextIn (k .old .next) i u))
-          ∙ inside T at 0 noneEntry (below (λ h. clash (eq-eqb (nextIn (k .old .next) i u) 255 h) q)))
+          ∙ any-default T at 0 noneEntry (below (λ h. clash (eq-eqb (nextIn (k .old .next) i u) 255 h) q)))
           ∙ said (k .new) o (getD T at noneEntry))
 
   module _ (o : ℕ) (lo : o < k .new .modes) where

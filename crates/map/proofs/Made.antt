@@ -3,10 +3,11 @@ use Prim.Native.Nat.{ℕ, _≤_, _<_}
 use mathlib.Core.Path.{_≡_, refl, sym, _∙_, ap}
 use mathlib.Core.Bool.{Bool, true, false}
 use mathlib.Core.List.{List, [], _∷_}
-use native.Mathlib.Omega.{arith}
 use lib.Dec.{leb}
 use lib.ListN.{length}
 use borrow.Author.Tests.{leb-true, le-leb, lt-leb}
+use Rattle.map_marks.specs.Answer.{mapNumber, MapAfter}
+use Rattle.map_marks.proofs.Answer.{not-done}
 use Rattle.finite.proofs.Truth.{and-left, and-right, and-false-left}
 use Rattle.sets.specs.Words.{wordsFor}
 use Rattle.game.specs.declared.Game.{Game}
@@ -19,9 +20,9 @@ use Rattle.scratch_clearing.specs.Clearing.{cleared}
 use Rattle.scratch.specs.Scratch.{scratchLength}
 use Rattle.map_marks.specs.Marks.{MapFilled}
 use Rattle.map_marks.proofs.Marks.{marks}
-use Rattle.map.specs.declared.Mapped.{Mapped}
-use Rattle.map.specs.declared.Mapped.the-variants.{Done, Refused as NotMapped}
-use Rattle.map.specs.Map.{mapFits, mapRoom, mapAnswer, mapTests, mapNumber, MapAfter, mapScratch, MapMade}
+use Rattle.map_marks.specs.declared.Mapped.{Mapped}
+use Rattle.map_marks.specs.declared.Mapped.the-variants.{Done, Refused as NotMapped}
+use Rattle.map.specs.Map.{mapFits, mapRoom, mapAnswer, mapTests, mapScratch, MapMade}
 
 -- ---- the map
 
@@ -40,9 +41,6 @@ map-number g s m = go (acceptance g) ∙ sym (game-after g ((8, mapFits g s m) �
 
 told : (g : Game) (s m : List ℕ) {r : Mapped} → r ≡ mapAnswer g (length s) (length m) → mapNumber r ≡ firstOf (mapTests g (length s) (length m))
 told g s m e = ap mapNumber e ∙ map-number g (length s) (length m)
-
-not-done : {n : ℕ} {A : Type 0} → NotMapped n ≡ Done → A
-not-done q = let z : _≡_ {A = ℕ} 0 1 = cc in absurd (omega arith)
 
 map-refused : (g : Game) (s m : List ℕ) (n : ℕ) → NotMapped n ≡ mapAnswer g (length s) (length m) → MapMade g s s m m (NotMapped n)
 unfolding MapAfter mapScratch

@@ -2,8 +2,6 @@
 --
 --   mapAnswer g s m           == the answer of the map's call, scratch being of s words and the map of m
 --   mapTests g s m            == its tests under their numbers
---   mapNumber r               == document 01's number of the answer r, 0 for a map that is made
---   MapAfter g r m m′         == on answer r the map m is left as m′
 --   MapMade g s s′ m m′ r     == the map's call answers r and leaves scratch s as s′ and the map m as m′
 use Prim.Native.Nat.{ℕ, _<_}
 use mathlib.Core.Path.{_≡_}
@@ -23,9 +21,9 @@ use Rattle.game.specs.Numbers.{firstOf, gameTests}
 use Rattle.demands.specs.Demands.{playOf}
 use Rattle.scratch_clearing.specs.Clearing.{cleared}
 use Rattle.scratch.specs.Scratch.{scratchLength}
-use Rattle.map_marks.specs.Marks.{MapFilled}
-use Rattle.map.specs.declared.Mapped.{Mapped}
-use Rattle.map.specs.declared.Mapped.the-variants.{Done, Refused as NotMapped}
+use Rattle.map_marks.specs.declared.Mapped.{Mapped}
+use Rattle.map_marks.specs.declared.Mapped.the-variants.{Done, Refused as NotMapped}
+use Rattle.map_marks.specs.Answer.{mapNumber, MapAfter}
 
 -- "Number 8 is given below that length" (document 02, M-103); "or, where the call writes the map, map room under one word an input"
 unfoldable pub mapFits : Game → ℕ → ℕ → Bool
@@ -39,15 +37,6 @@ mapAnswer g s m = elim (acceptance g) [ Accepted ↦ mapRoom g s m | Faulty n �
 
 unfoldable pub mapTests : Game → ℕ → ℕ → List (ℕ × Bool)
 mapTests g s m = gameTests g ++ (8, mapFits g s m) ∷ []
-
-abbrev pub mapNumber : Mapped → ℕ
-mapNumber Done = 0
-mapNumber (NotMapped n) = n
-
--- "The won map writes one 64-bit set of outputs for each input", of two words by M-105; "later words of its room stay unchanged"; "changes no lent memory"
-unfoldable pub MapAfter : Game → Mapped → List ℕ → List ℕ → Type 0
-MapAfter g Done m m′ = MapFilled g m m′
-MapAfter g (NotMapped n) m m′ = m′ ≡ m
 
 -- "after an answer the first that many words are zero and the rest unchanged"; "Each returns its number only .. and changes no lent memory"
 unfoldable pub mapScratch : Game → Mapped → List ℕ → List ℕ

@@ -11,6 +11,7 @@ use game::Acceptance;
 use game::Game;
 use game::InSet;
 use game::InState;
+use map_marks::Mapped;
 use scratch::WonRow;
 
 // The outputs that are won with input i; c are the inputs in nontrivial components, k is what is kept of the inputs before.
@@ -36,12 +37,6 @@ fn fill_map(g: Game, s: &[u64], c: InSet, map: &mut [u64])
         sets::put(map, i, won.0);
         i += 1;
     }
-}
-
-// The answer of the map's call.
-pub enum Mapped {
-    Done,
-    Refused(u8),
 }
 
 // Whether scratch of so many words and a map of so many are long enough.

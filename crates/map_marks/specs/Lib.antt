@@ -1,2 +1,3 @@
 -- A map of won positions.
 pub mod Marks
+pub mod Answer

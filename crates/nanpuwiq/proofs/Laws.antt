@@ -5,13 +5,13 @@ use mathlib.Core.List.{List}
 use Rattle.game.specs.declared.Game.{Game}
 use Rattle.game.specs.declared.InState.{InState}
 use Rattle.game.specs.declared.OutState.{OutState}
-use Rattle.map.specs.declared.Mapped.{Mapped}
-use Rattle.joined.specs.declared.Mapped.{Mapped as JoinedMapped}
-use Rattle.joined.specs.Joined.{joinedNumber as joinedNumber, JoinedMade}
+use Rattle.map_marks.specs.declared.Mapped.{Mapped}
+use Rattle.map_marks.specs.Answer.{mapNumber}
+use Rattle.joined.specs.Joined.{JoinedMade}
 use Rattle.interlock.specs.declared.Judged.{Judged}
 use Rattle.interlock.specs.Interlock.{BarredMap, BarredJudged}
 use Rattle.solver.specs.declared.Verdict.{Verdict}
-use Rattle.map.specs.Map.{mapNumber, MapMade}
+use Rattle.map.specs.Map.{MapMade}
 use Rattle.ground_search.specs.declared.Explanation.{Explanation}
 use Rattle.explain.specs.Explain.{Explained}
 use Rattle.solver.specs.Promise.{Solved}
@@ -36,7 +36,7 @@ use Rattle.nanpuwiq.specs.Calls.{CompactCalled, OverCalled, BackCalled, 
 pub map-called : {g : Game} {s s′ m m′ : List ℕ} {a : Mapped} {r : ℕ} → MapMade g s s′ m m′ a → r ≡ mapNumber a → MapCalled g s s′ m m′ r
 map-called {g} {s} {s′} {m} {m′} f e = record { answer = e ∙ f .number; made = subst (MapMade g s s′ m m′) (f .answer) f }
 
-pub joined-called : {g : Game} {s s′ m m′ : List ℕ} {a : JoinedMapped} {r : ℕ} → JoinedMade g s s′ m m′ a → r ≡ joinedNumber a → JoinedCalled g s s′ m m′ r
+pub joined-called : {g : Game} {s s′ m m′ : List ℕ} {a : Mapped} {r : ℕ} → JoinedMade g s s′ m m′ a → r ≡ mapNumber a → JoinedCalled g s s′ m m′ r
 joined-called {g} {s} {s′} {m} {m′} f e = record { answer = e ∙ f .number; made = subst (JoinedMade g s s′ m m′) (f .answer) f }
 
 pub barred-called : {g : Game} {b s s′ m m′ : List ℕ} {a : Mapped} {r : ℕ} → BarredMap g b s s′ m m′ a → r ≡ mapNumber a → BarredCalled g b s s′ m m′ r

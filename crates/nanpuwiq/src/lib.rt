@@ -52,7 +52,7 @@ pub extern "C" fn nanpuwiq_won_map(g: Game, scratch: &mut [u64], map: &mut [u64]
 pub extern "C" fn nanpuwiq_joined_map(g: Game, scratch: &mut [u64], map: &mut [u64]) -> u8
     ensures { λ r. ⌜ JoinedCalled g (now (scratch .entry)) (now (scratch .exit)) (now (map .entry)) (now (map .exit)) r ⌝ }
 {
-    nanpuwiq_results::joined_code(joined::joined_map(g, scratch, map))
+    nanpuwiq_results::map_code(joined::joined_map(g, scratch, map))
 }
 
 // Marks the won positions of a game with bars: some outputs are barred with certain inputs.

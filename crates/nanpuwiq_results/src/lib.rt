@@ -2,11 +2,10 @@
 ghost use mathlib.Core.Path.{_≡_};
 ghost use Rattle.player.specs.Player.{movedOf};
 ghost use Rattle.game.specs.Acceptance.{acceptanceNumber as acceptNumber};
-ghost use Rattle.map.specs.Map.{mapNumber as mapNumber};
+ghost use Rattle.map_marks.specs.Answer.{mapNumber as mapNumber};
 ghost use Rattle.nanpuwiq_results.specs.Results.{solveResult, readResult, writeResult, compareResult, panelMoved, zeroPosition};
 ghost use Rattle.nanpuwiq_results.specs.Results.{explainResult, checkResult, judgedAs, judgeResult};
 ghost use Rattle.nanpuwiq_results.specs.Results.{moveResult, countResult};
-ghost use Rattle.joined.specs.Joined.{joinedNumber as joinedNumber};
 use checker::Checked;
 use compact_moves::Count;
 use compact_moves::Move;
@@ -16,7 +15,7 @@ use game::InState;
 use game::OutState;
 use ground_search::Explanation;
 use interlock::Judged;
-use map::Mapped;
+use map_marks::Mapped;
 use panel_place::Picked;
 use player::Moved;
 use player_place::Played;
@@ -126,15 +125,6 @@ pub fn map_code(a: Mapped) -> u8
     match a {
         Mapped::Done => 0,
         Mapped::Refused(n) => n,
-    }
-}
-
-pub fn joined_code(a: joined::Mapped) -> u8
-    ensures { λ r. ⌜ r ≡ joinedNumber a ⌝ }
-{
-    match a {
-        joined::Mapped::Done => 0,
-        joined::Mapped::Refused(n) => n,
     }
 }
 

@@ -7,12 +7,12 @@ use native.Mathlib.Omega.{arith}
 use lib.Dec.{ltb}
 use lib.ListN.{getD}
 use borrow.Author.Tests.{lt-ltb}
+use Rattle.play.proofs.Moves.{row-edge}
 use Rattle.finite.proofs.Truth.{same-test}
 use Rattle.bits.specs.Member.{has}
 use Rattle.sets.specs.Words.{capacity, bitsOf, setsIn, setAt}
-use Rattle.sets.proofs.Rows.{set-bits}
 use Rattle.graphs.specs.Graph.{edge, begins}
-use Rattle.graphs.proofs.Graph.{edge-moves, edge-intro, begins-initial, begins-intro}
+use Rattle.graphs.proofs.Graph.{begins-initial, begins-intro}
 use Rattle.game.specs.declared.Game.{Game}
 use Rattle.game.specs.declared.Graph.{Graph}
 use Rattle.game.specs.declared.Acceptance.the-variants.{Accepted}
@@ -52,10 +52,4 @@ module _ (g : Game) (a : acceptance g ≡ Accepted) where
       (begins-initial (graphOf (g .output)) s))
 
   pub output-moves : (o : ℕ) → o < g .output .states → has (bitsOf (setAt (g .output .moves) o)) ≡ edge (graphOf (g .output)) o
-  unfolding graphOf
-  output-moves o l =
-      ap has (set-bits (g .output .moves) o)
-      ∙ fun-ext
-      (λ s. same-test (has (getD (setsIn (g .output .moves)) o 0) s) (edge (graphOf (g .output)) o s)
-      (λ h. edge-intro (graphOf (g .output)) o s l (accepted-fits g a .output .row-below o s l h) h)
-      (edge-moves (graphOf (g .output)) o s))
+  output-moves o l = fun-ext (λ s. row-edge (g .output) (accepted-fits g a .output) o s l)

@@ -1,41 +1,26 @@
 -- The pieces of an answer's lines, and their lengths.
-use Prim.Native.Nat.{ℕ, zero, suc, _+_, _*_, _/_, _%_, _≤_, _<_, max}
+use Prim.Native.Nat.{ℕ, _+_, _/_, _%_, _≤_, _<_, max}
 use native.Mathlib.Omega.{arith}
 use native.Mathlib.Nat.{div-le-self, mod-le, le-trans, lt-of-le-of-lt}
 use mathlib.Core.Bool.{Bool, true, false}
 use mathlib.Core.List.{List, [], _∷_, _++_, append-assoc, append-nil}
 use mathlib.Core.Logic.{_≢_}
 use mathlib.Core.Path.{_≡_, refl, sym, _∙_, ap, ap₂}
-use lib.Dec.{ltb, eqb}
+use lib.Dec.{eqb}
 use lib.ListN.{length, length-append}
-use borrow.Author.Tests.{ltb-true, ltb-false, eq-eqb, ne-eqb}
+use borrow.Author.Tests.{eq-eqb, ne-eqb}
 use Rattle.theory.specs.Entries.{noneEntry, entryState, entryCounter}
 use Rattle.text_grammar.specs.Number.{decimal}
 use Rattle.text_grammar.proofs.Format.{by-cases}
-use Rattle.text_grammar.proofs.Number.{decimal-one, decimal-step}
+use Rattle.text_grammar.proofs.Number.{tens, digits-count}
 use Rattle.text_shape.specs.Text.{word, line, bracket, items, gapText}
 use Rattle.text_shape.specs.Shape.{opening}
-use Rattle.text_shape.proofs.Opening.{opening-length}
-use Rattle.text_shape.proofs.WordTable.{word-short}
+use Rattle.text_shape.proofs.WordTable.{word-short, opening-short}
 use Rattle.text_put.specs.Put.{overlay, Puts}
 use Rattle.text_put.proofs.Buffer.{puts-as}
 use Rattle.print_lines.specs.Line.{unlessNone, winnerWord, winsLine, startLine, environmentStartLine, rowLine, stepLine, refusedLine, misshapenLine}
 
 -- a number of 64 bits has at most 20 digits
-tens : ℕ → ℕ
-tens zero = 10
-tens (suc k) = 10 * tens k
-
-digits-count : (k v : ℕ) → v < tens k → length (decimal v) ≤ suc k
-unfolding tens
-digits-count zero v h = omega (arith, ap length (decimal-one v h))
-digits-count (suc k) v h =
-    by-cases (ltb v 10)
-    (λ b. omega (arith, ap length (decimal-one v (ltb-true v 10 b))))
-    (λ b.
-    let l = ltb-false v 10 b in
-    omega (arith, ap length (decimal-step v l), length-append (decimal (v / 10)) ((48 + v % 10) ∷ []), digits-count k (v / 10) (omega arith)))
-
 pub number-short : (v b : ℕ) → v < 18446744073709551616 → length (decimal v ++ b ∷ []) ≤ 21
 unfolding tens
 number-short v b h = omega (arith, length-append (decimal v) (b ∷ []), digits-count 19 v (omega arith))
@@ -44,16 +29,9 @@ pub two-digits : (v : ℕ) → v < 100 → length (decimal v) ≤ 2
 unfolding tens
 two-digits v h = digits-count 1 v h
 
-pub three-digits : (v : ℕ) → v < 1000 → length (decimal v) ≤ 3
-unfolding tens
-three-digits v h = digits-count 2 v h
-
 pub six-digits : (v : ℕ) → v < 1000000 → length (decimal v) ≤ 6
 unfolding tens
 six-digits v h = digits-count 5 v h
-
-pub opening-short : (w : ℕ) → length (opening w) ≤ 13
-opening-short w = omega (arith, opening-length w, word-short w)
 
 -- rows of none
 pub puts-nothing : (d : List ℕ) (at : ℕ) → Puts d at [] at d

@@ -8,6 +8,8 @@ use mathlib.Core.Path.{_≡_, ap}
 use lib.Dec.{ltb}
 use lib.ListN.{length, getD, length-append, List·getD-eq-default}
 use borrow.Author.Tests.{ltb-true, ltb-false}
+use Rattle.text_shape.proofs.WordTable.{opening-short}
+use Rattle.text_grammar.proofs.Number.{three-digits}
 use Rattle.text_grammar.specs.Number.{decimal}
 use Rattle.text_grammar.proofs.Format.{by-cases}
 use Rattle.finite.proofs.Lists.{any-default}
@@ -28,7 +30,6 @@ use Rattle.print_tables.specs.Print.{
 }
 use Rattle.print_lines.proofs.Lines.{
   two-digits,
-  three-digits,
   six-digits,
   unless-short,
   start-text,
@@ -37,7 +38,6 @@ use Rattle.print_lines.proofs.Lines.{
   refused-pieces,
   misshapen-pieces,
   number-short,
-  opening-short,
   Short,
   then-short,
   ended,

@@ -1,5 +1,6 @@
 -- What the solve program prints, from a game, and from what was read.
 --
+--   roomEntries        == how many entries the program lends a room
 --   tablePrint g v     == the print for the game g and the solver's answer v
 --   gamePrint g        == the print for the game g
 --   answerPrint g a    == the print for the answer a to a file, g being the game that was read
@@ -27,9 +28,13 @@ tablePrint g (Environment n) =
     environmentPrint (g .input .states) (g .output .states) (length (assumptions (separatedOf g))) (environmentEntries (separatedOf g))
 tablePrint g (NotSolved n) = refusedLine n
 
--- "The program lends 32,768 entries a room.", and as much scratch as the game asks for
+-- "The program lends 32,768 entries a room."
+abbrev pub roomEntries : ℕ
+roomEntries = 32768
+
+-- and as much scratch as the game asks for
 unfoldable pub gamePrint : Game → List ℕ
-gamePrint g = tablePrint g (verdictAnswer g (scratchLength g) 32768 32768)
+gamePrint g = tablePrint g (verdictAnswer g (scratchLength g) roomEntries roomEntries)
 
 -- "A refusal prints (refused N), for 11 (refused 11 P)."
 unfoldable pub answerPrint : Game → Answer → List ℕ

@@ -13,13 +13,13 @@ use native.Mathlib.Decide.{decLt}
 use lib.Dec.{ltb}
 use lib.ListN.{getD, replicate}
 use borrow.Author.Tests.{lt-ltb, ltb-true}
-use Rattle.finite.specs.Bounded.{all, any, least, count}
-use Rattle.finite.proofs.Truth.{decide, clash, false-of, same-test, and-intro, and-left, and-right, and-false-right, or-false, not-true}
+use Rattle.finite.specs.Bounded.{all, least, count}
+use Rattle.finite.proofs.Truth.{decide, clash, false-of, and-intro, and-left, and-right, and-false-right, or-false, not-true}
 use Rattle.finite.proofs.Tabulate.{allOf-tabulate}
-use Rattle.finite.proofs.Bounded.{all-same, any-intro, any-elim, count-less}
+use Rattle.finite.proofs.Bounded.{all-same, count-less}
 use Rattle.bits.specs.Member.{has, pack, setsMeet}
 use Rattle.bits.proofs.Membership.{ext, has-zero, has-pack-below, has-pack-past, has-lt, pack-lt, pack-ext}
-use Rattle.bits.proofs.Compare.{meets-intro, meets-elim}
+use Rattle.bits.proofs.Compare.{meets-pack}
 use Rattle.bits.proofs.Visit.{small-word, lowest-in}
 use Rattle.sets.specs.Words.{capacity, bitsOf, wordsFor}
 use Rattle.graphs.specs.Component.{joined, meetsAt}
@@ -43,19 +43,6 @@ fits-few g F = record {
   guaranteed = λ r b. F .requirement r b .few-guaranteed;
 }
 
--- a set meets a component
-meets-component : (n x : ℕ) (p : ℕ → Bool) → n ≤ capacity → setsMeet capacity x (pack n p) ≡ any n (λ t. has x t && p t)
-meets-component n x p b =
-    same-test (setsMeet capacity x (pack n p)) (any n (λ t. has x t && p t))
-    (λ e.
-    let v = meets-elim capacity x (pack n p) e in
-    let l = has-lt n (pack n p) (v .0) (pack-lt n p) (v .3) in
-    any-intro n (λ t. has x t && p t) (v .0) l (and-intro (v .2) (sym (has-pack-below n p (v .0) l) ∙ v .3)))
-    (λ e.
-    let v = any-elim n (λ t. has x t && p t) e in
-    meets-intro capacity x (pack n p) (v .0) (omega (arith, v .1)) (and-left (has x (v .0)) (p (v .0)) (v .2))
-    (has-pack-below n p (v .0) (v .1) ∙ and-right (has x (v .0)) (p (v .0)) (v .2)))
-
 -- the lists have the outputs outside rest in the sets of the requirements that they serve
 pub record Sorted (g : Game) (rest : ℕ) (f s : List ℕ) : Type 0 where
   pub whole : Whole f s
@@ -67,11 +54,11 @@ pub record Sorted (g : Game) (rest : ℕ) (f s : List ℕ) : Type 0 where
 module _ (g : Game) (F : Fits g) where
   in-meets : (i x : ℕ) → setsMeet capacity x (pack (g .input .states) (joined (graphOf (g .input)) i)) ≡ meetsAt (graphOf (g .input)) i (has x)
   unfolding meetsAt graphOf
-  in-meets i x = meets-component (g .input .states) x (joined (graphOf (g .input)) i) (F .input .most)
+  in-meets i x = meets-pack capacity (g .input .states) x (joined (graphOf (g .input)) i) (F .input .most)
 
   out-meets : (d x : ℕ) → setsMeet capacity x (pack (g .output .states) (joined (graphOf (g .output)) d)) ≡ meetsAt (graphOf (g .output)) d (has x)
   unfolding meetsAt graphOf
-  out-meets d x = meets-component (g .output .states) x (joined (graphOf (g .output)) d) (F .output .most)
+  out-meets d x = meets-pack capacity (g .output .states) x (joined (graphOf (g .output)) d) (F .output .most)
 
   due-means : (q : RequirementRecord) (i : ℕ)
       → inMeets q (pack (g .input .states) (joined (graphOf (g .input)) i)) (q .assumed) ≡ due (separatedOf g) i (requirementOf q)

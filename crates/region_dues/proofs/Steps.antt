@@ -13,6 +13,7 @@ use mathlib.Core.Bool.{Bool, true, false, not, _&&_, _||_}
 use mathlib.Core.List.{List}
 use lib.ListN.{length, getD, set, length-set}
 use lib.Seq.{getD-set-same, getD-set-other}
+use Rattle.finite.proofs.Truth.{and-all}
 use Rattle.finite.specs.Bounded.{all}
 use Rattle.bits.specs.Member.{has}
 use Rattle.region_dues.specs.Dues.{dueBy, servedBy, Marked, admitsBy}
@@ -46,21 +47,17 @@ module _ (l n : List ℕ) (i c : ℕ) (x : List ℕ) where
 
 -- ---- what is admitted
 
-same-true : (b : Bool) → b ≡ (b && true)
-same-true true = refl
-same-true false = refl
-
 module _ {due : Bool} (x y : ℕ) where
   pub kept-due : (r : ℕ) → due ≡ true → ((d : ℕ) → has r d ≡ (has x d && has y d)) → (d : ℕ) → has r d ≡ (has x d && (not due || has y d))
   kept-due r e h d = rw e (h d)
 
   pub kept-free : due ≡ false → (d : ℕ) → has x d ≡ (has x d && (not due || has y d))
-  kept-free e d = rw e (same-true (has x d))
+  kept-free e d = rw e (sym (and-all (has x d) refl))
 
 module _ (l n : List ℕ) (i a x : ℕ) (t : List ℕ) where
   pub narrowed-start : (d : ℕ) → has x d ≡ (has x d && all 0 (admitsBy l n i a t d))
   unfolding all
-  narrowed-start d = same-true (has x d)
+  narrowed-start d = sym (and-all (has x d) refl)
 
   pub narrowed-next : (q y z u : ℕ) (due : Bool) → due ≡ dueBy l n a (i + q) → u ≡ getD t q 0
       → ((d : ℕ) → has y d ≡ (has x d && all q (admitsBy l n i a t d))) → ((d : ℕ) → has z d ≡ (has y d && (not due || has u d)))

@@ -1,11 +1,11 @@
 -- What the sets mean: where scratch holds what it should, the row of homes of an input in a nontrivial component.
 use Prim.Native.Nat.{ℕ, _<_}
 use mathlib.Core.Path.{_≡_, refl, sym, _∙_, ap, ap₂}
-use mathlib.Core.Bool.{Bool, true, false, _&&_, _||_, not}
+use mathlib.Core.Bool.{true, false, _&&_, _||_, not}
 use mathlib.Core.List.{List}
 use mathlib.Core.Logic.{_⊎_, inl, inr}
 use Rattle.finite.specs.Bounded.{all}
-use Rattle.finite.proofs.Truth.{decide, clash, false-of, same-test}
+use Rattle.finite.proofs.Truth.{decide, clash, false-of, same-test, implies-intro, implies-elim, and-assoc}
 use Rattle.finite.proofs.Bounded.{all-intro, all-elim, all-same}
 use Rattle.bits.specs.Member.{has, pack}
 use Rattle.bits.proofs.Membership.{has-pack-below, pack-ext}
@@ -18,7 +18,6 @@ use Rattle.game.specs.declared.Game.{Game}
 use Rattle.game.proofs.Laws.{Fits}
 use Rattle.play.specs.Play.{graphOf, separatedOf}
 use Rattle.theory.specs.Region.{accepting, safe, homeFor, region}
-use Rattle.theory.proofs.Region.{implies-intro, implies-elim}
 use Rattle.theory.proofs.EnvironmentRow.{region-output}
 use Rattle.sets.specs.Words.{setsIn}
 use Rattle.scratch.specs.Stored.{rowAt, storedRow, wonAt, Laid}
@@ -30,10 +29,6 @@ use Rattle.region_homes.specs.Homes.{safeOne, safeAt, homeAt}
 self-joined : (h : Record) (e : ℕ) → e < h .states → joined (graphOf h) e e ≡ true
 unfolding graphOf
 self-joined h e b = joined-self (graphOf h) e b
-
-and-assoc : (a b c : Bool) → ((a && b) && c) ≡ (a && (b && c))
-and-assoc true b c = refl
-and-assoc false b c = refl
 
 module _ (g : Game) (F : Fits g) where
   -- what is read from scratch s

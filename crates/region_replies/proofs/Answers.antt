@@ -16,10 +16,10 @@ use lib.ListN.{getD}
 use borrow.Author.Tests.{eq-eqb, eqb-true, lt-ltb}
 use Rattle.finite.specs.Bounded.{all, any, least, count}
 use Rattle.finite.proofs.Truth.{decide, clash, same-test, and-intro, and-left, and-right, or-left, or-right, or-cases, not-true}
-use Rattle.finite.proofs.Bounded.{all-same, any-intro, any-elim}
+use Rattle.finite.proofs.Bounded.{all-same, any-intro}
 use Rattle.bits.specs.Member.{has, pack, setsMeet}
-use Rattle.bits.proofs.Membership.{has-zero, has-lt, has-pack-below, pack-lt, pack-ext}
-use Rattle.bits.proofs.Compare.{meets-intro, meets-elim}
+use Rattle.bits.proofs.Membership.{has-zero, pack-ext}
+use Rattle.bits.proofs.Compare.{meets-pack}
 use Rattle.bits.proofs.Remove.{less-in, less-other, less-falls}
 use Rattle.bits.proofs.Visit.{small-word, lowest-in, lowest-less}
 use Rattle.sets.specs.Words.{capacity}
@@ -110,19 +110,6 @@ module _ (rows : List ℕ) (y : ℕ) where
 pub held-none : (rows : List ℕ) (y x : ℕ) → y ≡ 0 → Held rows y x
 held-none rows y x z = record { answers = λ some. absurd (some z) }
 
--- a set meets the outputs that are won
-meets-won : (m x : ℕ) (p : ℕ → Bool) → m ≤ capacity → setsMeet capacity x (pack m p) ≡ any m (λ t. has x t && p t)
-meets-won m x p b =
-    same-test (setsMeet capacity x (pack m p)) (any m (λ t. has x t && p t))
-    (λ e.
-    let v = meets-elim capacity x (pack m p) e in
-    let l = has-lt m (pack m p) (v .0) (pack-lt m p) (v .3) in
-    any-intro m (λ t. has x t && p t) (v .0) l (and-intro (v .2) (sym (has-pack-below m p (v .0) l) ∙ v .3)))
-    (λ e.
-    let v = any-elim m (λ t. has x t && p t) e in
-    meets-intro capacity x (pack m p) (v .0) (omega (arith, v .1)) (and-left (has x (v .0)) (p (v .0)) (v .2))
-    (has-pack-below m p (v .0) (v .1) ∙ and-right (has x (v .0)) (p (v .0)) (v .2)))
-
 -- whether output o answers next input j, the rows of moves being given
 unfoldable pub answered : List ℕ → ℕ → ℕ → List ℕ → ℕ → ℕ → ℕ → Bool
 answered l n c rows m j o = setsMeet capacity (getD rows o 0) (pack m (wonAt l n c j))
@@ -142,7 +129,7 @@ module _ (l : List ℕ) (n c next : ℕ) (rows : List ℕ) (m : ℕ) (most : m �
       ap (λ (t : Bool). t && all n (λ j. not (has x j) || setsMeet capacity (getD rows o 0) (pack m (wonAt l n c j)))) (e o ∙ lt-ltb o m a)
       ∙ all-same n (λ j. not (has x j) || setsMeet capacity (getD rows o 0) (pack m (wonAt l n c j))) (replied l n c next (getD rows o 0) m)
       (λ j h.
-      ap₂ (λ (s t : Bool). not s || t) (same j h) (meets-won m (getD rows o 0) (wonAt l n c j) most)
+      ap₂ (λ (s t : Bool). not s || t) (same j h) (meets-pack capacity m (getD rows o 0) (wonAt l n c j) most)
       ∙ sym (one-answered (has next j) (has (getD rows o 0)) (wonAt l n c j) m (omega arith))))
     where
       whole : (t : Bool) → (t && true) ≡ t

@@ -5,6 +5,7 @@ use mathlib.Core.Bool.{Bool, true, false, _&&_, _||_, not}
 use mathlib.Core.List.{List}
 use mathlib.Core.Logic.{_⊎_, inl, inr}
 use lib.ListN.{getD}
+use Rattle.play.proofs.Moves.{moved-edge}
 use Rattle.finite.specs.Bounded.{any}
 use Rattle.finite.proofs.Truth.{decide, clash, false-of}
 use Rattle.finite.proofs.Bounded.{all-same, any-intro, any-same}
@@ -18,7 +19,6 @@ use Rattle.graphs.proofs.Component.{nontrivial-intro}
 use Rattle.game.specs.declared.Game.{Game}
 use Rattle.game.proofs.Laws.{Fits}
 use Rattle.play.specs.Play.{graphOf, separatedOf}
-use Rattle.graph_components.proofs.Closed.{moved-edge}
 use Rattle.theory.specs.Region.{answers, replies, region}
 use Rattle.theory.proofs.Region.{region-replies}
 use Rattle.sets.specs.Words.{setsIn}

@@ -1,4 +1,5 @@
 -- Laws of scratch.
+pub mod Most
 pub mod Areas
 pub mod Read
 pub mod Cleared

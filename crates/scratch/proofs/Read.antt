@@ -14,11 +14,11 @@ use mathlib.Core.Logic.{_⊎_, inl, inr}
 use native.Mathlib.Omega.{arith}
 use lib.Dec.{ltb}
 use Rattle.finite.specs.Bounded.{any}
-use Rattle.finite.proofs.Truth.{decide, clash, false-of, same-test, and-intro, and-left, and-right, and-false-right}
-use Rattle.finite.proofs.Bounded.{any-intro, any-elim}
+use Rattle.finite.proofs.Truth.{decide, clash, false-of, same-test, and-intro, and-left, and-right, and-false-right, and-comm}
+use Rattle.finite.proofs.Bounded.{any-intro, any-elim, any-same}
 use Rattle.bits.specs.Member.{has, pack, setsMeet}
-use Rattle.bits.proofs.Membership.{ext, has-zero, has-pack, has-pack-below, has-lt, pack-lt, pack-ext}
-use Rattle.bits.proofs.Compare.{meets-intro, meets-elim}
+use Rattle.bits.proofs.Membership.{ext, has-zero, has-pack, has-pack-below, pack-ext}
+use Rattle.bits.proofs.Compare.{meets-intro, meets-elim, meets-pack}
 use Rattle.sets.specs.Words.{capacity, setsIn}
 use Rattle.graphs.specs.Closure.{reaches}
 use Rattle.graphs.specs.Component.{nontrivial}
@@ -51,16 +51,10 @@ module _ (l : List ℕ) (n m c i r x : ℕ) (e : x ≡ rowAt l n i) where
   pub won-all-out : (b : ℕ) → has c i ≡ false → ((s : ℕ) → has b s ≡ ltb s m) → ((s : ℕ) → has r s ≡ (has x s && has b s)) → r ≡ pack m (wonAt l n c i)
   won-all-out b h f g = ext r (pack m (wonAt l n c i)) at
     where
-      swap : (u v : Bool) → (u && v) ≡ (v && u)
-      swap true true = refl
-      swap true false = refl
-      swap false true = refl
-      swap false false = refl
-
       at : (s : ℕ) → has r s ≡ has (pack m (wonAt l n c i)) s
       at s =
           g s ∙ ap₂ _&&_ (won-out l n c i s h (ap (λ (y : ℕ). has y s) e)) (f s)
-          ∙ swap (wonAt l n c i s) (ltb s m) ∙ sym (has-pack m (wonAt l n c i) s)
+          ∙ and-comm (wonAt l n c i s) (ltb s m) ∙ sym (has-pack m (wonAt l n c i) s)
 
 -- no output reaches one of no states
 pub reaching-none : (l : List ℕ) (n m x y : ℕ) → x ≡ 0 → y ≡ 0 → y ≡ pack m (reachingAt l n x)
@@ -119,20 +113,9 @@ module _ (l : List ℕ) (n m c j y z : ℕ) (R : Reached l n m y z) where
 
 -- two sets of outputs meet exactly where some member is common
 meets-packed : (m : ℕ) (p q : ℕ → Bool) → m ≤ capacity → setsMeet capacity (pack m p) (pack m q) ≡ any m (λ d. q d && p d)
-meets-packed m p q b = same-test (setsMeet capacity (pack m p) (pack m q)) (any m (λ d. q d && p d)) there back
-  where
-    there : setsMeet capacity (pack m p) (pack m q) ≡ true → any m (λ d. q d && p d) ≡ true
-    there e =
-        let v = meets-elim capacity (pack m p) (pack m q) e in
-        let l = has-lt m (pack m p) (v .0) (pack-lt m p) (v .2) in
-        any-intro m (λ d. q d && p d) (v .0) l (and-intro (sym (has-pack-below m q (v .0) l) ∙ v .3) (sym (has-pack-below m p (v .0) l) ∙ v .2))
-
-    back : any m (λ d. q d && p d) ≡ true → setsMeet capacity (pack m p) (pack m q) ≡ true
-    back e =
-        let v = any-elim m (λ d. q d && p d) e in
-        meets-intro capacity (pack m p) (pack m q) (v .0) (omega (arith, v .1))
-        (has-pack-below m p (v .0) (v .1) ∙ and-right (q (v .0)) (p (v .0)) (v .2))
-        (has-pack-below m q (v .0) (v .1) ∙ and-left (q (v .0)) (p (v .0)) (v .2))
+meets-packed m p q b =
+    meets-pack capacity m (pack m p) q b
+    ∙ any-same m (λ d. has (pack m p) d && q d) (λ d. q d && p d) (λ d l. ap (λ (x : Bool). x && q d) (has-pack-below m p d l) ∙ and-comm (p d) (q d))
 
 module _ (S : Separated) where
   pub stored-nontrivial : (j : ℕ) → nontrivial (S .input) j ≡ true → storedRow S j ≡ pack (S .output .states) (homeFor S (region S) j)

@@ -20,6 +20,9 @@ use game::OutSet;
 use game::OutState;
 use sets::Set;
 
+// How many words no game asks for more than.
+pub const MOST: usize = 768;
+
 // The states in nontrivial components of both graphs.
 pub struct Nontrivial {
     pub inputs: InSet,

@@ -20,9 +20,9 @@ use Rattle.sets.proofs.Values.{Words, has-first, has-later, value-lt, h
 use Rattle.sets.proofs.Values.{least-first, least-later, count-words, subset-words, meets-words}
 
 -- the high word alone
-single : (y : ℕ) → value 64 (y ∷ []) ≡ y
+pub single-word : (y : ℕ) → value 64 (y ∷ []) ≡ y
 unfolding value
-single y = omega arith
+single-word y = omega arith
 
 pub pair-zero : {x y : ℕ} → x ≡ 0 → y ≡ 0 → value 64 (x ∷ y ∷ []) ≡ 0
 unfolding value
@@ -58,23 +58,23 @@ module _ (x y : ℕ) (h : x < 2 ^ 64) where
   pair-low s l = has-first 64 x (y ∷ []) s l
 
   pair-high : (s : ℕ) → has (value 64 (x ∷ y ∷ [])) (64 + s) ≡ has y s
-  pair-high s = has-later 64 x (y ∷ []) s h ∙ ap (λ (n : ℕ). has n s) (single y)
+  pair-high s = has-later 64 x (y ∷ []) s h ∙ ap (λ (n : ℕ). has n s) (single-word y)
 
   pub pair-from : (s : ℕ) → 64 ≤ s → has (value 64 (x ∷ y ∷ [])) s ≡ has y (s - 64)
   pair-from s l = let e : s ≡ 64 + (s - 64) = omega arith in ap (has (value 64 (x ∷ y ∷ []))) e ∙ pair-high (s - 64)
 
   -- a set told by its two words
   pub pair-is : (p : ℕ → Bool) → ((t : ℕ) → t < 64 → has x t ≡ p t) → ((t : ℕ) → has y t ≡ p (64 + t)) → (t : ℕ) → has (value 64 (x ∷ y ∷ [])) t ≡ p t
-  pair-is p f g = has-words 64 x (y ∷ []) p h f (λ t. ap (λ (n : ℕ). has n t) (single y) ∙ g t)
+  pair-is p f g = has-words 64 x (y ∷ []) p h f (λ t. ap (λ (n : ℕ). has n t) (single-word y) ∙ g t)
 
   pub pair-empty : eqb (bitOr x y) 0 ≡ eqb (value 64 (x ∷ y ∷ [])) 0
-  pair-empty = or-empty x y ∙ sym (empty-words 64 x (y ∷ []) h ∙ ap (λ (n : ℕ). eqb x 0 && eqb n 0) (single y))
+  pair-empty = or-empty x y ∙ sym (empty-words 64 x (y ∷ []) h ∙ ap (λ (n : ℕ). eqb x 0 && eqb n 0) (single-word y))
 
   pub pair-lowest-low : x ≢ 0 → least 64 (has x) ≡ least 128 (has (value 64 (x ∷ y ∷ [])))
   pair-lowest-low n = sym (least-first 64 64 x (y ∷ []) h n)
 
   pub pair-lowest-high : x ≡ 0 → 64 + least 64 (has y) ≡ least 128 (has (value 64 (x ∷ y ∷ [])))
-  pair-lowest-high z = ap (λ (n : ℕ). 64 + least 64 (has n)) (sym (single y)) ∙ sym (least-later 64 64 x (y ∷ []) h z)
+  pair-lowest-high z = ap (λ (n : ℕ). 64 + least 64 (has n)) (sym (single-word y)) ∙ sym (least-later 64 64 x (y ∷ []) h z)
 
   low-least : x ≢ 0 → least 64 (has x) < 64
   low-least n = let m = nonzero-below 64 x h n in least-below 64 (has x) (m .0) (m .1) (m .2)
@@ -90,7 +90,7 @@ module _ (x y : ℕ) (h : x < 2 ^ 64) where
   ]
 
   pub pair-count : count 128 (has (value 64 (x ∷ y ∷ []))) ≡ count 64 (has x) + count 64 (has y)
-  pair-count = count-words 64 64 x (y ∷ []) h ∙ ap (λ (n : ℕ). count 64 (has x) + count 64 (has n)) (single y)
+  pair-count = count-words 64 64 x (y ∷ []) h ∙ ap (λ (n : ℕ). count 64 (has x) + count 64 (has n)) (single-word y)
 
   pub pair-lt : y < 2 ^ 64 → value 64 (x ∷ y ∷ []) < 2 ^ 128
   pair-lt g = value-lt 64 (x ∷ y ∷ []) (Words.more h (Words.more g Words.none))
@@ -98,20 +98,20 @@ module _ (x y : ℕ) (h : x < 2 ^ 64) where
   pub pair-within-high : (n : ℕ) → 64 ≤ n → within y (n - 64) ≡ within (value 64 (x ∷ y ∷ [])) n
   pair-within-high n l =
       let e : 64 + (n - 64) ≡ n = omega arith in
-      ap (λ (k : ℕ). within k (n - 64)) (sym (single y)) ∙ sym (within-later 64 (n - 64) x (y ∷ []) h) ∙ ap (within (value 64 (x ∷ y ∷ []))) e
+      ap (λ (k : ℕ). within k (n - 64)) (sym (single-word y)) ∙ sym (within-later 64 (n - 64) x (y ∷ []) h) ∙ ap (within (value 64 (x ∷ y ∷ []))) e
 
   pub pair-within-low : (n : ℕ) → n < 64 → y ≡ 0 → within x n ≡ within (value 64 (x ∷ y ∷ [])) n
-  pair-within-low n l z = sym (within-first 64 n x (y ∷ []) h (omega arith) (single y ∙ z))
+  pair-within-low n l z = sym (within-first 64 n x (y ∷ []) h (omega arith) (single-word y ∙ z))
 
   pub pair-within-not : (n : ℕ) → n < 64 → y ≢ 0 → false ≡ within (value 64 (x ∷ y ∷ [])) n
-  pair-within-not n l ne = sym (within-not 64 n x (y ∷ []) h (omega arith) (λ z. ne (sym (single y) ∙ z)))
+  pair-within-not n l ne = sym (within-not 64 n x (y ∷ []) h (omega arith) (λ z. ne (sym (single-word y) ∙ z)))
 
   -- a member more in either word
   pub insert-low : (r s : ℕ) → r < 2 ^ 64 → s < 64 → ((t : ℕ) → has r t ≡ (has x t || eqb t s))
       → (t : ℕ) → has (value 64 (r ∷ y ∷ [])) t ≡ (has (value 64 (x ∷ y ∷ [])) t || eqb t s)
   insert-low r s g l f =
       has-words 64 r (y ∷ []) (λ t. has (value 64 (x ∷ y ∷ [])) t || eqb t s) g (λ t b. f t ∙ rw (pair-low t b) refl)
-      (λ t. ap (λ (n : ℕ). has n t) (single y) ∙ rw (pair-high t, ne-eqb (64 + t) s (λ e. omega arith)) (keep (has y t)))
+      (λ t. ap (λ (n : ℕ). has n t) (single-word y) ∙ rw (pair-high t, ne-eqb (64 + t) s (λ e. omega arith)) (keep (has y t)))
     where
       keep : (b : Bool) → b ≡ (b || false)
       keep true = refl
@@ -122,7 +122,7 @@ module _ (x y : ℕ) (h : x < 2 ^ 64) where
   insert-high r s l f =
       has-words 64 x (r ∷ []) (λ t. has (value 64 (x ∷ y ∷ [])) t || eqb t s) h
       (λ t b. rw (pair-low t b, ne-eqb t s (λ e. omega arith)) (keep (has x t)))
-      (λ t. ap (λ (n : ℕ). has n t) (single r) ∙ f t ∙ rw (pair-high t) (ap (λ (b : Bool). has y t || b) (moved t)))
+      (λ t. ap (λ (n : ℕ). has n t) (single-word r) ∙ f t ∙ rw (pair-high t) (ap (λ (b : Bool). has y t || b) (moved t)))
     where
       keep : (b : Bool) → b ≡ (b || false)
       keep true = refl
@@ -137,7 +137,7 @@ module _ (x y : ℕ) (h : x < 2 ^ 64) where
   strip-low r g n f =
       rw (sym (pair-lowest-low n))
       (has-words 64 r (y ∷ []) (λ t. has (value 64 (x ∷ y ∷ [])) t && not (eqb t (least 64 (has x)))) g (λ t b. f t ∙ rw (pair-low t b) refl)
-      (λ t. ap (λ (n : ℕ). has n t) (single y)
+      (λ t. ap (λ (n : ℕ). has n t) (single-word y)
       ∙ rw (pair-high t, ne-eqb (64 + t) (least 64 (has x)) (λ e. omega (arith, low-least n))) (keep (has y t))))
     where
       keep : (b : Bool) → b ≡ (b && true)
@@ -150,7 +150,7 @@ module _ (x y : ℕ) (h : x < 2 ^ 64) where
       rw (sym (pair-lowest-high z))
       (has-words 64 0 (r ∷ []) (λ t. has (value 64 (x ∷ y ∷ [])) t && not (eqb t (64 + least 64 (has y)))) (omega arith)
       (λ t b. rw (pair-low t b, z, has-zero) refl)
-      (λ t. ap (λ (n : ℕ). has n t) (single r) ∙ f t ∙ rw (pair-high t, shift-eqb) refl))
+      (λ t. ap (λ (n : ℕ). has n t) (single-word r) ∙ f t ∙ rw (pair-high t, shift-eqb) refl))
 
 -- where the second set has members of the low word alone
 pub pair-meets-low : (a b x y : ℕ) → within (value 64 (x ∷ y ∷ [])) 64 ≡ true
@@ -171,10 +171,10 @@ pair-meets-low a b x y e = same-test (setsMeet 64 a x) (setsMeet 128 (value 64 (
 
 module _ (a b x y : ℕ) (h : a < 2 ^ 64) (g : x < 2 ^ 64) where
   pub pair-subset : subset 128 (value 64 (a ∷ b ∷ [])) (value 64 (x ∷ y ∷ [])) ≡ (subset 64 a x && subset 64 b y)
-  pair-subset = subset-words 64 64 a x (b ∷ []) (y ∷ []) h g ∙ ap₂ (λ (m n : ℕ). subset 64 a x && subset 64 m n) (single b) (single y)
+  pair-subset = subset-words 64 64 a x (b ∷ []) (y ∷ []) h g ∙ ap₂ (λ (m n : ℕ). subset 64 a x && subset 64 m n) (single-word b) (single-word y)
 
   pub pair-meets : setsMeet 128 (value 64 (a ∷ b ∷ [])) (value 64 (x ∷ y ∷ [])) ≡ (setsMeet 64 a x || setsMeet 64 b y)
-  pair-meets = meets-words 64 64 a x (b ∷ []) (y ∷ []) h g ∙ ap₂ (λ (m n : ℕ). setsMeet 64 a x || setsMeet 64 m n) (single b) (single y)
+  pair-meets = meets-words 64 64 a x (b ∷ []) (y ∷ []) h g ∙ ap₂ (λ (m n : ℕ). setsMeet 64 a x || setsMeet 64 m n) (single-word b) (single-word y)
 
   pub same-high : a ≡ x → eqb b y ≡ eqb (value 64 (a ∷ b ∷ [])) (value 64 (x ∷ y ∷ []))
   same-high e = same-test (eqb b y) (eqb (value 64 (a ∷ b ∷ [])) (value 64 (x ∷ y ∷ []))) to back

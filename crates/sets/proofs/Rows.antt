@@ -30,7 +30,7 @@ use native.Mathlib.Omega.{arith}
 use native.Mathlib.Decide.{decLt}
 use native.Mathlib.Numerals.{unary-clauses}
 use borrow.Author.Tests.{eqb-true, eqb-false}
-use Rattle.sets.proofs.Pair.{pair-zero, pair-low, pair-is}
+use Rattle.sets.proofs.Pair.{pair-zero, pair-low, pair-is, single-word}
 use Rattle.finite.specs.Bounded.{least}
 use Rattle.finite.proofs.Bounded.{least-member}
 use Rattle.finite.proofs.Truth.{decide, clash, not-true, not-false}
@@ -190,10 +190,6 @@ heads h = ap (λ (n : List ℕ). getD n 0 0) h
 
 tails : {x y : ℕ} {l m : List ℕ} → x ∷ l ≡ y ∷ m → l ≡ m
 tails h = ap (λ (n : List ℕ). drop 1 n) h
-
-single-word : (y : ℕ) → value 64 (y ∷ []) ≡ y
-unfolding value
-single-word y = omega arith
 
 -- words of 64 bits that hold the same sets are the same
 words-same : (l m : List ℕ) → ((i : ℕ) → getD l i 0 < 2 ^ 64) → ((i : ℕ) → getD m i 0 < 2 ^ 64) → length l ≡ length m → setsIn l ≡ setsIn m → l ≡ m

@@ -11,7 +11,6 @@ use mathlib.Core.Bool.{Bool, true, false, _&&_, _||_}
 use mathlib.Core.List.{List, [], _∷_}
 use mathlib.Core.Logic.{_⊎_, inl, inr, _≢_}
 use native.Mathlib.Nat.{suc-mul}
-use native.Mathlib.Numerals.{unary-clauses}
 use native.Mathlib.Decide.{decLt}
 use native.Mathlib.Omega.{arith}
 use lib.Dec.{eqb}
@@ -20,7 +19,7 @@ use lib.ListN.{length, getD}
 use lib.Pow.{pow-pos, pow-add}
 use Rattle.finite.specs.Bounded.{least, count, one}
 use Rattle.finite.proofs.Truth.{clash, false-of, and-intro, and-left, and-right, or-left, or-right, or-cases, same-test}
-use Rattle.finite.proofs.Bounded.{all-elim, least-le, least-member, least-before, least-unique, least-below, count-same}
+use Rattle.finite.proofs.Bounded.{all-elim, least-le, least-member, least-before, least-unique, least-below, count-same, count-add}
 use borrow.Author.Tests.{eqb-true, eq-eqb}
 use Rattle.bits.specs.Member.{has, within, implies, subset, setsMeet}
 use Rattle.bits.proofs.Membership.{has-zero, has-block-low, has-block-high, has-past, has-within, within-has, ext}
@@ -173,14 +172,9 @@ module _ (w : ℕ) where
 
   -- counts and tests, over w + n states
 
-  count-add : (n : ℕ) (p : ℕ → Bool) → count (w + n) p ≡ count w p + count n (λ j. p (w + j))
-  unfolding count
-  count-add zero p = simp unary-clauses
-  count-add (suc n) p = simp unary-clauses (omega (arith, count-add n p))
-
   pub count-words : (n x : ℕ) (l : List ℕ) → x < 2 ^ w → count (w + n) (has (value w (x ∷ l))) ≡ count w (has x) + count n (has (value w l))
   count-words n x l h =
-      count-add n (has (value w (x ∷ l)))
+      count-add w n (has (value w (x ∷ l)))
       ∙ ap₂ (λ (a b : ℕ). a + b) (count-same w (has (value w (x ∷ l))) (has x) (λ s b. has-first x l s b))
       (count-same n (λ j. has (value w (x ∷ l)) (w + j)) (has (value w l)) (λ s b. has-later x l s h))
 

@@ -7,6 +7,7 @@ use mathlib.Core.List.{List}
 use mathlib.Core.Path.{_≡_, refl, sym, _∙_, ap}
 use lib.ListN.{length, getD}
 use borrow.Author.Tests.{le-leb, eq-eqb}
+use Rattle.scratch.proofs.Most.{most-scratch}
 use Rattle.finite.proofs.Truth.{and-intro, clash}
 use Rattle.game.specs.declared.Game.{Game}
 use Rattle.game.specs.declared.Acceptance.the-variants.{Accepted}
@@ -20,7 +21,7 @@ use Rattle.table_sizes.proofs.Lengths.{controller-length, environment-length, i
 use Rattle.solver.specs.declared.Verdict.{Verdict}
 use Rattle.solver.specs.declared.Verdict.the-variants.{System, Environment, Refused as NotSolved}
 use Rattle.solver.specs.Promise.{verdictAnswer}
-use Rattle.scratch.specs.Scratch.{scratchLength}
+use Rattle.scratch.specs.Scratch.{scratchLength, mostScratch}
 use Rattle.solver.proofs.Verdicts.{controller-long, environment-long, more-scratch}
 use Rattle.handover.specs.Handed.{side, front, Handed}
 use Rattle.handover.proofs.Handing.{Told, told-answer}
@@ -33,7 +34,7 @@ use Rattle.text_put.proofs.Buffer.{puts-as}
 use Rattle.print_tables.specs.Print.{inRange, controllerFits, environmentFits, onlyIf, controllerPrint, environmentPrint, controllerAnswer, environmentAnswer}
 use Rattle.print_lines.specs.Line.{refusedLine, misshapenLine}
 use Rattle.print_tables.proofs.Room.{controller-room, environment-room, refused-room, misshapen-room, entries-small}
-use Rattle.prints.specs.Prints.{tablePrint, gamePrint, answerPrint, readingPrint}
+use Rattle.prints.specs.Prints.{tablePrint, gamePrint, answerPrint, readingPrint, roomEntries}
 use Rattle.solve.specs.Printed.{Made, Printed}
 
 -- the dimensions of an accepted game are in range
@@ -63,13 +64,13 @@ made-as h M = record { puts = puts-as h (M .puts); fits = M .fits }
 
 -- the sets that were counted, and the entries that were lent
 module _ {d : List ℕ} {r : ℕ} {f : List ℕ} where
-  pub makes-controller : (i o : ℕ) {m k : ℕ} (l : List ℕ) → ((j : ℕ) → getD l j 0 < 65536) → length l ≤ 32768 → m ≡ k
+  pub makes-controller : (i o : ℕ) {m k : ℕ} (l : List ℕ) → ((j : ℕ) → getD l j 0 < 65536) → length l ≤ roomEntries → m ≡ k
       → Puts d 0 (controllerAnswer i o m l) r f → Made d (controllerAnswer i o k l) r f
   makes-controller i o {m} l b h e P =
       made-as (ap (λ (j : ℕ). controllerAnswer i o j l) e)
       record { puts = P; fits = omega (arith, P .next, controller-room l (entries-small l b) i o m h) }
 
-  pub makes-environment : (i o : ℕ) {m k : ℕ} (l : List ℕ) → ((j : ℕ) → getD l j 0 < 65536) → length l ≤ 32768 → m ≡ k
+  pub makes-environment : (i o : ℕ) {m k : ℕ} (l : List ℕ) → ((j : ℕ) → getD l j 0 < 65536) → length l ≤ roomEntries → m ≡ k
       → Puts d 0 (environmentAnswer i o m l) r f → Made d (environmentAnswer i o k l) r f
   makes-environment i o {m} l b h e P =
       made-as (ap (λ (j : ℕ). environmentAnswer i o j l) e)
@@ -116,17 +117,16 @@ module _ {g : Game} {s s′ : List ℕ} {n : ℕ} {b b′ : Bool} {x y p : ℕ �
     refused-of c e (NotSolved k) T H z P = made-as (ap refusedLine (H .refusal)) (makes-refused n (omega (arith, H .refusal, T .1)) P)
 
 module _ {g : Game} {s s′ : List ℕ} {n : ℕ} {b b′ : Bool} {x y p : ℕ × ℕ} {t : List ℕ} where
-  pub part-short : (k c e : ℕ) → Handed g (verdictAnswer g k c e) s s′ n b b′ x y p t → c ≤ 32768 → e ≤ 32768 → length t ≤ 32768
+  pub part-short : (k c e : ℕ) → Handed g (verdictAnswer g k c e) s s′ n b b′ x y p t → c ≤ roomEntries → e ≤ roomEntries → length t ≤ roomEntries
   part-short k c e H h l = short-of (verdictAnswer g k c e) (told-answer g k c e) H h l
 
   -- of the lengths that the program lends
-  module _ {k c e : ℕ} (u : 768 ≤ k) (v : c ≡ 32768) (w : e ≡ 32768) (H : Handed g (verdictAnswer g k c e) s s′ n b b′ x y p t)
+  module _ {k c e : ℕ} (u : mostScratch ≤ k) (v : c ≡ roomEntries) (w : e ≡ roomEntries) (H : Handed g (verdictAnswer g k c e) s s′ n b b′ x y p t)
       {d : List ℕ} {r : ℕ} {f : List ℕ} where
-    -- no game asks for more than 768 words of scratch
     printed-as : acceptance g ≡ Accepted → Made d (tablePrint g (verdictAnswer g k c e)) r f → Made d (gamePrint g) r f
     unfolding gamePrint
     printed-as a M =
-        let b : scratchLength g ≤ k = omega (arith, u, inputs-most g a, outputs-most g a) in
+        let b : scratchLength g ≤ k = omega (arith, u, most-scratch g a) in
         made-as (ap (tablePrint g) (more-scratch g k c e b) ∙ λ i. tablePrint g (verdictAnswer g (scratchLength g) (v i) (w i))) M
 
     pub prints-system : acceptance g ≡ Accepted → n ≡ 0 → b′ ≡ true

@@ -7,19 +7,16 @@ ghost use Rattle.game.specs.Acceptance.{acceptance};
 ghost use Rattle.play.specs.Play.{separatedOf};
 ghost use Rattle.theory.specs.Choice.{guarantees, assumptions};
 ghost use Rattle.print_tables.specs.Print.{controllerAnswer, environmentAnswer};
-ghost use Rattle.prints.specs.Prints.{gamePrint};
-ghost use Rattle.solve.specs.Printed.{Made, Printed};
+ghost use Rattle.prints.specs.Prints.{roomEntries, gamePrint};
+ghost use Rattle.solve.specs.Printed.{printBytes, Made, Printed};
 use game::Game;
 use libc::STDERR_FILENO;
 use libc::STDIN_FILENO;
 use libc::STDOUT_FILENO;
+use prints::ROOM;
 use text::Answer;
 
-// How many entries a room for a table has, how many words scratch for any game, and how many bytes of a print there is place for.
-const ROOM: usize = 32768;
-
-const SCRATCH: usize = 768;
-
+// How many bytes of a print there is place for.
 const PRINT: usize = 1048576;
 
 // Says on standard error that the print was not written whole. A program has no status to say so with.
@@ -46,14 +43,14 @@ fn print(text: &[u8], n: usize)
 
 // The first n bytes of the buffer.
 fn print_front(buffer: &[u8; PRINT], n: usize)
-    requires { ⌜ n ≤ 1048576 ⌝ }
+    requires { ⌜ n ≤ printBytes ⌝ }
 {
     print(buffer, n);
 }
 
 // The print of the controller's table.
 fn put_system(buffer: &mut [u8], g: Game, table: &[u16]) -> usize
-    requires { ⌜ (acceptance g ≡ Accepted) × (length (now table) ≤ 32768) ⌝ }
+    requires { ⌜ (acceptance g ≡ Accepted) × (length (now table) ≤ roomEntries) ⌝ }
     ensures { λ r. ⌜ Made (now (buffer .entry)) (controllerAnswer (g .input .states) (g .output .states) (length (guarantees (separatedOf g)))
         (now (table .entry))) r (now (buffer .exit)) ⌝ }
 {
@@ -63,7 +60,7 @@ fn put_system(buffer: &mut [u8], g: Game, table: &[u16]) -> usize
 
 // The print of the panel's table.
 fn put_panel(buffer: &mut [u8], g: Game, table: &[u16]) -> usize
-    requires { ⌜ (acceptance g ≡ Accepted) × (length (now table) ≤ 32768) ⌝ }
+    requires { ⌜ (acceptance g ≡ Accepted) × (length (now table) ≤ roomEntries) ⌝ }
     ensures { λ r. ⌜ Made (now (buffer .entry)) (environmentAnswer (g .input .states) (g .output .states) (length (assumptions (separatedOf g)))
         (now (table .entry))) r (now (buffer .exit)) ⌝ }
 {
@@ -71,9 +68,9 @@ fn put_panel(buffer: &mut [u8], g: Game, table: &[u16]) -> usize
     print_tables::put_environment(buffer, g.input.states, g.output.states, sets, table)
 }
 
-// A room, made by a function of its own so that no proof looks into 32,768 zeros.
+// A room, made by a function of its own so that no proof looks into its zeros.
 fn empty_room() -> [u16; ROOM]
-    ensures { λ r. ⌜ 32768 ≡ length r ⌝ }
+    ensures { λ r. ⌜ roomEntries ≡ length r ⌝ }
 {
     [0; ROOM]
 }
@@ -88,7 +85,7 @@ fn solve(buffer: &mut [u8], g: Game) -> usize
     requires { ⌜ acceptance g ≡ Accepted ⌝ }
     ensures { λ r. ⌜ Made (now (buffer .entry)) (gamePrint g) r (now (buffer .exit)) ⌝ }
 {
-    let mut scratch = [0u64; SCRATCH];
+    let mut scratch = [0u64; scratch::MOST];
     let mut refusal: u8 = 0;
     let mut system = false;
     let mut controller = empty_room();

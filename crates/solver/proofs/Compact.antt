@@ -39,9 +39,9 @@ use Rattle.solver.specs.declared.Verdict.the-variants.{System, Environme
 use Rattle.solver.specs.Promise.{controllerLength, environmentLength, verdictNumber, environmentAfter, verdictScratch}
 use Rattle.solver.specs.Compact.{
   compactNamed,
-  compactTenth,
-  compactNinth,
-  compactEighth,
+  compactEnvironmentTested,
+  compactControllerTested,
+  compactScratchTested,
   compactAnswer,
   compactTests,
   compactAfter,
@@ -66,23 +66,24 @@ module _ (g : Game) (s c e : ℕ) where
   environment-test-number false = refl
 
   controller-test-number : (b : Bool)
-      → verdictNumber (elim b as (λ x. Verdict) [ true ↦ compactTenth g e | false ↦ NotSolved 9 ]) ≡ firstOf ((9, b) ∷ (10, leb (environmentLength g) e) ∷ [])
-  unfolding compactTenth firstOf
+      → verdictNumber (elim b as (λ x. Verdict) [ true ↦ compactEnvironmentTested g e | false ↦ NotSolved 9 ])
+      ≡ firstOf ((9, b) ∷ (10, leb (environmentLength g) e) ∷ [])
+  unfolding compactEnvironmentTested firstOf
   controller-test-number true = environment-test-number (leb (environmentLength g) e)
   controller-test-number false = refl
 
   abbrev rooms : Bool → List (ℕ × Bool)
   rooms b = (8, b) ∷ (9, leb (compactLength (separatedOf g)) c) ∷ (10, leb (environmentLength g) e) ∷ []
 
-  scratch-test-number : (b : Bool) → verdictNumber (elim b as (λ x. Verdict) [ true ↦ compactNinth g c e | false ↦ NotSolved 8 ]) ≡ firstOf (rooms b)
-  unfolding compactNinth firstOf
+  scratch-test-number : (b : Bool) → verdictNumber (elim b as (λ x. Verdict) [ true ↦ compactControllerTested g c e | false ↦ NotSolved 8 ]) ≡ firstOf (rooms b)
+  unfolding compactControllerTested firstOf
   scratch-test-number true = controller-test-number (leb (compactLength (separatedOf g)) c)
   scratch-test-number false = refl
 
   acceptance-number : (a : Acceptance)
-      → verdictNumber (elim a as (λ x. Verdict) [ Accepted ↦ compactEighth g s c e | Faulty n ↦ NotSolved n ])
+      → verdictNumber (elim a as (λ x. Verdict) [ Accepted ↦ compactScratchTested g s c e | Faulty n ↦ NotSolved n ])
       ≡ after a (firstOf (rooms (leb (scratchLength g) s)))
-  unfolding compactEighth
+  unfolding compactScratchTested
   acceptance-number Accepted = scratch-test-number (leb (scratchLength g) s)
   acceptance-number (Faulty n) = refl
 
@@ -154,36 +155,36 @@ module _ (g : Game) (s c e : List ℕ) where
     unfolding compactOutcome
     demand-of v = rw (v, compactOutcome) at (rows-by-component g a .demand)
 
-    at-scratch-test : compactAnswer g (length s) (length c) (length e) ≡ compactEighth g (length s) (length c) (length e)
+    at-scratch-test : compactAnswer g (length s) (length c) (length e) ≡ compactScratchTested g (length s) (length c) (length e)
     unfolding compactAnswer
     at-scratch-test = rw (a, compactAnswer) refl
 
     pub solve-scratch-short : length s < scratchLength g → SolvedCompact g s s c c e e (NotSolved 8)
-    unfolding compactEighth
-    solve-scratch-short h = refused 8 (sym (at-scratch-test ∙ rw (lt-leb (scratchLength g) (length s) h, compactEighth) refl))
+    unfolding compactScratchTested
+    solve-scratch-short h = refused 8 (sym (at-scratch-test ∙ rw (lt-leb (scratchLength g) (length s) h, compactScratchTested) refl))
 
-    at-controller-test : scratchLength g ≤ length s → compactAnswer g (length s) (length c) (length e) ≡ compactNinth g (length c) (length e)
-    unfolding compactEighth
-    at-controller-test h = at-scratch-test ∙ rw (le-leb (scratchLength g) (length s) h, compactEighth) refl
+    at-controller-test : scratchLength g ≤ length s → compactAnswer g (length s) (length c) (length e) ≡ compactControllerTested g (length c) (length e)
+    unfolding compactScratchTested
+    at-controller-test h = at-scratch-test ∙ rw (le-leb (scratchLength g) (length s) h, compactScratchTested) refl
 
     pub solve-controller-short : scratchLength g ≤ length s → length c < compactLength (separatedOf g) → SolvedCompact g s s c c e e (NotSolved 9)
-    unfolding compactNinth
-    solve-controller-short h k = refused 9 (sym (at-controller-test h ∙ rw (lt-leb (compactLength (separatedOf g)) (length c) k, compactNinth) refl))
+    unfolding compactControllerTested
+    solve-controller-short h k = refused 9 (sym (at-controller-test h ∙ rw (lt-leb (compactLength (separatedOf g)) (length c) k, compactControllerTested) refl))
 
     at-environment-test : scratchLength g ≤ length s → compactLength (separatedOf g) ≤ length c
-        → compactAnswer g (length s) (length c) (length e) ≡ compactTenth g (length e)
-    unfolding compactNinth
-    at-environment-test h k = at-controller-test h ∙ rw (le-leb (compactLength (separatedOf g)) (length c) k, compactNinth) refl
+        → compactAnswer g (length s) (length c) (length e) ≡ compactEnvironmentTested g (length e)
+    unfolding compactControllerTested
+    at-environment-test h k = at-controller-test h ∙ rw (le-leb (compactLength (separatedOf g)) (length c) k, compactControllerTested) refl
 
     pub solve-environment-short : scratchLength g ≤ length s → compactLength (separatedOf g) ≤ length c → length e < environmentLength g
         → SolvedCompact g s s c c e e (NotSolved 10)
-    unfolding compactTenth
-    solve-environment-short h k l = refused 10 (sym (at-environment-test h k ∙ rw (lt-leb (environmentLength g) (length e) l, compactTenth) refl))
+    unfolding compactEnvironmentTested
+    solve-environment-short h k l = refused 10 (sym (at-environment-test h k ∙ rw (lt-leb (environmentLength g) (length e) l, compactEnvironmentTested) refl))
 
     module _ (h : scratchLength g ≤ length s) (k : compactLength (separatedOf g) ≤ length c) (l : environmentLength g ≤ length e) where
       at-named : compactAnswer g (length s) (length c) (length e) ≡ compactNamed g
-      unfolding compactTenth
-      at-named = at-environment-test h k ∙ rw (le-leb (environmentLength g) (length e) l, compactTenth) refl
+      unfolding compactEnvironmentTested
+      at-named = at-environment-test h k ∙ rw (le-leb (environmentLength g) (length e) l, compactEnvironmentTested) refl
 
       solved-system : (s′ c′ : List ℕ) → verdict (separatedOf g) ≡ true → s′ ≡ cleared (scratchLength g) s
           → c′ ≡ compactEntries (separatedOf g) ++ drop (compactLength (separatedOf g)) c

@@ -33,17 +33,17 @@ unfoldable pub compactNamed : Game → Verdict
 compactNamed g = elim (verdict (separatedOf g)) [ true ↦ System (compactLength (separatedOf g)) | false ↦ Environment (environmentLength g) ]
 
 -- the same tests in the same order, 9 by the length of the layout that is written
-unfoldable pub compactTenth : Game → ℕ → Verdict
-compactTenth g e = elim (leb (environmentLength g) e) [ true ↦ compactNamed g | false ↦ NotSolved 10 ]
+unfoldable pub compactEnvironmentTested : Game → ℕ → Verdict
+compactEnvironmentTested g e = elim (leb (environmentLength g) e) [ true ↦ compactNamed g | false ↦ NotSolved 10 ]
 
-unfoldable pub compactNinth : Game → ℕ → ℕ → Verdict
-compactNinth g c e = elim (leb (compactLength (separatedOf g)) c) [ true ↦ compactTenth g e | false ↦ NotSolved 9 ]
+unfoldable pub compactControllerTested : Game → ℕ → ℕ → Verdict
+compactControllerTested g c e = elim (leb (compactLength (separatedOf g)) c) [ true ↦ compactEnvironmentTested g e | false ↦ NotSolved 9 ]
 
-unfoldable pub compactEighth : Game → ℕ → ℕ → ℕ → Verdict
-compactEighth g s c e = elim (leb (scratchLength g) s) [ true ↦ compactNinth g c e | false ↦ NotSolved 8 ]
+unfoldable pub compactScratchTested : Game → ℕ → ℕ → ℕ → Verdict
+compactScratchTested g s c e = elim (leb (scratchLength g) s) [ true ↦ compactControllerTested g c e | false ↦ NotSolved 8 ]
 
 unfoldable pub compactAnswer : Game → ℕ → ℕ → ℕ → Verdict
-compactAnswer g s c e = elim (acceptance g) [ Accepted ↦ compactEighth g s c e | Faulty n ↦ NotSolved n ]
+compactAnswer g s c e = elim (acceptance g) [ Accepted ↦ compactScratchTested g s c e | Faulty n ↦ NotSolved n ]
 
 unfoldable pub compactTests : Game → ℕ → ℕ → ℕ → List (ℕ × Bool)
 compactTests g s c e =

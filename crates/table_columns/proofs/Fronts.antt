@@ -3,19 +3,18 @@
 --   front-start, front-next, front-end  : how a front begins, goes on and ends
 --   front-fits, front-column            : where a set is all counters below the count, its column is the front
 use Prim.Native.Nat.{ℕ, _+_, _*_, _<_, _≤_}
-use mathlib.Core.Path.{_≡_, refl, sym, _∙_, ap}
-use mathlib.Core.Bool.{true}
+use mathlib.Core.Path.{_≡_, refl, _∙_}
 use mathlib.Core.List.{List}
 use native.Mathlib.Omega.{arith}
 use native.Mathlib.Decide.{ℕ-discrete}
 use lib.Dec.{ltb}
 use lib.ListN.{length, set, length-set}
-use borrow.Author.Tests.{lt-ltb, ltb-true}
 use Rattle.bits.specs.Member.{has}
 use Rattle.table_counters.specs.Counters.{counterCapacity}
 use Rattle.table_filling.specs.Grows.{Right, Grows}
 use Rattle.table_filling.proofs.Grows.{grows-none, grows-more, grows-set, right-set}
 use Rattle.table_columns.specs.Column.{ColumnRoom, Agrees, Column, FrontFits, FrontAgrees, Front}
+use Rattle.table_columns.proofs.Rows.{full-in, full-below}
 
 pub front-start : (l : List ℕ) (base step count first more : ℕ) → Front l l base step count first more 0
 front-start l base step count first more = record {
@@ -48,23 +47,21 @@ front-end l m base step count first more h R b = record {
 }
 
 module _ (which b count : ℕ) (e : which ≡ b) (f : (s : ℕ) → has b s ≡ ltb s count) where
-  into : (h : ℕ) → h < count → has which h ≡ true
-  into h lt = ap (λ (y : ℕ). has y h) e ∙ f h ∙ lt-ltb h count lt
-
-  below : (h : ℕ) → has which h ≡ true → h < count
-  below h m = ltb-true h count (sym (f h) ∙ sym (ap (λ (y : ℕ). has y h) e) ∙ m)
-
   pub front-fits : (n base step first more : ℕ) → ColumnRoom n base step which first more → count ≤ counterCapacity → FrontFits n base step count first more
-  front-fits n base step first more F few = record { few = few; below = λ h lt. F .below h (into h lt); small = λ h lt. F .small h (into h lt) }
+  front-fits n base step first more F few = record {
+    few = few;
+    below = λ h lt. F .below h (full-in which b count e f h lt);
+    small = λ h lt. F .small h (full-in which b count e f h lt);
+  }
 
   pub front-column : (l m : List ℕ) (base step first more : ℕ) → Front l m base step count first more count → Column l m base step which first more
   front-column l m base step first more R = record {
     long = R .long;
     fills = λ E A n. record {
       grows = R .fills E (agrees E A) .grows;
-      right = λ h a. R .fills E (agrees E A) .right h (below h a);
+      right = λ h a. R .fills E (agrees E A) .right h (full-below which b count e f h a);
     };
   }
     where
       agrees : (E : List ℕ) → Agrees E base step which first more → FrontAgrees E base step count first more
-      agrees E A = record { below = λ h lt. A .below h (into h lt); entry = λ h lt. A .entry h (into h lt) }
+      agrees E A = record { below = λ h lt. A .below h (full-in which b count e f h lt); entry = λ h lt. A .entry h (full-in which b count e f h lt) }

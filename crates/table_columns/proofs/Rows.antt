@@ -73,10 +73,10 @@ run-end l m base width value x R b = record {
 -- ---- rows
 
 module _ (over b width : ℕ) (e : over ≡ b) (f : (s : ℕ) → has b s ≡ ltb s width) where
-  full-in : (x : ℕ) → x < width → has over x ≡ true
+  pub full-in : (x : ℕ) → x < width → has over x ≡ true
   full-in x lt = ap (λ (y : ℕ). has y x) e ∙ f x ∙ lt-ltb x width lt
 
-  full-below : (x : ℕ) → has over x ≡ true → x < width
+  pub full-below : (x : ℕ) → has over x ≡ true → x < width
   full-below x h = ltb-true x width (sym (f x) ∙ sym (ap (λ (y : ℕ). has y x) e) ∙ h)
 
   pub run-fits : (n base : ℕ) → RowFits n base width over → (x : ℕ) → x < width → base + x < n

@@ -20,7 +20,7 @@ use borrow.Author.Tests.{ltb-true, lt-ltb, eqb-true, eq-eqb}
 use Rattle.finite.specs.Bounded.{least, count}
 use Rattle.finite.proofs.Truth.{decide, clash, and-intro, and-right}
 use Rattle.bits.specs.Member.{has, pack, within}
-use Rattle.bits.proofs.Membership.{ext, has-zero, has-and, within-has, has-within, lt-within, pack-lt, has-pack-below}
+use Rattle.bits.proofs.Membership.{ext, has-zero, has-and, within-has, has-within, lt-within, pack-lt, has-pack-below, pack-below, pack-holds}
 use Rattle.bits.proofs.Compare.{nonzero-member, member-nonzero}
 use Rattle.bits.proofs.Remove.{less-in, less-other, less-falls}
 use Rattle.bits.proofs.Visit.{small-word, lowest-below, lowest-in, lowest-less}
@@ -58,7 +58,6 @@ use Rattle.table_layout.proofs.Places.{filled-none, filled-join, filled-part}
 use Rattle.table_walks.specs.declared.Stamp.{Stamp}
 use Rattle.table_walks.specs.Walk.{firstEntry, Stamps, Ground, Leading, Walks}
 use Rattle.table_walks.proofs.Stamping.{first-hit, first-miss, choice-small}
-use Rattle.graph_ways.proofs.Kept.{pack-holds, pack-below}
 use Rattle.table_tours.specs.Course.{Course, Moving, Stayed, Aimed}
 
 module _ (z : Layout) (moves : List ℕ) (c over q : ℕ) (p : Course z moves c over q) where

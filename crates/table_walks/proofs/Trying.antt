@@ -13,14 +13,13 @@ use borrow.Author.Tests.{eqb-true, eq-eqb}
 use Rattle.finite.specs.Bounded.{least, count}
 use Rattle.finite.proofs.Truth.{decide, clash, same-test, or-left, or-right, or-cases}
 use Rattle.bits.specs.Member.{has, within, pack}
-use Rattle.bits.proofs.Membership.{ext, has-zero, has-pack-below, within-has}
+use Rattle.bits.proofs.Membership.{ext, has-zero, has-pack-below, within-has, pack-below, pack-holds}
 use Rattle.bits.proofs.Remove.{less-in, less-other, less-falls}
 use Rattle.bits.proofs.Visit.{small-word, lowest-below, lowest-in, lowest-less, cut-in, cut-all}
 use Rattle.sets.specs.Words.{capacity, bitsOf}
 use Rattle.graphs.specs.Way.{prefer}
 use Rattle.arena.specs.Table.{Answer}
 use Rattle.graph_ways.specs.Search.{choices, movesInto, PassedOver}
-use Rattle.graph_ways.proofs.Kept.{pack-below, pack-holds}
 use Rattle.graph_ways.proofs.Round.{settles-of, settles-not, settles-left, settles-near}
 use Rattle.table_layout.specs.declared.Layout.{Layout}
 use Rattle.table_layout.specs.Rows.{Rows, Filled, Wrote}

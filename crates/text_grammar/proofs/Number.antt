@@ -6,6 +6,7 @@ use mathlib.Core.List.{List, [], _∷_, _++_, append-assoc, append-nil}
 use mathlib.Core.Logic.{_⊎_, inl, inr}
 use mathlib.Core.Path.{_≡_, refl, sym, _∙_, ap, subst}
 use lib.Dec.{leb, ltb, eqb}
+use lib.ListN.{length, length-append}
 use borrow.Author.Tests.{le-leb, lt-leb, leb-true, lt-ltb, le-ltb, ltb-true, ltb-false, eqb-true}
 use Rattle.text_grammar.specs.Format.{Format, Run, TextOf, run, Live, lit, alt, mayBegin, child, follow, IsNode}
 use Rattle.text_grammar.specs.Format.Format.{done, node}
@@ -677,3 +678,22 @@ ends-alt b f g h E =
 pub opens-num : {R : Type 0} (lo hi : ℕ) (k : ℕ → Format R) (b : ℕ) → digit b ≡ false → mayBegin (num lo hi k) b ≡ false
 unfolding mayBegin num starts
 opens-num lo hi k b h = rw h
+
+-- a number below a power of ten has no more digits than that has noughts
+unfoldable pub tens : ℕ → ℕ
+tens zero = 10
+tens (suc k) = 10 * tens k
+
+pub digits-count : (k v : ℕ) → v < tens k → length (decimal v) ≤ suc k
+unfolding tens
+digits-count zero v h = omega (arith, ap length (decimal-one v h))
+digits-count (suc k) v h =
+    by-cases (ltb v 10)
+    (λ b. omega (arith, ap length (decimal-one v (ltb-true v 10 b))))
+    (λ b.
+    let l = ltb-false v 10 b in
+    omega (arith, ap length (decimal-step v l), length-append (decimal (v / 10)) ((48 + v % 10) ∷ []), digits-count k (v / 10) (omega arith)))
+
+pub three-digits : (v : ℕ) → v < 1000 → length (decimal v) ≤ 3
+unfolding tens
+three-digits v h = digits-count 2 v h

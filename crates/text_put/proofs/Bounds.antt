@@ -1,18 +1,16 @@
 -- How long the text of a game is at most. A file may be shorter than that: the text of a large game is written, and not read back.
-use Prim.Native.Nat.{ℕ, zero, suc, _+_, _*_, _-_, _/_, _%_, _≤_, _<_}
+use Prim.Native.Nat.{ℕ, zero, suc, _+_, _*_, _-_, _≤_, _<_}
 use native.Mathlib.Omega.{arith}
 use mathlib.Core.Bool.{Bool, true, false}
 use mathlib.Core.List.{List, [], _∷_, _++_, map}
 use mathlib.Core.Path.{_≡_, ap}
-use lib.Dec.{ltb}
 use lib.ListN.{length, getD, length-append}
-use borrow.Author.Tests.{ltb-true, ltb-false}
 use Rattle.finite.specs.Bounded.{one}
 use Rattle.bits.specs.Member.{has}
 use Rattle.sets.specs.Words.{capacity}
 use Rattle.text_grammar.specs.Number.{decimal}
 use Rattle.text_grammar.proofs.Format.{by-cases}
-use Rattle.text_grammar.proofs.Number.{decimal-one, decimal-step}
+use Rattle.text_grammar.proofs.Number.{three-digits}
 use Rattle.game.specs.Access.{noRequirement}
 use Rattle.game.specs.declared.Requirement.{Requirement}
 use Rattle.game.specs.declared.Game.{Game}
@@ -34,29 +32,11 @@ use Rattle.text_shape.specs.Text.{
   gameText,
   emptyRequirement,
 }
-use Rattle.text_shape.specs.Shape.{opening}
 use Rattle.text_shape.proofs.Members.{members-take, members-skip}
-use Rattle.text_shape.proofs.Opening.{opening-length}
-use Rattle.text_shape.proofs.WordTable.{word-short}
+use Rattle.text_shape.proofs.WordTable.{opening-short}
 use Rattle.text_put.specs.Put.{Few, Writable}
 use Rattle.text_put.proofs.Pieces.{set-open, setRest, sets-open, setsRest}
 use Rattle.text_put.proofs.Pieces.{header-length, state-length, requirement-length, game-length, requirement-past}
-
-decimal-two : (v : ℕ) → v < 100 → length (decimal v) ≤ 2
-decimal-two v h =
-    by-cases (ltb v 10)
-    (λ b. omega (arith, ap length (decimal-one v (ltb-true v 10 b))))
-    (λ b.
-    let l = ltb-false v 10 b in
-    omega (arith, ap length (decimal-step v l), length-append (decimal (v / 10)) ((48 + v % 10) ∷ []), ap length (decimal-one (v / 10) (omega arith))))
-
-pub decimal-short : (v : ℕ) → v < 1000 → length (decimal v) ≤ 3
-decimal-short v h =
-    by-cases (ltb v 10)
-    (λ b. omega (arith, ap length (decimal-one v (ltb-true v 10 b))))
-    (λ b.
-    let l = ltb-false v 10 b in
-    omega (arith, ap length (decimal-step v l), length-append (decimal (v / 10)) ((48 + v % 10) ∷ []), decimal-two (v / 10) (omega arith)))
 
 gap-short : (gap : Bool) → length (gapText gap) ≤ 1
 unfolding gapText
@@ -76,7 +56,7 @@ members-short (suc n) lo x gap h =
     (omega (
       arith,
       item-short gap (decimal lo) (map decimal (members n (suc lo) x)),
-      decimal-short lo (omega arith),
+      three-digits lo (omega arith),
       members-short n (suc lo) x true
           (omega arith),
     )))
@@ -107,11 +87,8 @@ sets-short n ws h =
     let all : n - 0 ≡ n = omega arith in
     omega (arith, ap length (sets-open n ws), length-append (items false (map setText (cells (n - 0) 0 ws))) (41 ∷ []), cells-short (n - 0) 0 ws false)
 
-pub opening-short : (w : ℕ) → length (opening w) ≤ 13
-opening-short w = omega (arith, opening-length w, word-short w)
-
 number-short : (v b : ℕ) → v < 1000 → length (decimal v ++ b ∷ []) ≤ 4
-number-short v b h = omega (arith, length-append (decimal v) (b ∷ []), decimal-short v h)
+number-short v b h = omega (arith, length-append (decimal v) (b ∷ []), three-digits v h)
 
 one-short : (b : Bool) → one b < 1000
 unfolding one

@@ -9,6 +9,7 @@ use mathlib.Core.Path.{_≡_, refl, sym, _∙_, ap, subst}
 use lib.Dec.{eqb}
 use lib.ListN.{length, getD, drop, length-append, drop-of-length-le}
 use lib.Seq.{drop-cons}
+use Rattle.text_shape.proofs.LineTexts.{header-pieces}
 use Rattle.sets.specs.Words.{capacity, bitsOf, setsIn, noStates}
 use Rattle.sets.proofs.Rows.{no-bits}
 use Rattle.finite.specs.Bounded.{one, least, count}
@@ -138,11 +139,6 @@ pub out-word : (xs : List OutSet) (j : ℕ) → bitsOf (getD xs j (record { 0 = 
 out-word = word-at (λ x. bitsOf (x .0)) (record { 0 = noStates }) no-bits
 
 -- lines
-pub header-pieces : (i o k : ℕ)
-    → opening 0 ++ ((decimal i ++ 32 ∷ []) ++ ((decimal o ++ 32 ∷ []) ++ ((decimal k ++ 41 ∷ []) ++ 10 ∷ []))) ≡ headerLine i o k
-unfolding headerLine line bracket items gapText opening
-header-pieces i o k = simp (append-assoc, append-nil)
-
 pub state-pieces : (w s f x : ℕ) → opening w ++ ((decimal s ++ 32 ∷ []) ++ ((decimal f ++ 32 ∷ []) ++ (setText x ++ 41 ∷ 10 ∷ []))) ≡ stateLine w s f x
 unfolding stateLine line bracket items gapText opening
 state-pieces w s f x = simp (append-assoc, append-nil)

@@ -4,5 +4,5 @@ pub mod SetLists
 pub mod LineTexts
 pub mod Graphs
 pub mod Shape
-pub mod WordTable
 pub mod Opening
+pub mod WordTable

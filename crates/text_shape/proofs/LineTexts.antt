@@ -98,9 +98,9 @@ number-parts lo hi b t v p =
     )
 
 -- (game I O K)
-header-words : (i o k : ℕ) → opening 0 ++ ((decimal i ++ 32 ∷ []) ++ ((decimal o ++ 32 ∷ []) ++ ((decimal k ++ 41 ∷ []) ++ 10 ∷ []))) ≡ headerLine i o k
+pub header-pieces : (i o k : ℕ) → opening 0 ++ ((decimal i ++ 32 ∷ []) ++ ((decimal o ++ 32 ∷ []) ++ ((decimal k ++ 41 ∷ []) ++ 10 ∷ []))) ≡ headerLine i o k
 unfolding headerLine line bracket items gapText opening
-header-words i o k = simp (append-assoc, append-nil)
+header-pieces i o k = simp (append-assoc, append-nil)
 
 pub record HeaderParts (t : List ℕ) (h : Header) : Type 0 where
   pub some-inputs : 1 ≤ h .inputs
@@ -147,7 +147,7 @@ header-sound t h p =
     (O .whole ∙ ap (λ (l : List ℕ). l ++ O .back) (o .2) ∙ ap (λ (l : List ℕ). (decimal (O .value) ++ 32 ∷ []) ++ l)
     (K .whole ∙ ap (λ (l : List ℕ). l ++ K .back) (k .2) ∙ ap (λ (l : List ℕ). (decimal (K .value) ++ 41 ∷ []) ++ l)
     (L .1 ∙ ap (λ (l : List ℕ). 10 ∷ l) (D .0)))))
-    ∙ header-words (I .value) (O .value) (K .value) in
+    ∙ header-pieces (I .value) (O .value) (K .value) in
     subst (λ (g : Header). HeaderParts t g) (sym (D .1))
     (record { some-inputs = i .0; most-inputs = i .1; some-outputs = o .0; most-outputs = o .1; most-k = k .1; text = whole })
 
@@ -163,7 +163,7 @@ header-complete h a b c d e =
     (number-text 0 8 41 (omega arith) refl k (omega arith) e) end in
     let O = bind-text (numThen 1 capacity 32) (λ u. header-k i u) (decimal o ++ 32 ∷ []) _ o h (number-text 1 capacity 32 (omega arith) refl o c d) K in
     let I = bind-text (numThen 1 capacity 32) (λ u. header-o u) (decimal i ++ 32 ∷ []) _ i h (number-text 1 capacity 32 (omega arith) refl i a b) O in
-    rw header-is (rw (← header-words i o k) (chars-then (opening 0) header-i _ h I))
+    rw header-is (rw (← header-pieces i o k) (chars-then (opening 0) header-i _ h I))
 
 pub header-live : Live headerFormat
 unfolding header-i header-o header-k header-end digit opening word words Bytes

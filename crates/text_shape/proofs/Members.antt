@@ -8,7 +8,7 @@ use mathlib.Core.Path.{_≡_, refl, sym, _∙_, ap, subst}
 use lib.Arith.{lt-of-le-ne}
 use lib.Dec.{eqb, leb}
 use borrow.Author.Tests.{eq-eqb, ne-eqb, eqb-true, eqb-false, leb-false, le-leb, lt-leb, leb-true}
-use Rattle.finite.proofs.Truth.{clash, or-right, false-of}
+use Rattle.finite.proofs.Truth.{clash, or-right, false-of, or-none}
 use Rattle.bits.specs.Member.{has, within}
 use Rattle.bits.proofs.Membership.{has-or, has-single, has-zero, ext, has-within, within-has, zero-within}
 use Rattle.sets.specs.Words.{capacity, highest}
@@ -42,11 +42,7 @@ pub insert-same : (x v : ℕ) → has (insert x v) v ≡ true
 insert-same x v = has-insert x v v ∙ or-right (has x v) (eq-eqb v v refl)
 
 pub insert-other : (x v s : ℕ) → (s ≡ v → ⊥) → has (insert x v) s ≡ has x s
-insert-other x v s h = has-insert x v s ∙ ap (λ (b : Bool). has x s || b) (ne-eqb s v h) ∙ or-none (has x s)
-  where
-    or-none : (b : Bool) → (b || false) ≡ b
-    or-none true = refl
-    or-none false = refl
+insert-other x v s h = has-insert x v s ∙ ap (λ (b : Bool). has x s || b) (ne-eqb s v h) ∙ or-none (has x s) refl
 
 -- the members of a set, one at a time
 pub members-take : (n lo x : ℕ) → has x lo ≡ true → members (suc n) lo x ≡ lo ∷ members n (suc lo) x

@@ -7,6 +7,8 @@ use lib.ListN.{length, getD, take, replicate}
 use lib.Seq.{getD-take, take-append-seam}
 use Rattle.text_shape.specs.Text.{word, words}
 use Rattle.text_shape.specs.declared.words.Word.{Word}
+use Rattle.text_shape.specs.Shape.{opening}
+use Rattle.text_shape.proofs.Opening.{opening-length}
 
 -- each entry has the letters of its word in front, and their number
 abbrev pub Agree : List Word → List (List ℕ) → Type 0
@@ -56,3 +58,6 @@ agree (y ∷ ys) = (refl, take-append-seam y (replicate (11 - length y) 32), agr
 pub word-short : (w : ℕ) → length (word w) ≤ 11
 unfolding word
 word-short w = short words words-short w
+
+pub opening-short : (w : ℕ) → length (opening w) ≤ 13
+opening-short w = omega (arith, opening-length w, word-short w)

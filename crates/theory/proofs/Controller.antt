@@ -10,7 +10,7 @@ use mathlib.Core.List.{List·Memᴰ}
 use mathlib.Core.Logic.{_⊎_, inl, inr}
 use lib.ListN.{length}
 use Rattle.finite.specs.Lists.{allOf}
-use Rattle.finite.proofs.Truth.{clash, true-of, false-of}
+use Rattle.finite.proofs.Truth.{clash, true-of, false-of, implies-elim}
 use Rattle.finite.proofs.Lists.{allOf-intro, allOf-elim}
 use Rattle.graphs.specs.Walk.{Walk, step}
 use Rattle.graphs.specs.Graph.{Graph, edge}
@@ -29,7 +29,6 @@ use Rattle.theory.specs.Tour.{goalAt}
 use Rattle.theory.specs.Choice.{guarantees, home, homeward, controllerRow}
 use Rattle.theory.specs.Entries.{controllerCounters}
 use Rattle.theory.proofs.Region.{
-  implies-elim,
   homeFor-nontrivial,
   homeFor-accepting,
   region-in,

@@ -46,7 +46,7 @@ module _ (S : Separated) where
   unfolding controllerCounters
   controller-counts = le-max-left 1 _
 
-  environment-counts : 0 < environmentCounters S
+  pub environment-counts : 0 < environmentCounters S
   unfolding environmentCounters
   environment-counts = le-max-left 1 _
 
@@ -125,7 +125,7 @@ module _ (S : Separated) where
     steps = λ m o j p r e. completed-steps m o j p r e;
   }
 
-  region-won : (i o : ℕ) → region S i o ≡ true → Won (arenaOf S) i o
+  pub region-won : (i o : ℕ) → region S i o ≡ true → Won (arenaOf S) i o
   unfolding arenaOf completed
   region-won i o h = record { table = completed; controller = completed-controller; memory = 0; keeps = keeps }
     where

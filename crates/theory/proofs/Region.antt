@@ -5,7 +5,7 @@ use mathlib.Core.Bool.{Bool, true, false, _&&_, _||_, not}
 use mathlib.Core.Logic.{inl, inr}
 use native.Mathlib.Omega.{arith}
 use Rattle.finite.specs.Bounded.{all, any}
-use Rattle.finite.proofs.Truth.{decide, clash, false-of, and-intro, and-left, and-right}
+use Rattle.finite.proofs.Truth.{decide, clash, false-of, and-intro, and-left, and-right, implies-intro, implies-elim}
 use Rattle.finite.proofs.Bounded.{all-intro, all-elim, all-same, all-false, any-intro, any-elim, any-same}
 use Rattle.finite.proofs.Lists.{allOf-same}
 use Rattle.bits.proofs.Membership.{has-zero}
@@ -20,15 +20,6 @@ use Rattle.graphs.proofs.Component.{rank-le, rank-pos, rank-leaves, rank-trivia
 use Rattle.arena.specs.Arena.{Separated}
 use Rattle.theory.specs.Choice.{refused}
 use Rattle.theory.specs.Region.{due, served, accepting, safe, homeFor, settles, answers, replies, rule, regionRows, region, opens, verdict}
-
--- an implication between tests
-pub implies-intro : (a b : Bool) → (a ≡ true → b ≡ true) → (not a || b) ≡ true
-implies-intro true b f = f refl
-implies-intro false b f = refl
-
-pub implies-elim : (a b : Bool) → (not a || b) ≡ true → a ≡ true → b ≡ true
-implies-elim true b h e = h
-implies-elim false b h e = clash e refl
 
 implies-same : (a b c : Bool) → (a ≡ true → b ≡ c) → (not a || b) ≡ (not a || c)
 implies-same true b c f = f refl

@@ -1,27 +1,17 @@
--- The sets of all requirements, in file order: each set of a requirement stands at some place among them.
-use Prim.Native.Nat.{ℕ, zero, suc, _<_}
-use mathlib.Core.Path.{_≡_, sym}
+-- The sets of all requirements, in file order: each set of a requirement stands at some member-place among them.
+use Prim.Native.Nat.{ℕ, _<_}
+use mathlib.Core.Path.{_≡_}
 use mathlib.Core.Bool.{Bool, true, false}
 use mathlib.Core.List.{List, [], _∷_, _++_, List·Memᴰ, Memᴰ·append-left, Memᴰ·append-right, List·Memᴰ·cases-cons, List·Memᴰ·not-nil}
 use mathlib.Core.Logic.{_⊎_, inl, inr}
-use native.Mathlib.Omega.{arith}
-use lib.ListN.{length, getD}
+use lib.ListN.{length}
 use Rattle.finite.proofs.Truth.{clash, false-of}
-use Rattle.finite.proofs.Lists.{allOf-intro, allOf-fails}
+use Rattle.finite.proofs.Lists.{allOf-intro, allOf-fails, member-place}
 use Rattle.arena.specs.Arena.{Requirement, Separated}
 use Rattle.arena.specs.Play.{Configuration, visitsInput, visitsOutput, meets, breaks}
 use Rattle.arena.proofs.Meets.{breaks-intro, meets-elim}
 use Rattle.theory.specs.Tour.{goalAt}
 use Rattle.theory.specs.Choice.{setsOf, guarantees, assumptions}
-
--- the place of an element
-place : {A : Type 0} {a : A} (l : List A) (d : A) → List·Memᴰ a l → (k : ℕ) × (k < length l) × (getD l k d ≡ a)
-place [] d m = absurd (List·Memᴰ·not-nil m)
-place {A} {a} (x ∷ l) d m = go (List·Memᴰ·cases-cons m) (λ n. place l d n)
-  where
-    go : (a ≡ x) ⊎ List·Memᴰ a l → (List·Memᴰ a l → (k : ℕ) × (k < length l) × (getD l k d ≡ a)) → (k : ℕ) × (k < suc (length l)) × (getD (x ∷ l) k d ≡ a)
-    go (inl e) rec = (zero, omega arith, sym e)
-    go (inr n) rec = let v = rec n in (suc (v .0), omega (arith, v .1), v .2)
 
 in-sets : (f : Requirement → List (ℕ → Bool)) (l : List Requirement) (q : Requirement) (s : ℕ → Bool) → List·Memᴰ q l → List·Memᴰ s (f q)
     → List·Memᴰ s (setsOf f l)
@@ -37,13 +27,13 @@ pub guarantee-at : (S : Separated) (q : Requirement) (s : ℕ → Bool) → List
     → (k : ℕ) × (k < length (guarantees S)) × (goalAt (guarantees S) k ≡ s)
 unfolding guarantees goalAt
 guarantee-at S q s m n =
-    place (setsOf (λ x. x .guarantees) (S .requirements)) (λ t. false) (in-sets (λ x. x .guarantees) (S .requirements) q s m n)
+    member-place (setsOf (λ x. x .guarantees) (S .requirements)) (λ t. false) (in-sets (λ x. x .guarantees) (S .requirements) q s m n)
 
 pub assumption-at : (S : Separated) (q : Requirement) (s : ℕ → Bool) → List·Memᴰ q (S .requirements) → List·Memᴰ s (q .assumptions)
     → (k : ℕ) × (k < length (assumptions S)) × (goalAt (assumptions S) k ≡ s)
 unfolding assumptions goalAt
 assumption-at S q s m n =
-    place (setsOf (λ x. x .assumptions) (S .requirements)) (λ t. false) (in-sets (λ x. x .assumptions) (S .requirements) q s m n)
+    member-place (setsOf (λ x. x .assumptions) (S .requirements)) (λ t. false) (in-sets (λ x. x .assumptions) (S .requirements) q s m n)
 
 -- a requirement is broken where all its input sets are visited and some output set is not
 pub breaks-when : (q : Requirement) (cs : List Configuration)

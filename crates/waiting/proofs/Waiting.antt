@@ -5,11 +5,11 @@ use mathlib.Core.Bool.{true}
 use mathlib.Core.List.{List, _∷_}
 use lib.ListN.{length}
 use Rattle.graphs.specs.Walk.{Walk, stay, step}
-use Rattle.graphs.specs.Graph.{Graph, edge}
+use Rattle.graphs.specs.Graph.{Graph, edge, Moves}
 use Rattle.graphs.specs.Closure.{reaches}
 use Rattle.graphs.specs.Component.{joined, nontrivial, meetsAt}
-use Rattle.graphs.proofs.Graph.{edge-from, edge-to}
-use Rattle.graphs.proofs.Closure.{Path, path-reaches, reaches-path, reaches-edge, reaches-self, reaches-trans}
+use Rattle.graphs.proofs.Graph.{edge-from}
+use Rattle.graphs.proofs.Closure.{Path, path-reaches, reaches-path, reaches-edge, reaches-self, reaches-trans, path-below}
 use Rattle.graphs.proofs.Component.{joined-intro, joined-trans, joined-back, nontrivial-move, nontrivial-same}
 use Rattle.graphs.proofs.Measure.{targets}
 use Rattle.arena.specs.Arena.{arenaOf}
@@ -29,15 +29,10 @@ use Rattle.theory.proofs.Demands.{wins-verdict, reached-won}
 use Rattle.demands.specs.Demands.{playOf, controllerOf}
 use Rattle.demands.proofs.Demands.{demand-two}
 use Rattle.demands.proofs.Sizes.{accepted-sized}
-use Rattle.waiting.specs.Waiting.{Moves, ours, KeptFrom, StaysIn, entered, AtHome, RightToWait}
+use Rattle.waiting.specs.Waiting.{ours, KeptFrom, StaysIn, entered, AtHome, RightToWait}
 use Rattle.waiting.proofs.Staying.{Turn, stays-first, stays-turn, homecoming, visits}
 
--- where a walk ends
-walk-below : (G : Graph) {s t : ℕ} → Walk (Moves G) s t → s < G .states → t < G .states
-walk-below G stay b = b
-walk-below G (step {a = s} {b = u} e w) b = walk-below G w (edge-to G s u e)
-
--- where it begins
+-- where a walk to a state begins
 walk-above : (G : Graph) {s t : ℕ} → Walk (Moves G) s t → t < G .states → s < G .states
 walk-above G stay b = b
 walk-above G (step {a = s} {b = u} e w) b = edge-from G s u e
@@ -198,7 +193,7 @@ module _ (g : Game) (a : acceptance g ≡ Accepted) where
   unfolding separatedOf graphOf
   right-to-wait = record {
     waits = λ i i′ o o′ b e v w W.
-        let c = walk-below (graphOf (g .input)) v b in
+        let c = path-below (graphOf (g .input)) v b in
         let f = walk-above (graphOf (g .output)) w e in
         demand-two g .marks i′ o′ c f .0
         (delay (separatedOf g) i i′ o o′ (path-reaches (graphOf (g .input)) i i′ b v) (path-reaches (graphOf (g .output)) o′ o f w)

@@ -1,6 +1,5 @@
 -- The right to wait: how long the new drive may dawdle. Dead ends are allowed.
 --
---   Moves G s t            == G has a move from s to t
 --   ours g                 == our controller: the table read from the entries that the solver writes
 --   KeptFrom g x           == x is a configuration from which a play is kept by our controller: a won position, with a counter in range
 --   StaysIn g c x y        == a turn of our controller, the panel staying in the component of c
@@ -13,7 +12,7 @@ use mathlib.Core.Bool.{true}
 use mathlib.Core.List.{List, [], _∷_}
 use lib.ListN.{length}
 use Rattle.graphs.specs.Walk.{Walk, stay, step}
-use Rattle.graphs.specs.Graph.{Graph, edge}
+use Rattle.graphs.specs.Graph.{Moves}
 use Rattle.graphs.specs.Component.{joined, nontrivial, meetsAt}
 use Rattle.arena.specs.Table.{ControllerTable}
 use Rattle.arena.specs.Play.{Configuration, ControllerFirst, ControllerTurn, Reachable, visitsOutput}
@@ -24,9 +23,6 @@ use Rattle.theory.specs.Tour.{goalAt}
 use Rattle.theory.specs.Choice.{guarantees, home}
 use Rattle.theory.specs.Entries.{controllerEntries}
 use Rattle.demands.specs.Demands.{playOf, controllerOf}
-
-abbrev pub Moves : Graph → ℕ → ℕ → Type 0
-Moves G s t = edge G s t ≡ true
 
 unfoldable pub ours : Game → ControllerTable
 ours g = controllerOf g (controllerEntries (separatedOf g))

@@ -5,7 +5,7 @@ use mathlib.Core.Logic.{⊎-elim}
 use native.Mathlib.Omega.{arith}
 use Rattle.sets.proofs.Rows.{is-some, is-none}
 use borrow.Author.Needs.{needs}
-use Rattle.barred_rows.proofs.Merging.{Merging, merging-start, merging-skip, merging-next, merging-end, gained, or-same, united}
+use Rattle.barred_rows.proofs.Merging.{Merging, merging-start, merging-skip, merging-next, merging-end, gained, united, or-same}
 use Rattle.barred_rows.proofs.unite.Statement.{statement}
 use Rattle.barred_rows.proofs.unite.Tie as tie
 

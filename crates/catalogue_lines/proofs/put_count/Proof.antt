@@ -1,8 +1,9 @@
 -- `put_count` meets its contract.
 use native.Mathlib.Omega.{arith}
 use borrow.Author.Needs.{needs}
+use Rattle.text_shape.proofs.WordTable.{opening-short}
 use Rattle.text_put.proofs.Buffer.{puts-then, puts-as}
-use Rattle.print_lines.proofs.Lines.{number-short, opening-short}
+use Rattle.print_lines.proofs.Lines.{number-short}
 use Rattle.catalogue_lines.proofs.Lines.{count-pieces, count-short}
 use Rattle.catalogue_lines.proofs.put_count.Statement.{statement}
 use Rattle.catalogue_lines.proofs.put_count.Tie as tie

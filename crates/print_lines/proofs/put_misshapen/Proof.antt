@@ -1,7 +1,8 @@
 -- `put_misshapen` meets its contract.
 use native.Mathlib.Omega.{arith}
 use borrow.Author.Needs.{needs}
-use Rattle.print_lines.proofs.Lines.{number-short, opening-short, misshapen-pieces}
+use Rattle.text_shape.proofs.WordTable.{opening-short}
+use Rattle.print_lines.proofs.Lines.{number-short, misshapen-pieces}
 use Rattle.text_put.proofs.Buffer.{puts-then, puts-as}
 use Rattle.print_lines.proofs.put_misshapen.Statement.{statement}
 use Rattle.print_lines.proofs.put_misshapen.Tie as tie

@@ -1,7 +1,8 @@
 -- `put_refused` meets its contract.
 use native.Mathlib.Omega.{arith}
 use borrow.Author.Needs.{needs}
-use Rattle.print_lines.proofs.Lines.{number-short, opening-short, refused-pieces}
+use Rattle.text_shape.proofs.WordTable.{opening-short}
+use Rattle.print_lines.proofs.Lines.{number-short, refused-pieces}
 use Rattle.text_put.proofs.Buffer.{puts-then, puts-as}
 use Rattle.print_lines.proofs.put_refused.Statement.{statement}
 use Rattle.print_lines.proofs.put_refused.Tie as tie

@@ -2,7 +2,8 @@
 use mathlib.Core.Path.{_∙_}
 use native.Mathlib.Omega.{arith}
 use borrow.Author.Needs.{needs}
-use Rattle.print_lines.proofs.Lines.{number-short, opening-short, row-text, row-line}
+use Rattle.text_shape.proofs.WordTable.{opening-short}
+use Rattle.print_lines.proofs.Lines.{number-short, row-text, row-line}
 use Rattle.text_put.proofs.Buffer.{puts-then, puts-as}
 use Rattle.print_lines.proofs.put_row.Statement.{statement}
 use Rattle.print_lines.proofs.put_row.Tie as tie

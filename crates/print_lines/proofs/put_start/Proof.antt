@@ -2,8 +2,9 @@
 use mathlib.Core.Path.{_∙_}
 use native.Mathlib.Omega.{arith}
 use borrow.Author.Needs.{needs}
+use Rattle.text_shape.proofs.WordTable.{opening-short}
 use Rattle.print_lines.specs.Line.{startLine}
-use Rattle.print_lines.proofs.Lines.{number-short, opening-short, none-line, start-text, start-line}
+use Rattle.print_lines.proofs.Lines.{number-short, none-line, start-text, start-line}
 use Rattle.text_put.proofs.Buffer.{puts-then, puts-as}
 use Rattle.print_lines.proofs.put_start.Statement.{statement}
 use Rattle.print_lines.proofs.put_start.Tie as tie

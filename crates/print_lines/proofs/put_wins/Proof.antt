@@ -1,8 +1,8 @@
 -- `put_wins` meets its contract.
 use native.Mathlib.Omega.{arith}
 use borrow.Author.Needs.{needs}
-use Rattle.print_lines.proofs.Lines.{winner-word, opening-short}
-use Rattle.text_shape.proofs.WordTable.{word-short}
+use Rattle.print_lines.proofs.Lines.{winner-word}
+use Rattle.text_shape.proofs.WordTable.{word-short, opening-short}
 use Rattle.text_put.proofs.Buffer.{puts-then, puts-as}
 use Rattle.print_lines.proofs.put_wins.Statement.{statement}
 use Rattle.print_lines.proofs.put_wins.Tie as tie

@@ -1,7 +1,8 @@
 -- `put_header` meets its contract.
 use native.Mathlib.Omega.{arith}
 use borrow.Author.Needs.{needs}
-use Rattle.text_put.proofs.Pieces.{header-pieces, header-length}
+use Rattle.text_shape.proofs.LineTexts.{header-pieces}
+use Rattle.text_put.proofs.Pieces.{header-length}
 use Rattle.text_put.proofs.Buffer.{puts-then, puts-as}
 use Rattle.text_put.proofs.put_header.Statement.{statement}
 use Rattle.text_put.proofs.put_header.Tie as tie

@@ -3,9 +3,10 @@ use Prim.Native.Nat.{_+_, _≤_}
 use mathlib.Core.Path.{_≡_}
 use native.Mathlib.Omega.{arith}
 use lib.ListN.{length}
+use Rattle.text_grammar.proofs.Number.{three-digits}
+use Rattle.text_shape.proofs.WordTable.{opening-short}
 use Rattle.text_shape.specs.Text.{headerLine}
 use Rattle.text_put.proofs.Lengths.{header-counted}
-use Rattle.text_put.proofs.Bounds.{decimal-short, opening-short}
 use borrow.Author.Needs.{needs}
 use Rattle.text_put.proofs.measure.header_length.Statement.{statement}
 use Rattle.text_put.proofs.measure.header_length.Tie as tie
@@ -19,7 +20,7 @@ digits-requires c κs = search needs
 add-result : tie.Need-add-result
 add-result c =
     let p = c .before .before in
-    omega (arith, c .before .opening-length .ensures, opening-short 0, c .digits .ensures, decimal-short (p .args .i) (p .pre .0))
+    omega (arith, c .before .opening-length .ensures, opening-short 0, c .digits .ensures, three-digits (p .args .i) (p .pre .0))
 
 digits-requires-2 : tie.Need-digits-requires-2
 digits-requires-2 c κs = search needs
@@ -33,9 +34,9 @@ add-result-2 c =
       i .before .opening-length .ensures,
       opening-short 0,
       i .digits .ensures,
-      decimal-short (p .args .i) (p .pre .0),
+      three-digits (p .args .i) (p .pre .0),
       c .digits2 .ensures,
-      decimal-short (p .args .o) (p .pre .1),
+      three-digits (p .args .o) (p .pre .1),
     )
 
 digits-requires-3 : tie.Need-digits-requires-3
@@ -67,9 +68,9 @@ short c =
       arith,
       header-counted (p .args .i) (p .args .o) (p .args .k),
       opening-short 0,
-      decimal-short (p .args .i) (p .pre .0),
-      decimal-short (p .args .o) (p .pre .1),
-      decimal-short (p .args .k) (p .pre .2),
+      three-digits (p .args .i) (p .pre .0),
+      three-digits (p .args .o) (p .pre .1),
+      three-digits (p .args .k) (p .pre .2),
     )
 
 add-result-3 : tie.Need-add-result-3

@@ -1,8 +1,10 @@
 -- `state_length` meets its contract.
 use native.Mathlib.Omega.{arith}
+use Rattle.text_grammar.proofs.Number.{three-digits}
+use Rattle.text_shape.proofs.WordTable.{opening-short}
 use Rattle.sets.specs.Words.{bitsOf}
 use Rattle.text_put.proofs.Lengths.{state-counted}
-use Rattle.text_put.proofs.Bounds.{decimal-short, set-short, opening-short}
+use Rattle.text_put.proofs.Bounds.{set-short}
 use borrow.Author.Needs.{needs}
 use Rattle.text_put.proofs.measure.state_length.Statement.{statement}
 use Rattle.text_put.proofs.measure.state_length.Tie as tie
@@ -21,7 +23,7 @@ add-result c =
       c .before .opening-length .ensures,
       opening-short (p .args .w),
       c .digits .ensures,
-      decimal-short (p .args .s) (p .pre .1),
+      three-digits (p .args .s) (p .pre .1),
     )
 
 set-length-requires : tie.Need-set-length-requires
@@ -36,7 +38,7 @@ add-result-2 c =
       d .before .opening-length .ensures,
       opening-short (p .args .w),
       d .digits .ensures,
-      decimal-short (p .args .s) (p .pre .1),
+      three-digits (p .args .s) (p .pre .1),
       c .set-length .ensures,
       set-short (bitsOf (p .args .x)),
     )
@@ -50,7 +52,7 @@ add-result-3 c =
       d .before .opening-length .ensures,
       opening-short (p .args .w),
       d .digits .ensures,
-      decimal-short (p .args .s) (p .pre .1),
+      three-digits (p .args .s) (p .pre .1),
       c .set-length .ensures,
       set-short (bitsOf (p .args .x)),
     )
