@@ -45,10 +45,10 @@ module _ (g : Game) where
       leads-of : has b j ≡ leads S j
       leads-of = ap (λ (x : ℕ). has x j) e ∙ has-pack-below I (leads S) j lj
 
-      pub firsts-leader : {c : ℕ} {F F′ : List ℕ} → has b j ≡ true → c ≡ pack I (joined (graphOf (g .input)) j) → Named S part n j F
+      pub firsts-leader : {c : ℕ} {F F′ : List ℕ} → has b j ≡ true → (leads S j ≡ true → c ≡ pack I (joined (graphOf (g .input)) j)) → Named S part n j F
           → Marked part n c j F F′ → Named S part n (j + 1) F′
       unfolding separatedOf graphOf
-      firsts-leader h q D M = named-leader S part n in-graph j D lj (sym leads-of ∙ h) q M
+      firsts-leader h q D M = let l = sym leads-of ∙ h in named-leader S part n in-graph j D lj l (q l) M
 
       pub firsts-other : {F : List ℕ} → has b j ≡ false → Named S part n j F → Named S part n (j + 1) F
       unfolding separatedOf graphOf

@@ -1,17 +1,23 @@
 -- Laws of the loops.
-use Prim.Native.Nat.{ℕ, _+_, _*_, _≤_, _<_}
-use mathlib.Core.Path.{_≡_, refl, sym, _∙_, ap, subst}
-use mathlib.Core.Bool.{Bool, true, false}
+use Prim.Native.Nat.{ℕ, _+_, _-_, _*_, _≤_, _<_}
+use mathlib.Core.Path.{_≡_, refl, sym, _∙_, ap, ap₂, subst}
+use mathlib.Core.Bool.{Bool, true, false, _&&_, not}
 use mathlib.Core.List.{List}
 use mathlib.Core.Logic.{_≢_}
 use native.Mathlib.Omega.{arith}
 use native.Mathlib.Decide.{ℕ-discrete}
+use lib.Dec.{eqb, ltb}
 use lib.ListN.{length, getD, set, length-set}
 use lib.Seq.{getD-set-same, getD-set-other}
-use borrow.Author.Tests.{eq-eqb, ne-eqb}
-use Rattle.finite.proofs.Truth.{clash}
+use borrow.Author.Tests.{eq-eqb, ne-eqb, lt-ltb, le-ltb, ltb-true, ltb-false}
+use Rattle.finite.specs.Bounded.{least, count}
+use Rattle.finite.proofs.Truth.{clash, and-left, and-right, and-all, not-true}
 use Rattle.finite.proofs.Loops.{all-start, all-turn, all-stop, all-end, all-longer}
 use Rattle.bits.specs.Member.{has}
+use Rattle.bits.proofs.Membership.{has-zero}
+use Rattle.bits.proofs.Remove.{less-in, less-other, less-falls}
+use Rattle.bits.proofs.Visit.{small-word, lowest-in, lowest-less}
+use Rattle.sets.specs.Words.{capacity}
 use Rattle.compact_checks.specs.Parts.{entryFits, rowAgrees, rowAt, partFits, Marked}
 
 -- one row number
@@ -58,44 +64,72 @@ module _ (T F : List ℕ) (I part n : ℕ) where
 
 -- marks
 
+-- the members of x among n inputs from part on
+module _ (part n x high front low c : ℕ) (a : (t : ℕ) → has high t ≡ ltb t (part + n)) (b : (t : ℕ) → has front t ≡ (has x t && has high t))
+    (d : (t : ℕ) → has low t ≡ ltb t part) (e : (t : ℕ) → has c t ≡ (has front t && not (has low t))) where
+  pub part-in : (t : ℕ) → has c t ≡ true → (part ≤ t) × (t < part + n)
+  part-in t i =
+      let f = sym (b t) ∙ and-left (has front t) (not (has low t)) (sym (e t) ∙ i) in
+      let o = not-true (has low t) (and-right (has front t) (not (has low t)) (sym (e t) ∙ i)) in
+      (ltb-false t part (sym (d t) ∙ o), ltb-true t (part + n) (sym (a t) ∙ and-right (has x t) (has high t) f))
+
+  pub part-same : (k : ℕ) → k < n → has c (part + k) ≡ has x (part + k)
+  part-same k l =
+      let t = part + k in
+      e t
+      ∙ ap₂ (λ (u v : Bool). u && not v) (b t ∙ ap (λ (u : Bool). has x t && u) (a t ∙ lt-ltb t (part + n) (omega arith)) ∙ and-all (has x t) refl)
+      (d t ∙ le-ltb t part (omega arith))
+      ∙ and-all (has x t) refl
+
 module _ (part c s : ℕ) where
-  pub marked-none : (l : List ℕ) → Marked part 0 c s l l
-  marked-none l = record { long = refl; inside = λ k b. absurd (omega arith); outside = λ k b. absurd (omega arith); ahead = λ k b. refl }
+  -- the members of c have been named, but for those of rest
+  pub record Marking (l m : List ℕ) (rest : ℕ) : Type 0 where
+    pub long : length m ≡ length l
+    pub left : (t : ℕ) → has rest t ≡ true → has c t ≡ true
+    pub inside : (t : ℕ) → has c t ≡ true → has rest t ≡ false → getD m (t - part) 0 ≡ s
+    pub outside : (k : ℕ) → ((t : ℕ) → has c t ≡ true → k ≢ t - part) → getD m k 0 ≡ getD l k 0
 
-  pub marked-in : (k : ℕ) {l m : List ℕ} → k < length m → has c (part + k) ≡ true → Marked part k c s l m → Marked part (k + 1) c s l (set m k s)
-  marked-in k {l} {m} b h D = record {
-    long = length-set m k s ∙ D .long;
-    inside = λ i d e. inside i d e (ℕ-discrete i k);
-    outside = λ i d e. outside i d e (ℕ-discrete i k);
-    ahead = λ i d. getD-set-other m k i s 0 (other i d) ∙ D .ahead i (omega arith);
+  pub marking-start : (l : List ℕ) → Marking l l c
+  marking-start l = record { long = refl; left = λ t i. i; inside = λ t i o. clash i o; outside = λ k f. refl }
+
+  pub marking-end : (n x : ℕ) (l m : List ℕ) (rest : ℕ) → ((t : ℕ) → has c t ≡ true → (part ≤ t) × (t < part + n))
+      → ((k : ℕ) → k < n → has c (part + k) ≡ has x (part + k)) → Marking l m rest → rest ≡ 0 → Marked part n x s l m
+  marking-end n x l m rest fits same P e = record {
+    long = P .long;
+    inside = λ k b i.
+        ap (λ (y : ℕ). getD m y 0) (omega arith)
+        ∙ P .inside (part + k) (same k b ∙ i) (ap (λ (y : ℕ). has y (part + k)) e ∙ has-zero (part + k));
+    outside = λ k b i. P .outside k (λ t j q. clash (ap (has c) (own k t j q) ∙ j) (same k b ∙ i));
+    ahead = λ k b. P .outside k (λ t j q. absurd (omega (arith, fits t j .0, fits t j .1)));
   }
     where
-      other : (i : ℕ) → k + 1 ≤ i → i ≢ k
-      other i d q = omega arith
+      own : (k t : ℕ) → has c t ≡ true → k ≡ t - part → part + k ≡ t
+      own k t j q = omega (arith, fits t j .0)
 
-      inside : (i : ℕ) → i < k + 1 → has c (part + i) ≡ true → Dec (i ≡ k) → getD (set m k s) i 0 ≡ s
-      inside i d e (yes q) = ap (λ (x : ℕ). getD (set m k s) x 0) q ∙ getD-set-same m k s 0 b
-      inside i d e (no q) = getD-set-other m k i s 0 q ∙ D .inside i (omega arith) e
+  module _ (n : ℕ) (l m : List ℕ) (rest h : ℕ) (P : Marking l m rest) (fits : (t : ℕ) → has c t ≡ true → (part ≤ t) × (t < part + n))
+      (few : part + n ≤ capacity) (long : n ≤ length l) (some : rest ≢ 0) (e : h ≡ least capacity (has rest)) where
+    lowest : has rest h ≡ true
+    lowest = lowest-in capacity rest h (small-word capacity rest (λ t i. omega (arith, fits t (P .left t i) .1))) some e
 
-      outside : (i : ℕ) → i < k + 1 → has c (part + i) ≡ false → Dec (i ≡ k) → getD (set m k s) i 0 ≡ getD l i 0
-      outside i d e (yes q) = clash h (ap (λ (x : ℕ). has c (part + x)) (sym q) ∙ e)
-      outside i d e (no q) = getD-set-other m k i s 0 q ∙ D .outside i (omega arith) e
+    pub marking-below : (part ≤ h) × (h - part < length m)
+    marking-below = let w = fits h (P .left h lowest) in (w .0, omega (arith, w .0, w .1, P .long))
 
-  pub marked-out : (k : ℕ) {l m : List ℕ} → has c (part + k) ≡ false → Marked part k c s l m → Marked part (k + 1) c s l m
-  marked-out k {l} {m} h D = record {
-    long = D .long;
-    inside = λ i d e. inside i d e (ℕ-discrete i k);
-    outside = λ i d e. outside i d e (ℕ-discrete i k);
-    ahead = λ i d. D .ahead i (omega arith);
-  }
-    where
-      inside : (i : ℕ) → i < k + 1 → has c (part + i) ≡ true → Dec (i ≡ k) → getD m i 0 ≡ s
-      inside i d e (yes q) = clash (ap (λ (x : ℕ). has c (part + x)) (sym q) ∙ e) h
-      inside i d e (no q) = D .inside i (omega arith) e
+    module _ (r : ℕ) (d : (t : ℕ) → has r t ≡ (has rest t && not (eqb t (least capacity (has rest))))) where
+      strip : (t : ℕ) → has r t ≡ (has rest t && not (eqb t h))
+      strip = lowest-less capacity rest h r e d
 
-      outside : (i : ℕ) → i < k + 1 → has c (part + i) ≡ false → Dec (i ≡ k) → getD m i 0 ≡ getD l i 0
-      outside i d e (yes q) = ap (λ (x : ℕ). getD m x 0) q ∙ D .ahead k (omega arith) ∙ ap (λ (x : ℕ). getD l x 0) (sym q)
-      outside i d e (no q) = D .outside i (omega arith) e
+      pub marking-falls : count capacity (has r) < count capacity (has rest)
+      marking-falls = less-falls rest h r strip capacity (omega (arith, fits h (P .left h lowest) .1)) lowest
 
-  pub marked-end : (n k : ℕ) {l m : List ℕ} → k ≤ n → n ≤ k → Marked part k c s l m → Marked part n c s l m
-  marked-end n k {l} {m} a b D = subst (λ (x : ℕ). Marked part x c s l m) (omega arith) D
+      pub marking-next : Marking l (set m (h - part) s) r
+      marking-next = record {
+        long = length-set m (h - part) s ∙ P .long;
+        left = λ t i. P .left t (less-in rest h r strip t i);
+        inside = λ t i o. elim (ℕ-discrete t h) [
+          | yes q ↦ rw q (getD-set-same m (h - part) s 0 (marking-below .1))
+          | no q ↦
+              getD-set-other m (h - part) (t - part) s 0 (λ z. q (omega (arith, fits t i .0, fits h (P .left h lowest) .0)))
+              ∙ P .inside t i (sym (less-other rest h r strip t q) ∙ o)
+        ];
+        outside = λ k f. getD-set-other m (h - part) k s 0 (f h (P .left h lowest)) ∙ P .outside k f;
+      }

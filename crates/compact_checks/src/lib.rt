@@ -75,12 +75,12 @@ fn mark(firsts: &mut [u8; PART], part: usize, count: usize, c: Set, s: u8)
     requires { ⌜ (count ≤ partSize) × (part + count ≤ capacity) × (length (now firsts) ≡ partSize) ⌝ }
     ensures { λ r. ⌜ Marked part count (bitsOf c) s (now (firsts .entry)) (now (firsts .exit)) ⌝ }
 {
-    let mut k: usize = 0;
-    while k < count {
-        if sets::member(c, part + k) {
-            firsts[k] = s;
-        }
-        k += 1;
+    let low = sets::intersection(c, sets::below(part + count));
+    let mut rest = sets::difference(low, sets::below(part));
+    while !sets::is_empty(rest) {
+        let t = sets::lowest(rest);
+        firsts[t - part] = s;
+        rest = sets::without_lowest(rest);
     }
 }
 
@@ -91,10 +91,11 @@ fn name_firsts(g: Game, leaders: InSet, part: usize, count: usize, firsts: &mut 
     ensures { λ r. ⌜ Firsts g part count (now (firsts .exit)) ⌝ }
 {
     let n = g.input.states;
+    let places = graph_ranks::crossings(g);
     let mut j: usize = 0;
     while j < n {
         if sets::member(leaders.0, j) {
-            let c = graph_ranks::component(g, InState(j));
+            let c = graph_ranks::component(&g.input.moves, n, places, InState(j));
             mark(firsts, part, count, c.0, j as u8);
         }
         j += 1;
@@ -132,12 +133,12 @@ fn parts_fit(g: Game, leaders: InSet, table: &[u16]) -> bool
     true
 }
 
-// The same. Where every input has a component of its own nothing need be compared.
-pub fn rows_fit(g: Game, table: &[u16]) -> bool
-    requires { ⌜ (acceptance g ≡ Accepted) × (length (now table) ≡ fullLength (separatedOf g)) ⌝ }
+// The same, the inputs that lead their components being given. Where every input has a component of its own nothing need be compared.
+pub fn rows_fit(g: Game, leaders: InSet, table: &[u16]) -> bool
+    requires { ⌜ (acceptance g ≡ Accepted) × (bitsOf (leaders .0) ≡ pack (g .input .states) (leads (separatedOf g)))
+        × (length (now table) ≡ fullLength (separatedOf g)) ⌝ }
     ensures { λ r. ⌜ r ≡ rowsFit (separatedOf g) (now (table .entry)) ⌝ }
 {
-    let leaders = graph_ranks::leading(g);
     if sets::same(leaders.0, sets::below(g.input.states)) {
         return true;
     }

@@ -63,10 +63,11 @@ fn over_accepted(g: Game, table: &[u16], room: &mut [u16]) -> Move
     if table.len() != table_sizes::controller_length(g) {
         return Move::Refused(23);
     }
-    if !compact_checks::rows_fit(g, table) {
+    let leaders = graph_ranks::leading(g);
+    if !compact_checks::rows_fit(g, leaders, table) {
         return Move::Refused(21);
     }
-    let components = component_count(g);
+    let components = graph_ranks::components(g, leaders);
     let n = compact_sizes::compact_length(g, components);
     if room.len() < n {
         return Move::Refused(9);

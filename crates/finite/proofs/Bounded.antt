@@ -171,7 +171,7 @@ least-same n p q h = go (decLt (least n p) n) (decLt (least n q) n)
 
 -- count
 
-one-le : (b : Bool) → one b ≤ 1
+pub one-le : (b : Bool) → one b ≤ 1
 unfolding one
 one-le true = omega arith
 one-le false = omega arith

@@ -12,7 +12,7 @@ use lib.Dec.{eqb}
 use lib.ListN.{length, getD, set, drop, length-set}
 use lib.Seq.{getD-set-same, getD-set-other, set-getD, drop-set-lt}
 use borrow.Author.Tests.{eqb-true, eq-eqb, ne-eqb}
-use Rattle.finite.proofs.Truth.{clash, or-right, or-false, or-false-left, or-false-right, not-false}
+use Rattle.finite.proofs.Truth.{clash, or-right, or-false, or-false-left, or-false-right, not-false, or-none}
 use Rattle.bits.specs.Member.{has}
 use Rattle.bits.proofs.Membership.{has-zero}
 use Rattle.graphs.specs.Rows.{rel}
@@ -192,9 +192,5 @@ module _ (n : ℕ) (l : List ℕ) where
     pub swept-kept : new ≡ old → Swept n l (s + 1) m b
     swept-kept same = record {
       rows = sym (ap (set m s) (same ∙ e) ∙ set-getD m s 0) ∙ next-rows;
-      added = h .added ∙ sym (or-no (adds n l s)) ∙ ap (λ (c : Bool). adds n l s || c) (sym (ap not (eq-eqb new old same))) ∙ next-adds;
+      added = h .added ∙ sym (or-none (adds n l s) refl) ∙ ap (λ (c : Bool). adds n l s || c) (sym (ap not (eq-eqb new old same))) ∙ next-adds;
     }
-      where
-        or-no : (c : Bool) → (c || false) ≡ c
-        or-no true = refl
-        or-no false = refl

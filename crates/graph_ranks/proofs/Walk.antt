@@ -11,7 +11,7 @@
 --   written-next, -skip, -end                     : the ranks written on it
 --   read-next, -skip, -end, -fails                : the ranks read on it
 use Prim.Native.Nat.{ℕ, _+_, _≤_, _<_}
-use mathlib.Core.Path.{_≡_, refl, sym, _∙_, ap}
+use mathlib.Core.Path.{_≡_, refl, sym, _∙_, ap, subst}
 use lib.Dec.{ltb}
 use borrow.Author.Tests.{ltb-true, lt-ltb, le-ltb}
 use mathlib.Core.Bool.{Bool, true, false, _&&_, not}
@@ -74,15 +74,18 @@ module _ (g : Game) (A : acceptance g ≡ Accepted) where
       (λ t m. left-whole (separatedOf g) j left t L l m) C
 
   -- the component of an input that leads it, found among those that are not below it
-  pub around-above : (j all low rest c : ℕ) → j < g .input .states → leads (separatedOf g) j ≡ true → ((t : ℕ) → has all t ≡ ltb t (g .input .states))
-      → ((t : ℕ) → has low t ≡ ltb t j) → ((t : ℕ) → has rest t ≡ (has all t && not (has low t))) → Component (setsIn (g .input .moves)) rest j c
-      → c ≡ pack (g .input .states) (joined (graphOf (g .input)) j)
+  pub around-above : (moves : List ℕ) (n j all low rest c : ℕ) → moves ≡ g .input .moves → n ≡ g .input .states → j < n → leads (separatedOf g) j ≡ true
+      → ((t : ℕ) → has all t ≡ ltb t n) → ((t : ℕ) → has low t ≡ ltb t j) → ((t : ℕ) → has rest t ≡ (has all t && not (has low t)))
+      → Component (setsIn moves) rest j c → c ≡ pack (g .input .states) (joined (graphOf (g .input)) j)
   unfolding separatedOf graphOf
-  around-above j all low rest c b l d e f C =
-      component-found (g .input) (accepted-fits g A .input) rest j c b
-      (λ t m. ltb-true t (g .input .states) (sym (d t) ∙ and-left (has all t) (not (has low t)) (sym (f t) ∙ m)))
-      (λ t m. f t ∙ and-intro (d t ∙ lt-ltb t (g .input .states) (joined-to (graphOf (g .input)) j t m))
-      (ap not (e t ∙ le-ltb t j (led-above (separatedOf g) j t l m)))) C
+  around-above moves n j all low rest c m q b l d e f C =
+      component-found (g .input) (accepted-fits g A .input) rest j c (omega arith)
+      (λ t i. ltb-true t (g .input .states) (sym (whole t) ∙ and-left (has all t) (not (has low t)) (sym (f t) ∙ i)))
+      (λ t i. f t ∙ and-intro (whole t ∙ lt-ltb t (g .input .states) (joined-to (graphOf (g .input)) j t i))
+      (ap not (e t ∙ le-ltb t j (led-above (separatedOf g) j t l i)))) (subst (λ (x : List ℕ). Component (setsIn x) rest j c) m C)
+    where
+      whole : (t : ℕ) → has all t ≡ ltb t (g .input .states)
+      whole t = d t ∙ ap (ltb t) q
 
   pub input-small : (j : ℕ) → j < g .input .states → j < capacity
   input-small j b = omega (arith, accepted-fits g A .input .most)

@@ -11,6 +11,7 @@ ghost use lib.ListN.{length};
 ghost use Rattle.bits.specs.Member.{has, pack};
 ghost use Rattle.sets.specs.Words.{capacity, bitsOf, setsIn};
 ghost use Rattle.graphs.specs.Component.{joined};
+ghost use Rattle.game.specs.declared.Game.{Game};
 ghost use Rattle.game.specs.Acceptance.{acceptance};
 ghost use Rattle.game.specs.declared.Acceptance.the-variants.{Accepted};
 ghost use Rattle.play.specs.Play.{graphOf, separatedOf};
@@ -137,13 +138,23 @@ fn reduced(moves: &[u64; sets::ROW_WORDS], places: Set, n: usize, left: Set, s: 
     sets::difference(left, around(moves, places, n, left, s))
 }
 
-// The component of input j, the smallest of it. So nothing below j is looked at.
-pub fn component(g: Game, j: InState) -> InSet
-    requires { ⌜ (acceptance g ≡ Accepted) × (j .0 < g .input .states) × (leads (separatedOf g) (j .0) ≡ true) ⌝ }
-    ensures { λ r. ⌜ bitsOf (r .0) ≡ pack (g .input .states) (joined (graphOf (g .input)) (j .0)) ⌝ }
+// The places that moves of the inputs cross downwards.
+pub fn crossings(g: Game) -> InSet
+    requires { ⌜ acceptance g ≡ Accepted ⌝ }
+    ensures { λ r. ⌜ Crossed (setsIn (g .input .moves)) (g .input .states) (bitsOf (r .0)) ⌝ }
 {
-    let rest = sets::difference(sets::below(g.input.states), sets::below(j.0));
-    InSet(among(&g.input.moves, rest, j.0))
+    InSet(crossed(&g.input.moves, g.input.states))
+}
+
+// The component of input j, the smallest of it, of n inputs, whose moves are lent. So nothing below j is looked at, and nothing past the next place above it
+// that no move crosses.
+pub fn component(moves: &[u64; sets::ROW_WORDS], n: usize, places: InSet, j: InState) -> InSet
+    requires { ⌜ Narrow (setsIn (now moves)) × (n ≤ capacity) × (j .0 < n) × Crossed (setsIn (now moves)) n (bitsOf (places .0)) ⌝ }
+    ensures { λ r. ⌜ ((g : Game) → acceptance g ≡ Accepted → now (moves .entry) ≡ g .input .moves → n ≡ g .input .states → leads (separatedOf g) (j .0) ≡ true
+        → bitsOf (r .0) ≡ pack (g .input .states) (joined (graphOf (g .input)) (j .0))) ⌝ }
+{
+    let rest = sets::difference(sets::below(n), sets::below(j.0));
+    InSet(around(moves, places.0, n, rest, j.0))
 }
 
 // The inputs that are the smallest of their components.

@@ -4,7 +4,7 @@
 --   made-none, made-in, made-past, made-all    : command u adds the mode that it leads to, where that is one
 use Prim.Native.Nat.{ℕ, _+_, _≤_, _<_}
 use mathlib.Core.Path.{_≡_, refl, sym, _∙_, ap}
-use mathlib.Core.Bool.{Bool, true, false, _&&_, _||_}
+use mathlib.Core.Bool.{Bool, false, _&&_, _||_}
 use mathlib.Core.List.{List, _++_, append-nil}
 use native.Mathlib.Omega.{arith}
 use native.Mathlib.Decide.{ℕ-discrete}
@@ -13,7 +13,7 @@ use lib.Dec.{eqb, ltb}
 use lib.ListN.{drop, replicate}
 use borrow.Author.Tests.{lt-ltb, eq-eqb, ne-eqb}
 use Rattle.finite.specs.Bounded.{any}
-use Rattle.finite.proofs.Truth.{and-intro, or-left, or-right}
+use Rattle.finite.proofs.Truth.{and-intro, or-left, or-right, and-false-right, or-none}
 use Rattle.bits.specs.Member.{has, pack}
 use Rattle.bits.proofs.Membership.{ext, has-zero, has-pack, pack-ext}
 use Rattle.sets.specs.Words.{capacity, wordsOf, putSet}
@@ -27,11 +27,7 @@ use Rattle.kit_drives.specs.Drive.{nextIn, madeBy, graphFrom}
 module _ (n : List ℕ) (modes m : ℕ) where
   pub made-none : 0 ≡ pack modes (madeBy n 0 m)
   unfolding madeBy any
-  made-none = ext 0 (pack modes (λ t. false)) (λ s. has-zero s ∙ sym (has-pack modes (λ t. false) s ∙ no (ltb s modes)))
-    where
-      no : (b : Bool) → (b && false) ≡ false
-      no true = refl
-      no false = refl
+  made-none = ext 0 (pack modes (λ t. false)) (λ s. has-zero s ∙ sym (has-pack modes (λ t. false) s ∙ and-false-right (ltb s modes) refl))
 
   -- one command more
   more : (u t : ℕ) → madeBy n (u + 1) m t ≡ (eqb (nextIn n m u) t || madeBy n u m t)
@@ -44,16 +40,12 @@ module _ (n : List ℕ) (modes m : ℕ) where
       ext r (pack modes (madeBy n (u + 1) m)) (λ s. f s ∙ at s (ℕ-discrete s t) ∙ sym
       (has-pack modes (madeBy n (u + 1) m) s ∙ ap (_&&_ (ltb s modes)) (more u s)))
     where
-      alone : (b : Bool) → (b || false) ≡ b
-      alone true = refl
-      alone false = refl
-
       at : (s : ℕ) → Dec (s ≡ t) → (has x s || eqb s t) ≡ (ltb s modes && (eqb (nextIn n m u) s || madeBy n u m s))
       at s (yes q) = or-right (has x s) (eq-eqb s t q) ∙ sym
           (and-intro (lt-ltb s modes (omega arith)) (or-left (madeBy n u m s) (eq-eqb (nextIn n m u) s (sym d ∙ sym q))))
       at s (no q) =
           rw (ne-eqb s t q, ne-eqb (nextIn n m u) s (λ h. q (sym h ∙ sym d)))
-          (alone (has x s) ∙ ap (λ (y : ℕ). has y s) e ∙ has-pack modes (madeBy n u m) s)
+          (or-none (has x s) refl ∙ ap (λ (y : ℕ). has y s) e ∙ has-pack modes (madeBy n u m) s)
 
   pub made-past : (u x t : ℕ) → x ≡ pack modes (madeBy n u m) → t ≡ nextIn n m u → modes ≤ t → x ≡ pack modes (madeBy n (u + 1) m)
   made-past u x t e d b =

@@ -14,7 +14,7 @@ use lib.Dec.{ltb}
 use lib.ListN.{getD, replicate}
 use borrow.Author.Tests.{lt-ltb, ltb-true}
 use Rattle.finite.specs.Bounded.{all, least, count}
-use Rattle.finite.proofs.Truth.{decide, clash, false-of, and-intro, and-left, and-right, and-false-right, or-false, not-true}
+use Rattle.finite.proofs.Truth.{decide, clash, false-of, and-intro, and-left, and-right, and-false-right, or-false, not-true, and-all}
 use Rattle.finite.proofs.Tabulate.{allOf-tabulate}
 use Rattle.finite.proofs.Bounded.{all-same, count-less}
 use Rattle.bits.specs.Member.{has, pack, setsMeet}
@@ -174,11 +174,7 @@ module _ (g : Game) (F : Fits g) where
                 → (has c t ≡ true) ⊎ (has c t ≡ false) → (has rest t ≡ true) ⊎ (has rest t ≡ false)
                 → (has (serversAt x y r) t || (servedIn g c r && has c t)) ≡ serves g r t
             done r t l a h (inl k) (inl v) =
-                rw (k, S .left r t l v) (same (servedIn g c r) ∙ component-serves rows C d c sorted-below q r t k)
-              where
-                same : (b : Bool) → (b && true) ≡ b
-                same true = refl
-                same false = refl
+                rw (k, S .left r t l v) (and-all (servedIn g c r) refl ∙ component-serves rows C d c sorted-below q r t k)
             done r t l a h (inl k) (inr v) =
                 let s = component-serves rows C d c sorted-below q r t k in
                 rw k (both (has (serversAt x y r) t) (servedIn g c r) (S .done r t l a v ∙ sym s) ∙ s)

@@ -15,7 +15,7 @@ use lib.Dec.{eqb, ltb}
 use lib.ListN.{getD}
 use borrow.Author.Tests.{eq-eqb, eqb-true, lt-ltb}
 use Rattle.finite.specs.Bounded.{all, any, least, count}
-use Rattle.finite.proofs.Truth.{decide, clash, same-test, and-intro, and-left, and-right, or-left, or-right, or-cases, not-true}
+use Rattle.finite.proofs.Truth.{decide, clash, same-test, and-intro, and-left, and-right, or-left, or-right, or-cases, not-true, and-all}
 use Rattle.finite.proofs.Bounded.{all-same, any-intro}
 use Rattle.bits.specs.Member.{has, pack, setsMeet}
 use Rattle.bits.proofs.Membership.{has-zero, pack-ext}
@@ -132,9 +132,5 @@ module _ (l : List ℕ) (n c next : ℕ) (rows : List ℕ) (m : ℕ) (most : m �
       ap₂ (λ (s t : Bool). not s || t) (same j h) (meets-pack capacity m (getD rows o 0) (wonAt l n c j) most)
       ∙ sym (one-answered (has next j) (has (getD rows o 0)) (wonAt l n c j) m (omega arith))))
     where
-      whole : (t : Bool) → (t && true) ≡ t
-      whole true = refl
-      whole false = refl
-
       same : (j : ℕ) → j < n → has x j ≡ has next j
-      same j h = i j ∙ ap (λ (t : Bool). has next j && t) (f j ∙ lt-ltb j n h) ∙ whole (has next j)
+      same j h = i j ∙ ap (λ (t : Bool). has next j && t) (f j ∙ lt-ltb j n h) ∙ and-all (has next j) refl

@@ -12,7 +12,7 @@ use borrow.Author.Tests.{eqb-true, eq-eqb, ne-eqb, lt-ltb, le-ltb}
 use Rattle.finite.specs.Bounded.{least, count}
 use Rattle.finite.proofs.Bounded.{least-below}
 use Rattle.bits.proofs.Compare.{nonzero-below, meets-intro, meets-elim}
-use Rattle.finite.proofs.Truth.{or-false-left, or-false-right, and-intro, and-left, and-right, same-test}
+use Rattle.finite.proofs.Truth.{or-false-left, or-false-right, and-intro, and-left, and-right, same-test, or-none, and-all}
 use Rattle.bits.specs.Member.{has, within, subset, setsMeet}
 use Rattle.bits.proofs.Membership.{has-zero, has-or, has-past, within-has, ext}
 use Rattle.sets.specs.Words.{value}
@@ -111,23 +111,15 @@ module _ (x y : ℕ) (h : x < 2 ^ 64) where
       → (t : ℕ) → has (value 64 (r ∷ y ∷ [])) t ≡ (has (value 64 (x ∷ y ∷ [])) t || eqb t s)
   insert-low r s g l f =
       has-words 64 r (y ∷ []) (λ t. has (value 64 (x ∷ y ∷ [])) t || eqb t s) g (λ t b. f t ∙ rw (pair-low t b) refl)
-      (λ t. ap (λ (n : ℕ). has n t) (single-word y) ∙ rw (pair-high t, ne-eqb (64 + t) s (λ e. omega arith)) (keep (has y t)))
-    where
-      keep : (b : Bool) → b ≡ (b || false)
-      keep true = refl
-      keep false = refl
+      (λ t. ap (λ (n : ℕ). has n t) (single-word y) ∙ rw (pair-high t, ne-eqb (64 + t) s (λ e. omega arith)) (sym (or-none (has y t) refl)))
 
   pub insert-high : (r s : ℕ) → 64 ≤ s → ((t : ℕ) → has r t ≡ (has y t || eqb t (s - 64)))
       → (t : ℕ) → has (value 64 (x ∷ r ∷ [])) t ≡ (has (value 64 (x ∷ y ∷ [])) t || eqb t s)
   insert-high r s l f =
       has-words 64 x (r ∷ []) (λ t. has (value 64 (x ∷ y ∷ [])) t || eqb t s) h
-      (λ t b. rw (pair-low t b, ne-eqb t s (λ e. omega arith)) (keep (has x t)))
+      (λ t b. rw (pair-low t b, ne-eqb t s (λ e. omega arith)) (sym (or-none (has x t) refl)))
       (λ t. ap (λ (n : ℕ). has n t) (single-word r) ∙ f t ∙ rw (pair-high t) (ap (λ (b : Bool). has y t || b) (moved t)))
     where
-      keep : (b : Bool) → b ≡ (b || false)
-      keep true = refl
-      keep false = refl
-
       moved : (t : ℕ) → eqb t (s - 64) ≡ eqb (64 + t) s
       moved t = let e : 64 + (s - 64) ≡ s = omega arith in sym (shift-eqb t (s - 64)) ∙ ap (eqb (64 + t)) e
 
@@ -138,11 +130,7 @@ module _ (x y : ℕ) (h : x < 2 ^ 64) where
       rw (sym (pair-lowest-low n))
       (has-words 64 r (y ∷ []) (λ t. has (value 64 (x ∷ y ∷ [])) t && not (eqb t (least 64 (has x)))) g (λ t b. f t ∙ rw (pair-low t b) refl)
       (λ t. ap (λ (n : ℕ). has n t) (single-word y)
-      ∙ rw (pair-high t, ne-eqb (64 + t) (least 64 (has x)) (λ e. omega (arith, low-least n))) (keep (has y t))))
-    where
-      keep : (b : Bool) → b ≡ (b && true)
-      keep true = refl
-      keep false = refl
+      ∙ rw (pair-high t, ne-eqb (64 + t) (least 64 (has x)) (λ e. omega (arith, low-least n))) (sym (and-all (has y t) refl))))
 
   pub strip-high : (r : ℕ) → x ≡ 0 → ((t : ℕ) → has r t ≡ (has y t && not (eqb t (least 64 (has y)))))
       → (t : ℕ) → has (value 64 (0 ∷ r ∷ [])) t ≡ (has (value 64 (x ∷ y ∷ [])) t && not (eqb t (least 128 (has (value 64 (x ∷ y ∷ []))))))

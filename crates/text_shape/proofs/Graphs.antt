@@ -8,6 +8,7 @@ use lib.Arith.{lt-of-le-ne}
 use lib.Dec.{eqb, leb}
 use lib.ListN.{length, getD, set, length-set, replicate, length-replicate}
 use borrow.Author.Tests.{eqb-true, eqb-false, eq-eqb, ne-eqb, leb-true, leb-false}
+use Rattle.finite.proofs.Bounded.{one-le}
 use Rattle.finite.specs.Bounded.{one}
 use Rattle.finite.proofs.Truth.{false-of, clash}
 use Rattle.bits.specs.Member.{has, within}
@@ -170,11 +171,6 @@ record GraphRest (s : ℕ) (h g : PlainGraph) : Type 0 where
 -- the line of state s of g
 rowOf : PlainGraph → ℕ → StateRow
 rowOf g s = record { initial = one (has (g .initial) s); moves = getD (g .moves) s 0 }
-
-one-le : (b : Bool) → one b ≤ 1
-unfolding one
-one-le true = omega arith
-one-le false = omega arith
 
 mark-one : (x s i : ℕ) (b : Bool) → i ≡ s → has x i ≡ false → has (mark x s (one b)) i ≡ b
 unfolding one

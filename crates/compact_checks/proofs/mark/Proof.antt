@@ -1,54 +1,106 @@
--- `mark` goes through the inputs of the part.
-use Prim.Native.Nat.{_≤_, _-_}
-use mathlib.Core.Path.{sym, _∙_}
-use mathlib.Core.Logic.{⊎-elim}
+-- `mark` names the lowest input that is left, until none is.
+use Prim.Native.Nat.{ℕ, _+_, _-_, _≤_, _<_}
+use mathlib.Core.Path.{_≡_}
+use mathlib.Core.Bool.{true}
+use mathlib.Core.Logic.{_≢_}
 use native.Mathlib.Omega.{arith}
-use Rattle.sets.specs.Words.{bitsOf}
-use Rattle.compact_checks.specs.Parts.{Marked}
-use Rattle.compact_checks.proofs.Parts.{marked-none, marked-in, marked-out, marked-end}
+use borrow.Author.Needs.{needs}
+use lib.ListN.{length}
+use Rattle.finite.specs.Bounded.{count as members}
+use Rattle.bits.specs.Member.{has}
+use Rattle.sets.specs.Words.{capacity, bitsOf}
+use Rattle.sets.proofs.Rows.{is-none, is-some}
+use Rattle.compact_checks.proofs.Parts.{part-in, part-same, Marking, marking-start, marking-below, marking-next, marking-falls, marking-end}
 use Rattle.compact_checks.proofs.mark.Statement.{statement}
 use Rattle.compact_checks.proofs.mark.Tie as tie
 
 abbrev Inv-loop : tie.InvT-loop
-Inv-loop firsts₀ part count c s k₀ firsts k = (k ≤ count) × Marked part k (bitsOf c) s firsts₀ firsts
+Inv-loop firsts₀ part count s rest₀ firsts rest = Marking part (bitsOf rest₀) s firsts₀ firsts (bitsOf rest)
 
 abbrev μ-loop : tie.MeasureT-loop
-μ-loop firsts₀ part count c s k₀ firsts k = count - k
+μ-loop firsts₀ part count s rest₀ firsts rest = members capacity (has (bitsOf rest))
+
+some-left : (c : tie.Then1 Inv-loop μ-loop) → bitsOf (c .before .before .loop .rest) ≢ 0
+some-left c = is-some _ (c .before .is-empty .ensures) (c .if1 .taken)
+
+-- what is to be named lies in the part
+fits : (l : tie.At-loop Inv-loop μ-loop) (t : ℕ) → has (bitsOf (l .before .difference .result)) t ≡ true
+    → let s = l .before .before .before .before .before .args in (s .part ≤ t) × (t < s .part + s .count)
+fits l =
+    let d = l .before in
+    let w = d .before in
+    let n = w .before in
+    part-in _ _ _ _ _ _ _ (n .before .below .ensures) (n .intersection .ensures) (w .below2 .ensures) (d .difference .ensures)
+
+place : (c : tie.After-lowest Inv-loop μ-loop)
+    → let l = c .before .before .before in
+    let part = l .before .before .before .before .before .args .part in
+    (part ≤ c .lowest .result) × (c .lowest .result - part < length (l .loop .firsts))
+place c =
+    let l = c .before .before .before in
+    let p = l .before .before .before .before .before .pre in
+    marking-below _ _ _ _ _ _ _ _ (l .loop .inv) (fits l) (p .1) (omega (arith, p .0, p .2)) (some-left (c .before)) (c .lowest .ensures)
+
+add-below : tie.Need-add-below Inv-loop μ-loop
+add-below c = omega (arith, c .pre .1)
+
+below-requires : tie.Need-below-requires Inv-loop μ-loop
+below-requires c κs = omega (arith, c .pre .1)
+
+intersection-requires : tie.Need-intersection-requires Inv-loop μ-loop
+intersection-requires c κs = search needs
+
+below-requires-2 : tie.Need-below-requires-2 Inv-loop μ-loop
+below-requires-2 c κs = omega (arith, c .before .before .pre .1)
+
+difference-requires : tie.Need-difference-requires Inv-loop μ-loop
+difference-requires c κs = search needs
 
 loop-holds : tie.Need-loop-holds Inv-loop μ-loop
-loop-holds c = (omega arith, marked-none _ _ _ _)
+loop-holds c = marking-start _ _ _ _
 
-add-member : tie.Need-add-member Inv-loop μ-loop
-add-member c = omega (arith, c .before .before .pre .1)
+is-empty-requires : tie.Need-is-empty-requires Inv-loop μ-loop
+is-empty-requires c κs = search needs
 
-member-requires : tie.Need-member-requires Inv-loop μ-loop
-member-requires c κs = omega (arith, c .before .before .pre .1)
+lowest-requires : tie.Need-lowest-requires Inv-loop μ-loop
+lowest-requires c κs = search needs
+
+sub-firsts : tie.Need-sub-firsts Inv-loop μ-loop
+sub-firsts c = place c .0
 
 element-write-firsts : tie.Need-element-write-firsts Inv-loop μ-loop
-element-write-firsts c = omega (arith, c .before .before .before .before .pre .0)
+element-write-firsts c =
+    let l = c .before .before .before in
+    omega (arith, place c .1, l .loop .inv .long, l .before .before .before .before .before .pre .2)
 
-add-k : tie.Need-add-k Inv-loop μ-loop
-add-k c = omega (arith, c .before .before .loop-test .taken)
+without-lowest-requires : tie.Need-without-lowest-requires Inv-loop μ-loop
+without-lowest-requires c κs = some-left (c .before)
 
 loop-less : tie.Need-loop-less Inv-loop μ-loop
-loop-less c = omega (arith, c .before .before .loop-test .taken)
+loop-less c =
+    let o = c .before .before in
+    let l = o .before .before in
+    let p = l .before .before .before .before .before .pre in
+    marking-falls _ _ _ _ _ _ _ _ (l .loop .inv) (fits l) (p .1) (omega (arith, p .0, p .2)) (some-left o)
+    (c .before .lowest .ensures) _ (c .without-lowest .ensures)
 
 loop-again : tie.Need-loop-again Inv-loop μ-loop
 loop-again c =
-    let m = c .before in
-    let l = m .before .before in
-    let b = m .before .loop-test .taken in
-    let i = l .loop .inv .1 in
-    let p = l .before .pre in (
-      omega (arith, b),
-      ⊎-elim
-          (λ w. rw (w .1) (marked-in _ _ _ (l .loop .k) (omega (arith, b, p .0, p .2, i .long)) (sym (m .member .ensures) ∙ w .0 .taken) i))
-          (λ w. rw (w .1) (marked-out _ _ _ (l .loop .k) (sym (m .member .ensures) ∙ w .0 .left) i))
-          (c .if1 .came),
-    )
+    let o = c .before .before in
+    let l = o .before .before in
+    let p = l .before .before .before .before .before .pre in
+    marking-next _ _ _ _ _ _ _ _ (l .loop .inv) (fits l) (p .1) (omega (arith, p .0, p .2)) (some-left o)
+    (c .before .lowest .ensures) _ (c .without-lowest .ensures)
 
 returns : tie.Need-returns Inv-loop μ-loop
-returns c = marked-end _ _ _ _ _ (c .before .loop .inv .0) (c .loop-test .left) (c .before .loop .inv .1)
+returns c =
+    let l = c .before .before in
+    let d = l .before in
+    let w = d .before in
+    let n = w .before in
+    marking-end _ _ _ _ _ _ _ _ (fits l)
+    (part-same _ _ _ _ _ _ _ (n .before .below .ensures) (n .intersection .ensures) (w .below2 .ensures) (d .difference .ensures))
+    (l .loop .inv) (is-none _ (c .before .is-empty .ensures) (c .if1 .left))
 
 pub mark-spec : {M : Type 1} → statement M
 mark-spec =
@@ -56,11 +108,17 @@ mark-spec =
     (tie.spec
     Inv-loop
     μ-loop
+    add-below
+    below-requires
+    intersection-requires
+    below-requires-2
+    difference-requires
     loop-holds
-    add-member
-    member-requires
+    is-empty-requires
+    lowest-requires
+    sub-firsts
     element-write-firsts
-    add-k
+    without-lowest-requires
     loop-less
     loop-again
     returns)

@@ -16,31 +16,41 @@ returns c =
     let k = c .before in
     over-length _ _ (k .before .before .before .pre) _ (λ e. c .if1 .taken (e ∙ sym (controller-long _ (k .controller-length .ensures))))
 
+leading-requires : tie.Need-leading-requires
+leading-requires c κs = search needs
+
 rows-fit-requires : tie.Need-rows-fit-requires
 rows-fit-requires c κs =
-    let k = c .before in
-    (k .before .before .before .pre, c .if1 .left ∙ controller-long _ (k .controller-length .ensures))
+    let b = c .before in
+    let k = b .before in
+    (k .before .before .before .pre, c .leading .ensures, b .if1 .left ∙ controller-long _ (k .controller-length .ensures))
 
 returns-2 : tie.Need-returns-2
 returns-2 c =
     let f = c .before in
-    let b = f .before in
+    let b = f .before .before in
     let k = b .before in
     over-rows _ _ (k .before .before .before .pre) _ (b .if1 .left ∙ controller-long _ (k .controller-length .ensures))
     (failed (f .rows-fit .ensures) (c .if2 .taken))
 
-component-count-requires : tie.Need-component-count-requires
-component-count-requires c κs = search needs
+components-requires : tie.Need-components-requires
+components-requires c κs =
+    let x = c .before .before in
+    let k = x .before .before in
+    (k .before .before .before .pre, x .leading .ensures)
 
 compact-length-requires : tie.Need-compact-length-requires
-compact-length-requires c κs = search needs
+compact-length-requires c κs =
+    let f = c .before .before in
+    let k = f .before .before .before in
+    (k .before .before .before .pre, c .components .ensures)
 
 returns-3 : tie.Need-returns-3
 returns-3 c =
     let n = c .before in
     let d = n .before .before in
     let f = d .before in
-    let b = f .before in
+    let b = f .before .before in
     let k = b .before in
     over-room _ _ (k .before .before .before .pre) _ (b .if1 .left ∙ controller-long _ (k .controller-length .ensures))
     (passed (f .rows-fit .ensures) (d .if2 .left)) (omega (arith, c .if3 .taken, n .compact-length .ensures))
@@ -52,10 +62,10 @@ write-compact-requires c κs =
     let q = n .before in
     let d = q .before in
     let f = d .before in
-    let b = f .before in
+    let b = f .before .before in
     let k = b .before in (
       k .before .before .before .pre,
-      q .component-count .ensures,
+      q .components .ensures,
       b .if1 .left ∙ controller-long _ (k .controller-length .ensures),
       passed (f .rows-fit .ensures) (d .if2 .left),
       omega (arith, e .if3 .left, n .compact-length .ensures),
@@ -71,7 +81,7 @@ returns-4 c =
     let n = e .before in
     let d = n .before .before in
     let f = d .before in
-    let b = f .before in
+    let b = f .before .before in
     let k = b .before in
     over-made _ _ (k .before .before .before .pre) _ (b .if1 .left ∙ controller-long _ (k .controller-length .ensures))
     (passed (f .rows-fit .ensures) (d .if2 .left)) _ (n .compact-length .ensures) (omega (arith, e .if3 .left, n .compact-length .ensures))
@@ -83,9 +93,10 @@ over-accepted-spec =
     (tie.spec
     controller-length-requires
     returns
+    leading-requires
     rows-fit-requires
     returns-2
-    component-count-requires
+    components-requires
     compact-length-requires
     returns-3
     write-compact-requires
