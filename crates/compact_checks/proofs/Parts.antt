@@ -5,19 +5,15 @@ use mathlib.Core.Bool.{Bool, true, false, _&&_, not}
 use mathlib.Core.List.{List}
 use mathlib.Core.Logic.{_≢_}
 use native.Mathlib.Omega.{arith}
-use native.Mathlib.Decide.{ℕ-discrete}
-use lib.Dec.{eqb, ltb}
-use lib.ListN.{length, getD, set, length-set}
-use lib.Seq.{getD-set-same, getD-set-other}
+use lib.Dec.{ltb}
+use lib.ListN.{length, getD}
 use borrow.Author.Tests.{eq-eqb, ne-eqb, lt-ltb, le-ltb, ltb-true, ltb-false}
-use Rattle.finite.specs.Bounded.{least, count}
 use Rattle.finite.proofs.Truth.{clash, and-left, and-right, and-all, not-true}
 use Rattle.finite.proofs.Loops.{all-start, all-turn, all-stop, all-end, all-longer}
 use Rattle.bits.specs.Member.{has}
 use Rattle.bits.proofs.Membership.{has-zero}
-use Rattle.bits.proofs.Remove.{less-in, less-other, less-falls}
-use Rattle.bits.proofs.Visit.{small-word, lowest-in, lowest-less}
 use Rattle.sets.specs.Words.{capacity}
+use Rattle.graph_ranks.proofs.Ranks.{Putting}
 use Rattle.compact_checks.specs.Parts.{entryFits, rowAgrees, rowAt, partFits, Marked}
 
 -- one row number
@@ -81,20 +77,17 @@ module _ (part n x high front low c : ℕ) (a : (t : ℕ) → has high t ≡ ltb
       (d t ∙ le-ltb t part (omega arith))
       ∙ and-all (has x t) refl
 
-module _ (part c s : ℕ) where
-  -- the members of c have been named, but for those of rest
-  pub record Marking (l m : List ℕ) (rest : ℕ) : Type 0 where
-    pub long : length m ≡ length l
-    pub left : (t : ℕ) → has rest t ≡ true → has c t ≡ true
-    pub inside : (t : ℕ) → has c t ≡ true → has rest t ≡ false → getD m (t - part) 0 ≡ s
-    pub outside : (k : ℕ) → ((t : ℕ) → has c t ≡ true → k ≢ t - part) → getD m k 0 ≡ getD l k 0
+-- the members of c have been named, each at its place in the part
+module _ (part c n : ℕ) (fits : (t : ℕ) → has c t ≡ true → (part ≤ t) × (t < part + n)) where
+  pub marking-apart : (t u : ℕ) → has c t ≡ true → has c u ≡ true → t - part ≡ u - part → t ≡ u
+  marking-apart t u a b e = omega (arith, fits t a .0, fits u b .0)
 
-  pub marking-start : (l : List ℕ) → Marking l l c
-  marking-start l = record { long = refl; left = λ t i. i; inside = λ t i o. clash i o; outside = λ k f. refl }
+  pub marking-fits : (l : List ℕ) → part + n ≤ capacity → n ≤ length l → (t : ℕ) → has c t ≡ true → (t < capacity) × (t - part < length l)
+  marking-fits l few long t i = let w = fits t i in (omega (arith, w .1), omega (arith, w .0, w .1))
 
-  pub marking-end : (n x : ℕ) (l m : List ℕ) (rest : ℕ) → ((t : ℕ) → has c t ≡ true → (part ≤ t) × (t < part + n))
-      → ((k : ℕ) → k < n → has c (part + k) ≡ has x (part + k)) → Marking l m rest → rest ≡ 0 → Marked part n x s l m
-  marking-end n x l m rest fits same P e = record {
+  pub marking-end : (s x : ℕ) (l m : List ℕ) (rest : ℕ) → ((k : ℕ) → k < n → has c (part + k) ≡ has x (part + k))
+      → Putting (λ t. t - part) c s l m rest → rest ≡ 0 → Marked part n x s l m
+  marking-end s x l m rest same P e = record {
     long = P .long;
     inside = λ k b i.
         ap (λ (y : ℕ). getD m y 0) (omega arith)
@@ -105,31 +98,3 @@ module _ (part c s : ℕ) where
     where
       own : (k t : ℕ) → has c t ≡ true → k ≡ t - part → part + k ≡ t
       own k t j q = omega (arith, fits t j .0)
-
-  module _ (n : ℕ) (l m : List ℕ) (rest h : ℕ) (P : Marking l m rest) (fits : (t : ℕ) → has c t ≡ true → (part ≤ t) × (t < part + n))
-      (few : part + n ≤ capacity) (long : n ≤ length l) (some : rest ≢ 0) (e : h ≡ least capacity (has rest)) where
-    lowest : has rest h ≡ true
-    lowest = lowest-in capacity rest h (small-word capacity rest (λ t i. omega (arith, fits t (P .left t i) .1))) some e
-
-    pub marking-below : (part ≤ h) × (h - part < length m)
-    marking-below = let w = fits h (P .left h lowest) in (w .0, omega (arith, w .0, w .1, P .long))
-
-    module _ (r : ℕ) (d : (t : ℕ) → has r t ≡ (has rest t && not (eqb t (least capacity (has rest))))) where
-      strip : (t : ℕ) → has r t ≡ (has rest t && not (eqb t h))
-      strip = lowest-less capacity rest h r e d
-
-      pub marking-falls : count capacity (has r) < count capacity (has rest)
-      marking-falls = less-falls rest h r strip capacity (omega (arith, fits h (P .left h lowest) .1)) lowest
-
-      pub marking-next : Marking l (set m (h - part) s) r
-      marking-next = record {
-        long = length-set m (h - part) s ∙ P .long;
-        left = λ t i. P .left t (less-in rest h r strip t i);
-        inside = λ t i o. elim (ℕ-discrete t h) [
-          | yes q ↦ rw q (getD-set-same m (h - part) s 0 (marking-below .1))
-          | no q ↦
-              getD-set-other m (h - part) (t - part) s 0 (λ z. q (omega (arith, fits t i .0, fits h (P .left h lowest) .0)))
-              ∙ P .inside t i (sym (less-other rest h r strip t q) ∙ o)
-        ];
-        outside = λ k f. getD-set-other m (h - part) k s 0 (f h (P .left h lowest)) ∙ P .outside k f;
-      }

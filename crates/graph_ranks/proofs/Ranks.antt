@@ -1,7 +1,7 @@
 -- Walking the components by their smallest states, and the ranks that are written or read on the way.
 --
 --   Left, left-start, -below, -leads, -whole, -next, -skip   : the inputs whose component's smallest state has not been passed
---   Putting, putting-start, -below, -next, -falls, -end      : one rank written for the members of a set
+--   Putting, putting-start, -in, -next, -falls, -end         : one value written for the members of a set, a place each
 --   Checking, checking-start, -below, -next, -falls, -end, -fails : one rank read for them
 --   Ranking, ranking-start, -next, -skip, -end               : the ranks written
 --   Reading, reading-start, -next, -skip, -end, -fails       : the ranks read
@@ -238,14 +238,15 @@ module _ (S : Separated) where
       all-intro n (λ i. eqb (getD l (n + i) noneEntry) (rankOf S i))
       (λ t a. eq-eqb (getD l (n + t) noneEntry) (rankOf S t) (R t a (omega (arith, number-below (S .input) t a))))
 
--- ---- one rank, for the members of a set
+-- ---- one value, for the members of a set
 
-module _ (n c v : ℕ) where
+-- written at the place of each member; no two have one place
+module _ (place : ℕ → ℕ) (c v : ℕ) where
   pub record Putting (l m : List ℕ) (rest : ℕ) : Type 0 where
     pub long : length m ≡ length l
     pub left : (t : ℕ) → has rest t ≡ true → has c t ≡ true
-    pub inside : (t : ℕ) → has c t ≡ true → has rest t ≡ false → getD m (n + t) 0 ≡ v
-    pub outside : (k : ℕ) → ((t : ℕ) → has c t ≡ true → k ≢ n + t) → getD m k 0 ≡ getD l k 0
+    pub inside : (t : ℕ) → has c t ≡ true → has rest t ≡ false → getD m (place t) 0 ≡ v
+    pub outside : (k : ℕ) → ((t : ℕ) → has c t ≡ true → k ≢ place t) → getD m k 0 ≡ getD l k 0
 
   pub putting-start : (l : List ℕ) → Putting l l c
   putting-start l = record {
@@ -255,38 +256,41 @@ module _ (n c v : ℕ) where
     outside = λ k f. refl;
   }
 
-  pub putting-end : (l m : List ℕ) (rest : ℕ) → Putting l m rest → rest ≡ 0 → Put n c v l m
-  putting-end l m rest P e = record {
-    long = P .long;
-    inside = λ t i. P .inside t i (ap (λ (x : ℕ). has x t) e ∙ has-zero t);
-    outside = P .outside;
-  }
-
-  module _ (l m : List ℕ) (rest h : ℕ) (P : Putting l m rest) (fits : (t : ℕ) → has c t ≡ true → (t < capacity) × (n + t < length l)) (some : rest ≢ 0)
-      (e : h ≡ least capacity (has rest)) where
+  module _ (l m : List ℕ) (rest h : ℕ) (P : Putting l m rest) (fits : (t : ℕ) → has c t ≡ true → (t < capacity) × (place t < length l))
+      (apart : (t u : ℕ) → has c t ≡ true → has c u ≡ true → place t ≡ place u → t ≡ u) (some : rest ≢ 0) (e : h ≡ least capacity (has rest)) where
     lowest : has rest h ≡ true
     lowest = lowest-in capacity rest h (small-word capacity rest (λ t i. fits t (P .left t i) .0)) some e
 
-    pub putting-below : n + h < length l
-    putting-below = fits h (P .left h lowest) .1
+    pub putting-in : has c h ≡ true
+    putting-in = P .left h lowest
 
     module _ (r : ℕ) (d : (s : ℕ) → has r s ≡ (has rest s && not (eqb s (least capacity (has rest))))) where
       strip : (s : ℕ) → has r s ≡ (has rest s && not (eqb s h))
       strip = lowest-less capacity rest h r e d
 
       pub putting-falls : count capacity (has r) < count capacity (has rest)
-      putting-falls = less-falls rest h r strip capacity (fits h (P .left h lowest) .0) lowest
+      putting-falls = less-falls rest h r strip capacity (fits h putting-in .0) lowest
 
-      pub putting-next : Putting l (set m (n + h) v) r
+      pub putting-next : Putting l (set m (place h) v) r
       putting-next = record {
-        long = length-set m (n + h) v ∙ P .long;
+        long = length-set m (place h) v ∙ P .long;
         left = λ t i. P .left t (less-in rest h r strip t i);
         inside = λ t i o. elim (ℕ-discrete t h) [
-          | yes q ↦ rw q (getD-set-same m (n + h) v 0 (omega (arith, putting-below, P .long)))
-          | no q ↦ getD-set-other m (n + h) (n + t) v 0 (λ z. q (omega arith)) ∙ P .inside t i (sym (less-other rest h r strip t q) ∙ o)
+          | yes q ↦ rw q (getD-set-same m (place h) v 0 (omega (arith, fits h putting-in .1, P .long)))
+          | no q ↦ getD-set-other m (place h) (place t) v 0 (λ z. q (apart t h i putting-in z)) ∙ P .inside t i (sym (less-other rest h r strip t q) ∙ o)
         ];
-        outside = λ k f. getD-set-other m (n + h) k v 0 (f h (P .left h lowest)) ∙ P .outside k f;
+        outside = λ k f. getD-set-other m (place h) k v 0 (f h putting-in) ∙ P .outside k f;
       }
+
+-- ---- one rank
+
+module _ (n c v : ℕ) where
+  pub putting-end : (l m : List ℕ) (rest : ℕ) → Putting (_+_ n) c v l m rest → rest ≡ 0 → Put n c v l m
+  putting-end l m rest P e = record {
+    long = P .long;
+    inside = λ t i. P .inside t i (ap (λ (x : ℕ). has x t) e ∙ has-zero t);
+    outside = P .outside;
+  }
 
   pub record Checking (l : List ℕ) (rest : ℕ) : Type 0 where
     pub left : (t : ℕ) → has rest t ≡ true → has c t ≡ true

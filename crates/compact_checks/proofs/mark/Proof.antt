@@ -10,12 +10,13 @@ use Rattle.finite.specs.Bounded.{count as members}
 use Rattle.bits.specs.Member.{has}
 use Rattle.sets.specs.Words.{capacity, bitsOf}
 use Rattle.sets.proofs.Rows.{is-none, is-some}
-use Rattle.compact_checks.proofs.Parts.{part-in, part-same, Marking, marking-start, marking-below, marking-next, marking-falls, marking-end}
+use Rattle.graph_ranks.proofs.Ranks.{Putting, putting-start, putting-in, putting-next, putting-falls}
+use Rattle.compact_checks.proofs.Parts.{part-in, part-same, marking-apart, marking-fits, marking-end}
 use Rattle.compact_checks.proofs.mark.Statement.{statement}
 use Rattle.compact_checks.proofs.mark.Tie as tie
 
 abbrev Inv-loop : tie.InvT-loop
-Inv-loop firsts₀ part count s rest₀ firsts rest = Marking part (bitsOf rest₀) s firsts₀ firsts (bitsOf rest)
+Inv-loop firsts₀ part count s rest₀ firsts rest = Putting (λ t. t - part) (bitsOf rest₀) s firsts₀ firsts (bitsOf rest)
 
 abbrev μ-loop : tie.MeasureT-loop
 μ-loop firsts₀ part count s rest₀ firsts rest = members capacity (has (bitsOf rest))
@@ -32,14 +33,16 @@ fits l =
     let n = w .before in
     part-in _ _ _ _ _ _ _ (n .before .below .ensures) (n .intersection .ensures) (w .below2 .ensures) (d .difference .ensures)
 
-place : (c : tie.After-lowest Inv-loop μ-loop)
-    → let l = c .before .before .before in
-    let part = l .before .before .before .before .before .args .part in
-    (part ≤ c .lowest .result) × (c .lowest .result - part < length (l .loop .firsts))
-place c =
+places : (l : tie.At-loop Inv-loop μ-loop) (t : ℕ) → has (bitsOf (l .before .difference .result)) t ≡ true
+    → let s = l .before .before .before .before .before .args in (t < capacity) × (t - s .part < length (s .firsts .now))
+places l =
+    let s = l .before .before .before .before .before in
+    marking-fits _ _ _ (fits l) (s .args .firsts .now) (s .pre .1) (omega (arith, s .pre .0, s .pre .2))
+
+named : (c : tie.After-lowest Inv-loop μ-loop) → has (bitsOf (c .before .before .before .before .difference .result)) (c .lowest .result) ≡ true
+named c =
     let l = c .before .before .before in
-    let p = l .before .before .before .before .before .pre in
-    marking-below _ _ _ _ _ _ _ _ (l .loop .inv) (fits l) (p .1) (omega (arith, p .0, p .2)) (some-left (c .before)) (c .lowest .ensures)
+    putting-in (λ t. t - _) _ _ _ _ _ _ (l .loop .inv) (places l) (marking-apart _ _ _ (fits l)) (some-left (c .before)) (c .lowest .ensures)
 
 add-below : tie.Need-add-below Inv-loop μ-loop
 add-below c = omega (arith, c .pre .1)
@@ -57,7 +60,7 @@ difference-requires : tie.Need-difference-requires Inv-loop μ-loop
 difference-requires c κs = search needs
 
 loop-holds : tie.Need-loop-holds Inv-loop μ-loop
-loop-holds c = marking-start _ _ _ _
+loop-holds c = putting-start (λ t. t - _) _ _ _
 
 is-empty-requires : tie.Need-is-empty-requires Inv-loop μ-loop
 is-empty-requires c κs = search needs
@@ -66,12 +69,12 @@ lowest-requires : tie.Need-lowest-requires Inv-loop μ-loop
 lowest-requires c κs = search needs
 
 sub-firsts : tie.Need-sub-firsts Inv-loop μ-loop
-sub-firsts c = place c .0
+sub-firsts c = fits (c .before .before .before) _ (named c) .0
 
 element-write-firsts : tie.Need-element-write-firsts Inv-loop μ-loop
 element-write-firsts c =
     let l = c .before .before .before in
-    omega (arith, place c .1, l .loop .inv .long, l .before .before .before .before .before .pre .2)
+    omega (arith, places l _ (named c) .1, l .before .before .before .before .before .pre .2)
 
 without-lowest-requires : tie.Need-without-lowest-requires Inv-loop μ-loop
 without-lowest-requires c κs = some-left (c .before)
@@ -80,17 +83,15 @@ loop-less : tie.Need-loop-less Inv-loop μ-loop
 loop-less c =
     let o = c .before .before in
     let l = o .before .before in
-    let p = l .before .before .before .before .before .pre in
-    marking-falls _ _ _ _ _ _ _ _ (l .loop .inv) (fits l) (p .1) (omega (arith, p .0, p .2)) (some-left o)
-    (c .before .lowest .ensures) _ (c .without-lowest .ensures)
+    putting-falls (λ t. t - _) _ _ _ _ _ _ (l .loop .inv) (places l) (marking-apart _ _ _ (fits l)) (some-left o) (c .before .lowest .ensures) _
+    (c .without-lowest .ensures)
 
 loop-again : tie.Need-loop-again Inv-loop μ-loop
 loop-again c =
     let o = c .before .before in
     let l = o .before .before in
-    let p = l .before .before .before .before .before .pre in
-    marking-next _ _ _ _ _ _ _ _ (l .loop .inv) (fits l) (p .1) (omega (arith, p .0, p .2)) (some-left o)
-    (c .before .lowest .ensures) _ (c .without-lowest .ensures)
+    putting-next (λ t. t - _) _ _ _ _ _ _ (l .loop .inv) (places l) (marking-apart _ _ _ (fits l)) (some-left o) (c .before .lowest .ensures) _
+    (c .without-lowest .ensures)
 
 returns : tie.Need-returns Inv-loop μ-loop
 returns c =
@@ -98,7 +99,7 @@ returns c =
     let d = l .before in
     let w = d .before in
     let n = w .before in
-    marking-end _ _ _ _ _ _ _ _ (fits l)
+    marking-end _ _ _ (fits l) _ _ _ _ _
     (part-same _ _ _ _ _ _ _ (n .before .below .ensures) (n .intersection .ensures) (w .below2 .ensures) (d .difference .ensures))
     (l .loop .inv) (is-none _ (c .before .is-empty .ensures) (c .if1 .left))
 

@@ -8,12 +8,12 @@ use Rattle.finite.specs.Bounded.{count}
 use Rattle.bits.specs.Member.{has}
 use Rattle.sets.specs.Words.{capacity, bitsOf}
 use Rattle.sets.proofs.Rows.{is-none, is-some}
-use Rattle.graph_ranks.proofs.Ranks.{Putting, putting-start, putting-below, putting-next, putting-falls, putting-end}
+use Rattle.graph_ranks.proofs.Ranks.{Putting, putting-start, putting-in, putting-next, putting-falls, putting-end}
 use Rattle.graph_ranks.proofs.put_rank.Statement.{statement}
 use Rattle.graph_ranks.proofs.put_rank.Tie as tie
 
 abbrev Inv-loop : tie.InvT-loop
-Inv-loop room₀ n rank rest₀ room rest = Putting n (bitsOf rest₀) rank room₀ room (bitsOf rest)
+Inv-loop room₀ n rank rest₀ room rest = Putting (_+_ n) (bitsOf rest₀) rank room₀ room (bitsOf rest)
 
 abbrev μ-loop : tie.MeasureT-loop
 μ-loop room₀ n rank rest₀ room rest = count capacity (has (bitsOf rest))
@@ -25,10 +25,12 @@ place-below : (c : tie.After-lowest Inv-loop μ-loop)
     → let l = c .before .before .before in l .before .before .args .n + c .lowest .result < length (l .loop .room)
 place-below c =
     let l = c .before .before .before in
-    omega (arith, putting-below _ _ _ _ _ _ _ (l .loop .inv) (l .before .before .pre) (some-left (c .before)) (c .lowest .ensures), l .loop .inv .long)
+    let p = l .before .before .pre in
+    let i = putting-in (_+_ _) _ _ _ _ _ _ (l .loop .inv) p (λ t u a b z. omega arith) (some-left (c .before)) (c .lowest .ensures) in
+    omega (arith, p _ i .1, l .loop .inv .long)
 
 loop-holds : tie.Need-loop-holds Inv-loop μ-loop
-loop-holds c = putting-start _ _ _ _
+loop-holds c = putting-start (_+_ _) _ _ _
 
 is-empty-requires : tie.Need-is-empty-requires Inv-loop μ-loop
 is-empty-requires c κs = search needs
@@ -52,13 +54,15 @@ loop-less : tie.Need-loop-less Inv-loop μ-loop
 loop-less c =
     let o = c .before .before in
     let l = o .before .before in
-    putting-falls _ _ _ _ _ _ _ (l .loop .inv) (l .before .before .pre) (some-left o) (c .before .lowest .ensures) _ (c .without-lowest .ensures)
+    putting-falls (_+_ _) _ _ _ _ _ _ (l .loop .inv) (l .before .before .pre) (λ t u a b z. omega arith) (some-left o)
+    (c .before .lowest .ensures) _ (c .without-lowest .ensures)
 
 loop-again : tie.Need-loop-again Inv-loop μ-loop
 loop-again c =
     let o = c .before .before in
     let l = o .before .before in
-    putting-next _ _ _ _ _ _ _ (l .loop .inv) (l .before .before .pre) (some-left o) (c .before .lowest .ensures) _ (c .without-lowest .ensures)
+    putting-next (_+_ _) _ _ _ _ _ _ (l .loop .inv) (l .before .before .pre) (λ t u a b z. omega arith) (some-left o)
+    (c .before .lowest .ensures) _ (c .without-lowest .ensures)
 
 same-length : tie.Need-same-length Inv-loop μ-loop
 same-length c = c .before .before .loop .inv .long
