@@ -5,18 +5,19 @@ use mathlib.Core.Bool.{Bool, true, false, not, _&&_, _||_}
 use mathlib.Core.List.{[], _∷_}
 use mathlib.Core.Logic.{_≢_}
 use native.Mathlib.Omega.{arith}
-use native.Mathlib.Decide.{ℕ-discrete, decLt}
+use native.Mathlib.Decide.{ℕ-discrete}
 use lib.Dec.{eqb, ltb}
 use lib.Bits.{bitOr}
 use borrow.Author.Tests.{eqb-true, eq-eqb, ne-eqb, lt-ltb, le-ltb}
 use Rattle.finite.specs.Bounded.{least, count}
 use Rattle.finite.proofs.Bounded.{least-below}
 use Rattle.bits.proofs.Compare.{nonzero-below, meets-intro, meets-elim}
-use Rattle.finite.proofs.Truth.{or-false-left, or-false-right, and-intro, and-left, and-right, same-test, or-none, and-all}
+use Rattle.finite.proofs.Truth.{or-false-left, or-false-right, and-intro, and-left, and-right, same-test}
 use Rattle.bits.specs.Member.{has, within, subset, setsMeet}
-use Rattle.bits.proofs.Membership.{has-zero, has-or, has-past, within-has, ext}
+use Rattle.bits.proofs.Membership.{has-zero, has-or, within-has, ext}
 use Rattle.sets.specs.Words.{value}
 use Rattle.sets.proofs.Values.{Words, has-first, has-later, value-lt, has-words, empty-words, within-first, within-later, within-not}
+use Rattle.sets.proofs.Values.{insert-first, insert-later, strip-first, strip-later, below-first, below-later, same-words}
 use Rattle.sets.proofs.Values.{least-first, least-later, count-words, subset-words, meets-words}
 
 -- the high word alone
@@ -27,19 +28,6 @@ single-word y = omega arith
 pub pair-zero : {x y : ℕ} → x ≡ 0 → y ≡ 0 → value 64 (x ∷ y ∷ []) ≡ 0
 unfolding value
 pair-zero e f = rw (e, f) refl
-
--- a bit of two sets moved by 64
-shift-eqb : (t s : ℕ) → eqb (64 + t) (64 + s) ≡ eqb t s
-shift-eqb t s = elim (ℕ-discrete t s) [
-  | yes e ↦ eq-eqb (64 + t) (64 + s) (omega arith) ∙ sym (eq-eqb t s e)
-  | no n ↦ ne-eqb (64 + t) (64 + s) (λ e. n (omega arith)) ∙ sym (ne-eqb t s n)
-]
-
-pub below-moved : (t n : ℕ) → 64 ≤ n → ltb t (n - 64) ≡ ltb (64 + t) n
-below-moved t n h = elim (decLt t (n - 64)) [
-  | yes l ↦ lt-ltb t (n - 64) l ∙ sym (lt-ltb (64 + t) n (omega arith))
-  | no l ↦ le-ltb t (n - 64) (omega arith) ∙ sym (le-ltb (64 + t) n (omega arith))
-]
 
 or-empty : (x y : ℕ) → eqb (bitOr x y) 0 ≡ (eqb x 0 && eqb y 0)
 or-empty x y = same-test (eqb (bitOr x y) 0) (eqb x 0 && eqb y 0) to back
@@ -66,6 +54,16 @@ module _ (x y : ℕ) (h : x < 2 ^ 64) where
   -- a set told by its two words
   pub pair-is : (p : ℕ → Bool) → ((t : ℕ) → t < 64 → has x t ≡ p t) → ((t : ℕ) → has y t ≡ p (64 + t)) → (t : ℕ) → has (value 64 (x ∷ y ∷ [])) t ≡ p t
   pair-is p f g = has-words 64 x (y ∷ []) p h f (λ t. ap (λ (n : ℕ). has n t) (single-word y) ∙ g t)
+
+  -- the states below n
+  pub pair-below-low : (n : ℕ) → n ≤ 64 → y ≡ 0 → ((t : ℕ) → has x t ≡ ltb t n) → (t : ℕ) → has (value 64 (x ∷ y ∷ [])) t ≡ ltb t n
+  pair-below-low n b z f = below-first 64 n x (y ∷ []) h b f (single-word y ∙ z)
+
+  pub pair-below-high : (n : ℕ) → 64 ≤ n → ((t : ℕ) → t < 64 → has x t ≡ true) → ((t : ℕ) → has y t ≡ ltb t (n - 64))
+      → (t : ℕ) → has (value 64 (x ∷ y ∷ [])) t ≡ ltb t n
+  pair-below-high n b f g t =
+      let e : 64 + (n - 64) ≡ n = omega arith in
+      below-later 64 (n - 64) x (y ∷ []) h f (λ u. ap (λ (k : ℕ). has k u) (single-word y) ∙ g u) t ∙ ap (ltb t) e
 
   pub pair-empty : eqb (bitOr x y) 0 ≡ eqb (value 64 (x ∷ y ∷ [])) 0
   pair-empty = or-empty x y ∙ sym (empty-words 64 x (y ∷ []) h ∙ ap (λ (n : ℕ). eqb x 0 && eqb n 0) (single-word y))
@@ -109,36 +107,25 @@ module _ (x y : ℕ) (h : x < 2 ^ 64) where
   -- a member more in either word
   pub insert-low : (r s : ℕ) → r < 2 ^ 64 → s < 64 → ((t : ℕ) → has r t ≡ (has x t || eqb t s))
       → (t : ℕ) → has (value 64 (r ∷ y ∷ [])) t ≡ (has (value 64 (x ∷ y ∷ [])) t || eqb t s)
-  insert-low r s g l f =
-      has-words 64 r (y ∷ []) (λ t. has (value 64 (x ∷ y ∷ [])) t || eqb t s) g (λ t b. f t ∙ rw (pair-low t b) refl)
-      (λ t. ap (λ (n : ℕ). has n t) (single-word y) ∙ rw (pair-high t, ne-eqb (64 + t) s (λ e. omega arith)) (sym (or-none (has y t) refl)))
+  insert-low r s g l f = insert-first 64 x r s (y ∷ []) h g l f
 
   pub insert-high : (r s : ℕ) → 64 ≤ s → ((t : ℕ) → has r t ≡ (has y t || eqb t (s - 64)))
       → (t : ℕ) → has (value 64 (x ∷ r ∷ [])) t ≡ (has (value 64 (x ∷ y ∷ [])) t || eqb t s)
-  insert-high r s l f =
-      has-words 64 x (r ∷ []) (λ t. has (value 64 (x ∷ y ∷ [])) t || eqb t s) h
-      (λ t b. rw (pair-low t b, ne-eqb t s (λ e. omega arith)) (sym (or-none (has x t) refl)))
-      (λ t. ap (λ (n : ℕ). has n t) (single-word r) ∙ f t ∙ rw (pair-high t) (ap (λ (b : Bool). has y t || b) (moved t)))
-    where
-      moved : (t : ℕ) → eqb t (s - 64) ≡ eqb (64 + t) s
-      moved t = let e : 64 + (s - 64) ≡ s = omega arith in sym (shift-eqb t (s - 64)) ∙ ap (eqb (64 + t)) e
+  insert-high r s l f t =
+      let e : 64 + (s - 64) ≡ s = omega arith in
+      insert-later 64 x (s - 64) (y ∷ []) (r ∷ []) h (λ u. rw (single-word r, single-word y) (f u)) t
+      ∙ ap (λ (k : ℕ). has (value 64 (x ∷ y ∷ [])) t || eqb t k) e
 
   -- a member less in the first word that has one
   pub strip-low : (r : ℕ) → r < 2 ^ 64 → x ≢ 0 → ((t : ℕ) → has r t ≡ (has x t && not (eqb t (least 64 (has x)))))
       → (t : ℕ) → has (value 64 (r ∷ y ∷ [])) t ≡ (has (value 64 (x ∷ y ∷ [])) t && not (eqb t (least 128 (has (value 64 (x ∷ y ∷ []))))))
-  strip-low r g n f =
-      rw (sym (pair-lowest-low n))
-      (has-words 64 r (y ∷ []) (λ t. has (value 64 (x ∷ y ∷ [])) t && not (eqb t (least 64 (has x)))) g (λ t b. f t ∙ rw (pair-low t b) refl)
-      (λ t. ap (λ (n : ℕ). has n t) (single-word y)
-      ∙ rw (pair-high t, ne-eqb (64 + t) (least 64 (has x)) (λ e. omega (arith, low-least n))) (sym (and-all (has y t) refl))))
+  strip-low r g n f = strip-first 64 64 x r (y ∷ []) h g n f
 
   pub strip-high : (r : ℕ) → x ≡ 0 → ((t : ℕ) → has r t ≡ (has y t && not (eqb t (least 64 (has y)))))
       → (t : ℕ) → has (value 64 (0 ∷ r ∷ [])) t ≡ (has (value 64 (x ∷ y ∷ [])) t && not (eqb t (least 128 (has (value 64 (x ∷ y ∷ []))))))
-  strip-high r z f =
-      rw (sym (pair-lowest-high z))
-      (has-words 64 0 (r ∷ []) (λ t. has (value 64 (x ∷ y ∷ [])) t && not (eqb t (64 + least 64 (has y)))) (omega arith)
-      (λ t b. rw (pair-low t b, z, has-zero) refl)
-      (λ t. ap (λ (n : ℕ). has n t) (single-word r) ∙ f t ∙ rw (pair-high t, shift-eqb) refl))
+  strip-high r z f t =
+      ap (λ (k : ℕ). has (value 64 (k ∷ r ∷ [])) t) (sym z)
+      ∙ strip-later 64 64 x (y ∷ []) (r ∷ []) h z (λ u. rw (single-word r, single-word y) (f u)) t
 
 -- where the second set has members of the low word alone
 pub pair-meets-low : (a b x y : ℕ) → within (value 64 (x ∷ y ∷ [])) 64 ≡ true
@@ -164,20 +151,11 @@ module _ (a b x y : ℕ) (h : a < 2 ^ 64) (g : x < 2 ^ 64) where
   pub pair-meets : setsMeet 128 (value 64 (a ∷ b ∷ [])) (value 64 (x ∷ y ∷ [])) ≡ (setsMeet 64 a x || setsMeet 64 b y)
   pair-meets = meets-words 64 64 a x (b ∷ []) (y ∷ []) h g ∙ ap₂ (λ (m n : ℕ). setsMeet 64 a x || setsMeet 64 m n) (single-word b) (single-word y)
 
-  pub same-high : a ≡ x → eqb b y ≡ eqb (value 64 (a ∷ b ∷ [])) (value 64 (x ∷ y ∷ []))
-  same-high e = same-test (eqb b y) (eqb (value 64 (a ∷ b ∷ [])) (value 64 (x ∷ y ∷ []))) to back
-    where
-      to : eqb b y ≡ true → eqb (value 64 (a ∷ b ∷ [])) (value 64 (x ∷ y ∷ [])) ≡ true
-      to q = eq-eqb (value 64 (a ∷ b ∷ [])) (value 64 (x ∷ y ∷ [])) (ap₂ (λ (m n : ℕ). value 64 (m ∷ n ∷ [])) e (eqb-true b y q))
+  pair-same : eqb (value 64 (a ∷ b ∷ [])) (value 64 (x ∷ y ∷ [])) ≡ (eqb a x && eqb b y)
+  pair-same = same-words 64 a x (b ∷ []) (y ∷ []) h g ∙ ap₂ (λ (m n : ℕ). eqb a x && eqb m n) (single-word b) (single-word y)
 
-      back : eqb (value 64 (a ∷ b ∷ [])) (value 64 (x ∷ y ∷ [])) ≡ true → eqb b y ≡ true
-      back q =
-          let z = eqb-true (value 64 (a ∷ b ∷ [])) (value 64 (x ∷ y ∷ [])) q in
-          eq-eqb b y (ext b y (λ s. sym (pair-high a b h s) ∙ ap (λ (n : ℕ). has n (64 + s)) z ∙ pair-high x y g s))
+  pub same-high : a ≡ x → eqb b y ≡ eqb (value 64 (a ∷ b ∷ [])) (value 64 (x ∷ y ∷ []))
+  same-high e = ap (λ (v : Bool). v && eqb b y) (sym (eq-eqb a x e)) ∙ sym pair-same
 
   pub same-low : a ≢ x → false ≡ eqb (value 64 (a ∷ b ∷ [])) (value 64 (x ∷ y ∷ []))
-  same-low ne = sym (ne-eqb (value 64 (a ∷ b ∷ [])) (value 64 (x ∷ y ∷ [])) (λ z. ne (ext a x (λ s. go z s (decLt s 64)))))
-    where
-      go : value 64 (a ∷ b ∷ []) ≡ value 64 (x ∷ y ∷ []) → (s : ℕ) → Dec (s < 64) → has a s ≡ has x s
-      go z s (yes l) = sym (pair-low a b h s l) ∙ ap (λ (n : ℕ). has n s) z ∙ pair-low x y g s l
-      go z s (no l) = has-past 64 a s h (omega arith) ∙ sym (has-past 64 x s g (omega arith))
+  same-low ne = ap (λ (v : Bool). v && eqb b y) (sym (ne-eqb a x ne)) ∙ sym pair-same

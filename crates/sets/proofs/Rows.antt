@@ -18,26 +18,37 @@
 --   sets-all, words-sets, rows-put  : the rows of a graph, as words and as sets
 --   no-bits, no-states : the empty set has no members
 --   set-bits           : a set of the list as a record, and as a number
-use Prim.Native.Nat.{ℕ, zero, suc, _+_, _-_, _*_, _/_, _%_, _^_, _≤_, _<_}
+use Prim.Native.Nat.{ℕ, suc, _+_, _-_, _*_, _/_, _%_, _^_, _≤_, _<_}
 use mathlib.Core.Path.{_≡_, refl, sym, _∙_, ap, ap₂}
 use mathlib.Core.Bool.{Bool, true, false, not}
 use mathlib.Core.List.{List, [], _∷_, _++_}
 use mathlib.Core.Logic.{_≢_, _⊎_, inl, inr}
 use lib.Dec.{eqb}
-use lib.Seq.{getD-drop}
-use lib.ListN.{length, getD, set, replicate, take, drop, length-drop, drop-of-length-le}
+use lib.Seq.{getD-drop, length-take-le}
+use lib.ListN.{length, getD, set, replicate, take, drop, length-append, length-drop, length-set, drop-of-length-le, List·getD-eq-default}
 use native.Mathlib.Omega.{arith}
 use native.Mathlib.Decide.{decLt}
-use native.Mathlib.Numerals.{unary-clauses}
 use borrow.Author.Tests.{eqb-true, eqb-false}
-use Rattle.sets.proofs.Pair.{pair-zero, pair-low, pair-is, single-word}
+use Rattle.sets.proofs.Values.{Words}
+use Rattle.sets.proofs.Held.{
+  held-at,
+  held-put,
+  held-take,
+  held-drop,
+  held-append,
+  held-same,
+  held-spreads,
+  spreads-held,
+  spreads-put,
+}
+use Rattle.sets.proofs.Pair.{pair-zero, pair-low, pair-is}
 use Rattle.finite.specs.Bounded.{least}
 use Rattle.finite.proofs.Bounded.{least-member}
 use Rattle.finite.proofs.Truth.{decide, clash, not-true, not-false}
 use Rattle.bits.specs.Member.{has}
 use Rattle.bits.proofs.Membership.{has-zero, has-past, ext}
 use Rattle.sets.specs.declared.Set.{Set}
-use Rattle.sets.specs.Words.{capacity, lowStates, rowWords, value, bitsOf, setOf, setsIn, setCount, wordsOf, putSet, wordsFor, noStates, setAt}
+use Rattle.sets.specs.Words.{capacity, lowStates, rowWords, value, held, spread, spreads, bitsOf, setOf, setsIn, setCount, wordsOf, putSet, wordsFor, noStates, setAt}
 
 pub none : {b : Bool} (x : ℕ) → b ≡ eqb x 0 → b ≡ true → x ≡ 0
 none x e q = eqb-true x 0 (sym e ∙ q)
@@ -75,37 +86,60 @@ unfolding setCount
 place-low l s h = omega arith
 
 -- two words a set, and a last word alone
-rows-length : (l : List ℕ) (n : ℕ) → 2 * n ≤ length l → n ≤ length (setsIn l)
-unfolding setsIn
-rows-length l zero h = omega arith
-rows-length [] (suc n) h = absurd (omega arith)
-rows-length (x ∷ []) (suc n) h = absurd (omega arith)
-rows-length (x ∷ y ∷ l) (suc n) h = omega (arith, rows-length l n (omega arith))
-
 pub sets-parts : (l : List ℕ) → length (setsIn l) ≡ length l / 2 + length l % 2
 unfolding setsIn
 sets-parts [] = refl
 sets-parts (x ∷ []) = refl
 sets-parts (x ∷ y ∷ l) = omega (arith, sets-parts l)
 
+-- the sets of two words of 64 bits: the laws of Held at these numbers
+sets-held : (l : List ℕ) → setsIn l ≡ held 64 2 (length (setsIn l)) l
+unfolding setsIn held
+sets-held [] = refl
+sets-held (x ∷ []) = refl
+sets-held (x ∷ y ∷ l) = ap (_∷_ (value 64 (x ∷ y ∷ []))) (sets-held l)
+
+sets-many : (l : List ℕ) (k : ℕ) → length l / 2 + length l % 2 ≡ k → setsIn l ≡ held 64 2 k l
+sets-many l k e = sets-held l ∙ ap (λ (n : ℕ). held 64 2 n l) (sets-parts l ∙ e)
+
 pub sets-long : (l : List ℕ) → setCount l ≤ length (setsIn l)
-sets-long l = rows-length l (setCount l) (count-room l (setCount l) (omega arith))
+unfolding setCount
+sets-long l = omega (arith, sets-parts l)
+
+-- the first two words of a list; one that it lacks is 0
+front-pair : (l : List ℕ) → value 64 (getD l 0 0 ∷ getD l 1 0 ∷ []) ≡ value 64 (take 2 l)
+unfolding value
+front-pair [] = refl
+front-pair (x ∷ []) = refl
+front-pair (x ∷ y ∷ l) = refl
 
 pub rows-at : (l : List ℕ) (s : ℕ) → value 64 (getD l (2 * s) 0 ∷ getD l (2 * s + 1) 0 ∷ []) ≡ getD (setsIn l) s 0
-unfolding setsIn value
-rows-at [] s = refl
-rows-at (x ∷ []) zero = refl
-rows-at (x ∷ []) (suc s) = simp unary-clauses
-rows-at (x ∷ y ∷ l) zero = refl
-rows-at (x ∷ y ∷ l) (suc s) = simp unary-clauses (simp unary-clauses at (rows-at l s))
+unfolding value
+rows-at l s = words ∙ front-pair (drop (s * 2) l) ∙ go (decLt s (length (setsIn l)))
+  where
+    words : value 64 (getD l (2 * s) 0 ∷ getD l (2 * s + 1) 0 ∷ []) ≡ value 64 (getD (drop (s * 2) l) 0 0 ∷ getD (drop (s * 2) l) 1 0 ∷ [])
+    words =
+        let e : 2 * s ≡ s * 2 + 0 = omega arith in
+        let f : 2 * s + 1 ≡ s * 2 + 1 = omega arith in
+        ap₂ (λ (a b : ℕ). value 64 (a ∷ b ∷ []))
+        (ap (λ (i : ℕ). getD l i 0) e ∙ sym (getD-drop (s * 2) l 0 0)) (ap (λ (i : ℕ). getD l i 0) f ∙ sym (getD-drop (s * 2) l 1 0))
+
+    past : drop (s * 2) l ≡ [] → value 64 (take 2 (drop (s * 2) l)) ≡ 0
+    past e = ap (λ (m : List ℕ). value 64 (take 2 m)) e
+
+    go : Dec (s < length (setsIn l)) → value 64 (take 2 (drop (s * 2) l)) ≡ getD (setsIn l) s 0
+    go (yes b) = sym (ap (λ (m : List ℕ). getD m s 0) (sets-held l) ∙ held-at 64 2 (length (setsIn l)) l s b)
+    go (no b) = past (drop-of-length-le l {i = s * 2} (omega (arith, sets-parts l))) ∙ sym (List·getD-eq-default (setsIn l) 0 (omega arith))
 
 pub pair-put : (l : List ℕ) (s a b : ℕ) → 2 * s + 2 ≤ length l → setsIn (set (set l (2 * s) a) (2 * s + 1) b) ≡ set (setsIn l) s (value 64 (a ∷ b ∷ []))
-unfolding setsIn
-pair-put [] s a b h = absurd (omega arith)
-pair-put (x ∷ []) s a b h = absurd (omega arith)
-pair-put (x ∷ y ∷ l) zero a b h = refl
-pair-put (x ∷ y ∷ l) (suc s) a b h =
-    simp unary-clauses (ap (_∷_ (value 64 (x ∷ y ∷ []))) (simp unary-clauses at (pair-put l s a b (omega arith))))
+pair-put l s a b h =
+    let k = length l / 2 + length l % 2 in
+    let e : 2 * s ≡ s * 2 = omega arith in
+    let f : 2 * s + 1 ≡ suc (s * 2) = omega arith in
+    let m = set (set l (2 * s) a) (2 * s + 1) b in
+    let long : length m ≡ length l = simp length-set in
+    sets-many m k (ap (λ (n : ℕ). n / 2 + n % 2) long) ∙ ap₂ (λ (i j : ℕ). held 64 2 k (set (set l i a) j b)) e f
+    ∙ held-put 64 2 k l s (a ∷ b ∷ []) (omega arith) refl (omega arith) ∙ ap (λ (n : List ℕ). set n s (value 64 (a ∷ b ∷ []))) (sym (sets-many l k refl))
 
 -- a number's two words
 parted : (x : ℕ) → value 64 (x % 2 ^ 64 ∷ x / 2 ^ 64 ∷ []) ≡ x
@@ -132,16 +166,28 @@ pub words-none : replicate rowWords 0 ≡ wordsOf (replicate capacity 0)
 unfolding wordsOf
 words-none = refl
 
+words-spread : (xs : List ℕ) → wordsOf xs ≡ spreads 64 2 xs
+unfolding wordsOf spreads spread
+words-spread [] = refl
+words-spread (x ∷ xs) = ap (λ (l : List ℕ). x % 2 ^ 64 ∷ x / 2 ^ 64 ∷ l) (words-spread xs)
+
+words-two : (xs : List ℕ) → length (wordsOf xs) ≡ 2 * length xs
+unfolding wordsOf
+words-two [] = refl
+words-two (x ∷ xs) = omega (arith, words-two xs)
+
 pub words-put : (xs : List ℕ) (s x : ℕ) → putSet (wordsOf xs) s x ≡ wordsOf (set xs s x)
-unfolding wordsOf putSet
-words-put [] s x = refl
-words-put (y ∷ xs) zero x = refl
-words-put (y ∷ xs) (suc s) x = simp unary-clauses (ap (λ (l : List ℕ). y % 2 ^ 64 ∷ y / 2 ^ 64 ∷ l) (simp unary-clauses at (words-put xs s x)))
+unfolding putSet spread
+words-put xs s x =
+    let e : 2 * s ≡ s * 2 = omega arith in
+    let f : 2 * s + 1 ≡ suc (s * 2) = omega arith in
+    ap₂ (λ (i j : ℕ). set (set (wordsOf xs) i (x % 2 ^ 64)) j (x / 2 ^ 64)) e f
+    ∙ ap (λ (l : List ℕ). set (set l (s * 2) (x % 2 ^ 64)) (suc (s * 2)) (x / 2 ^ 64)) (words-spread xs) ∙ spreads-put 64 2 xs s x
+    ∙ sym (words-spread (set xs s x))
 
 pub sets-words : (xs : List ℕ) → setsIn (wordsOf xs) ≡ xs
-unfolding wordsOf setsIn
-sets-words [] = refl
-sets-words (x ∷ xs) = ap₂ (λ (y : ℕ) (l : List ℕ). y ∷ l) (parted x) (sets-words xs)
+sets-words xs =
+    sets-many (wordsOf xs) (length xs) (omega (arith, words-two xs)) ∙ ap (held 64 2 (length xs)) (words-spread xs) ∙ held-spreads 64 1 xs
 
 -- a set's words, put as its number
 pub put-words : (l : List ℕ) (s x y : ℕ) → x < 2 ^ 64 → set (set l (2 * s) x) (2 * s + 1) y ≡ putSet l s (value 64 (x ∷ y ∷ []))
@@ -155,56 +201,51 @@ words-held l k b = omega arith
 pub words-long : (l : List ℕ) (k : ℕ) → k ≤ setCount l → wordsFor k ≤ length l
 words-long l k b = count-room l k b
 
-take-rows : (l : List ℕ) (k : ℕ) → 2 * k ≤ length l → setsIn (take (2 * k) l) ≡ take k (setsIn l)
-unfolding setsIn
-take-rows l zero b = refl
-take-rows [] (suc k) b = absurd (omega arith)
-take-rows (x ∷ []) (suc k) b = absurd (omega arith)
-take-rows (x ∷ y ∷ l) (suc k) b = simp unary-clauses (ap (_∷_ (value 64 (x ∷ y ∷ []))) (take-rows l k (omega arith)))
-
 pub sets-take : (l : List ℕ) (k : ℕ) → k ≤ setCount l → setsIn (take (wordsFor k) l) ≡ take k (setsIn l)
-sets-take l k b = take-rows l k (count-room l k b)
+unfolding setCount
+sets-take l k b =
+    let e : 2 * k ≡ k * 2 = omega arith in
+    let long : length (take (2 * k) l) ≡ 2 * k = length-take-le (2 * k) l (omega arith) in
+    sets-many (take (2 * k) l) k (omega arith) ∙ ap (λ (i : ℕ). held 64 2 k (take i l)) e
+    ∙ held-take 64 2 k (length (setsIn l)) l (omega (arith, sets-parts l)) ∙ ap (take k) (sym (sets-held l))
 
 pub sets-drop : (l : List ℕ) (k : ℕ) → setsIn (drop (wordsFor k) l) ≡ drop k (setsIn l)
 unfolding setsIn
-sets-drop l zero = refl
-sets-drop [] (suc k) = simp unary-clauses
-sets-drop (x ∷ []) (suc k) =
-    ap setsIn (drop-of-length-le (x ∷ []) {i = 2 * suc k} (omega arith)) ∙ sym (drop-of-length-le (setsIn (x ∷ [])) {i = suc k} (omega arith))
-sets-drop (x ∷ y ∷ l) (suc k) = simp unary-clauses (sets-drop l k)
+sets-drop l k = go (decLt k (length (setsIn l)))
+  where
+    past : drop (2 * k) l ≡ [] → setsIn (drop (2 * k) l) ≡ []
+    past e = ap setsIn e
+
+    go : Dec (k < length (setsIn l)) → setsIn (drop (2 * k) l) ≡ drop k (setsIn l)
+    go (yes b) =
+        let j = length (setsIn l) - k in
+        let e : 2 * k ≡ k * 2 = omega arith in
+        let f : k + j ≡ length (setsIn l) = omega arith in
+        sets-many (drop (2 * k) l) j (omega (arith, length-drop (2 * k) l, sets-parts l)) ∙ ap (λ (i : ℕ). held 64 2 j (drop i l)) e
+        ∙ held-drop 64 2 k j l ∙ ap (λ (i : ℕ). drop k (held 64 2 i l)) f ∙ ap (drop k) (sym (sets-held l))
+    go (no b) =
+        past (drop-of-length-le l {i = 2 * k} (omega (arith, sets-parts l))) ∙ sym (drop-of-length-le (setsIn l) {i = k} (omega arith))
 
 pub count-drop : (l : List ℕ) (k n : ℕ) → k + n ≤ setCount l → n ≤ setCount (drop (wordsFor k) l)
 unfolding setCount
 count-drop l k n b = omega (arith, length-drop (2 * k) l)
 
 pub sets-append : (a b : List ℕ) (k : ℕ) → length a ≡ wordsFor k → setsIn (a ++ b) ≡ setsIn a ++ setsIn b
-unfolding setsIn
-sets-append [] b k e = refl
-sets-append (x ∷ []) b k e = absurd (omega arith)
-sets-append (x ∷ y ∷ a) b zero e = absurd (omega arith)
-sets-append (x ∷ y ∷ a) b (suc k) e = ap (_∷_ (value 64 (x ∷ y ∷ []))) (sets-append a b k (omega arith))
+sets-append a b k e =
+    let f : length a ≡ k * 2 = omega arith in
+    sets-many (a ++ b) (k + length (setsIn b)) (omega (arith, length-append a b, sets-parts b)) ∙ held-append 64 2 k (length (setsIn b)) a b f
+    ∙ ap₂ (λ (l m : List ℕ). l ++ m) (sym (sets-many a k (omega arith))) (sym (sets-held b))
 
--- equal lists begin with the same number, and go on with the same list
-heads : {x y : ℕ} {l m : List ℕ} → x ∷ l ≡ y ∷ m → x ≡ y
-heads h = ap (λ (n : List ℕ). getD n 0 0) h
-
-tails : {x y : ℕ} {l m : List ℕ} → x ∷ l ≡ y ∷ m → l ≡ m
-tails h = ap (λ (n : List ℕ). drop 1 n) h
+words-fit : (l : List ℕ) → ((i : ℕ) → getD l i 0 < 2 ^ 64) → Words 64 l
+words-fit [] f = Words.none
+words-fit (x ∷ l) f = Words.more (f 0) (words-fit l (λ i. f (suc i)))
 
 -- words of 64 bits that hold the same sets are the same
 words-same : (l m : List ℕ) → ((i : ℕ) → getD l i 0 < 2 ^ 64) → ((i : ℕ) → getD m i 0 < 2 ^ 64) → length l ≡ length m → setsIn l ≡ setsIn m → l ≡ m
-unfolding setsIn
-words-same [] [] a b e h = refl
-words-same [] (z ∷ m) a b e h = absurd (omega arith)
-words-same (x ∷ l) [] a b e h = absurd (omega arith)
-words-same (x ∷ []) (z ∷ []) a b e h = ap (λ (y : ℕ). y ∷ []) (sym (single-word x) ∙ heads h ∙ single-word z)
-words-same (x ∷ []) (z ∷ w ∷ m) a b e h = absurd (omega arith)
-words-same (x ∷ y ∷ l) (z ∷ []) a b e h = absurd (omega arith)
-words-same (x ∷ y ∷ l) (z ∷ w ∷ m) a b e h =
-    let first : x ≡ z = sym (parted-low x y (a 0)) ∙ ap (λ (k : ℕ). k % 2 ^ 64) (heads h) ∙ parted-low z w (b 0) in
-    let second : y ≡ w = sym (parted-high x y (a 0)) ∙ ap (λ (k : ℕ). k / 2 ^ 64) (heads h) ∙ parted-high z w (b 0) in
-    let rest : l ≡ m = words-same l m (λ i. a (suc (suc i))) (λ i. b (suc (suc i))) (omega arith) (tails h) in
-    ap₂ (λ (k : ℕ) (n : List ℕ). k ∷ n) first (ap₂ (λ (k : ℕ) (n : List ℕ). k ∷ n) second rest)
+words-same l m a b e h =
+    let k = length l / 2 + length l % 2 in
+    held-same 64 2 k l m (words-fit l a) (words-fit m b) e (omega arith)
+    (sym (sets-many l k refl) ∙ h ∙ sets-many m k (ap (λ (n : ℕ). n / 2 + n % 2) (sym e)))
 
 pub rest-words : (k : ℕ) (l m : List ℕ) → ((i : ℕ) → getD l i 0 < 2 ^ 64) → ((i : ℕ) → getD m i 0 < 2 ^ 64) → length l ≡ length m
     → drop k (setsIn l) ≡ drop k (setsIn m) → drop (wordsFor k) l ≡ drop (wordsFor k) m
@@ -247,27 +288,12 @@ word-low w h =
     ext (bitsOf (record { low = w; high = 0 })) w
     (pair-is w 0 h (has w) (λ t l. refl) (λ t. has-zero t ∙ sym (has-past 64 w (64 + t) h (omega arith))))
 
-even-length : (l : List ℕ) (n : ℕ) → length l ≡ 2 * n → length (setsIn l) ≡ n
-unfolding setsIn
-even-length [] n h = omega arith
-even-length (x ∷ []) n h = absurd (omega arith)
-even-length (x ∷ y ∷ l) zero h = absurd (omega arith)
-even-length (x ∷ y ∷ l) (suc n) h = omega (arith, even-length l n (omega arith))
-
 pub sets-all : (l : List ℕ) → length l ≡ rowWords → length (setsIn l) ≡ capacity
-sets-all l h = even-length l capacity h
-
-even-words : (l : List ℕ) (n : ℕ) → length l ≡ 2 * n → ((i : ℕ) → getD l i 0 < 2 ^ 64) → wordsOf (setsIn l) ≡ l
-unfolding wordsOf setsIn
-even-words [] n h k = refl
-even-words (x ∷ []) n h k = absurd (omega arith)
-even-words (x ∷ y ∷ l) zero h k = absurd (omega arith)
-even-words (x ∷ y ∷ l) (suc n) h k =
-    ap₂ (λ (a : ℕ) (m : List ℕ). a ∷ m) (parted-low x y (k 0))
-    (ap₂ (λ (a : ℕ) (m : List ℕ). a ∷ m) (parted-high x y (k 0)) (even-words l n (omega arith) (λ i. k (suc (suc i)))))
+sets-all l h = omega (arith, sets-parts l)
 
 pub words-sets : (l : List ℕ) → length l ≡ rowWords → ((i : ℕ) → getD l i 0 < 2 ^ 64) → wordsOf (setsIn l) ≡ l
-words-sets l h k = even-words l capacity h k
+words-sets l h f =
+    words-spread (setsIn l) ∙ ap (spreads 64 2) (sets-many l capacity (omega arith)) ∙ spreads-held 64 1 capacity l (words-fit l f) h
 
 pub rows-put : (l m : List ℕ) (s x : ℕ) → wordsOf (setsIn l) ≡ l → m ≡ putSet l s x → (setsIn m ≡ set (setsIn l) s x) × (wordsOf (setsIn m) ≡ m)
 rows-put l m s x h e =

@@ -2,25 +2,29 @@
 --
 --   Words w l          == each of l is a word of w bits
 --   Linked w f c a b   == c, a and b are as many words, and those of c have the bits that f makes of those of a and b
---   has-at             : the members of word number k
+--   has-words          : a set told by its first word and by those after it
 --   linked             : an operation on words, bit by bit, is that operation on sets
---   least-word, ..     : the lowest member, the count and the tests, one word after the other
-use Prim.Native.Nat.{ℕ, zero, suc, _+_, _-_, _*_, _^_, _≤_, _<_}
-use mathlib.Core.Path.{_≡_, sym, _∙_, ap, ap₂}
-use mathlib.Core.Bool.{Bool, true, false, _&&_, _||_}
+--   insert-first, insert-later : a member more, in the first word or in a later one
+--   strip-first, strip-later   : a member less, the lowest: of the first word that has one
+--   below-first, below-later   : the states below a bound
+--   least-first, ..    : the lowest member, the count and the tests, one word after the other
+--   words-same         : words that hold the same set are the same
+use Prim.Native.Nat.{ℕ, _+_, _-_, _*_, _^_, _≤_, _<_}
+use mathlib.Core.Path.{_≡_, refl, sym, _∙_, ap, ap₂}
+use mathlib.Core.Bool.{Bool, true, false, not, _&&_, _||_}
 use mathlib.Core.List.{List, [], _∷_}
 use mathlib.Core.Logic.{_⊎_, inl, inr, _≢_}
 use native.Mathlib.Nat.{suc-mul}
-use native.Mathlib.Decide.{decLt}
+use native.Mathlib.Decide.{ℕ-discrete, decLt}
 use native.Mathlib.Omega.{arith}
-use lib.Dec.{eqb}
+use lib.Dec.{eqb, ltb}
 use lib.Arith.{digits-lt}
-use lib.ListN.{length, getD}
+use lib.ListN.{length}
 use lib.Pow.{pow-pos, pow-add}
-use Rattle.finite.specs.Bounded.{least, count, one}
-use Rattle.finite.proofs.Truth.{clash, false-of, and-intro, and-left, and-right, or-left, or-right, or-cases, same-test}
+use Rattle.finite.specs.Bounded.{least, count}
+use Rattle.finite.proofs.Truth.{clash, false-of, and-intro, and-left, and-right, or-left, or-right, or-cases, same-test, or-none, and-all}
 use Rattle.finite.proofs.Bounded.{all-elim, least-le, least-member, least-before, least-unique, least-below, count-same, count-add}
-use borrow.Author.Tests.{eqb-true, eq-eqb}
+use borrow.Author.Tests.{eqb-true, eq-eqb, ne-eqb, lt-ltb, le-ltb}
 use Rattle.bits.specs.Member.{has, within, implies, subset, setsMeet}
 use Rattle.bits.proofs.Membership.{has-zero, has-block-low, has-block-high, has-past, has-within, within-has, ext}
 use Rattle.bits.proofs.Compare.{nonzero-below, nonzero-member, subset-intro, meets-intro, meets-elim}
@@ -39,6 +43,19 @@ pub data Linked (w : ℕ) (f : Bool → Bool → Bool) : List ℕ → List ℕ �
 first-or-later : (w s : ℕ) → (s < w) ⊎ ((t : ℕ) × (s ≡ w + t))
 first-or-later w s = elim (decLt s w) [ yes l ↦ inl l | no l ↦ inr (s - w, omega arith) ]
 
+-- a test of two states that are both of later words
+pub moved-eqb : (w t s : ℕ) → eqb (w + t) (w + s) ≡ eqb t s
+moved-eqb w t s = elim (ℕ-discrete t s) [
+  | yes e ↦ eq-eqb (w + t) (w + s) (omega arith) ∙ sym (eq-eqb t s e)
+  | no n ↦ ne-eqb (w + t) (w + s) (λ e. n (omega arith)) ∙ sym (ne-eqb t s n)
+]
+
+pub moved-ltb : (w t n : ℕ) → ltb t n ≡ ltb (w + t) (w + n)
+moved-ltb w t n = elim (decLt t n) [
+  | yes l ↦ lt-ltb t n l ∙ sym (lt-ltb (w + t) (w + n) (omega arith))
+  | no l ↦ le-ltb t n (omega arith) ∙ sym (le-ltb (w + t) (w + n) (omega arith))
+]
+
 pub subset-at : (n x y : ℕ) → subset n x y ≡ true → (s : ℕ) → s < n → has x s ≡ true → has y s ≡ true
 unfolding subset implies
 subset-at n x y e s l m = rw m at (all-elim n (implies x y) e s l)
@@ -55,13 +72,6 @@ module _ (w : ℕ) where
   has-none : (s : ℕ) → has (value w []) s ≡ false
   unfolding value
   has-none s = has-zero s
-
-  has-at : (l : List ℕ) → Words w l → (k s : ℕ) → s < w → has (value w l) (k * w + s) ≡ has (getD l k 0) s
-  has-at [] none k s h = has-none (k * w + s) ∙ sym (has-zero s)
-  has-at (x ∷ l) (more b r) zero s h = ap (has (value w (x ∷ l))) (omega arith) ∙ has-first x l s h
-  has-at (x ∷ l) (more b r) (suc k) s h =
-      let e : suc k * w + s ≡ w + (k * w + s) = omega (arith, suc-mul k w) in
-      ap (has (value w (x ∷ l))) e ∙ has-later x l (k * w + s) b ∙ has-at l r k s h
 
   pub value-lt : (l : List ℕ) → Words w l → value w l < 2 ^ (length l * w)
   unfolding value
@@ -87,6 +97,69 @@ module _ (w : ℕ) where
         | inl l ↦ has-first r c t l ∙ f t l
         | inr (k, e) ↦ rw e (has-later r c k h ∙ g k)
       ]
+
+  -- a member more, in the first word
+  pub insert-first : (x r s : ℕ) (l : List ℕ) → x < 2 ^ w → r < 2 ^ w → s < w → ((t : ℕ) → has r t ≡ (has x t || eqb t s))
+      → (t : ℕ) → has (value w (r ∷ l)) t ≡ (has (value w (x ∷ l)) t || eqb t s)
+  insert-first x r s l h g b f =
+      has-words r l (λ t. has (value w (x ∷ l)) t || eqb t s) g (λ t c. f t ∙ rw (has-first x l t c) refl)
+      (λ t. rw (has-later x l t h, ne-eqb (w + t) s (λ e. omega arith)) (sym (or-none (has (value w l) t) refl)))
+
+  -- in a later one: l has become m
+  pub insert-later : (x s : ℕ) (l m : List ℕ) → x < 2 ^ w → ((t : ℕ) → has (value w m) t ≡ (has (value w l) t || eqb t s))
+      → (t : ℕ) → has (value w (x ∷ m)) t ≡ (has (value w (x ∷ l)) t || eqb t (w + s))
+  insert-later x s l m h f =
+      has-words x m (λ t. has (value w (x ∷ l)) t || eqb t (w + s)) h
+      (λ t c. rw (has-first x l t c, ne-eqb t (w + s) (λ e. omega arith)) (sym (or-none (has x t) refl)))
+      (λ t. f t ∙ rw (has-later x l t h, moved-eqb w t s) refl)
+
+  -- the states below n, in the first word and in those after it
+  pub below-first : (n x : ℕ) (l : List ℕ) → x < 2 ^ w → n ≤ w → ((t : ℕ) → has x t ≡ ltb t n) → value w l ≡ 0
+      → (t : ℕ) → has (value w (x ∷ l)) t ≡ ltb t n
+  below-first n x l h b f z =
+      has-words x l (λ t. ltb t n) h (λ t c. f t)
+      (λ t. ap (λ (y : ℕ). has y t) z ∙ has-zero t ∙ sym (le-ltb (w + t) n (omega arith)))
+
+  pub below-later : (n x : ℕ) (l : List ℕ) → x < 2 ^ w → ((t : ℕ) → t < w → has x t ≡ true) → ((t : ℕ) → has (value w l) t ≡ ltb t n)
+      → (t : ℕ) → has (value w (x ∷ l)) t ≡ ltb t (w + n)
+  below-later n x l h f g =
+      has-words x l (λ t. ltb t (w + n)) h (λ t c. f t c ∙ sym (lt-ltb t (w + n) (omega arith))) (λ t. g t ∙ moved-ltb w t n)
+
+  -- sets that are the same have the same first word and the same later ones
+  module _ (x y : ℕ) (a b : List ℕ) (h : x < 2 ^ w) (g : y < 2 ^ w) where
+    first-same : value w (x ∷ a) ≡ value w (y ∷ b) → x ≡ y
+    first-same q = ext x y (λ t. go t (decLt t w))
+      where
+        go : (t : ℕ) → Dec (t < w) → has x t ≡ has y t
+        go t (yes c) = sym (has-first x a t c) ∙ ap (λ (n : ℕ). has n t) q ∙ has-first y b t c
+        go t (no c) = has-past w x t h (omega arith) ∙ sym (has-past w y t g (omega arith))
+
+    later-same : value w (x ∷ a) ≡ value w (y ∷ b) → value w a ≡ value w b
+    later-same q = ext (value w a) (value w b) (λ t. sym (has-later x a t h) ∙ ap (λ (n : ℕ). has n (w + t)) q ∙ has-later y b t g)
+
+    -- the test of equality, word after word
+    pub same-words : eqb (value w (x ∷ a)) (value w (y ∷ b)) ≡ (eqb x y && eqb (value w a) (value w b))
+    unfolding value
+    same-words = same-test (eqb (value w (x ∷ a)) (value w (y ∷ b))) (eqb x y && eqb (value w a) (value w b)) to back
+      where
+        to : eqb (value w (x ∷ a)) (value w (y ∷ b)) ≡ true → (eqb x y && eqb (value w a) (value w b)) ≡ true
+        to q =
+            let z = eqb-true (value w (x ∷ a)) (value w (y ∷ b)) q in
+            and-intro (eq-eqb x y (first-same z)) (eq-eqb (value w a) (value w b) (later-same z))
+
+        back : (eqb x y && eqb (value w a) (value w b)) ≡ true → eqb (value w (x ∷ a)) (value w (y ∷ b)) ≡ true
+        back e =
+            eq-eqb (value w (x ∷ a)) (value w (y ∷ b))
+            (ap₂ (λ (m n : ℕ). n * 2 ^ w + m) (eqb-true x y (and-left (eqb x y) (eqb (value w a) (value w b)) e))
+            (eqb-true (value w a) (value w b) (and-right (eqb x y) (eqb (value w a) (value w b)) e)))
+
+  -- words that hold the same set are the same
+  pub words-same : (a b : List ℕ) → Words w a → Words w b → length a ≡ length b → value w a ≡ value w b → a ≡ b
+  words-same [] [] none none e q = refl
+  words-same [] (y ∷ b) none (more h s) e q = absurd (omega arith)
+  words-same (x ∷ a) [] (more h r) none e q = absurd (omega arith)
+  words-same (x ∷ a) (y ∷ b) (more h r) (more g s) e q =
+      ap₂ (λ (k : ℕ) (n : List ℕ). k ∷ n) (first-same x y a b h g q) (words-same a b r s (omega arith) (later-same x y a b h g q))
 
   pub empty-words : (x : ℕ) (l : List ℕ) → x < 2 ^ w → eqb (value w (x ∷ l)) 0 ≡ (eqb x 0 && eqb (value w l) 0)
   empty-words x l h = same-test (eqb (value w (x ∷ l)) 0) (eqb x 0 && eqb (value w l) 0) to back
@@ -169,6 +242,25 @@ module _ (w : ℕ) where
             | yes c ↦ clash (least-member (w + n) (has (value w (x ∷ l))) c) (before i (omega (arith, least-le n (has (value w l)))))
             | no c ↦ omega (arith, least-le (w + n) (has (value w (x ∷ l))), least-le n (has (value w l)))
           ]
+
+  -- a member less, the lowest, of the first word that has one
+  pub strip-first : (n x r : ℕ) (l : List ℕ) → x < 2 ^ w → r < 2 ^ w → x ≢ 0 → ((t : ℕ) → has r t ≡ (has x t && not (eqb t (least w (has x)))))
+      → (t : ℕ) → has (value w (r ∷ l)) t ≡ (has (value w (x ∷ l)) t && not (eqb t (least (w + n) (has (value w (x ∷ l))))))
+  strip-first n x r l h g ne f =
+      let m = nonzero-below w x h ne in
+      let b = least-below w (has x) (m .0) (m .1) (m .2) in
+      rw (least-first n x l h ne)
+      (has-words r l (λ t. has (value w (x ∷ l)) t && not (eqb t (least w (has x)))) g (λ t c. f t ∙ rw (has-first x l t c) refl)
+      (λ t. rw (has-later x l t h, ne-eqb (w + t) (least w (has x)) (λ e. omega arith)) (sym (and-all (has (value w l) t) refl))))
+
+  pub strip-later : (n x : ℕ) (l m : List ℕ) → x < 2 ^ w → x ≡ 0
+      → ((t : ℕ) → has (value w m) t ≡ (has (value w l) t && not (eqb t (least n (has (value w l))))))
+      → (t : ℕ) → has (value w (x ∷ m)) t ≡ (has (value w (x ∷ l)) t && not (eqb t (least (w + n) (has (value w (x ∷ l))))))
+  strip-later n x l m h z f =
+      rw (least-later n x l h z)
+      (has-words x m (λ t. has (value w (x ∷ l)) t && not (eqb t (w + least n (has (value w l))))) h
+      (λ t c. rw (has-first x l t c, z, has-zero) refl)
+      (λ t. f t ∙ rw (has-later x l t h, moved-eqb w t (least n (has (value w l)))) refl))
 
   -- counts and tests, over w + n states
 

@@ -6,6 +6,9 @@
 --   lowStates   == how many of them are low: those that the first word of a set holds
 --   rowWords    == how many words the rows of a graph take
 --   value w l   == the number whose words of w bits are l, low first: laws of it hold for any number of words
+--   held w n k l   == the numbers of the first k sets that the words l hold, n words of w bits a set: laws of it hold for any number of words a set
+--   spread w n x   == the n words of w bits of the set with the number x
+--   spreads w n xs == the words of sets, one set after the other
 --   bitsOf x    == the number of the set x: state s belongs to x when `has (bitsOf x) s`
 --   setsIn l    == the numbers of the sets that the words l hold
 --   setCount l  == how many sets the words l hold
@@ -16,12 +19,12 @@
 --   WordsFit x  == each word of the set x has 64 bits: so in every program
 --   noStates    == the empty set
 --   setAt l s   == set number s of the words l, as a record
-use Prim.Native.Nat.{ℕ, _+_, _*_, _/_, _%_, _^_, _<_}
-use mathlib.Core.List.{List, [], _∷_}
-use lib.ListN.{length, getD, set}
+use Prim.Native.Nat.{ℕ, zero, suc, _+_, _*_, _/_, _%_, _^_, _<_}
+use mathlib.Core.List.{List, [], _∷_, _++_}
+use lib.ListN.{length, getD, set, take, drop}
 use Rattle.sets.specs.declared.Set.{Set}
 
--- "A set becomes two 64-bit words, low states first, in every record." (M-105)
+-- "A set becomes two 64-bit words, low states first, in every record." (M-105) (SPEC 1.5)
 abbrev pub capacity : ℕ
 capacity = 128
 
@@ -38,7 +41,20 @@ unfoldable pub value : ℕ → List ℕ → ℕ
 value w [] = 0
 value w (x ∷ l) = value w l * 2 ^ w + x
 
--- "state s belongs when the bit worth 2 to the power s is set"
+unfoldable pub held : ℕ → ℕ → ℕ → List ℕ → List ℕ
+held w n zero l = []
+held w n (suc k) l = value w (take n l) ∷ held w n k (drop n l)
+
+unfoldable pub spread : ℕ → ℕ → ℕ → List ℕ
+spread w zero x = []
+spread w (suc zero) x = x ∷ []
+spread w (suc (suc n)) x = x % 2 ^ w ∷ spread w (suc n) (x / 2 ^ w)
+
+unfoldable pub spreads : ℕ → ℕ → List ℕ → List ℕ
+spreads w n [] = []
+spreads w n (x ∷ xs) = spread w n x ++ spreads w n xs
+
+-- "state s belongs when the bit worth 2 to the power s is set" (SPEC 1.5)
 unfoldable pub bitsOf : Set → ℕ
 unfolding value
 bitsOf x = value 64 (x .low ∷ x .high ∷ [])
