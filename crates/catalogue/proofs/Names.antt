@@ -6,12 +6,18 @@ use mathlib.Core.Bool.{Bool, true, false, not}
 use mathlib.Core.List.{List, [], _∷_, _++_, append-assoc, append-nil}
 use mathlib.Core.Logic.{inl, inr}
 use mathlib.Core.Path.{_≡_, refl, sym, _∙_, ap, subst}
+use lib.IntN.{ℤ, pos}
+use Rattle.finite.proofs.Truth.{not-true, not-false}
+use Rattle.files.specs.declared.Front.{Front}
+use Rattle.files.specs.Front.{frontOf}
 use lib.ListN.{length, take, drop, length-append, length-drop, length-map}
+use lib.Seq.{take-at}
 use borrow.Author.Tests.{le-leb, lt-leb}
 use Rattle.text_shape.proofs.WordTable.{opening-short}
 use Rattle.text_grammar.specs.Number.{decimal}
 use Rattle.text_shape.specs.Shape.{opening}
-use Rattle.text_put.specs.Put.{Puts}
+use Rattle.text_put.specs.Put.{Puts, PutsWithin}
+use Rattle.text_put.proofs.Buffer.{puts-fills}
 use Rattle.print_lines.specs.Line.{refusedLine}
 use Rattle.print_lines.proofs.Lines.{number-short, refused-pieces}
 use Rattle.catalogue_names.specs.Names.{names, front, fitName, NextName}
@@ -27,38 +33,47 @@ use Rattle.catalogue_tally.specs.declared.Tally.{Tally}
 use Rattle.catalogue_tally.specs.Figures.{Tallied, Within, Roomy, Modest, added, emptyTally, wonOf, positionsOf}
 use Rattle.catalogue_tally.proofs.Counting.{tallied-add, tallied-roomy, tallied-nothing, within-add, within-nothing}
 use Rattle.catalogue_verdict.specs.Judged.{Judged}
-use Rattle.catalogue_lines.specs.Figures.{figuresPrint, Made}
-use Rattle.catalogue.specs.Catalogue.{FromFile, ForName, Each, Catalogued, Prints, Printed, MoreKept, InputKept, KeptPrinted}
+use Rattle.catalogue_lines.specs.Figures.{figuresPrint, figuresBytes}
+use Rattle.catalogue.specs.Catalogue.{FromFront, FromOpen, FromFile, ForName, Each, Catalogued, PrintOf, Printed, MoreKept, InputKept, KeptPrinted, Goes}
 
 -- the refusal 26
 modest-26 : Modest (Refused 26)
 unfolding wonOf positionsOf
 modest-26 = record { won = omega arith; positions = omega arith }
 
-pub no-file : FromFile (Refused 26) × Modest (Refused 26)
+no-file : FromFile (Refused 26) × Modest (Refused 26)
 unfolding FromFile
 no-file = (inl refl, modest-26)
 
-pub from-bytes : {s : List ℕ} {o : Outcome} → Judged s o × Modest o → FromFile o × Modest o
-unfolding FromFile
-from-bytes {s} J = (inr (s, J .0), J .1)
+-- the file that was read
+module _ (f : Front) where
+  pub not-whole : {b : Bool} → b ≡ f .whole → not b ≡ true → FromFront f (Refused 26) × Modest (Refused 26)
+  unfolding FromFront
+  not-whole e h = (rw (sym e ∙ not-true _ h, FromFront) refl, modest-26)
+
+  pub from-front : {b : Bool} {s : List ℕ} {o : Outcome} → b ≡ f .whole → not b ≡ false → s ≡ frontOf f → Judged s o × Modest o → FromFront f o × Modest o
+  unfolding FromFront
+  from-front {o = o} e h q J = (rw (sym e ∙ not-false _ h, FromFront) (subst (λ (x : List ℕ). Judged x o) q (J .0)), J .1)
+
+  pub from-open : {o : Outcome} → FromFront f o × Modest o → FromOpen o × Modest o
+  unfolding FromOpen
+  from-open F = ((f, F .0), F .1)
 
 module _ (n : List ℕ) where
   pub unfit-name : {b : Bool} → b ≡ fitName n → not b ≡ true → ForName n (Refused 26) × Modest (Refused 26)
   unfolding ForName
-  unfit-name e h = (rw (sym e ∙ flip _ h, ForName) refl, modest-26)
-    where
-      flip : (b : Bool) → not b ≡ true → b ≡ false
-      flip true h = sym h
-      flip false h = refl
+  unfit-name e h = (rw (sym e ∙ not-true _ h, ForName) refl, modest-26)
 
-  pub fit-file : {b : Bool} {o : Outcome} → b ≡ fitName n → not b ≡ false → FromFile o × Modest o → ForName n o × Modest o
+  fit-file : {b : Bool} {o : Outcome} → b ≡ fitName n → not b ≡ false → FromFile o × Modest o → ForName n o × Modest o
   unfolding ForName
-  fit-file e h F = (rw (sym e ∙ flip _ h, ForName) (F .0), F .1)
-    where
-      flip : (b : Bool) → not b ≡ false → b ≡ true
-      flip true h = refl
-      flip false h = sym h
+  fit-file e h F = (rw (sym e ∙ not-false _ h, ForName) (F .0), F .1)
+
+  pub fit-none : {b : Bool} → b ≡ fitName n → not b ≡ false → ForName n (Refused 26) × Modest (Refused 26)
+  fit-none e h = fit-file e h no-file
+
+  pub fit-open : {b : Bool} {o : Outcome} → b ≡ fitName n → not b ≡ false → FromOpen o × Modest o → ForName n o × Modest o
+  unfolding FromFile
+  fit-open e h F = fit-file e h (inr (F .0), F .1)
 
 pub name-within : (l : List ℕ) (at : ℕ) {e : ℕ} → at ≤ length l → e ≡ at + length (front (drop at l)) → (at ≤ e) × (e ≤ length l)
 name-within l at h q = (omega arith, omega (arith, front-short (drop at l), length-drop at l))
@@ -114,13 +129,14 @@ module _ {l : List ℕ} {at : ℕ} {t : Tally} (U : Under l at t) where
       }
 
 -- the print
-module _ {l d : List ℕ} {n : ℕ} {e : List ℕ} where
+module _ {l d : List ℕ} {n : ℕ} {e : List ℕ} (room : figuresBytes ≤ length d) where
   pub prints-many : {k : ℕ} → k ≡ length (names l) → 1000 < k → Puts d 0 (refusedLine 27) n e → Printed l d n e
-  unfolding Prints
+  unfolding PrintOf
   prints-many q h P =
       record {
-        prints = rw (lt-leb (length (names l)) 1000 (omega arith), Prints) P;
-        fits = omega (arith, P .next, refused-short);
+        text = refusedLine 27;
+        print = rw (lt-leb (length (names l)) 1000 (omega arith), PrintOf) refl;
+        fills = puts-fills P (omega (arith, room, refused-short));
       }
     where
       refused-short : length (refusedLine 27) ≤ 60
@@ -134,10 +150,14 @@ module _ {l d : List ℕ} {n : ℕ} {e : List ℕ} where
             number-short 27 41 (omega arith),
           )
 
-  pub prints-figures : {k : ℕ} {t : Tally} → k ≡ length (names l) → k ≤ 1000 → Catalogued l t → Made d (figuresPrint t) n e → Printed l d n e
-  unfolding Prints
+  pub prints-figures : {k : ℕ} {t : Tally} → k ≡ length (names l) → k ≤ 1000 → Catalogued l t → PutsWithin figuresBytes d (figuresPrint t) n e → Printed l d n e
+  unfolding PrintOf
   prints-figures {k} {t} q h C M =
-      record { prints = rw (le-leb (length (names l)) 1000 (omega arith), Prints) (t, C, M .puts); fits = M .fits }
+      record {
+        text = figuresPrint t;
+        print = rw (le-leb (length (names l)) 1000 (omega arith), PrintOf) (t, C, refl);
+        fills = puts-fills (M .puts) (omega (arith, room, M .fits));
+      }
 
 -- the list as it is kept
 for-short : (n : List ℕ) (o : Outcome) → ForName (take 256 n) o → ForName n o
@@ -151,33 +171,33 @@ each-short [] (o ∷ os) E = E
 each-short (n ∷ ns) [] E = E
 each-short (n ∷ ns) (o ∷ os) E = (for-short n o (E .0), each-short ns os (E .1))
 
-module _ {s l d : List ℕ} {n : ℕ} {e : List ℕ} where
-  printed-many : 1000 < length (names l) → 1000 < length (names s) → Printed l d n e → Printed s d n e
-  unfolding Prints
-  printed-many h g P =
-      let p = rw (lt-leb (length (names l)) 1000 h, Prints) at (P .prints) in
-      record { prints = rw (lt-leb (length (names s)) 1000 g, Prints) p; fits = P .fits }
+module _ (s l t : List ℕ) where
+  print-many : 1000 < length (names l) → 1000 < length (names s) → PrintOf l t → PrintOf s t
+  unfolding PrintOf
+  print-many h g P =
+      let p = rw (lt-leb (length (names l)) 1000 h, PrintOf) at P in
+      rw (lt-leb (length (names s)) 1000 g, PrintOf) p
 
-  printed-few : names l ≡ short (names s) → length (names l) ≤ 1000 → Printed l d n e → Printed s d n e
-  unfolding Prints
-  printed-few q h P =
-      let p = rw (le-leb (length (names l)) 1000 h, Prints) at (P .prints) in
+  print-few : names l ≡ short (names s) → length (names l) ≤ 1000 → PrintOf l t → PrintOf s t
+  unfolding PrintOf
+  print-few q h P =
+      let p = rw (le-leb (length (names l)) 1000 h, PrintOf) at P in
       let g : length (names s) ≤ 1000 = omega (arith, ap length q, length-map (names s) (take 256)) in
       let C = p .1 in
       let each = each-short (names s) (C .outcomes) (subst (λ (ns : List (List ℕ)). Each ns (C .outcomes)) q (C .each)) in
       let now : Catalogued s (p .0) = record { outcomes = C .outcomes; each = each; tallied = C .tallied } in
-      record { prints = rw (le-leb (length (names s)) 1000 g, Prints) (p .0, now, p .2); fits = P .fits }
+      rw (le-leb (length (names s)) 1000 g, PrintOf) (p .0, now, p .2)
 
-  printed-short : names l ≡ short (names s) → Printed l d n e → Printed s d n e
-  printed-short q P =
+  print-short : names l ≡ short (names s) → PrintOf l t → PrintOf s t
+  print-short q P =
       elim (decLe (length (names l)) 1000) [
-        | yes h ↦ printed-few q h P
-        | no h ↦ printed-many (omega arith) (omega (arith, ap length q, length-map (names s) (take 256))) P
+        | yes h ↦ print-few q h P
+        | no h ↦ print-many (omega arith) (omega (arith, ap length q, length-map (names s) (take 256))) P
       ]
 
 -- the print for what is kept of a list is the print for the list
-kept-printed : (s : List ℕ) (m : ℕ) {d : List ℕ} {n : ℕ} {e : List ℕ} → 257000 < m → Printed (take m (cut 0 s)) d n e → Printed s d n e
-kept-printed s m h P = elim (kept-names s m h) [ inl q ↦ printed-short q P | inr q ↦ printed-many (q .0) (q .1) P ]
+kept-print-of : (s : List ℕ) (m : ℕ) (t : List ℕ) → 257000 < m → PrintOf (take m (cut 0 s)) t → PrintOf s t
+kept-print-of s m t h P = elim (kept-names s m h) [ inl q ↦ print-short s (take m (cut 0 s)) t q P | inr q ↦ print-many s (take m (cut 0 s)) t (q .0) (q .1) P ]
 
 -- standard input, part by part
 pub input-nothing : (d : List ℕ) {k : Kept} → k ≡ nothing-kept → InputKept d k
@@ -189,6 +209,21 @@ input-more I M = record { input = I .input ++ M .part; held = held-more (I .held
 pub input-within : {d : List ℕ} {k : Kept} → InputKept d k → k .len ≤ length d
 input-within I = held-within (I .held)
 
-pub kept-print : {l : List ℕ} {k : Kept} {d : List ℕ} {n : ℕ} {e : List ℕ} → 257000 < length l → Printed (take (k .len) l) d n e → KeptPrinted l k d n e
-kept-print {l} {k} {d} {n} {e} h P =
-    record { printed = λ s H. kept-printed s (length l) h (subst (λ (x : List ℕ). Printed x d n e) (H .front) P); fits = P .fits }
+module _ {l : List ℕ} {k : Kept} {d : List ℕ} {n : ℕ} {e : List ℕ} where
+  pub kept-print : 257000 < length l → Printed (take (k .len) l) d n e → KeptPrinted l k d n e
+  kept-print h P =
+      record {
+        text = P .text;
+        print = λ s H. kept-print-of s (length l) (P .text) h (subst (λ (x : List ℕ). PrintOf x (P .text)) (H .front) (P .print));
+        fills = P .fills;
+      }
+
+  -- the front that was written is the print
+  pub kept-within : KeptPrinted l k d n e → n ≤ length e
+  kept-within P = omega (arith, P .fills .bytes, ap length (P .fills .buffer), length-append (P .text) (drop n d))
+
+  pub kept-front : {fd : ℤ} → fd ≡ pos 1 → KeptPrinted l k d n e → Goes fd l k (take n e)
+  kept-front q P = record { output = q; print = λ s H. subst (PrintOf s) (sym front) (P .print s H) }
+    where
+      front : take n e ≡ P .text
+      front = ap (take n) (P .fills .buffer) ∙ take-at (P .text) (drop n d) n (sym (P .fills .bytes))

@@ -1,5 +1,5 @@
 -- The pieces of the lines of figures, and their lengths.
-use Prim.Native.Nat.{ℕ, zero, suc, _+_, _*_, _-_, _≤_, _<_}
+use Prim.Native.Nat.{ℕ, suc, _+_, _-_, _≤_, _<_}
 use native.Mathlib.Omega.{arith}
 use native.Mathlib.Numerals.{add-one}
 use mathlib.Core.List.{List, [], _∷_, _++_, append-assoc, append-nil}
@@ -13,9 +13,10 @@ use Rattle.text_grammar.proofs.Format.{by-cases}
 use Rattle.text_shape.specs.Text.{line, bracket, items, gapText}
 use Rattle.text_shape.specs.Shape.{opening}
 use Rattle.text_put.specs.Put.{Puts}
-use Rattle.text_put.proofs.Buffer.{puts-as}
-use Rattle.print_lines.proofs.Lines.{number-short, puts-nothing}
-use Rattle.catalogue_lines.specs.Figures.{numberWord, wonWord, countLine, pairText, numberLine, numberLines, wonLine}
+use Rattle.text_put.proofs.Buffer.{puts-nothing, puts-as}
+use Rattle.print_lines.proofs.Lines.{number-short, Short, then-short}
+use Rattle.catalogue_tally.specs.declared.Tally.{Tally}
+use Rattle.catalogue_lines.specs.Figures.{numberWord, wonWord, countLine, pairText, numberLine, numberLines, wonLine, figuresPrint, figuresBytes}
 
 pub count-pieces : (w n : ℕ) → opening w ++ ((decimal n ++ 41 ∷ []) ++ 10 ∷ []) ≡ countLine w n
 unfolding countLine line bracket items gapText opening
@@ -96,14 +97,16 @@ module _ (n r : ℕ) (ns : List ℕ) where
   unfolding numberLines
   numbers-last l = let none : n - r ≡ 0 = omega arith in ap (λ (k : ℕ). numberLines k r ns) none
 
-module _ (ns : List ℕ) (small : (r : ℕ) → getD ns r 0 < 18446744073709551616) where
-  numbers-short : (k r : ℕ) → r + k ≤ 256 → length (numberLines k r ns) ≤ 60 * k
-  unfolding numberLines
-  numbers-short zero r h = omega arith
-  numbers-short (suc k) r h =
-      omega (
-        arith,
-        length-append (numberLine r (getD ns r 0)) (numberLines k (suc r) ns),
-        number-line-short r (getD ns r 0) (omega arith) (small r),
-        numbers-short k (suc r) (omega arith),
-      )
+-- every tally's print has place
+pub figures-short : (t : Tally) → t .system < 18446744073709551616 → t .environment < 18446744073709551616 → t .refused < 18446744073709551616
+    → length (numberLines 256 0 (t .numbers)) ≤ 15360 → t .won < 18446744073709551616 → t .positions < 18446744073709551616
+    → length (figuresPrint t) ≤ figuresBytes
+unfolding figuresPrint
+figures-short t a b c l d e =
+    let n : Short (numberLines 256 0 (t .numbers)) 15360 = record { size = l } in
+    let w : Short (wonLine (t .won) (t .positions)) 60 = record { size = won-short (t .won) (t .positions) d e } in
+    let all = then-short (count 8 (t .system) a) (then-short (count 9 (t .environment) b) (then-short (count 7 (t .refused) c) (then-short n w))) .size in
+    omega (arith, all)
+  where
+    count : (w n : ℕ) → n < 18446744073709551616 → Short (countLine w n) 60
+    count w n h = record { size = count-short w n h }

@@ -8,15 +8,13 @@
 --   wonLine w p           == (won W P)
 --   figuresPrint t        == the print of the tally t
 --   figuresBytes          == how many bytes of a print the catalogue has place for: 32 KiB
---   Made d t n e          == the buffer d has become e by writing the print t at its front, n bytes, for which there is place
-use Prim.Native.Nat.{ℕ, zero, suc, _≤_}
+use Prim.Native.Nat.{ℕ, zero, suc}
 use mathlib.Core.Bool.{true, false}
 use mathlib.Core.List.{List, [], _∷_, _++_}
 use lib.Dec.{eqb}
 use lib.ListN.{getD}
 use Rattle.text_grammar.specs.Number.{decimal}
 use Rattle.text_shape.specs.Text.{word, line}
-use Rattle.text_put.specs.Put.{Puts}
 use Rattle.catalogue_tally.specs.declared.Tally.{Tally}
 use Rattle.text_grammar.specs.Marks.{blank, newline, closeBracket}
 
@@ -42,7 +40,7 @@ numberLines (suc k) r ns = numberLine r (getD ns r 0) ++ numberLines k (suc r) n
 unfoldable pub wonLine : ℕ → ℕ → List ℕ
 wonLine w p = line (wonWord ∷ decimal w ∷ decimal p ∷ [])
 
--- "It prints, a line each, (system N), (environment N), (refused N), then (number R N) for each refusal number met, rising, then (won W P)"
+-- "It prints, a line each, (system N), (environment N), (refused N), then (number R N) for each refusal number met, rising, then (won W P)" (SPEC 16.1)
 unfoldable pub figuresPrint : Tally → List ℕ
 figuresPrint t =
     countLine 8 (t .system) ++ (countLine 9 (t .environment) ++
@@ -50,7 +48,3 @@ figuresPrint t =
 
 abbrev pub figuresBytes : ℕ
 figuresBytes = 32768
-
-pub record Made (d t : List ℕ) (n : ℕ) (e : List ℕ) : Type 0 where
-  pub puts : Puts d 0 t n e
-  pub fits : n ≤ figuresBytes

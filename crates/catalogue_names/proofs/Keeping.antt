@@ -9,10 +9,12 @@ use mathlib.Core.Path.{_≡_, refl, sym, _∙_, ap, subst}
 use native.Mathlib.Decide.{decLe}
 use lib.Dec.{eqb, leb}
 use lib.ListN.{length, getD, take, set, length-append, length-set, length-take}
-use lib.Seq.{sets, length-sets, set-out, take-all, take-nil, take-append-le, take-suc, take-suc-set, append-snoc}
+use lib.Seq.{sets, take-all, take-nil, take-append-le, take-suc, take-suc-set, append-snoc}
 use borrow.Author.Tests.{eq-eqb, ne-eqb, le-leb, lt-leb}
+use Rattle.text_put.specs.Put.{reached, Puts}
+use Rattle.text_put.proofs.Buffer.{reached-inside, reached-full, reached-none, reached-join, sets-out, puts-nothing, puts-then, puts-as, puts-length}
 use Rattle.catalogue_names.specs.declared.Kept.{Kept}
-use Rattle.catalogue_names.specs.Keeping.{cut, under, reached, Stored, Keeps, Held, nothing}
+use Rattle.catalogue_names.specs.Keeping.{cut, under, Keeps, Held, nothing}
 
 -- a byte that ends a line, one that is kept, and one that is not
 module _ (r b : ℕ) (l : List ℕ) where
@@ -69,50 +71,6 @@ under-append r (b ∷ s) t = go (eqb b 10) (leb 256 r) (under-append 0 s t) (und
     go false true p q w = q
     go false false p q w = w
 
--- places
-module _ (d n : ℕ) where
-  reached-inside : (m : ℕ) → n + m ≤ d → reached d n m ≡ n + m
-  unfolding reached
-  reached-inside m h = omega arith
-
-  reached-full : (m : ℕ) → d ≤ n + m → reached d n m ≡ max n d
-  unfolding reached
-  reached-full m h = omega arith
-
-  reached-none : reached d n 0 ≡ n
-  unfolding reached
-  reached-none = omega arith
-
-pub reached-one : {d n : ℕ} → n < d → n + 1 ≡ reached d n 1
-unfolding reached
-reached-one h = omega arith
-
-pub reached-past : {d n : ℕ} → d ≤ n → n ≡ reached d n 1
-unfolding reached
-reached-past h = omega arith
-
-reached-join : (d n m k : ℕ) → reached d (reached d n m) k ≡ reached d n (m + k)
-unfolding reached
-reached-join d n m k =
-    elim (decLe (n + m) d) [
-      | yes h ↦ (ap (λ (q : ℕ). reached d q k) (reached-inside d n m h) ∙ omega arith)
-      | no h ↦ (
-          ap (λ (q : ℕ). reached d q k) (reached-full d n m (omega arith)) ∙ reached-full d (max n d) k (omega arith)
-          ∙ (let e : max (max n d) d ≡ max n d = omega arith in e) ∙ sym (reached-full d n (m + k) (omega arith))
-          )
-    ]
-
--- stores from a place on
-sets-out : (x d : List ℕ) (n : ℕ) → length d ≤ n → sets d n x ≡ d
-sets-out [] d n h = refl
-sets-out (a ∷ x) d n h = ap (λ (e : List ℕ). sets e (suc n) x) (set-out d n a h) ∙ sets-out x d (suc n) (omega arith)
-
-sets-append : (x y d : List ℕ) (n : ℕ) → sets d n (x ++ y) ≡ sets (sets d n x) (n + length x) y
-sets-append [] y d n = ap (λ (k : ℕ). sets d k y) (omega arith)
-sets-append (a ∷ x) y d n =
-    let e : suc n + length x ≡ n + suc (length x) = omega arith in
-    sets-append x y (set d n a) (suc n) ∙ ap (λ (k : ℕ). sets (sets (set d n a) (suc n) x) k y) e
-
 -- what a run of stores leaves at the front
 sets-front : (x d : List ℕ) (n : ℕ) → n ≤ length d → take (reached (length d) n (length x)) (sets d n x) ≡ take (length d) (take n d ++ x)
 sets-front [] d n h =
@@ -131,7 +89,7 @@ sets-front (a ∷ x) d n h =
           let e : length (set d n a) ≡ length d = length-set d n a in
           let q : reached (length d) n (suc (length x)) ≡ reached (length (set d n a)) (suc n) (length x) =
           ap (λ (k : ℕ). reached (length d) n k) (omega arith) ∙ sym (reached-join (length d) n 1 (length x))
-          ∙ ap (λ (k : ℕ). reached (length d) k (length x)) (sym (reached-one (omega arith)) ∙ add-one n)
+          ∙ ap (λ (k : ℕ). reached (length d) k (length x)) (reached-inside (length d) n 1 (omega arith) ∙ add-one n)
           ∙ ap (λ (k : ℕ). reached k (suc n) (length x)) (sym e) in
           ap (λ (k : ℕ). take k (sets (set d n a) (suc n) x)) q ∙ sets-front x (set d n a) (suc n) (omega arith)
           ∙ ap (λ (k : ℕ). take k (take (suc n) (set d n a) ++ x)) e
@@ -146,42 +104,16 @@ take-front-append (suc n) [] y = refl
 take-front-append (suc n) (a ∷ x) y = ap (λ (z : List ℕ). a ∷ z) (take-front-append n x y)
 
 -- a part, then another
-module _ {d : List ℕ} {k : Kept} {l : List ℕ} {r : Kept} {e m : List ℕ} {s : Kept} {f : List ℕ} (K : Keeps d k l r e) (M : Keeps e r m s f) where
-  same-room : length e ≡ length d
-  same-room = ap length (K .bytes) ∙ length-sets d (k .len) (cut (k .run) l)
-
-  parts : cut (k .run) (l ++ m) ≡ cut (k .run) l ++ cut (r .run) m
-  parts = cut-append (k .run) l m ∙ ap (λ (n : ℕ). cut (k .run) l ++ cut n m) (sym (K .run))
-
-  stored-on : sets e (r .len) (cut (r .run) m) ≡ sets e (k .len + length (cut (k .run) l)) (cut (r .run) m)
-  stored-on =
-      elim (decLe (k .len + length (cut (k .run) l)) (length d)) [
-        | yes h ↦ ap (λ (n : ℕ). sets e n (cut (r .run) m)) (K .len ∙ reached-inside (length d) (k .len) (length (cut (k .run) l)) h)
-        | no h ↦ (
-            let b = reached-full (length d) (k .len) (length (cut (k .run) l)) (omega arith) in
-            sets-out (cut (r .run) m) e (r .len) (omega (arith, same-room, K .len))
-            ∙ sym (sets-out (cut (r .run) m) e (k .len + length (cut (k .run) l)) (omega (arith, same-room)))
-            )
-      ]
-
-  keeps-join : Keeps d k (l ++ m) s f
-  keeps-join =
-      record {
-        bytes =
-            M .bytes ∙ stored-on ∙ ap (λ (z : List ℕ). sets z (k .len + length (cut (k .run) l)) (cut (r .run) m)) (K .bytes)
-            ∙ sym (ap (sets d (k .len)) parts ∙ sets-append (cut (k .run) l) (cut (r .run) m) d (k .len));
-        len =
-            M .len ∙ ap (λ (n : ℕ). reached n (r .len) (length (cut (r .run) m))) same-room
-            ∙ ap (λ (n : ℕ). reached (length d) n (length (cut (r .run) m))) (K .len)
-            ∙ reached-join (length d) (k .len) (length (cut (k .run) l)) (length (cut (r .run) m))
-            ∙ sym (ap (λ (z : List ℕ). reached (length d) (k .len) (length z)) parts
-            ∙ ap (reached (length d) (k .len)) (length-append (cut (k .run) l) (cut (r .run) m)));
-        run = M .run ∙ ap (λ (n : ℕ). under n m) (K .run) ∙ sym (under-append (k .run) l m);
-      }
+keeps-join : {d : List ℕ} {k : Kept} {l : List ℕ} {r : Kept} {e m : List ℕ} {s : Kept} {f : List ℕ} → Keeps d k l r e → Keeps e r m s f → Keeps d k (l ++ m) s f
+keeps-join {d} {k} {l} {r} {e} {m} K M =
+    record {
+      puts = puts-as (sym (cut-append (k .run) l m ∙ ap (λ (n : ℕ). cut (k .run) l ++ cut n m) (sym (K .run)))) (puts-then (K .puts) (M .puts));
+      run = M .run ∙ ap (λ (n : ℕ). under n m) (K .run) ∙ sym (under-append (k .run) l m);
+    }
 
 pub keeps-none : {d : List ℕ} {k : Kept} → Keeps d k [] k d
 unfolding cut under
-keeps-none {d} {k} = record { bytes = refl; len = sym (reached-none (length d) (k .len)); run = refl }
+keeps-none {d} {k} = record { puts = puts-nothing d (k .len); run = refl }
 
 -- from the first part on
 pub held-nothing : (d : List ℕ) → Held [] d nothing
@@ -194,18 +126,18 @@ held-within H = omega (arith, H .len)
 
 pub held-more : {s d : List ℕ} {k : Kept} {l : List ℕ} {r : Kept} {e : List ℕ} → Held s d k → Keeps d k l r e → Held (s ++ l) e r
 held-more {s} {d} {k} {l} {r} {e} H K =
-    let room : length e ≡ length d = ap length (K .bytes) ∙ length-sets d (k .len) (cut (k .run) l) in
+    let room = puts-length (K .puts) in
     let whole : cut 0 s ++ cut (k .run) l ≡ cut 0 (s ++ l) =
     ap (λ (n : ℕ). cut 0 s ++ cut n l) (H .run) ∙ sym (cut-append 0 s l) in
     record {
       front =
-          ap (λ (n : ℕ). take n e) (K .len) ∙ ap (take (reached (length d) (k .len) (length (cut (k .run) l)))) (K .bytes)
+          (λ i. take (K .puts .next i) (K .puts .buffer i))
           ∙ sets-front (cut (k .run) l) d (k .len) (held-within H)
           ∙ ap (λ (z : List ℕ). take (length d) (z ++ cut (k .run) l)) (H .front)
           ∙ take-front-append (length d) (cut 0 s) (cut (k .run) l) ∙ ap (take (length d)) whole
           ∙ ap (λ (n : ℕ). take n (cut 0 (s ++ l))) (sym room);
       len =
-          K .len ∙ ap (λ (n : ℕ). reached (length d) n (length (cut (k .run) l))) (H .len)
+          K .puts .next ∙ ap (λ (n : ℕ). reached (length d) n (length (cut (k .run) l))) (H .len)
           ∙ reached-join (length d) 0 (length (cut 0 s)) (length (cut (k .run) l))
           ∙ ap (reached (length d) 0) (sym (length-append (cut 0 s) (cut (k .run) l)) ∙ ap length whole)
           ∙ ap (λ (n : ℕ). reached n 0 (length (cut 0 (s ++ l)))) (sym room);
@@ -214,38 +146,26 @@ held-more {s} {d} {k} {l} {r} {e} H K =
 
 -- the three ways of a byte
 module _ {d : List ℕ} {k : Kept} {b : ℕ} where
-  pub keeps-line : {n : ℕ} {e : List ℕ} → b ≡ 10 → Stored d (k .len) b n e → Keeps d k (b ∷ []) (record { len = n; run = 0 }) e
+  pub keeps-line : {n : ℕ} {e : List ℕ} → b ≡ 10 → Puts d (k .len) (b ∷ []) n e → Keeps d k (b ∷ []) (record { len = n; run = 0 }) e
   unfolding cut
   keeps-line h S =
       let t = eq-eqb b 10 h in
       let one : b ∷ [] ≡ cut (k .run) (b ∷ []) = ap (λ (x : ℕ). x ∷ []) h ∙ sym (cut-line (k .run) b [] t) in
-      record {
-        bytes = S .bytes ∙ ap (sets d (k .len)) one;
-        len = S .len ∙ ap (λ (z : List ℕ). reached (length d) (k .len) (length z)) one;
-        run = sym (under-line (k .run) b t);
-      }
+      record { puts = puts-as one S; run = sym (under-line (k .run) b t) }
 
-  pub keeps-on : {n : ℕ} {e : List ℕ} → b ≢ 10 → k .run < 256 → Stored d (k .len) b n e → Keeps d k (b ∷ []) (record { len = n; run = k .run + 1 }) e
+  pub keeps-on : {n : ℕ} {e : List ℕ} → b ≢ 10 → k .run < 256 → Puts d (k .len) (b ∷ []) n e → Keeps d k (b ∷ []) (record { len = n; run = k .run + 1 }) e
   unfolding cut
   keeps-on h g S =
       let t = ne-eqb b 10 h in
       let one : b ∷ [] ≡ cut (k .run) (b ∷ []) = sym (cut-on (k .run) b [] t g) in
-      record {
-        bytes = S .bytes ∙ ap (sets d (k .len)) one;
-        len = S .len ∙ ap (λ (z : List ℕ). reached (length d) (k .len) (length z)) one;
-        run = sym (under-on (k .run) b t g);
-      }
+      record { puts = puts-as one S; run = sym (under-on (k .run) b t g) }
 
   pub keeps-past : b ≢ 10 → 256 ≤ k .run → Keeps d k (b ∷ []) k d
   unfolding cut
   keeps-past h g =
       let t = ne-eqb b 10 h in
       let none : cut (k .run) (b ∷ []) ≡ [] = cut-past (k .run) b [] t g in
-      record {
-        bytes = ap (sets d (k .len)) (sym none);
-        len = sym (ap (λ (z : List ℕ). reached (length d) (k .len) (length z)) none ∙ reached-none (length d) (k .len));
-        run = sym (under-past (k .run) b t g);
-      }
+      record { puts = puts-as (sym none) (puts-nothing d (k .len)); run = sym (under-past (k .run) b t g) }
 
 -- a byte more, and the end
 module _ {d : List ℕ} {k : Kept} (l : List ℕ) (i : ℕ) {r : Kept} {e : List ℕ} (K : Keeps d k (take i l) r e) where
@@ -257,4 +177,4 @@ module _ {d : List ℕ} {k : Kept} (l : List ℕ) (i : ℕ) {r : Kept} {e : List
   keeps-whole h = subst (λ (z : List ℕ). Keeps d k z r e) (take-all i l h) K
 
 pub keeps-room : {d : List ℕ} {k : Kept} {l : List ℕ} {r : Kept} {e : List ℕ} → Keeps d k l r e → length e ≡ length d
-keeps-room {d} {k} {l} K = ap length (K .bytes) ∙ length-sets d (k .len) (cut (k .run) l)
+keeps-room K = puts-length (K .puts)

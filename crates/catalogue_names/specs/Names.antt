@@ -18,7 +18,7 @@ unfoldable pub pushByte : ℕ → List (List ℕ) → List (List ℕ)
 pushByte b [] = (b ∷ []) ∷ []
 pushByte b (n ∷ ns) = (b ∷ n) ∷ ns
 
--- an empty line is a name, and a list that ends in byte 10 has no further name
+-- an empty line is a name, and a list that ends in byte 10 has no further name (SPEC 16.1)
 unfoldable pub names : List ℕ → List (List ℕ)
 names [] = []
 names (b ∷ l) = elim (eqb b 10) [ true ↦ [] ∷ names l | false ↦ pushByte b (names l) ]
@@ -31,11 +31,11 @@ unfoldable pub hasZero : List ℕ → Bool
 hasZero [] = false
 hasZero (b ∷ l) = eqb b 0 || hasZero l
 
--- "a name over 255 bytes or with a byte 0"
+-- "a name over 255 bytes or with a byte 0" (SPEC 16.2)
 unfoldable pub fitName : List ℕ → Bool
 fitName n = leb (length n) 255 && not (hasZero n)
 
--- "up to 1,000 game files"
+-- "up to 1,000 game files" (SPEC 16.2)
 abbrev pub most : ℕ
 most = 1000
 

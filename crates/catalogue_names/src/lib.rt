@@ -4,7 +4,7 @@ ghost use Prim.Native.Nat.{_+_, _≤_, _<_};
 ghost use lib.ListN.{length, drop};
 ghost use mathlib.Core.List.{[], _∷_};
 ghost use Rattle.catalogue_names.specs.Names.{names, front, hasZero, fitName, NextName};
-ghost use Rattle.catalogue_names.specs.Keeping.{Stored, Keeps, nothing};
+ghost use Rattle.catalogue_names.specs.Keeping.{Keeps, nothing};
 
 // Where the name that begins at place `at` ends.
 pub fn name_end(list: &[u8], at: usize) -> usize
@@ -83,30 +83,18 @@ pub fn nothing_kept() -> Kept
     Kept { len: 0, run: 0 }
 }
 
-// Stores a byte behind those that are kept, if there is room.
-fn store(list: &mut [u8], k: Kept, b: u8) -> usize
-    ensures { λ r. ⌜ Stored (now (list .entry)) (k .len) b r (now (list .exit)) ⌝ }
-{
-    let len = k.len;
-    if len < list.len() {
-        list[len] = b;
-        return len + 1;
-    }
-    len
-}
-
 // Keeps a byte of a list, but none of a name past its 256th.
 fn keep_byte(list: &mut [u8], k: Kept, b: u8) -> Kept
     ensures { λ r. ⌜ Keeps (now (list .entry)) k (b ∷ []) r (now (list .exit)) ⌝ }
 {
     if b == b'\n' {
-        let len = store(list, k, b);
+        let len = text_put::put_byte(list, k.len, b);
         return Kept { len: len, run: 0 };
     }
     if 256 <= k.run {
         return k;
     }
-    let len = store(list, k, b);
+    let len = text_put::put_byte(list, k.len, b);
     Kept {
         len: len,
         run: k.run + 1,

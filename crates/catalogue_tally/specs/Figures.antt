@@ -9,7 +9,7 @@
 --   Tallied os t       == t holds the figures of the outcomes os
 --   emptyTally         == the tally of no outcomes
 --   added t o          == the tally t with the outcome o counted too
---   Modest o           == o has the positions of at most one game of 64 × 64 states
+--   Modest o           == o has the positions of at most one game of 128 × 128 states
 --   Within os t        == t has at most as many positions as such games
 --   Roomy t            == t counts far fewer games and positions than its words hold
 use Prim.Native.Nat.{ℕ, _+_, _*_, _≤_, _<_}
@@ -61,7 +61,7 @@ unfoldable pub howMany : (Outcome → Bool) → List Outcome → ℕ
 howMany p os = sumOf (λ o. one (p o)) os
 
 -- "(system N), (environment N), (refused N), then (number R N) for each refusal number met, .. (won W P): won positions and all positions of the games
--- not refused"; "The first three sum to the games listed"
+-- not refused"; "The first three sum to the games listed" (SPEC 16.1)
 pub record Tallied (os : List Outcome) (t : Tally) : Type 0 where
   pub system : t .system ≡ howMany isSystem os
   pub environment : t .environment ≡ howMany isEnvironment os

@@ -107,8 +107,8 @@ use Rattle.print_lines.specs.Line.{unlessNone, winnerWord, winsLine, startLine,
 use Rattle.print_tables.specs.Print.{startLines, stepLines, controllerPrint, environmentPrint}
 use Rattle.solver.specs.Promise.{controllerLength, environmentLength, named, environmentTested, controllerTested, scratchTested, verdictAnswer}
 use Rattle.text.specs.Read.{Reads}
-use Rattle.text.specs.OneText.{Arrays}
-use Rattle.text.proofs.OneText.{one-text-holds}
+use Rattle.text.proofs.Arrays.{Arrays}
+use Rattle.text.proofs.OneText.{accepted-shaped, one-text-holds}
 use Rattle.waiting.specs.Waiting.{RightToWait}
 use Rattle.waiting.proofs.Waiting.{right-to-wait}
 use Rattle.prints.specs.Prints.{tablePrint, gamePrint, answerPrint, readingPrint}
@@ -241,17 +241,23 @@ are-arrays g h =
     let sets = and-both (narrowSet (g .input .initial) && narrowSet (g .output .initial)) (allOf narrowSets (g .requirements)) (words .1) in
     let initial = and-both (narrowSet (g .input .initial)) (narrowSet (g .output .initial)) (sets .0) in
     record {
-      input = eqb-true (length (g .input .moves)) rowWords (rows .0);
-      output = eqb-true (length (g .output .moves)) rowWords (rows .1);
+      input = record {
+        rows = eqb-true (length (g .input .moves)) rowWords (rows .0);
+        words = row-fits (g .input .moves) (moves .0);
+        initial = fits (g .input .initial) (initial .0);
+      };
+      output = record {
+        rows = eqb-true (length (g .output .moves)) rowWords (rows .1);
+        words = row-fits (g .output .moves) (moves .1);
+        initial = fits (g .output .initial) (initial .1);
+      };
       requirements = eqb-true (length (g .requirements)) 8 (qs .0);
-      assumptions = λ r l. four-sets g (qs .1) r l .0;
-      guarantees = λ r l. four-sets g (qs .1) r l .1;
-      in-rows = row-fits (g .input .moves) (moves .0);
-      out-rows = row-fits (g .output .moves) (moves .1);
-      in-initial = fits (g .input .initial) (initial .0);
-      out-initial = fits (g .output .initial) (initial .1);
-      in-sets = λ r j. sets-fit g (sets .1) r j .0;
-      out-sets = λ r j. sets-fit g (sets .1) r j .1;
+      requirement = λ r l. record {
+        assumptions = four-sets g (qs .1) r l .0;
+        guarantees = four-sets g (qs .1) r l .1;
+        in-sets = λ j. sets-fit g (sets .1) r j .0;
+        out-sets = λ j. sets-fit g (sets .1) r j .1;
+      };
     }
 
 -- what two functions have in common on a list
@@ -272,16 +278,17 @@ proved c m =
     let arrays = are-arrays (c .game) (allOf-elim (λ (d : Case). lengths (d .game) && narrowWords (d .game)) table records c m) in
     let file = at (λ (d : Case). gameText (d .game)) (λ (d : Case). d .file) table files c m in
     let accepted = at (λ (d : Case). acceptance (d .game)) (λ (d : Case). Accepted) table acceptances c m in
+    let shaped = accepted-shaped (c .game) accepted arrays in
     let short : length (gameText (c .game)) ≤ 40960 =
     subst⁻¹ (λ (s : List ℕ). length s ≤ 40960) file
     (leb-true (length (c .file)) 40960 (allOf-elim (λ (d : Case). leb (length (d .file)) 40960) table shorts c m)) in
     let print = at (λ (d : Case). gamePrint (d .game)) (λ (d : Case). d .print) table prints c m in
     record {
-      arrays = arrays;
+      shaped = shaped;
       file = file;
       accepted = accepted;
       print = print;
-      reads = λ r R. ap readingPrint (one-text-holds .read-back (c .game) r accepted arrays short (subst⁻¹ (λ (s : List ℕ). Reads s r) file R)) ∙ print;
+      reads = λ r R. ap readingPrint (one-text-holds .read-back (c .game) r accepted shaped short (subst⁻¹ (λ (s : List ℕ). Reads s r) file R)) ∙ print;
     }
 
 -- "Shown over all accepted games", "here with dead ends" (M-110): so of each case.

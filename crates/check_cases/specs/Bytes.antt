@@ -7,7 +7,7 @@ use Prim.Native.Char.{code}
 use Prim.Native.String.{String, [] as blank, _∷_ as _then_}
 use mathlib.Core.List.{List, [], _∷_, _++_}
 
--- "Every line ends in byte 10."
+-- "Every line ends in byte 10." (SPEC 8.1)
 unfoldable pub lineBytes : String → List ℕ
 lineBytes blank = 10 ∷ []
 lineBytes (c then l) = code c ∷ lineBytes l

@@ -22,10 +22,9 @@ use Rattle.game.specs.declared.Requirement.{Requirement}
 use Rattle.game.specs.declared.Game.{Game}
 use Rattle.game.specs.declared.Acceptance.the-variants.{Accepted}
 use Rattle.game.specs.Acceptance.{acceptance}
-use Rattle.text_shape.specs.Text.{gameText, inSets, outSets, emptyRequirement}
+use Rattle.text_shape.specs.Text.{gameText, inSets, outSets, emptyRequirement, Shaped}
 use Rattle.text.specs.declared.Reading.{Reading}
 use Rattle.text.specs.Read.{Reads}
-use Rattle.text.specs.OneText.{Arrays}
 use Rattle.prints.specs.Prints.{gamePrint, readingPrint}
 use Rattle.check_cases.specs.Bytes.{fileBytes}
 
@@ -38,11 +37,11 @@ pub record Case : Type 0 where
 unfoldable pub padded : {A : Type 0} → ℕ → A → List A → List A
 padded n z l = l ++ replicate (n - length l) z
 
--- "A graph is a state count, a set of initial states, and 64 rows of moves", 128 by M-105; a set is given by its number
+-- "A graph is a state count, a set of initial states, and 64 rows of moves", 128 by M-105; a set is given by its number (SPEC 1.6)
 unfoldable pub graph : ℕ → List ℕ → Graph
 graph i rows = record { states = length rows; initial = setOf i; moves = wordsOf (padded capacity 0 rows) }
 
--- "requirements as arrays of four sets each"
+-- "requirements as arrays of four sets each" (SPEC 1.6)
 unfoldable pub ifThen : List ℕ → List ℕ → Requirement
 ifThen a b = record {
   assumptions = inSets (padded 4 0 a);
@@ -54,7 +53,7 @@ ifThen a b = record {
 unfoldable pub game : Graph → Graph → List Requirement → Game
 game a b l = record { input = a; output = b; k = length l; requirements = padded 8 emptyRequirement l }
 
--- The example of "The file".
+-- The example of "The file". (SPEC 8.1, 8.3)
 unfoldable pub case1 : Case
 case1 = record {
   name = "case_1";
@@ -65,7 +64,7 @@ case1 = record {
       "(wins system)" ∷ "(start 0 0)" ∷ "(step 0 0 0 1 0)" ∷ "(step 0 0 1 1 0)" ∷ "(step 1 0 0 1 0)" ∷ "(step 1 0 1 1 0)" ∷ []);
 }
 
--- "One state each, a self-move, k = 0: system; step 0 0 0 0 0."
+-- "One state each, a self-move, k = 0: system; step 0 0 0 0 0." (SPEC 5.7)
 unfoldable pub case2 : Case
 case2 = record {
   name = "case_2";
@@ -76,7 +75,7 @@ case2 = record {
       "(wins system)" ∷ "(start 0 0)" ∷ "(step 0 0 0 0 0)" ∷ []);
 }
 
--- "As 2 with (if ((0)) (())): environment, start 0, step 0 0 0 0 0."
+-- "As 2 with (if ((0)) (())): environment, start 0, step 0 0 0 0 0." (SPEC 2.8)
 unfoldable pub case3 : Case
 case3 = record {
   name = "case_3";
@@ -87,7 +86,7 @@ case3 = record {
       "(wins environment)" ∷ "(start 0)" ∷ "(step 0 0 0 0 0)" ∷ []);
 }
 
--- "(if () (())): the same print."
+-- "(if () (())): the same print." (SPEC 2.8)
 unfoldable pub case4 : Case
 case4 = record {
   name = "case_4";
@@ -98,7 +97,7 @@ case4 = record {
       "(wins environment)" ∷ "(start 0)" ∷ "(step 0 0 0 0 0)" ∷ []);
 }
 
--- "(if (()) (())): system."
+-- "(if (()) (())): system." (SPEC 2.8)
 unfoldable pub case5 : Case
 case5 = record {
   name = "case_5";
@@ -110,7 +109,7 @@ case5 = record {
 }
 
 -- "Inputs 0 to 1; 1 to 2 and 3; 2, 3 to themselves. Outputs 0 to 1 and 2; 1, 2 to themselves. Initial 0, 0. If {2} then {1}; if {3} then {2}:
--- environment, the output commits too early."
+-- environment, the output commits too early." (SPEC 2.1, 3.3)
 unfoldable pub case6 : Case
 case6 = record {
   name = "case_6";
@@ -124,7 +123,7 @@ case6 = record {
       "(step 2 1 2 2 1)" ∷ "(step 3 0 1 3 0)" ∷ "(step 3 1 1 3 0)" ∷ []);
 }
 
--- "As 6, output 0 also to 0: system."
+-- "As 6, output 0 also to 0: system." (SPEC 3.3)
 unfoldable pub case7 : Case
 case7 = record {
   name = "case_7";
@@ -138,7 +137,7 @@ case7 = record {
       "(step 2 1 3 2 0)" ∷ []);
 }
 
--- "Inputs 0 to 1 and 2; 1, 2 to themselves. Outputs 0 to 1 and 2; 1 to 0; 2 to itself. Initial 0, 0. If {s} then {s}, s = 0, 1, 2: system."
+-- "Inputs 0 to 1 and 2; 1, 2 to themselves. Outputs 0 to 1 and 2; 1 to 0; 2 to itself. Initial 0, 0. If {s} then {s}, s = 0, 1, 2: system." (SPEC 5.6)
 unfoldable pub case8 : Case
 case8 = record {
   name = "case_8";
@@ -168,7 +167,7 @@ heldAim = record {
       "(wins system)" ∷ "(start 0 0)" ∷ "(step 0 0 0 0 0)" ∷ "(step 1 0 0 1 0)" ∷ []);
 }
 
--- "The same holds for the lowest move inside home with no aim": the same drives, nothing required.
+-- "The same holds for the lowest move inside home with no aim": the same drives, nothing required. (SPEC 5.7)
 unfoldable pub heldFree : Case
 heldFree = record {
   name = "held_free";
@@ -179,7 +178,7 @@ heldFree = record {
       "(wins system)" ∷ "(start 0 0)" ∷ "(step 0 0 0 0 0)" ∷ "(step 1 0 0 1 0)" ∷ []);
 }
 
--- "and for the panel's walks": two inputs, every move; the aim holds both; one output, which cannot do what is due.
+-- "and for the panel's walks": two inputs, every move; the aim holds both; one output, which cannot do what is due. (SPEC 6.7)
 unfoldable pub heldPanelAim : Case
 heldPanelAim = record {
   name = "held_panel_aim";
@@ -203,7 +202,7 @@ heldPanelFree = record {
 
 -- ---- "So a state without a move is accepted, and 4 no longer occurs." (M-102)
 
--- "A play that stops for want of an input move is won": inputs and outputs 0 to 1, 1 to none.
+-- "A play that stops for want of an input move is won": inputs and outputs 0 to 1, 1 to none. (SPEC 3.2)
 unfoldable pub stuckInput : Case
 stuckInput = record {
   name = "stuck_input";
@@ -215,7 +214,7 @@ stuckInput = record {
 }
 
 -- "and one that stops for want of an output move is lost"; "Where the output is stuck and the input is not, the panel row is the lowest move and h stays.
--- In a position with the input stuck the panel row is none."
+-- In a position with the input stuck the panel row is none." (SPEC 3.2, 6.4)
 unfoldable pub stuckOutput : Case
 stuckOutput = record {
   name = "stuck_output";
@@ -282,8 +281,8 @@ table =
     drivenOn ∷ latch ∷ keptOff ∷ []
 
 pub record Proved (c : Case) : Type 0 where
-  -- the game is a record of a program, its text is the file, it is accepted, and its print is the print
-  pub arrays : Arrays (c .game)
+  -- the game is within the shape's limits, its text is the file, it is accepted, and its print is the print
+  pub shaped : Shaped (c .game)
   pub file : gameText (c .game) ≡ c .file
   pub accepted : acceptance (c .game) ≡ Accepted
   pub print : gamePrint (c .game) ≡ c .print

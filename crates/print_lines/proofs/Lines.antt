@@ -1,11 +1,10 @@
 -- The pieces of an answer's lines, and their lengths.
 use Prim.Native.Nat.{ℕ, _+_, _/_, _%_, _≤_, _<_, max}
 use native.Mathlib.Omega.{arith}
-use native.Mathlib.Nat.{div-le-self, mod-le, le-trans, lt-of-le-of-lt}
 use mathlib.Core.Bool.{Bool, true, false}
 use mathlib.Core.List.{List, [], _∷_, _++_, append-assoc, append-nil}
 use mathlib.Core.Logic.{_≢_}
-use mathlib.Core.Path.{_≡_, refl, sym, _∙_, ap, ap₂}
+use mathlib.Core.Path.{_≡_, sym, _∙_, ap, ap₂}
 use lib.Dec.{eqb}
 use lib.ListN.{length, length-append}
 use borrow.Author.Tests.{eq-eqb, ne-eqb}
@@ -16,8 +15,8 @@ use Rattle.text_grammar.proofs.Number.{tens, digits-count}
 use Rattle.text_shape.specs.Text.{word, line, bracket, items, gapText}
 use Rattle.text_shape.specs.Shape.{opening}
 use Rattle.text_shape.proofs.WordTable.{word-short, opening-short}
-use Rattle.text_put.specs.Put.{overlay, Puts}
-use Rattle.text_put.proofs.Buffer.{puts-as}
+use Rattle.text_put.specs.Put.{Puts}
+use Rattle.text_put.proofs.Buffer.{puts-nothing, puts-as}
 use Rattle.print_lines.specs.Line.{unlessNone, winnerWord, winsLine, startLine, environmentStartLine, rowLine, stepLine, refusedLine, misshapenLine}
 
 -- a number of 64 bits has at most 20 digits
@@ -34,10 +33,6 @@ unfolding tens
 six-digits v h = digits-count 5 v h
 
 -- rows of none
-pub puts-nothing : (d : List ℕ) (at : ℕ) → Puts d at [] at d
-unfolding overlay
-puts-nothing d at = record { next = omega arith; kept = refl }
-
 pub none-line : (d : List ℕ) (at e : ℕ) (t : List ℕ) → e ≡ noneEntry → Puts d at (unlessNone e t) at d
 unfolding unlessNone
 none-line d at e t h =
@@ -107,18 +102,12 @@ unfolding winnerWord
 winner-word true w h = (omega arith, ap (λ (v : ℕ). opening 4 ++ (word v ++ 41 ∷ 10 ∷ [])) h ∙ wins-pieces true)
 winner-word false w h = (omega arith, ap (λ (v : ℕ). opening 4 ++ (word v ++ 41 ∷ 10 ∷ [])) h ∙ wins-pieces false)
 
--- no line is longer than 160 bytes
+-- the length of a text in pieces
 pub record Short (t : List ℕ) (n : ℕ) : Type 0 where
   pub size : length t ≤ n
 
 pub then-short : {t u : List ℕ} {m n : ℕ} → Short t m → Short u n → Short (t ++ u) (m + n)
 then-short {t} {u} T U = let a = T .size in let b = U .size in record { size = omega (arith, length-append t u) }
-
-opened : (w : ℕ) → Short (opening w) 13
-opened w = record { size = opening-short w }
-
-number : (v b : ℕ) → v < 18446744073709551616 → Short (decimal v ++ b ∷ []) 21
-number v b h = record { size = number-short v b h }
 
 pub ended : Short (10 ∷ []) 1
 ended = record { size = omega arith }
@@ -133,31 +122,3 @@ wins-short b =
       opening-short 4,
       word-short (winnerWord b),
     )
-
-pub start-short : (i e : ℕ) → i < 18446744073709551616 → length (startLine i e) ≤ 160
-unfolding startLine
-start-short i e h =
-    let all = then-short (opened 5) (then-short (number i 32 h) (then-short (number (entryState e) 41 (omega arith)) ended)) .size in
-    unless-short e 160 _ (omega (arith, all, ap length (start-text i (entryState e))))
-
-pub environment-short : (e : ℕ) → length (environmentStartLine e) ≤ 160
-unfolding environmentStartLine
-environment-short e =
-    let all = then-short (opened 5) (then-short (number (entryState e) 41 (omega arith)) ended) .size in
-    unless-short e 160 _ (omega (arith, all, ap length (environment-text (entryState e))))
-
-row-short : (a g b e : ℕ) → a < 18446744073709551616 → g < 18446744073709551616 → b < 18446744073709551616 → e < 65536 → length (rowLine a g b e) ≤ 160
-unfolding rowLine
-row-short a g b e p q s h =
-    let next = then-short (number (entryState e) 32 (omega arith)) (then-short (number (entryCounter e) 41 (omega arith)) ended) in
-    let all = then-short (opened 6) (then-short (number a 32 p) (then-short (number g 32 q) (then-short (number b 32 s) next))) .size in
-    omega (arith, all, ap length (row-text a g b (entryState e) (entryCounter e)))
-
-pub step-short : (c n r e : ℕ) → r < 18446744073709551616 → e < 65536 → length (stepLine c n r e) ≤ 160
-unfolding stepLine
-step-short c n r e h l =
-    let q : r / max 1 n ≤ r = div-le-self r (max 1 n) in
-    let a : r / max 1 n / max 1 c ≤ r / max 1 n = div-le-self (r / max 1 n) (max 1 c) in
-    let g : r / max 1 n % max 1 c ≤ r / max 1 n = mod-le (r / max 1 n) (max 1 c) in
-    let b : r % max 1 n ≤ r = mod-le r (max 1 n) in
-    unless-short e 160 _ (row-short _ _ _ e (lt-of-le-of-lt (le-trans a q) h) (lt-of-le-of-lt (le-trans g q) h) (lt-of-le-of-lt b h) l)

@@ -11,7 +11,7 @@ ghost use Rattle.print_lines.specs.Line.{winnerWord, winsLine, startLine
 
 // The letters of the word w.
 fn put_word(buffer: &mut [u8], at: usize, w: usize) -> usize
-    requires { ⌜ (w < 10) × (at + length (word w) ≤ 2 ^ 32) ⌝ }
+    requires { ⌜ w < 10 ⌝ }
     ensures { λ r. ⌜ Puts (now (buffer .entry)) at (word w) r (now (buffer .exit)) ⌝ }
 {
     let n = words::letters(w);
@@ -47,7 +47,6 @@ pub fn put_wins(buffer: &mut [u8], system: bool) -> usize
 
 // The controller's start for an input; no byte where the entry is none.
 pub fn put_start(buffer: &mut [u8], at: usize, input: usize, entry: u16) -> usize
-    requires { ⌜ at + 160 ≤ 2 ^ 32 ⌝ }
     ensures { λ r. ⌜ Puts (now (buffer .entry)) at (startLine input entry) r (now (buffer .exit)) ⌝ }
 {
     if entry == NONE {
@@ -62,7 +61,6 @@ pub fn put_start(buffer: &mut [u8], at: usize, input: usize, entry: u16) -> usiz
 
 // The environment's start; no byte where the entry is none.
 pub fn put_environment_start(buffer: &mut [u8], at: usize, entry: u16) -> usize
-    requires { ⌜ at + 160 ≤ 2 ^ 32 ⌝ }
     ensures { λ r. ⌜ Puts (now (buffer .entry)) at (environmentStartLine entry) r (now (buffer .exit)) ⌝ }
 {
     if entry == NONE {
@@ -76,7 +74,6 @@ pub fn put_environment_start(buffer: &mut [u8], at: usize, entry: u16) -> usize
 
 // (step a g b next-state next-counter).
 fn put_row(buffer: &mut [u8], at: usize, a: usize, g: usize, b: usize, entry: u16) -> usize
-    requires { ⌜ at + 160 ≤ 2 ^ 32 ⌝ }
     ensures { λ r. ⌜ Puts (now (buffer .entry)) at (rowLine a g b entry) r (now (buffer .exit)) ⌝ }
 {
     let state = table_entries::state(entry);
@@ -109,7 +106,6 @@ pub fn put_step(
     row: usize,
     entry: u16,
 ) -> usize
-    requires { ⌜ at + 160 ≤ 2 ^ 32 ⌝ }
     ensures { λ r. ⌜ Puts (now (buffer .entry)) at (stepLine sets last row entry) r (now (buffer .exit)) ⌝ }
 {
     if entry == NONE {

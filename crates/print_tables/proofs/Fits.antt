@@ -13,7 +13,7 @@ use Rattle.finite.proofs.Loops.{and-stop, and-next}
 use Rattle.finite.proofs.Lists.{any-default}
 use Rattle.theory.specs.Entries.{noneEntry}
 use Rattle.text_put.specs.Put.{Puts}
-use Rattle.text_put.proofs.Buffer.{puts-then, puts-as}
+use Rattle.text_put.proofs.Buffer.{puts-nothing, puts-then, puts-as}
 use Rattle.print_lines.specs.Line.{winsLine, environmentStartLine}
 use Rattle.print_tables.specs.Print.{
   startLines,
@@ -27,7 +27,6 @@ use Rattle.print_tables.specs.Print.{
   controllerAnswer,
   environmentAnswer,
 }
-use Rattle.print_lines.proofs.Lines.{puts-nothing}
 
 module _ (i o c : ℕ) where
   pub range-inputs : 128 < i → false ≡ inRange i o c
@@ -76,19 +75,16 @@ module _ (i o c n : ℕ) where
   unfolding environmentFits
   environment-fit m h e = and-next h (ap (λ (k : ℕ). eqb n (1 + i * k * o)) e)
 
-  pub controller-entries : controllerFits i o c n ≡ true → (i ≤ 128) × (n ≡ i + o * max 1 c * i) × (n ≤ 1000000)
+  pub controller-entries : controllerFits i o c n ≡ true → (i ≤ 128) × (n ≡ i + o * max 1 c * i)
   unfolding controllerFits
   controller-entries h =
       let b = range-bounds i o c (and-left (inRange i o c) (eqb n (i + o * max 1 c * i)) h) in
       let e = eqb-true n (i + o * max 1 c * i) (and-right (inRange i o c) (eqb n (i + o * max 1 c * i)) h) in
-      (b .0, e, omega (arith, e, b .0, entries-most o c (max 1 c) i (b .1) (b .2) (b .0) refl))
+      (b .0, e)
 
-  pub environment-entries : environmentFits i o c n ≡ true → (n ≡ 1 + i * max 1 c * o) × (n ≤ 1000000)
+  pub environment-entries : environmentFits i o c n ≡ true → n ≡ 1 + i * max 1 c * o
   unfolding environmentFits
-  environment-entries h =
-      let b = range-bounds i o c (and-left (inRange i o c) (eqb n (1 + i * max 1 c * o)) h) in
-      let e = eqb-true n (1 + i * max 1 c * o) (and-right (inRange i o c) (eqb n (1 + i * max 1 c * o)) h) in
-      (e, omega (arith, e, entries-most i c (max 1 c) o (b .0) (b .2) (b .1) refl))
+  environment-entries h = eqb-true n (1 + i * max 1 c * o) (and-right (inRange i o c) (eqb n (1 + i * max 1 c * o)) h)
 
   pub controller-sets : controllerFits i o c n ≡ true → c ≤ 32
   unfolding controllerFits
@@ -122,7 +118,7 @@ module _ {d : List ℕ} (i o c : ℕ) (es : List ℕ) where
       → Puts d 0 (environmentAnswer i o c es) r e
   unfolding environmentAnswer onlyIf environmentPrint
   environment-whole h P Q R =
-      let l = environment-entries i o c (length es) h .0 in
+      let l = environment-entries i o c (length es) h in
       let rows : length es - 1 ≡ i * max 1 c * o = omega (arith, l) in
       let first : 0 < length es = omega (arith, l) in
       puts-as (sym (ap (λ (b : Bool). onlyIf b (environmentPrint i o c es)) h))

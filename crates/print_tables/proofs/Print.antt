@@ -1,16 +1,15 @@
 -- The lines in order are the print: what has been written, and the next line, is what has been written one line on.
-use Prim.Native.Nat.{ℕ, zero, suc, _+_, _*_, _≤_, _<_}
+use Prim.Native.Nat.{ℕ, zero, suc, _+_, _≤_, _<_}
 use native.Mathlib.Omega.{arith}
 use mathlib.Core.List.{List, _++_, append-assoc, append-nil}
 use mathlib.Core.Path.{_≡_, sym, _∙_, ap}
-use lib.ListN.{getD, length, length-append}
+use lib.ListN.{getD, length}
 use Rattle.finite.proofs.Lists.{any-default}
 use Rattle.theory.specs.Entries.{noneEntry}
 use Rattle.text_put.specs.Put.{Puts}
-use Rattle.text_put.proofs.Buffer.{puts-then, puts-as}
+use Rattle.text_put.proofs.Buffer.{puts-nothing, puts-then, puts-as}
 use Rattle.print_lines.specs.Line.{startLine, stepLine}
 use Rattle.print_tables.specs.Print.{startLines, stepLines}
-use Rattle.print_lines.proofs.Lines.{puts-nothing, start-short}
 
 starts-next : (n i : ℕ) (es : List ℕ) → startLines n i es ++ startLine (i + n) (getD es (i + n) noneEntry) ≡ startLines (suc n) i es
 unfolding startLines
@@ -69,14 +68,3 @@ steps-on k c n first es h P Q =
     let read : stepLine c n k (getD es (first + k) 0) ≡ stepLine c n (0 + k) (getD es (first + (0 + k)) noneEntry) =
     ap (stepLine c n k) (any-default es (first + k) 0 noneEntry h) ∙ ap (λ (j : ℕ). stepLine c n j (getD es (first + j) noneEntry)) (sym here) in
     puts-as (steps-next k 0 c n first es ∙ ap (λ (j : ℕ). stepLines j 0 c n first es) (sym next)) (puts-then P (puts-as read Q))
-
-pub starts-short : (n i : ℕ) (es : List ℕ) → i + n ≤ 128 → length (startLines n i es) ≤ 160 * n
-unfolding startLines
-starts-short zero i es h = omega arith
-starts-short (suc n) i es h =
-    omega (
-      arith,
-      length-append (startLine i (getD es i noneEntry)) (startLines n (suc i) es),
-      start-short i (getD es i noneEntry) (omega arith),
-      starts-short n (suc i) es (omega arith),
-    )

@@ -145,7 +145,7 @@ module _ (es : List ℕ) (entries : (j : ℕ) → getD es j noneEntry < 65536) w
       omega (
         arith,
         ap length whole,
-        l .0,
+        l,
         length-append (winsLine false) (environmentStartLine (getD es 0 noneEntry) ++ stepLines (i * max 1 c * o) 0 c o 1 es),
         length-append (environmentStartLine (getD es 0 noneEntry)) (stepLines (i * max 1 c * o) 0 c o 1 es),
         wins-short false,

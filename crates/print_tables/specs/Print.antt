@@ -24,21 +24,23 @@ unfoldable pub stepLines : ℕ → ℕ → ℕ → ℕ → ℕ → List ℕ → 
 stepLines zero r c n at es = []
 stepLines (suc k) r c n at es = stepLine c n r (getD es (at + r) noneEntry) ++ stepLines k (suc r) c n at es
 
+-- SPEC 8.3
 unfoldable pub controllerPrint : ℕ → ℕ → ℕ → List ℕ → List ℕ
 controllerPrint i o c es = winsLine true ++ (startLines i 0 es ++ stepLines (o * max 1 c * i) 0 c i i es)
 
+-- SPEC 8.3
 unfoldable pub environmentPrint : ℕ → ℕ → ℕ → List ℕ → List ℕ
 environmentPrint i o c es = winsLine false ++ (environmentStartLine (getD es 0 noneEntry) ++ stepLines (i * max 1 c * o) 0 c o 1 es)
 
--- "1 to 128 states each"; "k requirements, 0 to 8. Each has 0 to 4 input sets and 0 to 4 output sets."
+-- "1 to 128 states each"; "k requirements, 0 to 8. Each has 0 to 4 input sets and 0 to 4 output sets." (SPEC 1.1)
 unfoldable pub inRange : ℕ → ℕ → ℕ → Bool
 inRange i o c = leb i 128 && (leb o 128 && leb c 32)
 
--- "inputs + outputs × max(1, G) × inputs entries"
+-- "inputs + outputs × max(1, G) × inputs entries" (SPEC 7.2)
 unfoldable pub controllerFits : ℕ → ℕ → ℕ → ℕ → Bool
 controllerFits i o c n = inRange i o c && eqb n (i + o * max 1 c * i)
 
--- "1 + inputs × max(1, H) × outputs entries"
+-- "1 + inputs × max(1, H) × outputs entries" (SPEC 7.3)
 unfoldable pub environmentFits : ℕ → ℕ → ℕ → ℕ → Bool
 environmentFits i o c n = inRange i o c && eqb n (1 + i * max 1 c * o)
 

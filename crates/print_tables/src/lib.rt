@@ -1,14 +1,14 @@
 // The print of an answer, whole: parts of the program `solve`. The lines follow one another in the buffer from its front on; a public function answers
 // the print's length. What lies past the buffer's end is left out; that in the program nothing is, `Printed` shows (solve/specs).
 ghost use mathlib.Core.Path.{_≡_};
-ghost use Prim.Native.Nat.{_*_, _-_, _≤_};
+ghost use Prim.Native.Nat.{_-_, _≤_};
 ghost use lib.ListN.{length};
 ghost use Rattle.text_put.specs.Put.{Puts};
 ghost use Rattle.print_tables.specs.Print.{startLines, stepLines, inRange, controllerFits, environmentFits, controllerAnswer, environmentAnswer};
 
 // The controller's starts, for the inputs 0 to n - 1.
 fn put_starts(buffer: &mut [u8], at: usize, n: usize, table: &[u16]) -> usize
-    requires { ⌜ (at ≤ 160) × (n ≤ 128) × (n ≤ length (now table)) ⌝ }
+    requires { ⌜ n ≤ length (now table) ⌝ }
     ensures { λ r. ⌜ Puts (now (buffer .entry)) at (startLines n 0 (now (table .entry))) r (now (buffer .exit)) ⌝ }
 {
     let mut to = at;
@@ -29,7 +29,7 @@ fn put_steps(
     first: usize,
     table: &[u16],
 ) -> usize
-    requires { ⌜ (at ≤ 160 * 129) × (first ≤ length (now table)) × (length (now table) ≤ 1000000) ⌝ }
+    requires { ⌜ first ≤ length (now table) ⌝ }
     ensures { λ r. ⌜ Puts (now (buffer .entry)) at (stepLines (length (now (table .entry)) - first) 0 sets last first (now (table .entry))) r
         (now (buffer .exit)) ⌝ }
 {

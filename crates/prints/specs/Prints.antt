@@ -22,21 +22,22 @@ use Rattle.text.specs.declared.Reading.{Reading}
 use Rattle.print_lines.specs.Line.{refusedLine, misshapenLine}
 use Rattle.print_tables.specs.Print.{controllerPrint, environmentPrint}
 
+-- SPEC 8.3
 unfoldable pub tablePrint : Game → Verdict → List ℕ
 tablePrint g (System n) = controllerPrint (g .input .states) (g .output .states) (length (guarantees (separatedOf g))) (controllerEntries (separatedOf g))
 tablePrint g (Environment n) =
     environmentPrint (g .input .states) (g .output .states) (length (assumptions (separatedOf g))) (environmentEntries (separatedOf g))
 tablePrint g (NotSolved n) = refusedLine n
 
--- "The program lends 32,768 entries a room."
+-- "The program lends 32,768 entries a room." (SPEC 8.5)
 abbrev pub roomEntries : ℕ
 roomEntries = 32768
 
--- and as much scratch as the game asks for
+-- and as much scratch as the game asks for (SPEC 8.5)
 unfoldable pub gamePrint : Game → List ℕ
 gamePrint g = tablePrint g (verdictAnswer g (scratchLength g) roomEntries roomEntries)
 
--- "A refusal prints (refused N), for 11 (refused 11 P)."
+-- "A refusal prints (refused N), for 11 (refused 11 P)." (SPEC 8.4)
 unfoldable pub answerPrint : Game → Answer → List ℕ
 answerPrint g Read = gamePrint g
 answerPrint g (Misshapen p) = misshapenLine p

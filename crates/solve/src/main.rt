@@ -1,6 +1,7 @@
 // Reads a game's text from standard input and prints the side that wins and its table, or the refusal.
 ghost use mathlib.Core.Path.{_≡_};
-ghost use Prim.Native.Nat.{_≤_};
+ghost use Prim.Native.Nat.{ℕ, _≤_};
+ghost use mathlib.Core.List.{List};
 ghost use lib.ListN.{length};
 ghost use Rattle.game.specs.declared.Acceptance.the-variants.{Accepted};
 ghost use Rattle.game.specs.Acceptance.{acceptance};
@@ -8,7 +9,11 @@ ghost use Rattle.play.specs.Play.{separatedOf};
 ghost use Rattle.theory.specs.Choice.{guarantees, assumptions};
 ghost use Rattle.print_tables.specs.Print.{controllerAnswer, environmentAnswer};
 ghost use Rattle.prints.specs.Prints.{roomEntries, gamePrint};
-ghost use Rattle.solve.specs.Printed.{printBytes, Made, Printed};
+ghost use Rattle.text_put.specs.Put.{PutsWithin};
+ghost use Rattle.files.specs.Front.{frontOf, Within};
+ghost use Rattle.solve.specs.Printed.{printBytes, Printed, Goes};
+use files::Front;
+use files::Written;
 use game::Game;
 use libc::STDERR_FILENO;
 use libc::STDIN_FILENO;
@@ -33,25 +38,35 @@ fn tell_unread(read: bool) {
     }
 }
 
-// The first n bytes.
-fn print(text: &[u8], n: usize)
-    requires { ⌜ n ≤ length (now text) ⌝ }
-{
-    let written = io::write_all(STDOUT_FILENO, &text[..n]);
-    tell_unwritten(written);
+// Says on standard error what is waited for, where a person is to type it.
+fn tell_waiting() {
+    if files::typed(STDIN_FILENO) {
+        io::write_all(
+            STDERR_FILENO,
+            b"solve: waiting for a game's text on standard input (Ctrl-D ends it)\n",
+        );
+    }
 }
 
-// The first n bytes of the buffer.
-fn print_front(buffer: &[u8; PRINT], n: usize)
-    requires { ⌜ n ≤ printBytes ⌝ }
+// Writes the print of the file that was read to standard output. This is the one function that does: the front is passed for what is asked alone.
+fn print(fd: i32, f: Front, text: &[u8]) -> Written
+    requires { ⌜ Goes fd f (now text) ⌝ }
 {
-    print(buffer, n);
+    files::write(fd, text)
+}
+
+// The same of the first n bytes of the buffer.
+fn print_front(f: Front, buffer: &[u8; PRINT], n: usize) -> Written
+    requires { ⌜ ((d : List ℕ) × Printed (frontOf f) d n (now buffer)) ⌝ }
+{
+    let text = &buffer[..];
+    print(STDOUT_FILENO, f, &text[..n])
 }
 
 // The print of the controller's table.
 fn put_system(buffer: &mut [u8], g: Game, table: &[u16]) -> usize
     requires { ⌜ (acceptance g ≡ Accepted) × (length (now table) ≤ roomEntries) ⌝ }
-    ensures { λ r. ⌜ Made (now (buffer .entry)) (controllerAnswer (g .input .states) (g .output .states) (length (guarantees (separatedOf g)))
+    ensures { λ r. ⌜ PutsWithin printBytes (now (buffer .entry)) (controllerAnswer (g .input .states) (g .output .states) (length (guarantees (separatedOf g)))
         (now (table .entry))) r (now (buffer .exit)) ⌝ }
 {
     let sets = table_sizes::guarantee_count(g);
@@ -61,7 +76,7 @@ fn put_system(buffer: &mut [u8], g: Game, table: &[u16]) -> usize
 // The print of the panel's table.
 fn put_panel(buffer: &mut [u8], g: Game, table: &[u16]) -> usize
     requires { ⌜ (acceptance g ≡ Accepted) × (length (now table) ≤ roomEntries) ⌝ }
-    ensures { λ r. ⌜ Made (now (buffer .entry)) (environmentAnswer (g .input .states) (g .output .states) (length (assumptions (separatedOf g)))
+    ensures { λ r. ⌜ PutsWithin printBytes (now (buffer .entry)) (environmentAnswer (g .input .states) (g .output .states) (length (assumptions (separatedOf g)))
         (now (table .entry))) r (now (buffer .exit)) ⌝ }
 {
     let sets = table_sizes::assumption_count(g);
@@ -83,7 +98,7 @@ fn empty_print() -> [u8; PRINT] {
 // The print for an accepted game.
 fn solve(buffer: &mut [u8], g: Game) -> usize
     requires { ⌜ acceptance g ≡ Accepted ⌝ }
-    ensures { λ r. ⌜ Made (now (buffer .entry)) (gamePrint g) r (now (buffer .exit)) ⌝ }
+    ensures { λ r. ⌜ PutsWithin printBytes (now (buffer .entry)) (gamePrint g) r (now (buffer .exit)) ⌝ }
 {
     let mut scratch = [0u64; scratch::MOST];
     let mut refusal: u8 = 0;
@@ -109,6 +124,7 @@ fn solve(buffer: &mut [u8], g: Game) -> usize
 
 // The print for a file.
 fn answer(buffer: &mut [u8], file: &[u8]) -> usize
+    requires { ⌜ printBytes ≤ length (now buffer) ⌝ }
     ensures { λ r. ⌜ Printed (now (file .entry)) (now (buffer .entry)) r (now (buffer .exit)) ⌝ }
 {
     let r = text::read(file);
@@ -123,39 +139,29 @@ fn answer(buffer: &mut [u8], file: &[u8]) -> usize
     }
 }
 
-// The same, in the program's buffer.
-fn put_answer(buffer: &mut [u8; PRINT], file: &[u8]) -> usize
-    ensures { λ r. ⌜ Printed (now (file .entry)) (now (buffer .entry)) r (now (buffer .exit)) ⌝ }
+// The same of the file that was read, in the program's buffer.
+fn put_answer(buffer: &mut [u8; PRINT], f: Front) -> usize
+    requires { ⌜ Within f ⌝ }
+    ensures { λ r. ⌜ Printed (frontOf f) (now (buffer .entry)) r (now (buffer .exit)) ⌝ }
 {
-    answer(buffer, file)
+    let file = files::bytes(f);
+    let n = files::len(f);
+    answer(buffer, &file[..n])
 }
 
-// Prints the answer to the first n bytes.
-fn show(file: &[u8], n: usize) {
-    if n <= file.len() {
-        let mut buffer = empty_print();
-        let k = put_answer(&mut buffer, &file[..n]);
-        print_front(&buffer, k);
-    }
-}
-
-// Whether the reading that gave n bytes of 65,536 ended with the file, and did not fail: one more read tells. A terminal, which would ask for its end a second
-// time, is believed.
-fn read_whole(n: usize) -> bool {
-    if n == 65536 {
-        return true;
-    }
-    if libc::isatty(STDIN_FILENO) == 1 {
-        return true;
-    }
-    let mut more = [0u8; 1];
-    libc::read(STDIN_FILENO, &mut more) >= 0
+// Prints the answer to the file that was read.
+fn show(f: Front) -> Written
+    requires { ⌜ Within f ⌝ }
+{
+    let mut buffer = empty_print();
+    let n = put_answer(&mut buffer, f);
+    print_front(f, &buffer, n)
 }
 
 fn main() {
-    let mut file = io::large_buffer();
-    let n = io::read_full(STDIN_FILENO, &mut file);
-    let read = read_whole(n);
-    tell_unread(read);
-    show(&file, n);
+    tell_waiting();
+    let f = files::read(STDIN_FILENO);
+    tell_unread(files::read_whole(f));
+    let w = show(f);
+    tell_unwritten(files::written_whole(w));
 }

@@ -1,3 +1,4 @@
 pub mod Reader
-pub mod Writer
+pub mod Arrays
 pub mod OneText
+pub mod Writer

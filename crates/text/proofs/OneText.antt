@@ -36,21 +36,22 @@ use Rattle.text_shape.proofs.Graphs.{empty-shaped}
 use Rattle.text_shape.proofs.Shape.{game-sound, game-complete, game-live}
 use Rattle.text_put.proofs.Pieces.{in-word, out-word}
 use Rattle.text.specs.Read.{Reads, textRefused, misshapen, judged}
-use Rattle.text.specs.OneText.{Arrays, IsText, OneText}
+use Rattle.text.specs.OneText.{IsText, OneText}
 use Rattle.text.specs.declared.Answer.the-variants.{Read, Misshapen, Refused as NotRead}
 use Rattle.text.specs.declared.Reading.{Reading}
 use Rattle.text.proofs.Reader.{text-of, judged-refused, judged-accepted}
+use Rattle.text.proofs.Arrays.{GraphArrays, RequirementArrays, Arrays}
 
 -- two games within the shape's limits with one text are one game
 one-game : (g h : Game) → Shaped g → Shaped h → gameText g ≡ gameText h → g ≡ h
 one-game g h S T e = one-value gameFormat (gameText g) g h (game-complete g S) (text-of (gameText g) h T e)
 
 -- an accepted game is within the shape's limits
-graph-shaped : (g : Graph) → GraphFits g → length (g .moves) ≡ rowWords → ((i : ℕ) → getD (g .moves) i 0 < 2 ^ 64) → WordsFit (g .initial)
-    → ShapedGraph g
+graph-shaped : (g : Graph) → GraphFits g → GraphArrays g → ShapedGraph g
 unfolding plain recordOf
-graph-shaped g F l rows start =
+graph-shaped g F A =
     let most = F .most in
+    let l = A .rows in
     record {
       limits = record {
         some = F .some;
@@ -62,14 +63,14 @@ graph-shaped g F l rows start =
             (λ b. ap (λ (x : ℕ). within x capacity) (past s (ltb-false s (g .states) b)) ∙ zero-within capacity);
         unused = past;
       };
-      words = λ i. record { states = g .states; initial = set-is (g .initial) (start .0) i; moves = words-sets (g .moves) l rows i };
+      words = λ i. record { states = g .states; initial = set-is (g .initial) (A .initial .0) i; moves = words-sets (g .moves) l (A .words) i };
     }
   where
     past : (s : ℕ) → g .states ≤ s → getD (setsIn (g .moves)) s 0 ≡ 0
     past s h =
         by-cases (ltb s capacity)
         (λ b. F .row-past s h (ltb-true s capacity b))
-        (λ b. let m = ltb-false s capacity b in List·getD-eq-default (setsIn (g .moves)) 0 (omega (arith, sets-all (g .moves) l)))
+        (λ b. let m = ltb-false s capacity b in List·getD-eq-default (setsIn (g .moves)) 0 (omega (arith, sets-all (g .moves) (A .rows))))
 
 sets-shaped : (n a : ℕ) (ws : List ℕ) → a ≤ capacity → n ≤ 4 → length ws ≡ 4 → ((j s : ℕ) → j < n → has (getD ws j 0) s ≡ true → s < a)
     → ((j : ℕ) → n ≤ j → j < 4 → getD ws j 0 ≡ 0) → ShapedSets n ws
@@ -89,13 +90,6 @@ sets-shaped n a ws m h l below past =
         (λ b. past j h (ltb-true j 4 b))
         (λ b. let q = ltb-false j 4 b in List·getD-eq-default ws 0 (omega arith))
 
--- the words of a requirement's lists
-record Fit (q : Requirement) : Type 0 where
-  in-length : length (q .assumptions) ≡ 4
-  out-length : length (q .guarantees) ≡ 4
-  in-sets : (j : ℕ) → WordsFit (getD (q .assumptions) j noInput .0)
-  out-sets : (j : ℕ) → WordsFit (getD (q .guarantees) j noOutput .0)
-
 in-all : (xs : List InSet) → ((j : ℕ) → WordsFit (getD xs j noInput .0)) → inSets (inWords xs) ≡ xs
 in-all [] h = refl
 in-all (x ∷ xs) h = λ i. record { 0 = set-is (x .0) (h 0 .0) i } ∷ in-all xs (λ j. h (suc j)) i
@@ -107,16 +101,16 @@ out-all (x ∷ xs) h = λ i. record { 0 = set-is (x .0) (h 0 .0) i } ∷ out-all
 no-set : (x : Set) → WordsFit x → bitsOf x ≡ 0 → x ≡ noStates
 no-set x w h = sym (set-is x (w .0)) ∙ ap setOf h ∙ no-states
 
-requirement-shaped : (q : Requirement) (a b : ℕ) → a ≤ capacity → b ≤ capacity → RequirementFits q a b → Fit q → ShapedRequirement q
+requirement-shaped : (q : Requirement) (a b : ℕ) → a ≤ capacity → b ≤ capacity → RequirementFits q a b → RequirementArrays q → ShapedRequirement q
 requirement-shaped q a b la lb F W =
     record {
       assumptions =
-          sets-shaped (q .assumed) a (inWords (q .assumptions)) la (F .few-assumed) (length-map (q .assumptions) (λ (x : InSet). bitsOf (x .0)) ∙ W .in-length)
+          sets-shaped (q .assumed) a (inWords (q .assumptions)) la (F .few-assumed) (length-map (q .assumptions) (λ (x : InSet). bitsOf (x .0)) ∙ W .assumptions)
           (λ j s l h. F .assumption-below j s l (ap (λ (x : ℕ). has x s) (in-word (q .assumptions) j) ∙ h))
           (λ j l h. sym (in-word (q .assumptions) j) ∙ F .assumption-past j l h);
       guarantees =
           sets-shaped (q .guaranteed) b (outWords (q .guarantees)) lb (F .few-guaranteed)
-          (length-map (q .guarantees) (λ (x : OutSet). bitsOf (x .0)) ∙ W .out-length)
+          (length-map (q .guarantees) (λ (x : OutSet). bitsOf (x .0)) ∙ W .guarantees)
           (λ j s l h. F .guarantee-below j s l (ap (λ (x : ℕ). has x s) (out-word (q .guarantees) j) ∙ h))
           (λ j l h. sym (out-word (q .guarantees) j) ∙ F .guarantee-past j l h);
       in-words = in-all (q .assumptions) (W .in-sets);
@@ -124,11 +118,11 @@ requirement-shaped q a b la lb F W =
     }
 
 -- a requirement without sets
-unused-empty : (q : Requirement) (a b : ℕ) → RequirementFits q a b → Fit q → q .assumed ≡ 0 → q .guaranteed ≡ 0 → q ≡ emptyRequirement
+unused-empty : (q : Requirement) (a b : ℕ) → RequirementFits q a b → RequirementArrays q → q .assumed ≡ 0 → q .guaranteed ≡ 0 → q ≡ emptyRequirement
 unfolding emptyRequirement
 unused-empty q a b F W e f =
-    let m = W .in-length in
-    let n = W .out-length in
+    let m = W .assumptions in
+    let n = W .guarantees in
     let ins : q .assumptions ≡ replicate 4 noInput =
     ext-getD noInput (q .assumptions) (replicate 4 noInput) m
     (λ j l. no-input (getD (q .assumptions) j noInput) (W .in-sets j) (F .assumption-past j (omega arith) (omega arith)) ∙ sym (four-ins j (omega arith))) in
@@ -149,30 +143,27 @@ unused-empty q a b F W e f =
     four-outs : (j : ℕ) → j < 4 → getD (replicate 4 noOutput) j noOutput ≡ noOutput
     four-outs j h = lib.ListN.getD-replicate 4 j noOutput noOutput h
 
-accepted-shaped : (g : Game) → acceptance g ≡ Accepted → Arrays g → Shaped g
+pub accepted-shaped : (g : Game) → acceptance g ≡ Accepted → Arrays g → Shaped g
 accepted-shaped g h A =
     let F = accepted-fits g h in
     record {
-      input = graph-shaped (g .input) (F .input) (A .input) (A .in-rows) (A .in-initial);
-      output = graph-shaped (g .output) (F .output) (A .output) (A .out-rows) (A .out-initial);
+      input = graph-shaped (g .input) (F .input) (A .input);
+      output = graph-shaped (g .output) (F .output) (A .output);
       most = F .few;
       all = A .requirements;
       requirement = λ r. by-cases (ltb r 8)
           (λ b. let l = ltb-true r 8 b in
           rw (same r l) (requirement-shaped (requirementAt g r) (g .input .states) (g .output .states) (F .input .most) (F .output .most)
-          (F .requirement r l) (fit r l)))
+          (F .requirement r l) (A .requirement r l)))
           (λ b. rw (past r (ltb-false r 8 b)) empty-shaped);
       unused = λ r u. by-cases (ltb r 8)
           (λ b. let l = ltb-true r 8 b in
           same r l
-          ∙ unused-empty (requirementAt g r) (g .input .states) (g .output .states) (F .requirement r l) (fit r l)
+          ∙ unused-empty (requirementAt g r) (g .input .states) (g .output .states) (F .requirement r l) (A .requirement r l)
           (F .unused r u l .0) (F .unused r u l .1))
           (λ b. past r (ltb-false r 8 b));
     }
   where
-    fit : (r : ℕ) → r < 8 → Fit (requirementAt g r)
-    fit r l = record { in-length = A .assumptions r l; out-length = A .guarantees r l; in-sets = A .in-sets r; out-sets = A .out-sets r }
-
     same : (r : ℕ) → r < 8 → getD (g .requirements) r emptyRequirement ≡ requirementAt g r
     same r l = let m = A .requirements in any-default (g .requirements) r emptyRequirement noRequirement (omega arith)
 
@@ -180,9 +171,9 @@ accepted-shaped g h A =
     past r l = let m = A .requirements in List·getD-eq-default (g .requirements) emptyRequirement (omega arith)
 
 -- the text of an accepted game that a file can hold is read as that game
-read-written : (g : Game) (r : Reading) → acceptance g ≡ Accepted → Arrays g → length (gameText g) ≤ 40960 → Reads (gameText g) r
+pub read-written : (g : Game) (r : Reading) → acceptance g ≡ Accepted → Shaped g → length (gameText g) ≤ 40960 → Reads (gameText g) r
     → r ≡ record { game = g; answer = Read }
-read-written g r h A l R = R .text l g (accepted-shaped g h A) refl ∙ judged-accepted g h
+read-written g r h S l R = R .text l g S refl ∙ judged-accepted g h
 
 -- what is read as a game is that game's text, byte for byte
 judged-read : (s : List ℕ) (g : Game) (r : Reading) (a : Acceptance) → acceptance g ≡ a → Shaped g → s ≡ gameText g → r ≡ judged g → r .answer ≡ Read

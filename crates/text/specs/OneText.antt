@@ -1,14 +1,12 @@
--- One text for each game: what is written is read back where a file may be as long, and only what would be written is read.
+-- One text for each game: a game's text is read as that game where a file may be as long, and nothing else is read as it. That what is written is read
+-- back, `Writes` promises of every game that is passed (specs/Write.antt).
 --
---   Arrays g           == the lists of g have the lengths of the arrays in the record, and its words 64 bits: so every game of a program
 --   IsText s g         == s is the text of the accepted game g
---   OneText            == the laws of reading and writing together; proofs/OneText.antt proves them
+--   OneText            == the laws of texts; proofs/OneText.antt proves them
 use mathlib.Core.List.{List}
 use mathlib.Core.Path.{_≡_}
-use Prim.Native.Nat.{ℕ, _≤_, _<_, _^_}
-use lib.ListN.{length, getD}
-use Rattle.sets.specs.Words.{rowWords, WordsFit}
-use Rattle.game.specs.Access.{requirementAt, assumptionAt, guaranteeAt}
+use Prim.Native.Nat.{ℕ, _≤_, _<_}
+use lib.ListN.{length}
 use Rattle.game.specs.Acceptance.{acceptance}
 use Rattle.game.specs.declared.Game.{Game}
 use Rattle.game.specs.declared.Acceptance.the-variants.{Accepted}
@@ -17,30 +15,19 @@ use Rattle.text.specs.declared.Answer.the-variants.{Read}
 use Rattle.text.specs.declared.Reading.{Reading}
 use Rattle.text.specs.Read.{Reads, textRefused}
 
-pub record Arrays (g : Game) : Type 0 where
-  pub input : length (g .input .moves) ≡ rowWords
-  pub output : length (g .output .moves) ≡ rowWords
-  pub requirements : length (g .requirements) ≡ 8
-  pub assumptions : (r : ℕ) → r < 8 → length (requirementAt g r .assumptions) ≡ 4
-  pub guarantees : (r : ℕ) → r < 8 → length (requirementAt g r .guarantees) ≡ 4
-  pub in-rows : (i : ℕ) → getD (g .input .moves) i 0 < 2 ^ 64
-  pub out-rows : (i : ℕ) → getD (g .output .moves) i 0 < 2 ^ 64
-  pub in-initial : WordsFit (g .input .initial)
-  pub out-initial : WordsFit (g .output .initial)
-  pub in-sets : (r j : ℕ) → WordsFit (assumptionAt g r j .0)
-  pub out-sets : (r j : ℕ) → WordsFit (guaranteeAt g r j .0)
-
+-- SPEC 8.2
 pub record IsText (s : List ℕ) (g : Game) : Type 0 where
   pub accepted : acceptance g ≡ Accepted
   pub shaped : Shaped g
   pub text : s ≡ gameText g
 
+-- SPEC 8.2
 pub record OneText : Type 0 where
   -- two games within the shape's limits with one text are one game
   pub one-game : (g h : Game) → Shaped g → Shaped h → gameText g ≡ gameText h → g ≡ h
-  -- the text of an accepted game is read as that game, where it is no longer than a file may be:
-  -- "reading back is claimed for games whose text is no longer than that" (M-105)
-  pub read-back : (g : Game) (r : Reading) → acceptance g ≡ Accepted → Arrays g → length (gameText g) ≤ 40960 → Reads (gameText g) r
+  -- the text of an accepted game within them is read as that game, where it is no longer than a file may be:
+  -- "reading back is claimed for games whose text is no longer than that" (M-105) (SPEC 8.2)
+  pub read-back : (g : Game) (r : Reading) → acceptance g ≡ Accepted → Shaped g → length (gameText g) ≤ 40960 → Reads (gameText g) r
       → r ≡ record { game = g; answer = Read }
   -- every other accepted game's text is refused with 12
   pub too-long : (g : Game) (r : Reading) → acceptance g ≡ Accepted → 40960 < length (gameText g) → Reads (gameText g) r → r ≡ textRefused 12

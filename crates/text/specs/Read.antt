@@ -29,7 +29,7 @@ pub record BeginsText (s : List ℕ) : Type 0 where
   pub back : List ℕ
   pub text : s ++ back ≡ gameText game
 
--- "P being the length of the longest front of it that begins some well-shaped file"
+-- "P being the length of the longest front of it that begins some well-shaped file" (SPEC 9.4)
 pub record LongestFront (s : List ℕ) (p : ℕ) : Type 0 where
   pub within : p ≤ length s
   pub front : BeginsText (take p s)
@@ -58,13 +58,13 @@ placeOf Read = 0
 placeOf (Misshapen p) = p
 placeOf (NotRead n) = 0
 
--- "Whoever sends a file: 12 over 40,960 bytes; then 11 not of the shape above, ..; then 1 to 7."
+-- "Whoever sends a file: 12 over 40,960 bytes; then 11 not of the shape above, ..; then 1 to 7." (SPEC 9.4)
 pub record ReadNumber (s : List ℕ) (n p : ℕ) : Type 0 where
   pub long : 40960 < length s → n ≡ 12
   pub place : length s ≤ 40960 → ((g : Game) → Shaped g → s ≡ gameText g → ⊥) → (n ≡ 11) × LongestFront s p
   pub text : length s ≤ 40960 → (g : Game) → Shaped g → s ≡ gameText g → n ≡ firstOf (gameTests g)
 
--- the same of the whole answer
+-- the same of the whole answer (SPEC 8.2, 9.4)
 pub record Reads (s : List ℕ) (r : Reading) : Type 0 where
   pub number : ReadNumber s (readingNumber (r .answer)) (placeOf (r .answer))
   pub long : 40960 < length s → r ≡ textRefused 12

@@ -55,7 +55,7 @@ fn judge(g: Game) -> Reading
     }
 }
 
-// The game that a file describes.
+// The game that a file describes. (SPEC 8.2, 9.4)
 pub fn read(text: &[u8]) -> Reading
     ensures { λ r. ⌜ Reads (now (text .entry)) r ⌝ }
 {
@@ -82,7 +82,7 @@ pub enum WriteAnswer {
     Refused(u8),
 }
 
-// The text of a game, at the front of the buffer.
+// The text of a game, at the front of the buffer. (SPEC 8.2, 9.3)
 pub fn write(g: Game, buffer: &mut [u8]) -> WriteAnswer
     ensures { λ r. ⌜ Writes g (now (buffer .entry)) r (now (buffer .exit)) ⌝ }
 {

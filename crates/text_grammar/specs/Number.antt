@@ -23,6 +23,7 @@ unfoldable pub digits : ℕ → ℕ → List ℕ
 digits zero v = []
 digits (suc n) v = elim (ltb v 10) [ true ↦ (digitZero + v) ∷ [] | false ↦ digits n (v / 10) ++ (digitZero + v % 10) ∷ [] ]
 
+-- SPEC 8.1
 unfoldable pub decimal : ℕ → List ℕ
 decimal v = digits (suc v) v
 

@@ -1,83 +1,105 @@
 -- A buffer under way: what is left to write makes the whole.
-use Prim.Native.Nat.{ℕ, suc, _+_, _/_, _%_, _≤_, _<_}
+use Prim.Native.Nat.{ℕ, suc, _+_, _/_, _%_, _≤_, _<_, max}
 use native.Mathlib.Omega.{arith}
-use mathlib.Core.List.{List, [], _∷_, _++_, append-nil}
+use native.Mathlib.Decide.{decLe}
+use mathlib.Core.List.{List, [], _∷_, _++_, append-assoc, append-nil}
 use mathlib.Core.Path.{_≡_, refl, sym, _∙_, ap, subst}
-use lib.ListN.{length, set, drop, length-set, length-append}
+use lib.ListN.{length, set, drop, length-append}
 use native.Mathlib.Nat.{zero-add}
-use native.Mathlib.Numerals.{add-one}
-use lib.Seq.{set-out, sets, sets-eq}
+use lib.Seq.{set-out, sets, length-sets, sets-eq}
 use Rattle.text_grammar.specs.Number.{decimal}
 use Rattle.text_grammar.proofs.Number.{decimal-one, decimal-step}
-use Rattle.text_put.specs.Put.{overlay, Puts}
+use Rattle.text_put.specs.Put.{reached, Puts, Fills}
 
-overlay-append : (d : List ℕ) (at : ℕ) (t u : List ℕ) → overlay (overlay d at t) (at + length t) u ≡ overlay d at (t ++ u)
-unfolding overlay
-overlay-append d at [] u = ap (λ (i : ℕ). overlay d i u) (omega arith)
-overlay-append d at (b ∷ t) u =
-    ap (λ (i : ℕ). overlay (overlay (set d at b) (at + 1) t) i u) (shift at (length t)) ∙ overlay-append (set d at b) (at + 1) t u
-  where
-    shift : (a n : ℕ) → a + suc n ≡ a + 1 + n
-    shift a n = omega arith
+-- places
+module _ (m at : ℕ) where
+  pub reached-inside : (n : ℕ) → at + n ≤ m → reached m at n ≡ at + n
+  unfolding reached
+  reached-inside n h = omega arith
 
-overlay-length : (d : List ℕ) (at : ℕ) (t : List ℕ) → length (overlay d at t) ≡ length d
-unfolding overlay
-overlay-length d at [] = refl
-overlay-length d at (b ∷ t) = overlay-length (set d at b) (at + 1) t ∙ length-set d at b
+  pub reached-full : (n : ℕ) → m ≤ at + n → reached m at n ≡ max at m
+  unfolding reached
+  reached-full n h = omega arith
 
--- of the text `all`, which begins at place i of the buffer d, `rest` is still to be written, at place at of the buffer e
-pub record Remains (d : List ℕ) (i : ℕ) (all e : List ℕ) (at : ℕ) (rest : List ℕ) : Type 0 where
-  pub kept : overlay e at rest ≡ overlay d i all
-  pub place : at + length rest ≡ i + length all
+  pub reached-none : reached m at 0 ≡ at
+  unfolding reached
+  reached-none = omega arith
 
-pub remains-all : (d : List ℕ) (i : ℕ) (t : List ℕ) → Remains d i t d i t
-remains-all d i t = record { kept = refl; place = refl }
+pub reached-join : (m at n k : ℕ) → reached m (reached m at n) k ≡ reached m at (n + k)
+unfolding reached
+reached-join m at n k = omega arith
 
--- one piece is written
-pub remains-step : {d : List ℕ} {i : ℕ} {all e : List ℕ} {at : ℕ} {rest : List ℕ} (t u : List ℕ) {r : ℕ} {f : List ℕ}
-    → Remains d i all e at rest → rest ≡ t ++ u → Puts e at t r f → Remains d i all f r u
-remains-step {d} {i} {all} {e} {at} {rest} t u {r} {f} R s P =
-    let p = R .place in
-    let n = P .next in
-    let l : length rest ≡ length t + length u = ap length s ∙ length-append t u in
-    record {
-      kept =
-          ap (λ (x : List ℕ). overlay x r u) (P .kept) ∙ ap (λ (j : ℕ). overlay (overlay e at t) j u) n
-          ∙ overlay-append e at t u ∙ ap (overlay e at) (sym s) ∙ R .kept;
-      place = omega arith;
-    }
+-- stores from a place on
+pub sets-out : (t d : List ℕ) (at : ℕ) → length d ≤ at → sets d at t ≡ d
+sets-out [] d at h = refl
+sets-out (b ∷ t) d at h = ap (λ (e : List ℕ). sets e (suc at) t) (set-out d at b h) ∙ sets-out t d (suc at) (omega arith)
 
--- nothing is left
-pub remains-none : {d : List ℕ} {i : ℕ} {all e : List ℕ} {at : ℕ} → Remains d i all e at [] → Puts d i all at e
-unfolding overlay
-remains-none R = let p = R .place in record { next = omega arith; kept = R .kept }
+sets-append : (t u d : List ℕ) (at : ℕ) → sets (sets d at t) (at + length t) u ≡ sets d at (t ++ u)
+sets-append [] u d at = ap (λ (k : ℕ). sets d k u) (omega arith)
+sets-append (b ∷ t) u d at =
+    let e : at + suc (length t) ≡ suc at + length t = omega arith in
+    ap (λ (k : ℕ). sets (sets (set d at b) (suc at) t) k u) e ∙ sets-append t u (set d at b) (suc at)
 
--- there is room for each piece
-pub remains-room : {d : List ℕ} {i : ℕ} {all e : List ℕ} {at : ℕ} {rest : List ℕ} (t u : List ℕ) (n : ℕ)
-    → Remains d i all e at rest → rest ≡ t ++ u → i + length all ≤ n → at + length t ≤ n
-remains-room t u n R s h =
-    let p = R .place in
-    let l = ap length s ∙ length-append t u in
-    omega arith
+sets-then : (t u d : List ℕ) (at : ℕ) → sets (sets d at t) (reached (length d) at (length t)) u ≡ sets d at (t ++ u)
+sets-then t u d at =
+    elim (decLe (at + length t) (length d)) [
+      | yes h ↦ ap (λ (k : ℕ). sets (sets d at t) k u) (reached-inside (length d) at (length t) h) ∙ sets-append t u d at
+      | no h ↦ (
+          let l = length-sets d at t in
+          sets-out u (sets d at t) (reached (length d) at (length t)) (omega (arith, reached-full (length d) at (length t) (omega arith)))
+          ∙ sym (sets-out u (sets d at t) (at + length t) (omega arith)) ∙ sets-append t u d at
+          )
+    ]
 
--- one byte, in the buffer or past its end
-pub put-in : (d : List ℕ) (at b : ℕ) → Puts d at (b ∷ []) (at + 1) (set d at b)
-unfolding overlay
-put-in d at b = record { next = refl; kept = refl }
+-- nothing; one byte, in the buffer or past its end
+pub puts-nothing : (d : List ℕ) (at : ℕ) → Puts d at [] at d
+puts-nothing d at = record { next = sym (reached-none (length d) at); buffer = refl }
 
-pub put-past : (d : List ℕ) (at b : ℕ) → length d ≤ at → Puts d at (b ∷ []) (at + 1) d
-unfolding overlay
-put-past d at b h = record { next = refl; kept = sym (set-out d at b h) }
+pub put-in : (d : List ℕ) (at b : ℕ) → at < length d → Puts d at (b ∷ []) (at + 1) (set d at b)
+put-in d at b h = record { next = sym (reached-inside (length d) at 1 (omega arith)); buffer = refl }
+
+pub put-past : (d : List ℕ) (at b : ℕ) → length d ≤ at → Puts d at (b ∷ []) at d
+put-past d at b h = record { next = omega (arith, reached-full (length d) at 1 (omega arith)); buffer = sym (set-out d at b h) }
 
 -- one text, and another behind it
 pub puts-then : {d : List ℕ} {at : ℕ} {t : List ℕ} {m : ℕ} {e u : List ℕ} {r : ℕ} {f : List ℕ} → Puts d at t m e → Puts e m u r f → Puts d at (t ++ u) r f
-puts-then {d} {at} {t} {m} {e} {u} {r} {f} P Q = remains-none (remains-step u [] (remains-step t u (remains-all d at (t ++ u)) refl P) (sym (append-nil u)) Q)
+puts-then {d} {at} {t} {m} {e} {u} P Q =
+    let l : length e ≡ length d = ap length (P .buffer) ∙ length-sets d at t in
+    record {
+      next =
+          Q .next ∙ (λ i. reached (l i) (P .next i) (length u)) ∙ reached-join (length d) at (length t) (length u)
+          ∙ ap (reached (length d) at) (sym (length-append t u));
+      buffer = Q .buffer ∙ (λ i. sets (P .buffer i) (P .next i) u) ∙ sets-then t u d at;
+    }
 
 pub puts-as : {d : List ℕ} {at : ℕ} {t u : List ℕ} {r : ℕ} {e : List ℕ} → t ≡ u → Puts d at t r e → Puts d at u r e
 puts-as {d} {at} {r = r} {e = e} h P = subst (λ (x : List ℕ). Puts d at x r e) h P
 
 pub puts-length : {d : List ℕ} {at : ℕ} {t : List ℕ} {r : ℕ} {e : List ℕ} → Puts d at t r e → length e ≡ length d
-puts-length {d} {at} {t} P = ap length (P .kept) ∙ overlay-length d at t
+puts-length {d} {at} {t} P = ap length (P .buffer) ∙ length-sets d at t
+
+-- of the text `all`, which begins at place i of the buffer d, `rest` is still to be written, at place at of the buffer e
+pub record Remains (d : List ℕ) (i : ℕ) (all e : List ℕ) (at : ℕ) (rest : List ℕ) : Type 0 where
+  written : List ℕ
+  whole : written ++ rest ≡ all
+  puts : Puts d i written at e
+
+pub remains-all : (d : List ℕ) (i : ℕ) (t : List ℕ) → Remains d i t d i t
+remains-all d i t = record { written = []; whole = refl; puts = puts-nothing d i }
+
+-- one piece is written
+pub remains-step : {d : List ℕ} {i : ℕ} {all e : List ℕ} {at : ℕ} {rest : List ℕ} (t u : List ℕ) {r : ℕ} {f : List ℕ}
+    → Remains d i all e at rest → rest ≡ t ++ u → Puts e at t r f → Remains d i all f r u
+remains-step t u R s P =
+    record {
+      written = R .written ++ t;
+      whole = append-assoc (R .written) t u ∙ ap (λ (x : List ℕ). R .written ++ x) (sym s) ∙ R .whole;
+      puts = puts-then (R .puts) P;
+    }
+
+-- nothing is left
+pub remains-none : {d : List ℕ} {i : ℕ} {all e : List ℕ} {at : ℕ} → Remains d i all e at [] → Puts d i all at e
+remains-none R = puts-as (sym (append-nil (R .written)) ∙ R .whole) (R .puts)
 
 -- numbers
 pub digits-one : (v : ℕ) → v < 10 → length (decimal v) ≡ 1
@@ -95,20 +117,14 @@ digits-three v h l = omega (arith, digits-more v (omega arith), digits-two (v / 
 pub two-digits : (v : ℕ) → 10 ≤ v → v < 100 → (48 + v / 10) ∷ [] ++ (48 + v % 10) ∷ [] ≡ decimal v
 two-digits v h l = sym (decimal-step v h ∙ ap (λ (t : List ℕ). t ++ (48 + v % 10) ∷ []) (decimal-one (v / 10) (omega arith)))
 
-pub number-room : (at v n : ℕ) → 10 ≤ v → at + length (decimal v) ≤ n → at + length (decimal (v / 10)) + 1 ≤ n
-number-room at v n h l = omega (arith, ap length (decimal-step v h), length-append (decimal (v / 10)) ((48 + v % 10) ∷ []))
-
-pub digit-room : (at v n : ℕ) → v < 10 → at + length (decimal v) ≤ n → at + 1 ≤ n
-digit-room at v n h l = omega (arith, ap length (decimal-one v h))
-
 pub remains-as : {d : List ℕ} {i : ℕ} {all e : List ℕ} {at : ℕ} {t u : List ℕ} → Remains d i all e at t → t ≡ u → Remains d i all e at u
 remains-as {d} {i} {all} {e} {at} R h = subst (λ (x : List ℕ). Remains d i all e at x) h R
 
 -- a text that the buffer holds whole fills its front
-overlay-sets : (d : List ℕ) (at : ℕ) (t : List ℕ) → overlay d at t ≡ sets d at t
-unfolding overlay
-overlay-sets d at [] = refl
-overlay-sets d at (b ∷ t) = ap (λ (i : ℕ). overlay (set d at b) i t) (add-one at) ∙ overlay-sets (set d at b) (suc at) t
+pub sets-front : (d t : List ℕ) → length t ≤ length d → sets d 0 t ≡ t ++ drop (length t) d
+sets-front d t h = sets-eq t d 0 (omega arith) ∙ ap (λ (k : ℕ). t ++ drop k d) (zero-add (length t))
 
-pub overlay-front : (d t : List ℕ) → length t ≤ length d → overlay d 0 t ≡ t ++ drop (length t) d
-overlay-front d t h = overlay-sets d 0 t ∙ sets-eq t d 0 (omega arith) ∙ ap (λ (k : ℕ). t ++ drop k d) (zero-add (length t))
+pub puts-fills : {d t : List ℕ} {n : ℕ} {e : List ℕ} → Puts d 0 t n e → length t ≤ length d → Fills d t n e
+puts-fills {d} {t} P h =
+    let b = P .next ∙ reached-inside (length d) 0 (length t) (omega arith) ∙ zero-add (length t) in
+    record { room = h; bytes = b; buffer = P .buffer ∙ sets-front d t h ∙ ap (λ (k : ℕ). t ++ drop k d) (sym b) }

@@ -51,17 +51,13 @@ use Rattle.text_shape.specs.Shape.{opening}
 use Rattle.text_shape.proofs.SetLists.{part-cons, item-text}
 use Rattle.text_put.specs.Put.{Puts}
 use Rattle.text_put.proofs.Lowest.{members-none, members-lowest}
-use Rattle.text_put.proofs.Buffer.{Remains, remains-all, remains-step, remains-none, remains-room, puts-then, puts-as}
+use Rattle.text_put.proofs.Buffer.{Remains, remains-all, remains-step, remains-none, puts-then, puts-as}
 
 -- fixed bytes, one at a time
 pub bytes-step : {d : List ℕ} {i : ℕ} {e : List ℕ} {at : ℕ} (l : List ℕ) (k b : ℕ) {r : ℕ} {f : List ℕ} → Remains d i l e at (drop k l) → k < length l
     → b ≡ getD l k 0
     → Puts e at (b ∷ []) r f → Remains d i l f r (drop (k + 1) l)
 bytes-step l k b R h g P = remains-step (b ∷ []) (drop (k + 1) l) R (drop-cons l k 0 h ∙ (λ n. sym g n ∷ drop (sym (add-one k) n) l)) P
-
-pub bytes-room : {d : List ℕ} {i : ℕ} {e : List ℕ} {at : ℕ} (l : List ℕ) (k n : ℕ) → Remains d i l e at (drop k l) → k < length l → i + length l ≤ n
-    → at + 1 ≤ n
-bytes-room l k n R h g = remains-room (getD l k 0 ∷ []) (drop (suc k) l) n R (drop-cons l k 0 h) g
 
 pub bytes-end : {d : List ℕ} {i : ℕ} {e : List ℕ} {at : ℕ} (l : List ℕ) (k : ℕ) → Remains d i l e at (drop k l) → length l ≤ k → Puts d i l at e
 bytes-end {d} {i} {e} {at} l k R h = remains-none (subst (λ (t : List ℕ). Remains d i l e at t) (drop-of-length-le l h) R)
@@ -189,60 +185,16 @@ unfolding gapText
 gap-off true t h = clash refl h
 gap-off false t h = refl
 
-module _ (gap : Bool) (t : List ℕ) (at n : ℕ) where
-  pub gap-room : gap ≡ true → at + length (gapText gap ++ t) ≤ n → at + 1 ≤ n
-  gap-room h l = omega (arith, ap length (gap-on gap t h))
-
-  pub gap-rest : gap ≡ true → at + length (gapText gap ++ t) ≤ n → at + 1 + length t ≤ n
-  gap-rest h l = omega (arith, ap length (gap-on gap t h))
-
-  pub gap-none : gap ≡ false → at + length (gapText gap ++ t) ≤ n → at + length t ≤ n
-  gap-none h l = omega (arith, ap length (gap-off gap t h))
-
--- the room of a bracket and what follows it
-pub set-room : (at x n : ℕ) → at + length (setText x) ≤ n → at + 1 + length (setRest false x) ≤ n
-set-room at x n l = omega (arith, ap length (set-open x))
-
-pub sets-room : (at k n : ℕ) (ws : List ℕ) → at + length (setsText k ws) ≤ n → at + 1 + length (setsRest false 0 k ws) ≤ n
-sets-room at k n ws l = omega (arith, ap length (sets-open k ws))
-
--- the room of the next piece
-module _ {d : List ℕ} {i : ℕ} {all e : List ℕ} {at : ℕ} where
-  pub member-room : (x v : ℕ) (small : x < 2 ^ capacity) (some : x ≢ 0) (low : v ≡ least capacity (has x)) (y : ℕ)
-      → ((s : ℕ) → has y s ≡ (has x s && not (eqb s (least capacity (has x))))) → (gap : Bool) (n : ℕ) → Remains d i all e at (setRest gap x)
-      → i + length all ≤ n → at + length (gapText gap ++ decimal v) ≤ n
-  member-room x v small some low y less gap n R g =
-      remains-room (gapText gap ++ decimal v) (setRest true y) n R (set-take x v small some low y less gap) g
-
-  pub state-room : (w k s : ℕ) (h : Graph) (f x n : ℕ) → Remains d i all e at (stateLines w (k - s) s (plain h)) → s < k
-      → f ≡ one (has (bitsOf (h .initial)) s) → x ≡ getD (setsIn (h .moves)) s 0
-      → i + length all ≤ n → at + length (stateLine w s f x) ≤ n
-  state-room w k s h f x n R l p q g = remains-room (stateLine w s f x) (stateLines w (k - (s + 1)) (s + 1) (plain h)) n R (states-take w k s h f x l p q) g
-
-  pub requirement-room : (k r : ℕ) (qs : List Requirement) (q : Requirement) (n : ℕ) → Remains d i all e at (requirementLines (k - r) r qs) → r < k
-      → requirementLine q ≡ requirementLine (getD qs r emptyRequirement) → i + length all ≤ n → at + length (requirementLine q) ≤ n
-  requirement-room k r qs q n R l h g =
-      remains-room (requirementLine q) (requirementLines (k - (r + 1)) (r + 1) qs) n R (requirements-take k r qs q l h) g
-
--- the sets of a list are written one by one: those from j on are left, and there is room for them
+-- the sets of a list are written one by one: those from j on are left
 pub record SetsLeft (d : List ℕ) (i n : ℕ) (ws e : List ℕ) (at : ℕ) (gap : Bool) (j : ℕ) : Type 0 where
-  pub rest : Remains d i (setsRest false 0 n ws) e at (setsRest gap j n ws)
-  pub room : i + length (setsRest false 0 n ws) ≤ 2 ^ 32
+  rest : Remains d i (setsRest false 0 n ws) e at (setsRest gap j n ws)
 
--- behind the opening bracket all are left
-pub sets-begin : {d : List ℕ} {at n : ℕ} {ws e : List ℕ} {i : ℕ} → Puts d at (40 ∷ []) i e → at + length (setsText n ws) ≤ 2 ^ 32
-    → SetsLeft e i n ws e i false 0
-sets-begin {at = at} {n} {ws} {e} {i} P l = record { rest = remains-all e i _; room = omega (arith, P .next, sets-room at n (2 ^ 32) ws l) }
+pub sets-begin : {i n : ℕ} {ws e : List ℕ} → SetsLeft e i n ws e i false 0
+sets-begin {i} {e = e} = record { rest = remains-all e i _ }
 
 module _ {d : List ℕ} {i n : ℕ} {ws e : List ℕ} {at : ℕ} {gap : Bool} {j : ℕ} (S : SetsLeft d i n ws e at gap j) where
-  pub item-room : (x : ℕ) → j < n → x ≡ getD ws j 0 → at + length (gapText gap ++ setText x) ≤ 2 ^ 32
-  item-room x l h = remains-room (gapText gap ++ setText x) (setsRest true (j + 1) n ws) (2 ^ 32) (S .rest) (sets-take gap j n ws x l h) (S .room)
-
   pub sets-next : (x : ℕ) {r : ℕ} {f : List ℕ} → j < n → x ≡ getD ws j 0 → Puts e at (gapText gap ++ setText x) r f → SetsLeft d i n ws f r true (j + 1)
-  sets-next x l h P = record { rest = remains-step _ _ (S .rest) (sets-take gap j n ws x l h) P; room = S .room }
-
-  pub last-room : n ≤ j → at + 1 ≤ 2 ^ 32
-  last-room l = remains-room (41 ∷ []) [] (2 ^ 32) (S .rest) (sets-last gap j n ws l) (S .room)
+  sets-next x l h P = record { rest = remains-step _ _ (S .rest) (sets-take gap j n ws x l h) P }
 
   -- the list is written with its closing bracket
   pub sets-end : {b : List ℕ} {o r : ℕ} {f : List ℕ} → Puts b o (40 ∷ []) i d → n ≤ j → Puts e at (41 ∷ []) r f → Puts b o (setsText n ws) r f

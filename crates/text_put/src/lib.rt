@@ -1,5 +1,5 @@
 // The text of a game, written piece by piece. Each function writes a text at a place of the buffer and answers the place behind it.
-// What lies past the buffer's end is left out.
+// What lies past the buffer's end is left out, and the place stays there: so nothing is asked of a text's length.
 use game::Game;
 use game::Graph;
 use game::Requirement;
@@ -7,7 +7,7 @@ use sets::Set;
 use text_shape::words;
 ghost use mathlib.Core.Path.{_≡_};
 ghost use mathlib.Core.List.{[], _∷_, _++_};
-ghost use Prim.Native.Nat.{_+_, _<_, _≤_, _^_};
+ghost use Prim.Native.Nat.{_+_, _<_, _≤_};
 ghost use lib.ListN.{length};
 ghost use Rattle.sets.specs.Words.{capacity, bitsOf};
 ghost use Rattle.text_grammar.specs.Marks.{newline, closeBracket, digitZero};
@@ -25,19 +25,18 @@ const ZERO: usize = b'0' as usize;
 
 // One byte.
 pub fn put_byte(buffer: &mut [u8], at: usize, b: u8) -> usize
-    requires { ⌜ at + 1 ≤ 2 ^ 32 ⌝ }
     ensures { λ r. ⌜ Puts (now (buffer .entry)) at (b ∷ []) r (now (buffer .exit)) ⌝ }
 {
     if at < buffer.len() {
         buffer[at] = b;
         return at + 1;
     }
-    at + 1
+    at
 }
 
 // A digit.
 fn put_digit(buffer: &mut [u8], at: usize, v: usize) -> usize
-    requires { ⌜ (v < 10) × (at + 1 ≤ 2 ^ 32) ⌝ }
+    requires { ⌜ v < 10 ⌝ }
     ensures { λ r. ⌜ Puts (now (buffer .entry)) at ((digitZero + v) ∷ []) r (now (buffer .exit)) ⌝ }
 {
     put_byte(buffer, at, (ZERO + v) as u8)
@@ -45,7 +44,7 @@ fn put_digit(buffer: &mut [u8], at: usize, v: usize) -> usize
 
 // A decimal number of two digits.
 fn put_pair(buffer: &mut [u8], at: usize, v: usize) -> usize
-    requires { ⌜ (10 ≤ v) × (v < 100) × (at + 2 ≤ 2 ^ 32) ⌝ }
+    requires { ⌜ (10 ≤ v) × (v < 100) ⌝ }
     ensures { λ r. ⌜ Puts (now (buffer .entry)) at (decimal v) r (now (buffer .exit)) ⌝ }
 {
     let m = put_digit(buffer, at, v / 10);
@@ -54,7 +53,7 @@ fn put_pair(buffer: &mut [u8], at: usize, v: usize) -> usize
 
 // A decimal number of up to three digits: a state, a count and nearly every number that is written.
 fn put_small(buffer: &mut [u8], at: usize, v: usize) -> usize
-    requires { ⌜ (v < 1000) × (at + length (decimal v) ≤ 2 ^ 32) ⌝ }
+    requires { ⌜ v < 1000 ⌝ }
     ensures { λ r. ⌜ Puts (now (buffer .entry)) at (decimal v) r (now (buffer .exit)) ⌝ }
 {
     if v < 10 {
@@ -69,7 +68,6 @@ fn put_small(buffer: &mut [u8], at: usize, v: usize) -> usize
 
 // A decimal number.
 pub fn put_number(buffer: &mut [u8], at: usize, v: usize) -> usize
-    requires { ⌜ at + length (decimal v) ≤ 2 ^ 32 ⌝ }
     ensures { λ r. ⌜ Puts (now (buffer .entry)) at (decimal v) r (now (buffer .exit)) ⌝ }
 {
     if v < 1000 {
@@ -81,7 +79,6 @@ pub fn put_number(buffer: &mut [u8], at: usize, v: usize) -> usize
 
 // A decimal number and the byte b.
 pub fn put_number_then(buffer: &mut [u8], at: usize, v: usize, b: u8) -> usize
-    requires { ⌜ at + length (decimal v ++ b ∷ []) ≤ 2 ^ 32 ⌝ }
     ensures { λ r. ⌜ Puts (now (buffer .entry)) at (decimal v ++ b ∷ []) r (now (buffer .exit)) ⌝ }
 {
     let m = put_number(buffer, at, v);
@@ -90,7 +87,7 @@ pub fn put_number_then(buffer: &mut [u8], at: usize, v: usize, b: u8) -> usize
 
 // The opening bracket, the word w and a blank.
 pub fn put_opening(buffer: &mut [u8], at: usize, w: usize) -> usize
-    requires { ⌜ (w < 10) × (at + length (opening w) ≤ 2 ^ 32) ⌝ }
+    requires { ⌜ w < 10 ⌝ }
     ensures { λ r. ⌜ Puts (now (buffer .entry)) at (opening w) r (now (buffer .exit)) ⌝ }
 {
     let n = words::letters(w) + 2;
@@ -106,7 +103,6 @@ pub fn put_opening(buffer: &mut [u8], at: usize, w: usize) -> usize
 
 // The closing bracket and the line's end.
 pub fn put_end(buffer: &mut [u8], at: usize) -> usize
-    requires { ⌜ at + 2 ≤ 2 ^ 32 ⌝ }
     ensures { λ r. ⌜ Puts (now (buffer .entry)) at (closeBracket ∷ newline ∷ []) r (now (buffer .exit)) ⌝ }
 {
     let m = put_byte(buffer, at, b')');
@@ -115,7 +111,7 @@ pub fn put_end(buffer: &mut [u8], at: usize) -> usize
 
 // A blank where gap holds, and the member v.
 fn put_member(buffer: &mut [u8], at: usize, gap: bool, v: usize) -> usize
-    requires { ⌜ (v < capacity) × (at + length (gapText gap ++ decimal v) ≤ 2 ^ 32) ⌝ }
+    requires { ⌜ v < capacity ⌝ }
     ensures { λ r. ⌜ Puts (now (buffer .entry)) at (gapText gap ++ decimal v) r (now (buffer .exit)) ⌝ }
 {
     if gap {
@@ -127,7 +123,6 @@ fn put_member(buffer: &mut [u8], at: usize, gap: bool, v: usize) -> usize
 
 // A set.
 pub fn put_set(buffer: &mut [u8], at: usize, x: Set) -> usize
-    requires { ⌜ at + length (setText (bitsOf x)) ≤ 2 ^ 32 ⌝ }
     ensures { λ r. ⌜ Puts (now (buffer .entry)) at (setText (bitsOf x)) r (now (buffer .exit)) ⌝ }
 {
     let mut to = put_byte(buffer, at, b'(');
@@ -144,7 +139,6 @@ pub fn put_set(buffer: &mut [u8], at: usize, x: Set) -> usize
 
 // A blank where gap holds, and a set.
 fn put_item(buffer: &mut [u8], at: usize, gap: bool, x: Set) -> usize
-    requires { ⌜ at + length (gapText gap ++ setText (bitsOf x)) ≤ 2 ^ 32 ⌝ }
     ensures { λ r. ⌜ Puts (now (buffer .entry)) at (gapText gap ++ setText (bitsOf x)) r (now (buffer .exit)) ⌝ }
 {
     if gap {
@@ -156,7 +150,7 @@ fn put_item(buffer: &mut [u8], at: usize, gap: bool, x: Set) -> usize
 
 // The list of a requirement's assumptions.
 fn put_assumptions(buffer: &mut [u8], at: usize, q: Requirement) -> usize
-    requires { ⌜ (q .assumed ≤ 4) × (at + length (setsText (q .assumed) (inWords (q .assumptions))) ≤ 2 ^ 32) ⌝ }
+    requires { ⌜ q .assumed ≤ 4 ⌝ }
     ensures { λ r. ⌜ Puts (now (buffer .entry)) at (setsText (q .assumed) (inWords (q .assumptions))) r (now (buffer .exit)) ⌝ }
 {
     let n = q.assumed;
@@ -174,7 +168,7 @@ fn put_assumptions(buffer: &mut [u8], at: usize, q: Requirement) -> usize
 
 // The list of a requirement's guarantees.
 fn put_guarantees(buffer: &mut [u8], at: usize, q: Requirement) -> usize
-    requires { ⌜ (q .guaranteed ≤ 4) × (at + length (setsText (q .guaranteed) (outWords (q .guarantees))) ≤ 2 ^ 32) ⌝ }
+    requires { ⌜ q .guaranteed ≤ 4 ⌝ }
     ensures { λ r. ⌜ Puts (now (buffer .entry)) at (setsText (q .guaranteed) (outWords (q .guarantees))) r (now (buffer .exit)) ⌝ }
 {
     let n = q.guaranteed;
@@ -192,7 +186,6 @@ fn put_guarantees(buffer: &mut [u8], at: usize, q: Requirement) -> usize
 
 // The line (game I O K).
 fn put_header(buffer: &mut [u8], at: usize, i: usize, o: usize, k: usize) -> usize
-    requires { ⌜ at + length (headerLine i o k) ≤ 2 ^ 32 ⌝ }
     ensures { λ r. ⌜ Puts (now (buffer .entry)) at (headerLine i o k) r (now (buffer .exit)) ⌝ }
 {
     let a = put_opening(buffer, at, 0);
@@ -204,7 +197,7 @@ fn put_header(buffer: &mut [u8], at: usize, i: usize, o: usize, k: usize) -> usi
 
 // The line of state s, whose flag is f and whose moves are x, by the word w.
 fn put_state(buffer: &mut [u8], at: usize, w: usize, s: usize, f: usize, x: Set) -> usize
-    requires { ⌜ (w < 10) × (at + length (stateLine w s f (bitsOf x)) ≤ 2 ^ 32) ⌝ }
+    requires { ⌜ w < 10 ⌝ }
     ensures { λ r. ⌜ Puts (now (buffer .entry)) at (stateLine w s f (bitsOf x)) r (now (buffer .exit)) ⌝ }
 {
     let a = put_opening(buffer, at, w);
@@ -227,7 +220,7 @@ fn flag(x: Set, s: usize) -> usize
 
 // The lines of a graph's states, by the word w.
 fn put_states(buffer: &mut [u8], at: usize, w: usize, h: Graph) -> usize
-    requires { ⌜ (w < 10) × (h .states ≤ capacity) × (at + length (stateLines w (h .states) 0 (plain h)) ≤ 2 ^ 32) ⌝ }
+    requires { ⌜ (w < 10) × (h .states ≤ capacity) ⌝ }
     ensures { λ r. ⌜ Puts (now (buffer .entry)) at (stateLines w (h .states) 0 (plain h)) r (now (buffer .exit)) ⌝ }
 {
     let n = h.states;
@@ -245,7 +238,7 @@ fn put_states(buffer: &mut [u8], at: usize, w: usize, h: Graph) -> usize
 
 // The line of a requirement.
 fn put_requirement(buffer: &mut [u8], at: usize, q: Requirement) -> usize
-    requires { ⌜ Few q × (at + length (requirementLine q) ≤ 2 ^ 32) ⌝ }
+    requires { ⌜ Few q ⌝ }
     ensures { λ r. ⌜ Puts (now (buffer .entry)) at (requirementLine q) r (now (buffer .exit)) ⌝ }
 {
     let a = put_opening(buffer, at, 3);
@@ -257,7 +250,7 @@ fn put_requirement(buffer: &mut [u8], at: usize, q: Requirement) -> usize
 
 // The lines of a game's requirements.
 fn put_requirements(buffer: &mut [u8], at: usize, g: Game) -> usize
-    requires { ⌜ Writable g × (at + length (requirementLines (g .k) 0 (g .requirements)) ≤ 2 ^ 32) ⌝ }
+    requires { ⌜ Writable g ⌝ }
     ensures { λ r. ⌜ Puts (now (buffer .entry)) at (requirementLines (g .k) 0 (g .requirements)) r (now (buffer .exit)) ⌝ }
 {
     let k = g.k;
@@ -273,7 +266,7 @@ fn put_requirements(buffer: &mut [u8], at: usize, g: Game) -> usize
 
 // The text of a game.
 pub fn put_game(buffer: &mut [u8], at: usize, g: Game) -> usize
-    requires { ⌜ Writable g × (at + length (gameText g) ≤ 2 ^ 32) ⌝ }
+    requires { ⌜ Writable g ⌝ }
     ensures { λ r. ⌜ Puts (now (buffer .entry)) at (gameText g) r (now (buffer .exit)) ⌝ }
 {
     let input = g.input;

@@ -42,7 +42,7 @@ use Rattle.game.specs.declared.Requirement.{Requirement}
 use Rattle.game.specs.declared.Game.{Game}
 use Rattle.text_grammar.specs.Marks.{blank, newline, openBracket, closeBracket}
 
--- "Fixed words are game, in, out, if; in answers wins, start, step, refused, system, environment."
+-- "Fixed words are game, in, out, if; in answers wins, start, step, refused, system, environment." (SPEC 8.1, 8.3)
 unfoldable pub words : List (List ℕ)
 words =
     (103 ∷ 97 ∷ 109 ∷ 101 ∷ [])
@@ -60,7 +60,7 @@ words =
 unfoldable pub word : ℕ → List ℕ
 word n = getD words n []
 
--- "one blank separates items, none elsewhere"
+-- "one blank separates items, none elsewhere" (SPEC 8.1)
 unfoldable pub gapText : Bool → List ℕ
 gapText true = blank ∷ []
 gapText false = []
@@ -72,11 +72,11 @@ items gap (w ∷ ws) = gapText gap ++ (w ++ items true ws)
 unfoldable pub bracket : List (List ℕ) → List ℕ
 bracket ws = openBracket ∷ (items false ws ++ closeBracket ∷ [])
 
--- "Every line ends in byte 10."
+-- "Every line ends in byte 10." (SPEC 8.1)
 unfoldable pub line : List (List ℕ) → List ℕ
 line ws = bracket ws ++ newline ∷ []
 
--- "Moves and sets hold strictly rising numbers 0 to 63."; "Numbers in files run to 127, counts to 128." (M-105)
+-- "Moves and sets hold strictly rising numbers 0 to 63."; "Numbers in files run to 127, counts to 128." (M-105) (SPEC 8.1)
 unfoldable pub members : ℕ → ℕ → ℕ → List ℕ
 members zero lo x = []
 members (suc n) lo x = elim (has x lo) [ true ↦ lo ∷ members n (suc lo) x | false ↦ members n (suc lo) x ]
@@ -84,7 +84,7 @@ members (suc n) lo x = elim (has x lo) [ true ↦ lo ∷ members n (suc lo) x | 
 unfoldable pub setText : ℕ → List ℕ
 setText x = bracket (map decimal (members capacity 0 x))
 
--- "(if (sets) (sets)), 0 to 4 sets a list"
+-- "(if (sets) (sets)), 0 to 4 sets a list" (SPEC 8.1)
 unfoldable pub cells : ℕ → ℕ → List ℕ → List ℕ
 cells zero j xs = []
 cells (suc n) j xs = getD xs j 0 ∷ cells n (suc j) xs
@@ -92,11 +92,11 @@ cells (suc n) j xs = getD xs j 0 ∷ cells n (suc j) xs
 unfoldable pub setsText : ℕ → List ℕ → List ℕ
 setsText n xs = bracket (map setText (cells n 0 xs))
 
--- "(game I O K)"
+-- "(game I O K)" (SPEC 8.1)
 unfoldable pub headerLine : ℕ → ℕ → ℕ → List ℕ
 headerLine i o k = line (word 0 ∷ decimal i ∷ decimal o ∷ decimal k ∷ [])
 
--- "I lines (in S F (moves)), S counting from 0, F 1 if initial, else 0; O such lines with out"
+-- "I lines (in S F (moves)), S counting from 0, F 1 if initial, else 0; O such lines with out" (SPEC 8.1)
 unfoldable pub stateLine : ℕ → ℕ → ℕ → ℕ → List ℕ
 stateLine w s f x = line (word w ∷ decimal s ∷ decimal f ∷ setText x ∷ [])
 
@@ -127,6 +127,7 @@ inSets xs = map (λ (x : ℕ). record { 0 = setOf x }) xs
 abbrev pub outSets : List ℕ → List OutSet
 outSets xs = map (λ (x : ℕ). record { 0 = setOf x }) xs
 
+-- SPEC 8.1
 unfoldable pub requirementLine : Requirement → List ℕ
 requirementLine q =
     line (word 3 ∷ setsText (q .assumed) (inWords (q .assumptions)) ∷ setsText (q .guaranteed) (outWords (q .guarantees)) ∷ [])
@@ -144,7 +145,7 @@ unfoldable pub requirementLines : ℕ → ℕ → List Requirement → List ℕ
 requirementLines zero r qs = []
 requirementLines (suc n) r qs = requirementLine (getD qs r emptyRequirement) ++ requirementLines n (suc r) qs
 
--- "Lines in order: (game I O K) ..; I lines ..; O such lines with out; K lines .."
+-- "Lines in order: (game I O K) ..; I lines ..; O such lines with out; K lines .." (SPEC 8.1)
 unfoldable pub gameText : Game → List ℕ
 gameText g =
     headerLine (g .input .states) (g .output .states) (g .k)
@@ -152,7 +153,7 @@ gameText g =
     ++ (stateLines 2 (g .output .states) 0 (plain (g .output))
     ++ requirementLines (g .k) 0 (g .requirements)))
 
--- "with I and O 1 to 64", to 128 by M-105; "Rows past the count are empty."
+-- "with I and O 1 to 64", to 128 by M-105; "Rows past the count are empty." (SPEC 8.1)
 pub record ShapedPlain (h : PlainGraph) : Type 0 where
   pub some : 1 ≤ h .states
   pub most : h .states ≤ capacity
@@ -165,7 +166,7 @@ pub record ShapedGraph (h : Graph) : Type 0 where
   pub limits : ShapedPlain (plain h)
   pub words : recordOf (plain h) ≡ h
 
--- "Unused sets are empty"
+-- "Unused sets are empty" (SPEC 1.6, 8.1)
 pub record ShapedSets (n : ℕ) (xs : List ℕ) : Type 0 where
   pub most : n ≤ 4
   pub all : length xs ≡ 4
@@ -187,7 +188,7 @@ emptyGame =
       requirements = replicate 8 emptyRequirement;
     }
 
--- "K 0 to 8"; "unused requirements have both lengths 0"
+-- "K 0 to 8"; "unused requirements have both lengths 0" (SPEC 8.1)
 pub record Shaped (g : Game) : Type 0 where
   pub input : ShapedGraph (g .input)
   pub output : ShapedGraph (g .output)

@@ -15,7 +15,7 @@ same-length c = search needs
 
 returns : tie.Need-returns
 returns c =
-    prints-many (c .before .before .before .before .before .count-names .ensures) (c .before .before .before .before .if1 .taken)
+    prints-many (c .before .before .before .before .before .before .before .before .pre) (c .before .before .before .before .before .count-names .ensures) (c .before .before .before .before .if1 .taken)
     (c .before .before .put-refused .ensures)
 
 tally-names-requires : tie.Need-tally-names-requires
@@ -29,8 +29,8 @@ same-length-2 c = search needs
 
 returns-2 : tie.Need-returns-2
 returns-2 c =
-    let p = c .before .before .before .before .before in
-    prints-figures (p .before .before .before .before .count-names .ensures) (p .before .before .before .if1 .left)
+    let p = c .before .before .before .before in
+    prints-figures (p .before .before .before .before .before .before .before .pre) (p .before .before .before .before .count-names .ensures) (p .before .before .before .if1 .left)
     (c .before .before .before .before .tally-names .ensures) (c .before .before .put-figures .ensures)
 
 pub answer-spec : {M : Type 1} → statement M

@@ -17,7 +17,7 @@ same-length c = search needs
 
 returns : tie.Need-returns
 returns c =
-    let p = c .before .before .before .before .before in
+    let p = c .before .before .before .before in
     kept-print (p .before .before .before .before .before .pre .0) (c .before .before .answer .ensures)
 
 pub answer-kept-spec : {M : Type 1} → statement M

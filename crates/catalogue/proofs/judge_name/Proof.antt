@@ -1,6 +1,6 @@
 -- `judge_name` meets its contract.
 use borrow.Author.Needs.{needs}
-use Rattle.catalogue.proofs.Names.{no-file, unfit-name, fit-file}
+use Rattle.catalogue.proofs.Names.{unfit-name, fit-none, fit-open}
 use Rattle.catalogue.proofs.judge_name.Statement.{statement}
 use Rattle.catalogue.proofs.judge_name.Tie as tie
 
@@ -14,7 +14,7 @@ open-read-requires : tie.Need-open-read-requires
 open-read-requires c κs = search needs
 
 returns-2 : tie.Need-returns-2
-returns-2 c = fit-file _ (c .before .before .before .fit-name .ensures) (c .before .before .if1 .left) no-file
+returns-2 c = fit-none _ (c .before .before .before .fit-name .ensures) (c .before .before .if1 .left)
 
 judge-open-requires : tie.Need-judge-open-requires
 judge-open-requires c κs = search needs
@@ -24,8 +24,8 @@ close-requires c κs = search needs
 
 returns-3 : tie.Need-returns-3
 returns-3 c =
-    let p = c .before .before .before .before .before in
-    fit-file _ (p .before .before .before .fit-name .ensures) (p .before .before .if1 .left) (c .before .judge-open .ensures)
+    let p = c .before .before .before .before in
+    fit-open _ (p .before .before .before .fit-name .ensures) (p .before .before .if1 .left) (c .before .judge-open .ensures)
 
 pub judge-name-spec : {M : Type 1} → statement M
 judge-name-spec =

@@ -21,11 +21,17 @@ slice-aggregate-keep c = search needs
 keep-requires : tie.Need-keep-requires
 keep-requires c κs = search needs
 
+ended-requires : tie.Need-ended-requires
+ended-requires c κs = search needs
+
+tell-unread-requires : tie.Need-tell-unread-requires
+tell-unread-requires c κs = search needs
+
 same-length : tie.Need-same-length
 same-length c = search needs
 
 returns : tie.Need-returns
-returns c = record { part = _; keeps = c .before .before .keep .ensures }
+returns c = record { part = _; keeps = c .before .before .before .before .keep .ensures }
 
 pub keep-some-spec : {M : Type 1} → statement M
 keep-some-spec =
@@ -37,5 +43,7 @@ keep-some-spec =
     array-share-prefix-part
     slice-aggregate-keep
     keep-requires
+    ended-requires
+    tell-unread-requires
     same-length
     returns)

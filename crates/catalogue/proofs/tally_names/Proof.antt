@@ -9,11 +9,11 @@ use Rattle.catalogue.proofs.tally_names.Statement.{statement}
 use Rattle.catalogue.proofs.tally_names.Tie as tie
 
 abbrev Inv-loop : tie.InvT-loop
-Inv-loop list file₀ controller₀ panel₀ terminal t₀ k₀ at₀ file controller panel t k at =
+Inv-loop list controller₀ panel₀ terminal t₀ k₀ at₀ controller panel t k at =
     (at ≤ length list) × (k ≤ at) × Under list at t × (length (names list) ≤ 1000)
 
 abbrev μ-loop : tie.MeasureT-loop
-μ-loop list file₀ controller₀ panel₀ terminal t₀ k₀ at₀ file controller panel t k at = length list - at
+μ-loop list controller₀ panel₀ terminal t₀ k₀ at₀ controller panel t k at = length list - at
 
 isatty-requires : tie.Need-isatty-requires Inv-loop μ-loop
 isatty-requires c κs = search needs
@@ -47,7 +47,7 @@ judge-name-requires c κs = search needs
 
 add-requires : tie.Need-add-requires Inv-loop μ-loop
 add-requires c κs =
-    let p = c .before .before .before .before .before in
+    let p = c .before .before .before .before in
     (under-roomy (p .before .before .loop .inv .2) (p .before .before .loop .inv .3), c .judge-name .ensures .1)
 
 next-name-requires : tie.Need-next-name-requires Inv-loop μ-loop
@@ -64,7 +64,7 @@ loop-less c = omega (arith, c .before .next-name .ensures .on, c .before .next-n
 
 loop-again : tie.Need-loop-again Inv-loop μ-loop
 loop-again c =
-    let p = c .before .before .before .before .before in
+    let p = c .before .before .before .before in
     let n = c .before .next-name .ensures in (
       omega arith,
       omega arith,

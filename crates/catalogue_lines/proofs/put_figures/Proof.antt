@@ -3,6 +3,7 @@ use native.Mathlib.Omega.{arith}
 use borrow.Author.Needs.{needs}
 use Rattle.text_put.proofs.Buffer.{puts-then}
 use Rattle.catalogue_lines.specs.Figures.{figuresPrint}
+use Rattle.catalogue_lines.proofs.Lines.{figures-short}
 use Rattle.catalogue_lines.proofs.put_figures.Statement.{statement}
 use Rattle.catalogue_lines.proofs.put_figures.Tie as tie
 
@@ -35,7 +36,11 @@ returns c =
     let three = q .before .put-count3 .ensures in
     let numbers = p .before .put-numbers .ensures in
     let won = c .before .before .put-won .ensures in
-    record { puts = puts-then (one .0) (puts-then (two .0) (puts-then (three .0) (puts-then (numbers .0) (won .0)))); fits = omega arith }
+    let start = r .before .before .before .before .before .before .before .before in
+    record {
+      puts = puts-then one (puts-then two (puts-then three (puts-then (numbers .0) won)));
+      fits = figures-short _ (omega (arith, start .good)) (omega (arith, start .good)) (omega (arith, start .good)) (numbers .1) (omega (arith, start .good)) (omega (arith, start .good));
+    }
 
 pub put-figures-spec : {M : Type 1} → statement M
 put-figures-spec =

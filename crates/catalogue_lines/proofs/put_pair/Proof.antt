@@ -1,40 +1,18 @@
 -- `put_pair` meets its contract.
-use native.Mathlib.Omega.{arith}
 use borrow.Author.Needs.{needs}
 use Rattle.text_put.proofs.Buffer.{puts-then}
-use Rattle.print_lines.proofs.Lines.{number-short}
 use Rattle.catalogue_lines.specs.Figures.{pairText}
 use Rattle.catalogue_lines.proofs.put_pair.Statement.{statement}
 use Rattle.catalogue_lines.proofs.put_pair.Tie as tie
 
 put-number-then-requires : tie.Need-put-number-then-requires
-put-number-then-requires c κs = omega (arith, c .before .before .pre, number-short (c .before .before .args .m) 32 (c .before .before .fits .m .fits))
+put-number-then-requires c κs = search needs
 
 put-number-then-requires-2 : tie.Need-put-number-then-requires-2
-put-number-then-requires-2 c κs =
-    let p = c .before .before .before .before .before in
-    omega (
-      arith,
-      p .before .pre,
-      c .before .before .before .put-number-then .ensures .next,
-      number-short (p .before .args .m) 32
-          (p .before .fits .m .fits),
-      number-short (p .before .args .n) 41 (p .before .fits .n .fits),
-    )
+put-number-then-requires-2 c κs = search needs
 
 put-byte-requires : tie.Need-put-byte-requires
-put-byte-requires c κs =
-    let p = c .before .before .before .before .before in
-    omega (
-      arith,
-      p .before .before .before .before .before .pre,
-      p .before .before .put-number-then .ensures .next,
-      c .before .before .before .put-number-then2 .ensures .next,
-      number-short (p .before .before .before .before .before .args .m) 32
-          (p .before .before .before .before .before .fits .m .fits),
-      number-short (p .before .before .before .before .before .args .n) 41
-          (p .before .before .before .before .before .fits .n .fits),
-    )
+put-byte-requires c κs = search needs
 
 same-length : tie.Need-same-length
 same-length c = search needs

@@ -1,8 +1,7 @@
 -- `put_won` meets its contract.
-use native.Mathlib.Omega.{arith}
 use borrow.Author.Needs.{needs}
 use Rattle.text_put.proofs.Buffer.{puts-then, puts-as}
-use Rattle.catalogue_lines.proofs.Lines.{wonOpening, won-pieces, won-short}
+use Rattle.catalogue_lines.proofs.Lines.{wonOpening, won-pieces}
 use Rattle.catalogue_lines.proofs.put_won.Statement.{statement}
 use Rattle.catalogue_lines.proofs.put_won.Tie as tie
 
@@ -22,9 +21,7 @@ returns : tie.Need-returns
 unfolding wonOpening
 returns c =
     let p = c .before .before .before .before .before in
-    let start = p .before .before .before .before .before in
-    let whole = puts-as (won-pieces _ _) (puts-then (p .before .put-text .ensures) (c .before .before .put-pair .ensures)) in
-    (whole, omega (arith, whole .next, won-short (start .args .w) (start .args .p) (start .fits .w .fits) (start .fits .p .fits)))
+    puts-as (won-pieces _ _) (puts-then (p .before .put-text .ensures) (c .before .before .put-pair .ensures))
 
 pub put-won-spec : {M : Type 1} → statement M
 put-won-spec =

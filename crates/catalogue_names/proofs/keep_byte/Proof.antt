@@ -5,10 +5,9 @@ use Rattle.catalogue_names.proofs.keep_byte.Statement.{statement}
 use Rattle.catalogue_names.proofs.keep_byte.Tie as tie
 use Rattle.catalogue_names.proofs.keep_byte.Reads as reads
 use Rattle.catalogue_names.proofs.keep_byte.Lts as lts
-use Rattle.catalogue_names.proofs.store.Reads as store-reads
 
-store-requires : tie.Need-store-requires
-store-requires c κs = search needs
+put-byte-requires : tie.Need-put-byte-requires
+put-byte-requires c κs = search needs
 
 same-length : tie.Need-same-length
 same-length c = search needs
@@ -16,13 +15,13 @@ same-length c = search needs
 returns : tie.Need-returns
 returns c =
     let p = c .before .before .before in
-    keeps-line (p .before .if1 .taken) (c .before .before .store .ensures)
+    keeps-line (p .before .if1 .taken) (c .before .before .put-byte .ensures)
 
 returns-2 : tie.Need-returns-2
 returns-2 c = keeps-past (c .before .before .if1 .left) (c .if2 .taken)
 
-store-requires-2 : tie.Need-store-requires-2
-store-requires-2 c κs = search needs
+put-byte-requires-2 : tie.Need-put-byte-requires-2
+put-byte-requires-2 c κs = search needs
 
 add-t11 : tie.Need-add-t11
 add-t11 c = search needs
@@ -33,17 +32,17 @@ same-length-2 c = search needs
 returns-3 : tie.Need-returns-3
 returns-3 c =
     let p = c .before .before .before .before .before in
-    keeps-on (p .before .before .if1 .left) (p .if2 .left) (c .before .before .before .store2 .ensures)
+    keeps-on (p .before .before .if1 .left) (p .if2 .left) (c .before .before .before .put-byte2 .ensures)
 
 pub keep-byte-spec : {M : Type 1} → statement M
 keep-byte-spec =
     tie.close
     (tie.spec
-    store-requires
+    put-byte-requires
     same-length
     returns
     returns-2
-    store-requires-2
+    put-byte-requires-2
     add-t11
     same-length-2
     returns-3)

@@ -1,52 +1,9 @@
 -- `put_misshapen` meets its contract.
-use native.Mathlib.Omega.{arith}
 use borrow.Author.Needs.{needs}
-use Rattle.text_shape.proofs.WordTable.{opening-short}
-use Rattle.print_lines.proofs.Lines.{number-short, misshapen-pieces}
+use Rattle.print_lines.proofs.Lines.{misshapen-pieces}
 use Rattle.text_put.proofs.Buffer.{puts-then, puts-as}
 use Rattle.print_lines.proofs.put_misshapen.Statement.{statement}
 use Rattle.print_lines.proofs.put_misshapen.Tie as tie
-
-put-opening-requires : tie.Need-put-opening-requires
-put-opening-requires c κs = (omega arith, omega (arith, opening-short 7))
-
-put-number-then-requires : tie.Need-put-number-then-requires
-put-number-then-requires c κs = omega (arith, c .before .before .before .put-opening .ensures .next, opening-short 7, number-short 11 32 (omega arith))
-
-put-number-then-requires-2 : tie.Need-put-number-then-requires-2
-put-number-then-requires-2 c κs =
-    let at-put-number-then = c .before .before .before in
-    let at-put-opening = at-put-number-then .before .before .before .before in
-    let at-start = at-put-opening .before .before .before in
-    omega (
-      arith,
-      at-put-opening .put-opening .ensures .next,
-      at-put-number-then .put-number-then .ensures .next,
-      opening-short 7,
-      number-short 11 32
-          (omega arith),
-      number-short (at-start .args .p) 41 (at-start .fits .p .fits),
-    )
-
-put-byte-requires : tie.Need-put-byte-requires
-put-byte-requires c κs =
-    let at-put-number-then2 = c .before .before .before in
-    let at-put-number-then = at-put-number-then2 .before .before .before .before in
-    let at-put-opening = at-put-number-then .before .before .before .before in
-    let at-start = at-put-opening .before .before .before in
-    omega (
-      arith,
-      at-put-opening .put-opening .ensures .next,
-      at-put-number-then .put-number-then .ensures .next,
-      at-put-number-then2 .put-number-then2 .ensures .next,
-      opening-short 7,
-      number-short 11 32 (omega arith),
-      number-short (at-start .args .p) 41
-          (at-start .fits .p .fits),
-    )
-
-same-length : tie.Need-same-length
-same-length c = search needs
 
 returns : tie.Need-returns
 returns c =
@@ -61,9 +18,9 @@ pub put-misshapen-spec : {M : Type 1} → statement M
 put-misshapen-spec =
     tie.close
     (tie.spec
-    put-opening-requires
-    put-number-then-requires
-    put-number-then-requires-2
-    put-byte-requires
-    same-length
+    (λ c κs. search needs)
+    (λ c κs. search needs)
+    (λ c κs. search needs)
+    (λ c κs. search needs)
+    (λ c. search needs)
     returns)

@@ -1,10 +1,8 @@
 -- `put_start` meets its contract.
 use mathlib.Core.Path.{_∙_}
-use native.Mathlib.Omega.{arith}
 use borrow.Author.Needs.{needs}
-use Rattle.text_shape.proofs.WordTable.{opening-short}
 use Rattle.print_lines.specs.Line.{startLine}
-use Rattle.print_lines.proofs.Lines.{number-short, none-line, start-text, start-line}
+use Rattle.print_lines.proofs.Lines.{none-line, start-text, start-line}
 use Rattle.text_put.proofs.Buffer.{puts-then, puts-as}
 use Rattle.print_lines.proofs.put_start.Statement.{statement}
 use Rattle.print_lines.proofs.put_start.Tie as tie
@@ -12,55 +10,6 @@ use Rattle.print_lines.proofs.put_start.Tie as tie
 returns : tie.Need-returns
 unfolding startLine
 returns c = none-line _ _ _ _ (c .if1 .taken)
-
-state-requires : tie.Need-state-requires
-state-requires c κs = search needs
-
-put-opening-requires : tie.Need-put-opening-requires
-put-opening-requires c κs = (omega arith, omega (arith, opening-short 5))
-
-put-number-then-requires : tie.Need-put-number-then-requires
-put-number-then-requires c κs =
-    let at-put-opening = c .before .before .before in
-    let at-state = at-put-opening .before .before in
-    let at-start = at-state .before .before .before in
-    omega (arith, at-put-opening .put-opening .ensures .next, opening-short 5, number-short (at-start .args .input) 32 (at-start .fits .input .fits))
-
-put-number-then-requires-2 : tie.Need-put-number-then-requires-2
-put-number-then-requires-2 c κs =
-    let at-put-number-then = c .before .before .before in
-    let at-put-opening = at-put-number-then .before .before .before .before in
-    let at-state = at-put-opening .before .before in
-    let at-start = at-state .before .before .before in
-    omega (
-      arith,
-      at-put-opening .put-opening .ensures .next,
-      at-put-number-then .put-number-then .ensures .next,
-      opening-short 5,
-      number-short
-          (at-start .args .input) 32 (at-start .fits .input .fits),
-      number-short (at-state .state .result) 41 (omega (arith, at-state .state .ensures)),
-    )
-
-put-byte-requires : tie.Need-put-byte-requires
-put-byte-requires c κs =
-    let at-put-number-then2 = c .before .before .before in
-    let at-put-number-then = at-put-number-then2 .before .before .before .before in
-    let at-put-opening = at-put-number-then .before .before .before .before in
-    let at-state = at-put-opening .before .before in
-    let at-start = at-state .before .before .before in
-    omega (
-      arith,
-      at-put-opening .put-opening .ensures .next,
-      at-put-number-then .put-number-then .ensures .next,
-      at-put-number-then2 .put-number-then2 .ensures .next,
-      opening-short 5,
-      number-short (at-start .args .input) 32 (at-start .fits .input .fits),
-      number-short (at-state .state .result) 41 (omega (arith, at-state .state .ensures)),
-    )
-
-same-length : tie.Need-same-length
-same-length c = search needs
 
 returns-2 : tie.Need-returns-2
 returns-2 c =
@@ -77,10 +26,10 @@ put-start-spec =
     tie.close
     (tie.spec
     returns
-    state-requires
-    put-opening-requires
-    put-number-then-requires
-    put-number-then-requires-2
-    put-byte-requires
-    same-length
+    (λ c κs. search needs)
+    (λ c κs. search needs)
+    (λ c κs. search needs)
+    (λ c κs. search needs)
+    (λ c κs. search needs)
+    (λ c. search needs)
     returns-2)

@@ -10,33 +10,6 @@ returns : tie.Need-returns
 unfolding stepLine
 returns c = none-line _ _ _ _ (c .if1 .taken)
 
-at-least-one-requires : tie.Need-at-least-one-requires
-at-least-one-requires c κs = search needs
-
-at-least-one-requires-2 : tie.Need-at-least-one-requires-2
-at-least-one-requires-2 c κs = search needs
-
-div-put-row : tie.Need-div-put-row
-div-put-row c = search needs
-
-div-put-row-2 : tie.Need-div-put-row-2
-div-put-row-2 c = search needs
-
-div-put-row-3 : tie.Need-div-put-row-3
-div-put-row-3 c = search needs
-
-rem-put-row : tie.Need-rem-put-row
-rem-put-row c = search needs
-
-rem-put-row-2 : tie.Need-rem-put-row-2
-rem-put-row-2 c = search needs
-
-put-row-requires : tie.Need-put-row-requires
-put-row-requires c κs = search needs
-
-same-length : tie.Need-same-length
-same-length c = search needs
-
 returns-2 : tie.Need-returns-2
 returns-2 c =
     let at-at-least-one = c .before .before .before .before .before in
@@ -49,13 +22,13 @@ put-step-spec =
     tie.close
     (tie.spec
     returns
-    at-least-one-requires
-    at-least-one-requires-2
-    div-put-row
-    div-put-row-2
-    div-put-row-3
-    rem-put-row
-    rem-put-row-2
-    put-row-requires
-    same-length
+    (λ c κs. search needs)
+    (λ c κs. search needs)
+    (λ c. search needs)
+    (λ c. search needs)
+    (λ c. search needs)
+    (λ c. search needs)
+    (λ c. search needs)
+    (λ c κs. search needs)
+    (λ c. search needs)
     returns-2)

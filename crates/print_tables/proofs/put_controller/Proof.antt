@@ -1,9 +1,6 @@
 -- `put_controller` meets its contract.
 use native.Mathlib.Omega.{arith}
-use mathlib.Core.Bool.{true}
 use Rattle.finite.proofs.Loops.{failed, passed}
-use Rattle.print_lines.proofs.Lines.{wins-short}
-use Rattle.print_tables.proofs.Print.{starts-short}
 use Rattle.print_tables.proofs.Fits.{controller-entries, controller-nothing, controller-whole}
 use borrow.Author.Needs.{needs}
 use Rattle.print_tables.proofs.put_controller.Statement.{statement}
@@ -21,30 +18,10 @@ put-wins-requires c κs = search needs
 put-starts-requires : tie.Need-put-starts-requires
 put-starts-requires c κs =
     let at-if1 = c .before .before .before .before .before in
-    let at-controller-fits = at-if1 .before in
-    let l = controller-entries _ _ _ _ (passed (at-controller-fits .controller-fits .ensures) (at-if1 .if1 .left)) in
-    (omega (arith, c .before .before .before .put-wins .ensures .next, wins-short true), l .0, omega (arith, l))
+    omega (arith, controller-entries _ _ _ _ (passed (at-if1 .before .controller-fits .ensures) (at-if1 .if1 .left)))
 
 put-steps-requires : tie.Need-put-steps-requires
-put-steps-requires c κs =
-    let at-put-starts = c .before .before .before in
-    let at-put-wins = at-put-starts .before .before .before .before in
-    let at-if1 = at-put-wins .before .before in
-    let at-controller-fits = at-if1 .before in
-    let at-start = at-controller-fits .before .before .before in
-    let l = controller-entries _ _ _ _ (passed (at-controller-fits .controller-fits .ensures) (at-if1 .if1 .left)) in (
-      omega (
-        arith,
-        l,
-        at-put-starts .put-starts .ensures .next,
-        at-put-wins .put-wins .ensures .next,
-        wins-short true,
-        starts-short
-            (at-start .args .inputs) 0 (at-start .args .table .now) (omega (arith, l)),
-      ),
-      omega (arith, l),
-      l .2,
-    )
+put-steps-requires c κs = put-starts-requires (c .before .before .before .before) κs
 
 same-length : tie.Need-same-length
 same-length c = search needs

@@ -1,9 +1,6 @@
 -- `put_environment` meets its contract.
 use native.Mathlib.Omega.{arith}
-use mathlib.Core.Bool.{false}
 use Rattle.finite.proofs.Loops.{failed, passed}
-use Rattle.print_lines.proofs.Lines.{wins-short, environment-short}
-use lib.ListN.{getD}
 use Rattle.print_tables.proofs.Fits.{environment-entries, environment-nothing, environment-whole}
 use borrow.Author.Needs.{needs}
 use Rattle.print_tables.proofs.put_environment.Statement.{statement}
@@ -26,26 +23,12 @@ shared-slice-read-put-environment-start c =
     omega (arith, environment-entries _ _ _ _ (passed (at-environment-fits .environment-fits .ensures) (at-if1 .if1 .left)))
 
 put-environment-start-requires : tie.Need-put-environment-start-requires
-put-environment-start-requires c κs = omega (arith, c .before .before .before .before .put-wins .ensures .next, wins-short false)
+put-environment-start-requires c κs = search needs
 
 put-steps-requires : tie.Need-put-steps-requires
 put-steps-requires c κs =
-    let at-put-environment-start = c .before .before .before in
-    let at-put-wins = at-put-environment-start .before .before .before .before .before in
-    let at-if1 = at-put-wins .before .before in
-    let at-environment-fits = at-if1 .before in
-    let at-start = at-environment-fits .before .before .before in
-    let l = environment-entries _ _ _ _ (passed (at-environment-fits .environment-fits .ensures) (at-if1 .if1 .left)) in (
-      omega (
-        arith,
-        at-put-environment-start .put-environment-start .ensures .next,
-        at-put-wins .put-wins .ensures .next,
-        wins-short false,
-        environment-short (getD (at-start .args .table .now) 0 0),
-      ),
-      omega (arith, l),
-      l .1,
-    )
+    let at-if1 = c .before .before .before .before .before .before .before .before .before .before in
+    omega (arith, environment-entries _ _ _ _ (passed (at-if1 .before .environment-fits .ensures) (at-if1 .if1 .left)))
 
 same-length : tie.Need-same-length
 same-length c = search needs

@@ -2,21 +2,22 @@
 use Prim.Native.Nat.{_-_, _≤_}
 use lib.ListN.{length}
 use native.Mathlib.Omega.{arith}
+use borrow.Author.Needs.{needs}
 use Rattle.text_put.specs.Put.{Puts}
 use Rattle.text_put.proofs.Buffer.{puts-length}
 use Rattle.print_tables.specs.Print.{startLines}
-use Rattle.print_tables.proofs.Print.{starts-none, starts-on, starts-end, starts-short}
+use Rattle.print_tables.proofs.Print.{starts-none, starts-on, starts-end}
 use Rattle.print_tables.proofs.put_starts.Statement.{statement}
 use Rattle.print_tables.proofs.put_starts.Tie as tie
 
 abbrev Inv-loop : tie.InvT-loop
-Inv-loop buffer₀ at n table to₀ i₀ buffer to i = Puts buffer₀ at (startLines i 0 table) to buffer × (i ≤ n) × (at ≤ 160) × (n ≤ 128) × (n ≤ length table)
+Inv-loop buffer₀ at n table to₀ i₀ buffer to i = Puts buffer₀ at (startLines i 0 table) to buffer × (i ≤ n) × (n ≤ length table)
 
 abbrev μ-loop : tie.MeasureT-loop
 μ-loop buffer₀ at n table to₀ i₀ buffer to i = n - i
 
 loop-holds : tie.Need-loop-holds Inv-loop μ-loop
-loop-holds c = (starts-none _ _ _, omega arith, c .before .before .pre .0, c .before .before .pre .1, c .before .before .pre .2)
+loop-holds c = (starts-none _ _ _, omega arith, c .before .before .pre)
 
 mul-put-start : tie.Need-mul-put-start Inv-loop μ-loop
 mul-put-start c = omega (arith, c .before .before .loop .inv, c .before .loop-test .taken)
@@ -25,10 +26,7 @@ shared-slice-read-put-start : tie.Need-shared-slice-read-put-start Inv-loop μ-l
 shared-slice-read-put-start c = omega (arith, c .before .before .before .loop .inv, c .before .before .loop-test .taken)
 
 put-start-requires : tie.Need-put-start-requires Inv-loop μ-loop
-put-start-requires c κs =
-    let at-loop = c .before .before .before in
-    let at-start = at-loop .before .before .before in
-    omega (arith, at-loop .loop .inv .0 .next, starts-short (at-loop .loop .i) 0 (at-start .args .table .now) (omega arith), at-loop .loop .inv)
+put-start-requires c κs = search needs
 
 add-i : tie.Need-add-i Inv-loop μ-loop
 add-i c =
@@ -46,8 +44,6 @@ loop-again c =
       starts-on _ _ (omega arith) (at-loop .loop .inv .0) (at-put-start .put-start .ensures),
       omega arith,
       at-loop .loop .inv .2,
-      at-loop .loop .inv .3,
-      at-loop .loop .inv .4,
     )
 
 same-length : tie.Need-same-length Inv-loop μ-loop

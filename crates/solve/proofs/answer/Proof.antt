@@ -34,7 +34,7 @@ returns : tie.Need-returns
 returns c =
     let at-a = c .before .before .before .before .before in
     let at-read = at-a .before .before in
-    answers-misshapen (at-read .read .ensures) _ (at-a .a .given .1) (omega (arith, c .before .before .before .before .known-told .given))
+    answers-misshapen (at-read .read .ensures) (at-read .before .before .before .pre) _ (at-a .a .given .1) (omega (arith, c .before .before .before .before .known-told .given))
     (c .before .before .put-misshapen .ensures)
 
 same-length-2 : tie.Need-same-length-2
@@ -44,7 +44,7 @@ returns-2 : tie.Need-returns-2
 returns-2 c =
     let at-a2 = c .before .before .before .before .before in
     let at-read = at-a2 .before .before in
-    answers-refused (at-read .read .ensures) _ (at-a2 .a2 .given .1) (omega (arith, c .before .before .before .before .known-told2 .given))
+    answers-refused (at-read .read .ensures) (at-read .before .before .before .pre) _ (at-a2 .a2 .given .1) (omega (arith, c .before .before .before .before .known-told2 .given))
     (c .before .before .put-refused .ensures)
 
 same-length-3 : tie.Need-same-length-3
@@ -54,7 +54,7 @@ returns-3 : tie.Need-returns-3
 returns-3 c =
     let at-enum-told = c .before .before .before .before .before in
     let at-read = at-enum-told .before .before in
-    answers-game (at-read .read .ensures) (at-enum-told .enum-told .given .1) (c .before .before .solve .ensures)
+    answers-game (at-read .read .ensures) (at-read .before .before .before .pre) (at-enum-told .enum-told .given .1) (c .before .before .solve .ensures)
 
 pub answer-spec : {M : Type 1} → statement M
 answer-spec =

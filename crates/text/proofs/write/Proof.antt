@@ -4,7 +4,8 @@ use native.Mathlib.Omega.{arith}
 use borrow.Author.Needs.{needs}
 use Rattle.game.specs.Acceptance.{acceptance}
 use Rattle.game.specs.declared.Acceptance.the-variants.{Accepted}
-use Rattle.text.proofs.Writer.{accepted-writable, accepted-room, writes-refused, writes-short, writes-text}
+use Rattle.text.proofs.Arrays.{game-arrays}
+use Rattle.text.proofs.Writer.{accepted-writable, writes-refused, writes-short, writes-text}
 use Rattle.text.proofs.write.Statement.{statement}
 use Rattle.text.proofs.write.Tie as tie
 
@@ -27,7 +28,7 @@ returns : tie.Need-returns
 returns c = writes-short _ _ (told (c .before .before)) (omega (arith, c .if1 .taken, c .before .game-length .ensures))
 
 put-game-requires : tie.Need-put-game-requires
-put-game-requires c κs = accepted-room _ (told (c .before .before .before))
+put-game-requires c κs = accepted-writable _ (told (c .before .before .before))
 
 returns-2 : tie.Need-returns-2
 returns-2 c = writes-refused _ _ _ (sym (c .before .before .before .accept .ensures .answer) ∙ c .before .a .given .1)
@@ -40,8 +41,9 @@ returns-3 c =
     let at-put-game = c .before .before in
     let at-if1 = at-put-game .before .before in
     let at-length = at-if1 .before in
-    writes-text _ _ (told (at-length .before)) _ _ (at-length .game-length .ensures)
-    (omega (arith, at-if1 .if1 .left, at-length .game-length .ensures)) (at-put-game .put-game .ensures .kept)
+    let start = at-length .before .before .before .before .before in
+    writes-text _ _ (told (at-length .before)) _ _ (game-arrays _ _ (start .good .0)) (at-length .game-length .ensures)
+    (omega (arith, at-if1 .if1 .left, at-length .game-length .ensures)) (at-put-game .put-game .ensures .buffer)
 
 pub write-spec : {M : Type 1} → statement M
 write-spec =

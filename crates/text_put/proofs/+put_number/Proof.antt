@@ -2,7 +2,7 @@
 use mathlib.Core.Path.{sym, _∙_}
 use native.Mathlib.Omega.{arith}
 use Rattle.text_grammar.proofs.Number.{decimal-step}
-use Rattle.text_put.proofs.Buffer.{puts-then, puts-as, puts-length, number-room}
+use Rattle.text_put.proofs.Buffer.{puts-then, puts-as, puts-length}
 use Prim.Native.Nat.{ℕ, _<_}
 use borrow.Fn.Kinds.{In}
 use borrow.Fn.PlainCycle.{Measures, is, falls, and}
@@ -33,7 +33,7 @@ put-number-put-small-requires : (t : ℕ) → put-number-lts.Need-put-small-requ
   put-digit-reads.Asked,
   put-digit-reads.Learnt,
 ) (put-number-at t) put-number.Post
-put-number-put-small-requires t c κs = (c .before .if1 .taken, c .before .before .before .pre .1)
+put-number-put-small-requires t c κs = c .before .if1 .taken
 
 put-number-same-length : (t : ℕ) → put-number-lts.Need-same-length (
   put-small-reads.Asked,
@@ -63,10 +63,7 @@ put-number-put-number-requires : (t : ℕ) → put-number-lts.Need-put-number-re
   put-digit-reads.Asked,
   put-digit-reads.Learnt,
 ) (put-number-at t) put-number.Post
-put-number-put-number-requires t c κs = (
-  omega (arith, c .before .if1 .left, c .before .before .before .pre),
-  omega (arith, number-room _ _ _ (omega (arith, c .before .if1 .left)) (c .before .before .before .pre .1)),
-)
+put-number-put-number-requires t c κs = omega (arith, c .before .if1 .left, c .before .before .before .pre)
 
 put-number-put-digit-requires : (t : ℕ) → put-number-lts.Need-put-digit-requires (
   put-small-reads.Asked,
@@ -76,11 +73,7 @@ put-number-put-digit-requires : (t : ℕ) → put-number-lts.Need-put-digit-requ
   put-digit-reads.Asked,
   put-digit-reads.Learnt,
 ) (put-number-at t) put-number.Post
-put-number-put-digit-requires t c κs =
-    let at-put-number = c .before .before .before in
-    let at-if1 = at-put-number .before .before in
-    let high = number-room _ _ _ (omega (arith, at-if1 .if1 .left)) (at-if1 .before .before .pre .1) in
-    (omega arith, omega (arith, at-put-number .put-number .ensures .next, high))
+put-number-put-digit-requires t c κs = omega arith
 
 put-number-same-length-2 : (t : ℕ) → put-number-lts.Need-same-length-2 (
   put-small-reads.Asked,

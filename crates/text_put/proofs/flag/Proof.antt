@@ -5,9 +5,6 @@ use Rattle.finite.specs.Bounded.{one}
 use Rattle.text_put.proofs.flag.Statement.{statement}
 use Rattle.text_put.proofs.flag.Tie as tie
 
-member-requires : tie.Need-member-requires
-member-requires c κs = search needs
-
 returns : tie.Need-returns
 unfolding one
 returns c = sym (ap one (sym (c .before .member .ensures) ∙ c .if1 .taken))
@@ -17,4 +14,4 @@ unfolding one
 returns-2 c = sym (ap one (sym (c .before .member .ensures) ∙ c .if1 .left))
 
 pub flag-spec : {M : Type 1} → statement M
-flag-spec = tie.close (tie.spec member-requires returns returns-2)
+flag-spec = tie.close (tie.spec (λ c κs. search needs) returns returns-2)

@@ -1,9 +1,8 @@
 -- `put_requirements` meets its contract. The invariant: what is left, with what is done, makes the whole.
-use lib.ListN.{length}
-use Prim.Native.Nat.{_+_, _-_, _^_, _≤_}
+use Prim.Native.Nat.{_-_, _≤_}
 use mathlib.Core.Path.{_≡_, refl}
 use native.Mathlib.Omega.{arith}
-use Rattle.text_put.proofs.Pieces.{requirements-none, requirements-take, requirements-last, requirement-past, requirement-room}
+use Rattle.text_put.proofs.Pieces.{requirements-none, requirements-take, requirements-last, requirement-past}
 use Rattle.text_put.specs.Put.{Writable}
 use Rattle.text_shape.specs.Text.{requirementLines}
 use Rattle.text_put.proofs.Buffer.{Remains, remains-as, remains-all, remains-step, remains-none, puts-length}
@@ -12,14 +11,13 @@ use Rattle.text_put.proofs.put_requirements.Tie as tie
 
 abbrev Inv-loop : tie.InvT-loop
 Inv-loop buffer₀ at g k to₀ r₀ buffer to r =
-    Remains buffer₀ at (requirementLines k 0 (g .requirements)) buffer to (requirementLines (k - r) r (g .requirements)) × Writable g × (k ≡ g .k) ×
-    (k ≤ 8) × (at + length (requirementLines k 0 (g .requirements)) ≤ 2 ^ 32)
+    Remains buffer₀ at (requirementLines k 0 (g .requirements)) buffer to (requirementLines (k - r) r (g .requirements)) × Writable g × (k ≡ g .k) × (k ≤ 8)
 
 abbrev μ-loop : tie.MeasureT-loop
 μ-loop buffer₀ at g k to₀ r₀ buffer to r = k - r
 
 loop-holds : tie.Need-loop-holds Inv-loop μ-loop
-loop-holds c = (remains-as (remains-all _ _ _) (requirements-none _ _), c .before .pre .0, refl, c .before .pre .0 .k, c .before .pre .1)
+loop-holds c = (remains-as (remains-all _ _ _) (requirements-none _ _), c .before .pre, refl, c .before .pre .k)
 
 mul-q : tie.Need-mul-q Inv-loop μ-loop
 mul-q c = omega (arith, c .before .loop .inv .3, c .loop-test .taken)
@@ -28,13 +26,9 @@ element-copy-out-q : tie.Need-element-copy-out-q Inv-loop μ-loop
 element-copy-out-q c = omega (arith, c .before .loop .inv .3, c .loop-test .taken)
 
 put-requirement-requires : tie.Need-put-requirement-requires Inv-loop μ-loop
-put-requirement-requires c κs = (
-  c .before .before .before .loop .inv .1 .sets (c .before .before .before .loop .r) (c .before .before .loop-test .taken),
-  requirement-room _ _
-      (c .before .before .before .before .before .args .t3 .requirements) _ _ (c .before .before .before .loop .inv .0) (c .before .before .loop-test .taken)
-      (requirement-past (c .before .before .before .before .before .args .t3 .requirements) (c .before .before .before .loop .r))
-      (c .before .before .before .loop .inv .4),
-)
+put-requirement-requires c κs =
+    let l = c .before .before .before in
+    l .loop .inv .1 .sets (l .loop .r) (c .before .before .loop-test .taken)
 
 add-r : tie.Need-add-r Inv-loop μ-loop
 add-r c =
@@ -55,7 +49,6 @@ loop-again c =
       at-loop .loop .inv .1,
       refl,
       at-loop .loop .inv .3,
-      at-loop .loop .inv .4,
     )
 
 same-length : tie.Need-same-length Inv-loop μ-loop

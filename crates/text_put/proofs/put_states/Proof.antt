@@ -1,10 +1,9 @@
 -- `put_states` meets its contract. The invariant: what is left, with what is done, makes the whole.
-use lib.ListN.{length}
-use Prim.Native.Nat.{_+_, _-_, _^_, _≤_, _<_}
+use Prim.Native.Nat.{_-_, _≤_, _<_}
 use mathlib.Core.Path.{_≡_, refl}
 use native.Mathlib.Omega.{arith}
 use Rattle.sets.specs.Words.{capacity}
-use Rattle.text_put.proofs.Pieces.{states-none, states-take, states-last, state-room}
+use Rattle.text_put.proofs.Pieces.{states-none, states-take, states-last}
 use Rattle.text_shape.specs.Text.{plain, stateLines}
 use Rattle.text_put.proofs.Buffer.{Remains, remains-as, remains-all, remains-step, remains-none, puts-length}
 use Rattle.text_put.proofs.put_states.Statement.{statement}
@@ -13,7 +12,7 @@ use Rattle.text_put.proofs.put_states.Tie as tie
 abbrev Inv-loop : tie.InvT-loop
 Inv-loop buffer₀ at w h n initial to₀ s₀ buffer to s =
     Remains buffer₀ at (stateLines w n 0 (plain h)) buffer to (stateLines w (n - s) s (plain h))
-    × (n ≤ capacity) × (w < 10) × (n ≡ h .states) × (initial ≡ h .initial) × (at + length (stateLines w n 0 (plain h)) ≤ 2 ^ 32)
+    × (n ≤ capacity) × (w < 10) × (n ≡ h .states) × (initial ≡ h .initial)
 
 abbrev μ-loop : tie.MeasureT-loop
 μ-loop buffer₀ at w h n initial to₀ s₀ buffer to s = n - s
@@ -21,7 +20,7 @@ abbrev μ-loop : tie.MeasureT-loop
 loop-holds : tie.Need-loop-holds Inv-loop μ-loop
 loop-holds c =
     let at-start = c .before .before in
-    (remains-as (remains-all _ _ _) (states-none _ _ _), at-start .pre .1, at-start .pre .0, refl, refl, at-start .pre .2)
+    (remains-as (remains-all _ _ _) (states-none _ _ _), at-start .pre .1, at-start .pre .0, refl, refl)
 
 row-of-requires : tie.Need-row-of-requires Inv-loop μ-loop
 row-of-requires c κs =
@@ -32,17 +31,6 @@ flag-requires : tie.Need-flag-requires Inv-loop μ-loop
 flag-requires c κs =
     let at-loop-test = c .before .before .before in
     omega (arith, at-loop-test .before .loop .inv, at-loop-test .loop-test .taken)
-
-put-state-requires : tie.Need-put-state-requires Inv-loop μ-loop
-put-state-requires c κs =
-    let at-row-of = c .before .before in
-    let at-loop-test = at-row-of .before .before .before in
-    let at-loop = at-loop-test .before in
-    let at-start = at-loop .before .before .before in (
-      at-loop .loop .inv .2,
-      state-room _ _ _ (at-start .args .t4) _ _ _ (at-loop .loop .inv .0) (at-loop-test .loop-test .taken)
-          (c .before .flag .ensures) (at-row-of .row-of .ensures .1) (at-loop .loop .inv .5),
-    )
 
 add-s : tie.Need-add-s Inv-loop μ-loop
 add-s c =
@@ -70,7 +58,6 @@ loop-again c =
       at-loop .loop .inv .2,
       refl,
       refl,
-      at-loop .loop .inv .5,
     )
 
 same-length : tie.Need-same-length Inv-loop μ-loop
@@ -88,7 +75,7 @@ put-states-spec =
     loop-holds
     row-of-requires
     flag-requires
-    put-state-requires
+    (λ c κs. c .before .before .before .before .before .before .loop .inv .2)
     add-s
     loop-less
     loop-again

@@ -8,11 +8,8 @@ use Rattle.text_put.proofs.measure.bracketed.Tie as tie
 returns : tie.Need-returns
 returns c = λ ws e. omega (arith, bracket-length ws, c .if1 .taken, e)
 
-add-result : tie.Need-add-result
-add-result c = search needs
-
 returns-2 : tie.Need-returns-2
 returns-2 c = λ ws e. omega (arith, bracket-length ws, c .if1 .left, e)
 
 pub bracketed-spec : {M : Type 1} → statement M
-bracketed-spec = tie.close (tie.spec returns add-result returns-2)
+bracketed-spec = tie.close (tie.spec returns (λ c. search needs) returns-2)

@@ -11,12 +11,6 @@ use Rattle.text_put.proofs.Bounds.{game-short}
 use Rattle.text_put.proofs.measure.game_length.Statement.{statement}
 use Rattle.text_put.proofs.measure.game_length.Tie as tie
 
-states-length-requires : tie.Need-states-length-requires
-states-length-requires c κs = search needs
-
-states-length-requires-2 : tie.Need-states-length-requires-2
-states-length-requires-2 c κs = search needs
-
 abbrev game : tie.After-states-length2 → Game
 game c = let at-states-length = c .before .before .before in at-states-length .before .before .before .args .t1
 
@@ -37,14 +31,8 @@ bound c =
 add-lines : tie.Need-add-lines
 add-lines c = omega (arith, lines c, bound c)
 
-header-length-requires : tie.Need-header-length-requires
-header-length-requires c κs = search needs
-
 add-result : tie.Need-add-result
 add-result c = omega (arith, lines (c .before), c .header-length .ensures, bound (c .before))
-
-requirements-length-requires : tie.Need-requirements-length-requires
-requirements-length-requires c κs = search needs
 
 add-result-2 : tie.Need-add-result-2
 add-result-2 c = omega (arith, lines (c .before .before), c .before .header-length .ensures, c .requirements-length .ensures, bound (c .before .before))
@@ -56,11 +44,11 @@ pub game-length-spec : {M : Type 1} → statement M
 game-length-spec =
     tie.close
     (tie.spec
-    states-length-requires
-    states-length-requires-2
+    (λ c κs. search needs)
+    (λ c κs. search needs)
     add-lines
-    header-length-requires
+    (λ c κs. search needs)
     add-result
-    requirements-length-requires
+    (λ c κs. search needs)
     add-result-2
     returns)

@@ -11,19 +11,10 @@ use borrow.Author.Needs.{needs}
 use Rattle.text_put.proofs.measure.header_length.Statement.{statement}
 use Rattle.text_put.proofs.measure.header_length.Tie as tie
 
-opening-length-requires : tie.Need-opening-length-requires
-opening-length-requires c κs = search needs
-
-digits-requires : tie.Need-digits-requires
-digits-requires c κs = search needs
-
 add-result : tie.Need-add-result
 add-result c =
     let p = c .before .before in
     omega (arith, c .before .opening-length .ensures, opening-short 0, c .digits .ensures, three-digits (p .args .i) (p .pre .0))
-
-digits-requires-2 : tie.Need-digits-requires-2
-digits-requires-2 c κs = search needs
 
 add-result-2 : tie.Need-add-result-2
 add-result-2 c =
@@ -38,9 +29,6 @@ add-result-2 c =
       c .digits2 .ensures,
       three-digits (p .args .o) (p .pre .1),
     )
-
-digits-requires-3 : tie.Need-digits-requires-3
-digits-requires-3 c κs = search needs
 
 total : (c : tie.After-digits3)
     → let o = c .before in
@@ -86,12 +74,12 @@ pub header-length-spec : {M : Type 1} → statement M
 header-length-spec =
     tie.close
     (tie.spec
-    opening-length-requires
-    digits-requires
+    (λ c κs. search needs)
+    (λ c κs. search needs)
     add-result
-    digits-requires-2
+    (λ c κs. search needs)
     add-result-2
-    digits-requires-3
+    (λ c κs. search needs)
     add-result-3
     add-result-4
     returns)

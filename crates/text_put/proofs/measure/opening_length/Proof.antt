@@ -6,9 +6,6 @@ use borrow.Author.Needs.{needs}
 use Rattle.text_put.proofs.measure.opening_length.Statement.{statement}
 use Rattle.text_put.proofs.measure.opening_length.Tie as tie
 
-letters-requires : tie.Need-letters-requires
-letters-requires c κs = search needs
-
 add-result : tie.Need-add-result
 add-result c = omega (arith, c .letters .ensures, word-short (c .before .args .w))
 
@@ -16,4 +13,4 @@ returns : tie.Need-returns
 returns c = omega (arith, c .letters .ensures, opening-length (c .before .args .w))
 
 pub opening-length-spec : {M : Type 1} → statement M
-opening-length-spec = tie.close (tie.spec letters-requires add-result returns)
+opening-length-spec = tie.close (tie.spec (λ c κs. search needs) add-result returns)

@@ -6,12 +6,6 @@ use borrow.Author.Needs.{needs}
 use Rattle.text_put.proofs.measure.requirement_length.Statement.{statement}
 use Rattle.text_put.proofs.measure.requirement_length.Tie as tie
 
-opening-length-requires : tie.Need-opening-length-requires
-opening-length-requires c κs = search needs
-
-assumptions-length-requires : tie.Need-assumptions-length-requires
-assumptions-length-requires c κs = search needs
-
 add-result : tie.Need-add-result
 add-result c =
     let p = c .before .before in
@@ -22,9 +16,6 @@ add-result c =
       c .before .opening-length .ensures,
       c .assumptions-length .ensures,
     )
-
-guarantees-length-requires : tie.Need-guarantees-length-requires
-guarantees-length-requires c κs = search needs
 
 add-result-2 : tie.Need-add-result-2
 add-result-2 c =
@@ -68,10 +59,10 @@ pub requirement-length-spec : {M : Type 1} → statement M
 requirement-length-spec =
     tie.close
     (tie.spec
-    opening-length-requires
-    assumptions-length-requires
+    (λ c κs. search needs)
+    (λ c κs. search needs)
     add-result
-    guarantees-length-requires
+    (λ c κs. search needs)
     add-result-2
     add-result-3
     returns)

@@ -6,32 +6,11 @@ use borrow.Author.Needs.{needs}
 use Rattle.text_put.proofs.measure.set_length.Statement.{statement}
 use Rattle.text_put.proofs.measure.set_length.Tie as tie
 
-below-requires : tie.Need-below-requires
-below-requires c κs = search needs
-
-difference-requires : tie.Need-difference-requires
-difference-requires c κs = search needs
-
-below-requires-2 : tie.Need-below-requires-2
-below-requires-2 c κs = search needs
-
-difference-requires-2 : tie.Need-difference-requires-2
-difference-requires-2 c κs = search needs
-
-count-requires : tie.Need-count-requires
-count-requires c κs = search needs
-
 mul-bracketed : tie.Need-mul-bracketed
 mul-bracketed c = omega (arith, few _ (c .count .ensures))
 
-count-requires-2 : tie.Need-count-requires-2
-count-requires-2 c κs = search needs
-
 add-bracketed : tie.Need-add-bracketed
 add-bracketed c = omega (arith, few _ (c .before .count .ensures), few _ (c .count2 .ensures))
-
-count-requires-3 : tie.Need-count-requires-3
-count-requires-3 c κs = search needs
 
 add-bracketed-2 : tie.Need-add-bracketed-2
 add-bracketed-2 c = omega (arith, few _ (c .before .before .count .ensures), few _ (c .before .count2 .ensures), few _ (c .count3 .ensures))
@@ -54,15 +33,15 @@ pub set-length-spec : {M : Type 1} → statement M
 set-length-spec =
     tie.close
     (tie.spec
-    below-requires
-    difference-requires
-    below-requires-2
-    difference-requires-2
-    count-requires
+    (λ c κs. search needs)
+    (λ c κs. search needs)
+    (λ c κs. search needs)
+    (λ c κs. search needs)
+    (λ c κs. search needs)
     mul-bracketed
-    count-requires-2
+    (λ c κs. search needs)
     add-bracketed
-    count-requires-3
+    (λ c κs. search needs)
     add-bracketed-2
     bracketed-requires
     returns)

@@ -9,12 +9,6 @@ use borrow.Author.Needs.{needs}
 use Rattle.text_put.proofs.measure.state_length.Statement.{statement}
 use Rattle.text_put.proofs.measure.state_length.Tie as tie
 
-opening-length-requires : tie.Need-opening-length-requires
-opening-length-requires c κs = search needs
-
-digits-requires : tie.Need-digits-requires
-digits-requires c κs = search needs
-
 add-result : tie.Need-add-result
 add-result c =
     let p = c .before .before in
@@ -25,9 +19,6 @@ add-result c =
       c .digits .ensures,
       three-digits (p .args .s) (p .pre .1),
     )
-
-set-length-requires : tie.Need-set-length-requires
-set-length-requires c κs = search needs
 
 add-result-2 : tie.Need-add-result-2
 add-result-2 c =
@@ -73,10 +64,10 @@ pub state-length-spec : {M : Type 1} → statement M
 state-length-spec =
     tie.close
     (tie.spec
-    opening-length-requires
-    digits-requires
+    (λ c κs. search needs)
+    (λ c κs. search needs)
     add-result
-    set-length-requires
+    (λ c κs. search needs)
     add-result-2
     add-result-3
     returns)
