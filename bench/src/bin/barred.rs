@@ -1,4 +1,5 @@
-//! The map with bars beside a plain fixpoint in Rust, in one run: random games, rings and lines of 64 and of 128 states a graph.
+//! The map with bars beside a plain fixpoint in Rust, in one run: random games, rings and lines of 64 and of 128 states a graph. Of the corners, where
+//! the plain one takes seconds, the map alone, at 32, 64 and 128 states, with how it grows.
 //!
 //!     cargo run --release --offline --manifest-path bench/Cargo.toml --bin barred
 #[path = "../measure.rs"]
@@ -173,6 +174,40 @@ fn cases(r: &mut Random, n: usize) -> Vec<Case> {
     cases
 }
 
+/// Games that cost much: steps that wait for their inputs, one after the other, almost a turn of the ring each.
+fn corners(n: usize) -> Vec<Case> {
+    let ring = |stay: bool| graph(n, |s| Set::of((s + 1) % n) | if stay { Set::of(s) } else { Set::default() });
+    let steps = graph(n, |o| if o % 2 == 0 { Set::of(o) | Set::of(o + 1) } else { Set::of((o + 1) % n) });
+    let waiting = |own: fn(usize, usize) -> usize| -> Vec<u128> {
+        (0..n).map(|i| (0..n / 2).fold(0, |x, s| x | u128::from(own(s, n) != i) << (2 * s + 1))).collect()
+    };
+    let (countdown, against) = (waiting(|s, n| n - 1 - s), waiting(|s, n| n - 1 - 2 * s));
+    let late = Set::from_bits(below(n) & !below(n - n / 8));
+    let asks = |assumptions: &[Set], guarantees: &[Set]| {
+        let mut q = Requirement { assumed: assumptions.len(), guaranteed: guarantees.len(), ..Requirement::default() };
+        for (place, set) in q.assumptions.iter_mut().zip(assumptions) {
+            *place = InSet(*set);
+        }
+        for (place, set) in q.guarantees.iter_mut().zip(guarantees) {
+            *place = OutSet(*set);
+        }
+        q
+    };
+    let every = Set::from_bits(below(n));
+    let quarters: Vec<Set> = (0..4).map(|k| Set::of(k * n / 4 + 1)).collect();
+    [
+        ("countdown: late steps, no input set", ring(false), asks(&[], &[late]), &countdown),
+        ("countdown, a ring that waits", ring(true), asks(&[], &[late]), &countdown),
+        ("steps against a ring, no input set", ring(false), asks(&[], &[Set::of(1)]), &against),
+        ("steps against a ring, an input set of all", ring(false), asks(&[every], &[Set::of(1)]), &against),
+        ("steps against a ring, four output sets", ring(false), asks(&[], &quarters), &against),
+        ("steps against a ring that waits, four sets", ring(true), asks(&[every], &quarters), &against),
+    ]
+    .into_iter()
+    .map(|(name, inputs, q, bars)| (name.to_string(), game(inputs, steps, q), bars.clone()))
+    .collect()
+}
+
 fn words(rows: &[u128]) -> Vec<u64> {
     rows.iter().flat_map(|&x| [x as u64, (x >> 64) as u64]).collect()
 }
@@ -193,5 +228,21 @@ fn main() {
             let other = best(|| drop(black_box(plain(black_box(&g), black_box(&bars)))));
             println!("{name:<46} {n:>5} {won:>7} {:>10.0} {:>10.0} {:>7.2}", ours * 1e6, other * 1e6, ours / other);
         }
+    }
+    let sizes = [32, 64, STATES];
+    println!("\n{:<46} {:>9} {:>9} {:>9} {:>14}", "corner, microseconds a map", sizes[0], sizes[1], sizes[2], "64 to 128");
+    for k in 0..corners(sizes[0]).len() {
+        let times = sizes.map(|n| {
+            let (name, g, bars) = corners(n).swap_remove(k);
+            let lent = Bars::from_words(words(&bars));
+            let (mut scratch, mut map) = (vec![0; BARRED_SCRATCH], vec![0; SET_WORDS * n]);
+            g.barred_map_into(&lent, &mut scratch, &mut map).expect("a right game");
+            if n == sizes[0] {
+                assert_eq!(map, words(&plain(&g, &bars)), "{name}");
+            }
+            best(|| g.barred_map_into(&lent, black_box(&mut scratch), black_box(&mut map)).unwrap()) * 1e6
+        });
+        let name = corners(sizes[0]).swap_remove(k).0;
+        println!("{name:<46} {:>9.0} {:>9.0} {:>9.0} {:>14.1}", times[0], times[1], times[2], times[2] / times[1]);
     }
 }

@@ -29,7 +29,7 @@ use Rattle.game.specs.declared.Game.{Game}
 use Rattle.game.specs.Access.{noOutput, requirementAt}
 use Rattle.game.specs.Fits.{Fits}
 use Rattle.play.specs.Play.{graphOf, separatedOf, requirementOf}
-use Rattle.barred_rows.specs.Areas.{keptPairs, keptAt, stayingAt}
+use Rattle.barred_rows.specs.Areas.{keptPairs, keptAt, reachedAt, stayingAt}
 use Rattle.barred_rows.proofs.Rows.{apart-set}
 use Rattle.barred_stay.specs.Stay.{Within}
 use Rattle.barred_region.specs.Region.{only, barOf, Among, Trimmed, Endless, Passed, Freed, RegionKept}
@@ -151,3 +151,10 @@ module _ (g : Game) (F : Fits g) (b l : List ℕ) where
     apart = but-then (but-then (but-wider keptAt (stayingAt + g .input .states) (omega arith) (omega arith) (E .apart)) (T .apart)) (K .apart);
     row = K .row;
   }
+
+-- and from before the tables were written
+pub kept-prepared : (g : Game) (b k l m : List ℕ) → ButFor reachedAt stayingAt k l → RegionKept g b l m → RegionKept g b k m
+kept-prepared g b k l m A K = record {
+  apart = but-then (but-wider keptAt (stayingAt + g .input .states) (omega arith) (omega arith) A) (K .apart);
+  row = K .row;
+}

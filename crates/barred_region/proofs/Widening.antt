@@ -2,7 +2,7 @@
 --
 --   waits-first, waits-next    : the sets that are waited for
 --   widened-by                 : one set
---   widened-none, widened-next, widened-grew    : set after set
+--   widened-none, widened-next, widened-grew, widened-grown    : set after set, and single steps
 --   Reaching g v l m           == what is reached so far, from nothing
 --   reaching-start, reaching-next, reaching-falls, reaching-end
 use Prim.Native.Nat.{ℕ, suc, _+_, _*_, _-_, _≤_, _<_}
@@ -33,6 +33,7 @@ use Rattle.game.specs.Fits.{Fits}
 use Rattle.play.specs.Play.{graphOf, separatedOf, requirementOf}
 use Rattle.barred_rows.specs.Areas.{keptPairs, reachedPairs, stayingPairs, reachedAt, stayingAt, Emptied, United}
 use Rattle.barred_stay.specs.Stay.{Within, Stayed}
+use Rattle.barred_grow.specs.Grow.{Wider}
 use Rattle.barred_region.specs.Region.{only, Among, Waits, WidenedBy, Widened, ReachFound}
 use Rattle.barred_region.proofs.Among.{among-sub, sub-among, among-self, among-then, rows-among, part-stay, part-reach}
 use Rattle.barred_region.proofs.Among.{counted, counted-most, counted-less}
@@ -173,16 +174,38 @@ module _ (g : Game) (F : Fits g) where
               (λ i c. sym (N .same i c)) back (T .more))
               (among-then g (R .none e) (T .same refl)))
 
+  -- and single steps after it
+  pub widened-grown : (v k : ℕ) (l m m′ : List ℕ) (r : Bool) → Widened g v k l m r → r ≡ true → Wider g (only g) v m m′ → Widened g v k l m′ true
+  widened-grown v k l m m′ r T t G = record {
+    apart = but-then (T .apart) (G .apart);
+    more = among-then g (T .more) (record { all = λ i o a b h. G .more i o a h });
+    sound = λ h. among-then g (record { all = G .sound (among-then g (T .sound h) (part-reach g (has v) (keptPairs l) (keptPairs m) back) .all) })
+        (part-reach g (has v) (keptPairs m) (keptPairs l) into);
+    some = λ e. let u = T .some t in (u .0, u .1, u .2, u .3, u .4, G .more (u .0) (u .1) (u .2) (u .5));
+    same = λ e. clash refl e;
+    none = λ e. clash refl e;
+  }
+    where
+      into : Among g (keptPairs m) (keptPairs l)
+      into = rows-among g (λ i. getD m i 0) (λ i. getD l i 0) (kept-row (T .apart))
+
+      back : Among g (keptPairs l) (keptPairs m)
+      back = rows-among g (λ i. getD l i 0) (λ i. getD m i 0) (λ i h. sym (kept-row (T .apart) i h))
+
+  pub wider-within : (v : ℕ) (l m : List ℕ) → Wider g (only g) v l m → Within g l → Within g m
+  wider-within v l m G W = record { outputs = λ i o b h. W .outputs i o b (ap (λ (x : ℕ). has x o) (sym (kept-row (G .apart) i b)) ∙ h) }
+
   pub widened-within : (v k : ℕ) (l m : List ℕ) (r : Bool) → Widened g v k l m r → Within g l → Within g m
   widened-within v k l m r T W = record { outputs = λ i o b h. W .outputs i o b (ap (λ (x : ℕ). has x o) (sym (kept-row (T .apart) i b)) ∙ h) }
 
   -- ---- from nothing
 
   module _ (v : ℕ) (l : List ℕ) where
-    pub reaching-start : (k : List ℕ) → Emptied (g .input .states) reachedAt k l → Reaching g v l l
-    reaching-start k E = record {
-      apart = but-self reachedAt (stayingAt + g .input .states) l;
-      sound = record { all = λ i o a b h. clash h (ap (λ (x : ℕ). has x o) (E .row i a) ∙ has-zero o) };
+    pub reaching-start : (k : List ℕ) → Emptied (g .input .states) reachedAt k l → (m : List ℕ) → Wider g (only g) v l m → Reaching g v m m
+    reaching-start k E m G = record {
+      apart = but-self reachedAt (stayingAt + g .input .states) m;
+      sound = among-then g (record { all = G .sound (λ i o a b h. clash h (ap (λ (x : ℕ). has x o) (E .row i a) ∙ has-zero o)) })
+          (part-reach g (has v) (keptPairs l) (keptPairs m) (rows-among g (λ i. getD l i 0) (λ i. getD m i 0) (λ i h. sym (kept-row (G .apart) i h))));
     }
 
     pub reaching-within : Within g l → (m : List ℕ) → Reaching g v l m → Within g m
@@ -220,9 +243,10 @@ module _ (g : Game) (F : Fits g) where
             (among-then g (R .none e j (omega arith) b) (R .more))));
       }
 
-  -- what is kept is as it was before what was reached had been emptied
-  pub reached-from : (v : ℕ) (k l m : List ℕ) → Emptied (g .input .states) reachedAt k l → ReachFound g v l m → ReachFound g v k m
-  reached-from v k l m E R = record {
+  -- what is kept is as it was before what was reached had been emptied, and grown
+  pub reached-from : (v : ℕ) (k l m n : List ℕ) → Emptied (g .input .states) reachedAt k n → Wider g (only g) v n l → ReachFound g v l m
+      → ReachFound g v k m
+  reached-from v k l m n E G R = record {
     apart = but-then wide (R .apart);
     found = λ i o a b. R .found i o a b
         ∙ same-test (reach (separatedOf g) (only g) (has v) (keptPairs l) i o) (reach (separatedOf g) (only g) (has v) (keptPairs k) i o)
@@ -231,4 +255,4 @@ module _ (g : Game) (F : Fits g) where
   }
     where
       wide : ButFor reachedAt (stayingAt + g .input .states) k l
-      wide = but-wider reachedAt (stayingAt + g .input .states) (omega arith) (omega (arith, F .input .most)) (E .apart)
+      wide = but-then (but-wider reachedAt (stayingAt + g .input .states) (omega arith) (omega (arith, F .input .most)) (E .apart)) (G .apart)

@@ -34,7 +34,7 @@ use Rattle.barred_rows.specs.Areas.{keptPairs, reachedPairs, keptAt, reachedAt,
 unfoldable pub only : Game → Requirement
 only g = requirementOf (requirementAt g 0)
 
--- "Bars are lent beside the game, one set of outputs an input"
+-- "Bars are lent beside the game, one set of outputs an input" (SPEC 15.1)
 abbrev pub barOf : List ℕ → Pairs
 barOf b i o = has (getD b i 0) o
 

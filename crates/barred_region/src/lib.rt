@@ -52,13 +52,17 @@ fn widen(g: Game, s: &mut [u64], goal: OutSet) -> bool
     false
 }
 
-// Finds what is reached: where the controller comes to the goal, or some set of the requirement stays away.
+// Finds what is reached: where the controller comes to the goal, or some set of the requirement stays away. It is grown step by step as far as that goes;
+// only then are the sets tried.
 fn reach(g: Game, s: &mut [u64], goal: OutSet)
     requires { ⌜ Fits g × (barredSets ≤ setCount (now s)) × Within g (setsIn (now s)) ⌝ }
     ensures { λ _. ⌜ ReachFound g (bitsOf (goal .0)) (setsIn (now (s .entry))) (setsIn (now (s .exit))) ⌝ }
 {
     barred_rows::empty(s, g.input.states, REACHED);
-    while widen(g, s, goal) {}
+    barred_grow::grow(g, s, goal);
+    while widen(g, s, goal) {
+        barred_grow::grow(g, s, goal);
+    }
 }
 
 // Takes out of what is kept the positions in which the controller cannot go on for ever inside it.
@@ -120,6 +124,7 @@ pub fn keep(g: Game, bars: &[u64], s: &mut [u64])
     requires { ⌜ Fits g × (barredSets ≤ setCount (now s)) × (g .input .states ≤ setCount (now bars)) ⌝ }
     ensures { λ _. ⌜ RegionKept g (setsIn (now (bars .entry))) (setsIn (now (s .entry))) (setsIn (now (s .exit))) ⌝ }
 {
+    barred_grow::prepare(g, s);
     free(g, bars, s);
     trim(g, s);
     while pass(g, s) {}

@@ -99,11 +99,11 @@ module _ (diff put : Bool → Bool → Bool) (keep : (p : Bool) → put p false 
 pub record Merging (diff put : Bool → Bool → Bool) (n a b : ℕ) (t s : List ℕ) (i : ℕ) (r : Bool) : Type 0 where
   pub within : i ≤ n
   pub long : length s ≡ length t
-  pub held : 384 ≤ setCount s
+  pub held : 768 ≤ setCount s
   pub rows : Merged diff put i a b (setsIn t) (setsIn s) r
 
 module _ {diff put : Bool → Bool → Bool} (keep : (p : Bool) → put p false ≡ p) where
-  pub merging-start : (n a b : ℕ) (t : List ℕ) → 384 ≤ setCount t → Merging diff put n a b t t 0 false
+  pub merging-start : (n a b : ℕ) (t : List ℕ) → 768 ≤ setCount t → Merging diff put n a b t t 0 false
   merging-start n a b t h = record { within = omega arith; long = refl; held = h; rows = merged-none diff put keep a b (setsIn t) }
 
   module _ {n a b : ℕ} {t s : List ℕ} {i : ℕ} {r : Bool} (D : Merging diff put n a b t s i r) (B : Beside a b n) (h : i < n) {old other change : ℕ}
@@ -116,7 +116,7 @@ module _ {diff put : Bool → Bool → Bool} (keep : (p : Bool) → put p false 
       rows = merged-skip diff put keep n a b B (setsIn t) i (setsIn s) r (D .rows) h old other change x y d z;
     }
 
-    pub merging-next : (v : ℕ) (w : List ℕ) → ((o : ℕ) → has v o ≡ put (has old o) (has change o)) → change ≢ 0 → b + n ≤ 384 → length w ≡ length s
+    pub merging-next : (v : ℕ) (w : List ℕ) → ((o : ℕ) → has v o ≡ put (has old o) (has change o)) → change ≢ 0 → b + n ≤ 768 → length w ≡ length s
         → setsIn w ≡ set (setsIn s) (b + i) v → Merging diff put n a b t w (i + 1) true
     merging-next v w u ne fits e q = record {
       within = omega arith;

@@ -20,7 +20,7 @@ use Rattle.bits.specs.Member.{has}
 use Rattle.barred.specs.Arena.{Pairs}
 
 abbrev pub barredSets : ℕ
-barredSets = 384
+barredSets = 768
 
 abbrev pub keptAt : ℕ
 keptAt = 0
@@ -29,7 +29,7 @@ abbrev pub reachedAt : ℕ
 reachedAt = 128
 
 abbrev pub stayingAt : ℕ
-stayingAt = 256
+stayingAt = 640
 
 abbrev pub keptPairs : List ℕ → Pairs
 keptPairs l i o = has (getD l i 0) o

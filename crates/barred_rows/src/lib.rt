@@ -8,7 +8,15 @@ pub const KEPT: usize = 0;
 
 pub const REACHED: usize = 128;
 
-pub const STAYING: usize = 256;
+pub const STAYING: usize = 640;
+
+// Where to look first, so that nothing is looked for in vain: the inputs that move to each input, the outputs that move to each output, and what has been
+// followed with each input.
+pub const BEFORE_INPUT: usize = 256;
+
+pub const BEFORE_OUTPUT: usize = 384;
+
+pub const FOLLOWED: usize = 512;
 
 // Copies n rows from set number `from` on to those from set number `to` on.
 pub fn copy(s: &mut [u64], n: usize, from: usize, to: usize)

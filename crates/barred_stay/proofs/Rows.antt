@@ -26,7 +26,7 @@ use Rattle.barred_stay.specs.Stay.{RowShrunk, Shrunk}
 
 -- ---- the target
 
-pub target-told : (l : List ℕ) (j v w z y x a b r : ℕ) {k : Bool} → z ≡ getD l j 0 → y ≡ getD l (128 + j) 0 → x ≡ getD l (256 + j) 0 → k ≡ has w j
+pub target-told : (l : List ℕ) (j v w z y x a b r : ℕ) {k : Bool} → z ≡ getD l j 0 → y ≡ getD l (128 + j) 0 → x ≡ getD l (640 + j) 0 → k ≡ has w j
     → ((p : ℕ) → has a p ≡ (has v p && has z p)) → ((p : ℕ) → has b p ≡ (has y p || (not k && has x p)))
     → ((p : ℕ) → has r p ≡ (has a p || has b p))
     → (p : ℕ) → has r p ≡ barredTarget (has v) (has w) (keptPairs l) (reachedPairs l) (stayingPairs l) j p

@@ -48,7 +48,7 @@ left-lowest n x h b f ne e =
     (f h t, t)
 
 -- rows of moves, as the graph has them
-row-edge : (h : Record) → GraphFits h → (k t : ℕ) → k < h .states → has (getD (setsIn (h .moves)) k 0) t ≡ edge (graphOf h) k t
+pub row-edge : (h : Record) → GraphFits h → (k t : ℕ) → k < h .states → has (getD (setsIn (h .moves)) k 0) t ≡ edge (graphOf h) k t
 unfolding graphOf
 row-edge h F k t a =
     same-test (has (getD (setsIn (h .moves)) k 0) t) (edge (graphOf h) k t) (λ e. edge-intro (graphOf h) k t a (F .row-below k t a e) e)
@@ -62,10 +62,10 @@ stayingCount g m = count (g .input .states * g .output .states) (λ c. stayingPa
 unfoldable pub stayingMeasure : Game → ℕ → List ℕ → ℕ
 stayingMeasure g x m = stayingCount g m * g .input .states + stayingCount g m + count (g .input .states) (has x)
 
-lower-first : (n a b c d : ℕ) → a < b → c ≤ n → a * n + a + c < b * n + b + d
+pub lower-first : (n a b c d : ℕ) → a < b → c ≤ n → a * n + a + c < b * n + b + d
 lower-first n a b c d h e = let k : (a + 1) * n ≤ b * n = mul-le-mul (omega arith) (omega arith) in omega (arith, k, add-mul a 1 n)
 
-lower-second : (n a b c d : ℕ) → a ≤ b → c < d → a * n + a + c < b * n + b + d
+pub lower-second : (n a b c d : ℕ) → a ≤ b → c < d → a * n + a + c < b * n + b + d
 lower-second n a b c d h e = let k : a * n ≤ b * n = mul-le-mul h (omega arith) in omega (arith, k)
 
 module _ (g : Game) (v w : ℕ) (l : List ℕ) where

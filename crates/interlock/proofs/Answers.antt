@@ -69,25 +69,25 @@ use Rattle.interlock.proofs.Bars.{marks-won, filled-unbarred, wins-none
 -- ---- scratch
 
 -- what is past the sets that the region uses is as it was
-pub kept-rest : (s t u : List ℕ) (b : ℕ) → b ≤ 384 → ButFor 0 b (setsIn s) (setsIn t) → length t ≡ length s → ((i : ℕ) → getD s i 0 < 2 ^ 64)
+pub kept-rest : (s t u : List ℕ) (b : ℕ) → b ≤ 768 → ButFor 0 b (setsIn s) (setsIn t) → length t ≡ length s → ((i : ℕ) → getD s i 0 < 2 ^ 64)
     → ((i : ℕ) → getD t i 0 < 2 ^ 64) → u ≡ cleared 4096 t → u ≡ cleared 4096 s
 kept-rest s t u b h A e x y q = q ∙ cleared-same 4096 s t rest
   where
-    later : drop 384 (setsIn t) ≡ drop 384 (setsIn s)
+    later : drop 768 (setsIn t) ≡ drop 768 (setsIn s)
     later =
-        ext-getD 0 (drop 384 (setsIn t)) (drop 384 (setsIn s))
-        (length-drop 384 (setsIn t) ∙ ap (λ (k : ℕ). k - 384) (A .long) ∙ sym (length-drop 384 (setsIn s)))
-        (λ k c. getD-drop 384 (setsIn t) k 0 ∙ A .high (384 + k) (omega arith) ∙ sym (getD-drop 384 (setsIn s) k 0))
+        ext-getD 0 (drop 768 (setsIn t)) (drop 768 (setsIn s))
+        (length-drop 768 (setsIn t) ∙ ap (λ (k : ℕ). k - 768) (A .long) ∙ sym (length-drop 768 (setsIn s)))
+        (λ k c. getD-drop 768 (setsIn t) k 0 ∙ A .high (768 + k) (omega arith) ∙ sym (getD-drop 768 (setsIn s) k 0))
 
     rest : drop 4096 t ≡ drop 4096 s
     rest =
-        let w : wordsFor 384 + (4096 - wordsFor 384) ≡ 4096 = omega arith in
-        ap (λ (k : ℕ). drop k t) (sym w) ∙ sym (drop-drop (4096 - wordsFor 384) (wordsFor 384) t)
-        ∙ ap (drop (4096 - wordsFor 384)) (rest-words 384 t s y x e later) ∙ drop-drop (4096 - wordsFor 384) (wordsFor 384) s
+        let w : wordsFor 768 + (4096 - wordsFor 768) ≡ 4096 = omega arith in
+        ap (λ (k : ℕ). drop k t) (sym w) ∙ sym (drop-drop (4096 - wordsFor 768) (wordsFor 768) t)
+        ∙ ap (drop (4096 - wordsFor 768)) (rest-words 768 t s y x e later) ∙ drop-drop (4096 - wordsFor 768) (wordsFor 768) s
         ∙ ap (λ (k : ℕ). drop k s) w
 
-pub scratch-sets : (s : List ℕ) → 4096 ≤ length s → 384 ≤ setCount s
-scratch-sets s h = words-held s 384 (omega arith)
+pub scratch-sets : (s : List ℕ) → 4096 ≤ length s → 768 ≤ setCount s
+scratch-sets s h = words-held s 768 (omega arith)
 
 -- the same where the region without bars has been worked out
 shorter : (g : Game) → Fits g → (s t : List ℕ) → drop (scratchLength g) t ≡ drop (scratchLength g) s → drop 4096 t ≡ drop 4096 s

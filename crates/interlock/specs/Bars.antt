@@ -29,28 +29,29 @@ use Rattle.barred.specs.Arena.{Pairs}
 use Rattle.barred.specs.Region.{barredRegion, barredVerdict}
 use Rattle.barred_region.specs.Region.{only, barOf}
 
--- "Some output modes are barred while the panel is in certain input modes."
+-- "Some output modes are barred while the panel is in certain input modes." (SPEC 15.1)
 abbrev pub bars : List ℕ → Pairs
 bars b = barOf (setsIn b)
 
 unfoldable pub barrable : Game → ℕ → ℕ
 barrable g i = elim (ltb i (g .input .states)) [ true ↦ g .output .states | false ↦ 0 ]
 
--- "29 a barred pair outside the graphs", of all words that are lent, also past the inputs
+-- "29 a barred pair outside the graphs", of all words that are lent, also past the inputs (SPEC 15.3)
 unfoldable pub barsInside : Game → List ℕ → Bool
 barsInside g b = all (length (setsIn b)) (λ i. within (getD (setsIn b) i 0) (barrable g i))
 
 unfoldable pub someBarred : List ℕ → Bool
 someBarred b = any (length (setsIn b)) (λ i. not (eqb (getD (setsIn b) i 0) 0))
 
--- "28 k other than 1 with a barred pair"
+-- "28 k other than 1 with a barred pair" (SPEC 15.3)
 unfoldable pub oneRequirement : Game → List ℕ → Bool
 oneRequirement g b = not (someBarred b) || eqb (g .k) 1
 
--- "Without barred pairs the map equals the one we have."
+-- "Without barred pairs the map equals the one we have." (SPEC 15.2)
 unfoldable pub marked : Game → List ℕ → Pairs
 marked g b = elim (someBarred b) [ true ↦ barredRegion (separatedOf g) (bars b) (only g) | false ↦ region (separatedOf g) ]
 
+-- SPEC 15.2
 unfoldable pub systemWins : Game → List ℕ → Bool
 systemWins g b = elim (someBarred b) [ true ↦ barredVerdict (separatedOf g) (bars b) (only g) | false ↦ verdict (separatedOf g) ]
 
@@ -67,5 +68,5 @@ pub record RegionFilled (g : Game) (l m m′ : List ℕ) : Type 0 where
 pub record BarredFilled (g : Game) (b m m′ : List ℕ) : Type 0 where
   -- of the sets that the words hold
   pub sets : setsIn m′ ≡ tabulate (g .input .states) (barredRow g b) ++ drop (g .input .states) (setsIn m)
-  -- "later words of its room stay unchanged"
+  -- "later words of its room stay unchanged" (SPEC 7.6)
   pub later : drop (wordsFor (g .input .states)) m′ ≡ drop (wordsFor (g .input .states)) m

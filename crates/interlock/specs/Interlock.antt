@@ -40,16 +40,17 @@ use Rattle.interlock.specs.Bars.{bars, barsInside, someBarred, oneRequir
 abbrev pub barredWords : ℕ
 barredWords = 4096
 
--- "8 a list of bars too short for the inputs .., scratch under 4,096 words"
+-- "8 a list of bars too short for the inputs .., scratch under 4,096 words" (SPEC 15.3)
 unfoldable pub barsFit : Game → ℕ → ℕ → Bool
 barsFit g b s = leb (wordsFor (g .input .states)) b && leb barredWords s
 
+-- SPEC 9.1, 15.3
 unfoldable pub barTests : Game → List ℕ → ℕ → List (ℕ × Bool)
 barTests g b s = (29, barsInside g b) ∷ (28, oneRequirement g b) ∷ (8, barsFit g (length b) s) ∷ []
 
 -- ---- the map
 
--- "the map's room" has number 8 too
+-- "the map's room" has number 8 too (SPEC 9.1, 15.3)
 unfoldable pub roomTests : Game → List ℕ → ℕ → ℕ → List (ℕ × Bool)
 roomTests g b s m = (29, barsInside g b) ∷ (28, oneRequirement g b) ∷ (8, barsFit g (length b) s) ∷ (8, leb (wordsFor (g .input .states)) m) ∷ []
 
@@ -63,7 +64,7 @@ mapped (suc n) = NotMapped (suc n)
 unfoldable pub barredMapAnswer : Game → List ℕ → ℕ → ℕ → Mapped
 barredMapAnswer g b s m = elim (acceptance g) [ Accepted ↦ mapped (firstOf (roomTests g b s m)) | Faulty n ↦ NotMapped n ]
 
--- "later words unchanged"; "changes no lent memory"
+-- "later words unchanged"; "changes no lent memory" (SPEC 7.6)
 unfoldable pub BarredMapAfter : Game → List ℕ → Mapped → List ℕ → List ℕ → Type 0
 BarredMapAfter g b Done m m′ = BarredFilled g b m m′
 BarredMapAfter g b (NotMapped n) m m′ = m′ ≡ m
@@ -72,15 +73,16 @@ unfoldable pub barredMapScratch : Mapped → List ℕ → List ℕ
 barredMapScratch Done s = cleared barredWords s
 barredMapScratch (NotMapped n) s = s
 
+-- SPEC 15.2, 15.3
 pub record BarredMap (g : Game) (b s s′ m m′ : List ℕ) (r : Mapped) : Type 0 where
   pub answer : r ≡ barredMapAnswer g b (length s) (length m)
   pub number : mapNumber r ≡ firstOf (barredMapTests g b (length s) (length m))
   pub map : BarredMapAfter g b r m m′
   pub scratch : s′ ≡ barredMapScratch r s
-  -- "a barred pair is never marked won", and a pair that is not barred is marked exactly when it is won
+  -- "a barred pair is never marked won", and a pair that is not barred is marked exactly when it is won (SPEC 15.2)
   pub won : r ≡ Done → (i o : ℕ) → i < g .input .states → o < g .output .states
       → (has (getD (setsIn m′) i 0) o ≡ true) ↔ ((bars b i o ≡ false) × Won (barredArena (separatedOf g) (bars b)) i o)
-  -- "Without barred pairs the map equals the one we have."
+  -- "Without barred pairs the map equals the one we have." (SPEC 15.2)
   pub unbarred : r ≡ Done → someBarred b ≡ false → MapFilled g m m′
 
 -- ---- the verdict
@@ -105,6 +107,7 @@ barredVerdictScratch System s = cleared barredWords s
 barredVerdictScratch Environment s = cleared barredWords s
 barredVerdictScratch (NotJudged n) s = s
 
+-- SPEC 15.2, 15.3
 pub record BarredJudged (g : Game) (b s s′ : List ℕ) (r : Judged) : Type 0 where
   pub answer : r ≡ barredVerdictAnswer g b (length s) (systemWins g b)
   pub number : barredNumber r ≡ firstOf (verdictTests g b (length s))

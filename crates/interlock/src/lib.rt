@@ -169,7 +169,7 @@ fn map_accepted(g: Game, bars: &[u64], scratch: &mut [u64], map: &mut [u64]) -> 
     Mapped::Done
 }
 
-// Marks the won positions of a game with bars: one set of outputs for each input.
+// Marks the won positions of a game with bars: one set of outputs for each input. (SPEC 15.1, 15.2, 15.3)
 pub fn barred_map(g: Game, bars: &[u64], scratch: &mut [u64], map: &mut [u64]) -> Mapped
     ensures { λ r. ⌜ BarredMap g (now (bars .entry)) (now (scratch .entry)) (now (scratch .exit)) (now (map .entry)) (now (map .exit)) r ⌝ }
 {
@@ -228,16 +228,9 @@ fn wins_unbarred(g: Game, scratch: &mut [u64]) -> bool
     requires { ⌜ (acceptance g ≡ Accepted) × (barredWords ≤ length (now scratch)) ⌝ }
     ensures { λ r. ⌜ (r ≡ verdict (separatedOf g)) × (now (scratch .exit) ≡ cleared barredWords (now (scratch .entry))) ⌝ }
 {
-    let l = game_sets::list_of(g);
-    let x = region::prepare(
-        g,
-        &g.input.moves,
-        &g.output.moves,
-        &l.sets,
-        &l.assumed,
-        &l.guaranteed,
-        scratch,
-    );
+    let mut b: [u64; board::WORDS] = [0; board::WORDS];
+    let z = board::lay(g, &mut b);
+    let x = region::prepare(z, &b, scratch);
     let r = region_verdict::system_wins(g, scratch, x.inputs);
     scratch_clearing::clear(scratch, WORDS);
     r
@@ -269,7 +262,7 @@ fn judge(g: Game, bars: &[u64], scratch: &mut [u64]) -> Judged
     Judged::Environment
 }
 
-// Which side wins a game with bars.
+// Which side wins a game with bars. (SPEC 15.1, 15.2, 15.3)
 pub fn barred_verdict(g: Game, bars: &[u64], scratch: &mut [u64]) -> Judged
     ensures { λ r. ⌜ BarredJudged g (now (bars .entry)) (now (scratch .entry)) (now (scratch .exit)) r ⌝ }
 {

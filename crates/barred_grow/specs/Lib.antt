@@ -1,0 +1,2 @@
+-- What is reached, step by step.
+pub mod Grow
