@@ -10,18 +10,34 @@ a parameter, or assigned whole from another such local, or a function's result. 
 that make a kit's game out of its drives may write what they make, and so may `game_sets::list_of`. Its list is a copy of the game's arrays of sets, all of
 them and nothing else, as its contract `Lists` says; here it is seen that it makes no other such array, and that the list has no more bytes than those sets.
 
+A board is the game laid out in words, as the contract of `board::lay` says. A local with a board's type may be made of zeros, and a `&mut` to it may be made
+for a call of `board::lay` and for nothing else; and a board must have as many bytes as a game without its three sizes, which go by value.
+
+Nor may a list stand in parts: the arrays that a struct or an enum holds, copies of the game's left out, have 64 bytes together at most. One list does, and is
+named below.
+
 Then the test is tried itself. It must find something with a set more in the arrays of eight words, with a list as long as a graph's rows, with no type of
-the game's known, and with the makers not known.
+the game's known, with the makers not known, with a board that another function fills, with a word more on a board, and with the list in parts not known.
 """
 import re
 import subprocess
 import sys
 
 BYTES = 64
-ENTRIES = {"map": ["map::won_map"], "solver": ["solver::solve_into", "solver::solve_compact_into"], "kit": ["kit::solve_kit"]}
+ENTRIES = {
+    "map": ["map::won_map"],
+    "solver": ["solver::solve_into", "solver::solve_compact_into"],
+    "kit": ["kit::solve_kit"],
+    "joined": ["joined::joined_map"],
+    "interlock": ["interlock::barred_map", "interlock::barred_verdict"],
+    "explain": ["explain::explain"],
+}
 GAMES = {"game::Game", "game::Graph", "kit_drives::Kit", "kit_drives::Drive", "game_sets::Listed"}
 LISTER = "game_sets::list_of"
 MAKERS = {"kit_drives::graph_of", "kit_drives::game_of", LISTER}
+LAYER, SIZES = "board::lay", "board::Sizes"
+COPIES = {"game::Requirement", "table_sizes::Outline"}  # an outline holds how many sets each requirement has in use, as the game does
+PARTED = {"region_dues::Servers"}  # one list in two arrays, which stays: docs/DECISIONS.md, "Arrays beside scratch"
 
 sys.setrecursionlimit(1_000_000)
 
@@ -100,6 +116,18 @@ class Function:
         sides = [t for t in items(self.named["game::Requirement"][1]) if t[0] == "tyArray"]
         return int(requirements[2][1]) * sum(self.size(t)[0] for t in sides)
 
+    def parts(self, t, games):
+        """How many bytes the arrays have that a value of type t holds outside the game's types."""
+        if isinstance(t, str) or t[0] in ("tyInt", "tyFloat", "tyRef"):
+            return 0
+        if t[0] == "tyArray":
+            return self.size(t)[0]
+        if t[0] == "tyNamed" and t[1][1] in games:
+            return 0
+        shape = ["fields", t[2]] if t[0] == "tyStruct" else self.named[t[1][1]]
+        sides = [shape[1]] if shape[0] == "fields" else items(shape[1])
+        return max((sum(self.parts(field, games) for field in items(fields)) for fields in sides), default=0)
+
     def arrays(self, t, within=()):
         """The arrays of over eight words that a value of type t holds itself, with the named types around each."""
         if isinstance(t, str) or t[0] in ("tyInt", "tyFloat", "tyRef"):
@@ -121,8 +149,9 @@ class Function:
 
 
 class Test:
-    def __init__(self, games=GAMES, makers=MAKERS):
-        self.games, self.makers = games, makers
+    def __init__(self, games=GAMES, makers=MAKERS, layer=LAYER, parted=COPIES | PARTED):
+        self.games, self.makers, self.layer, self.parted = games, makers, layer, parted
+        self.board = None
         self.found, self.functions, self.copies = [], 0, 0
 
     def say(self, f, n, what):
@@ -135,6 +164,9 @@ class Test:
         for f in functions.values():
             for name in self.games & f.named.keys():
                 own.update(str(array) for array, _ in f.arrays(["tyNamed", ["pair", name, "lnil"]]))
+        self.board = None
+        if self.layer in functions:
+            self.laid(functions[self.layer], own)
         left, seen = [entry], {entry}
         while left:
             f = functions[left.pop()]  # an entry that is not there is an error
@@ -144,17 +176,29 @@ class Test:
                 left.append(name)
         self.functions += len(seen)
 
+    def laid(self, f, own):
+        """The board's type is that of what `lay` fills; it is the game's but for the sizes."""
+        self.board = f.types[2][3]
+        own.add(str(self.board))
+        words, game, sizes = f.size(self.board)[0], f.size(f.types[1])[0], f.size(f.types[0])[0]
+        if f.types[0][1][1] != SIZES or words != game - sizes:
+            self.say(f, 2, f"a board of {words} bytes, and a game has {game}, its sizes {sizes}")
+
     def function(self, f, own):
         large = set()
         for n, t in enumerate(f.types):
             arrays = list(f.arrays(t))
             if arrays:
                 large.add(str(n))
+            parts = 0 if t[0] == "tyArray" else f.parts(t, self.games | self.parted)
+            if parts > BYTES and not arrays:
+                self.say(f, n, f"arrays of {parts} bytes together in {t[1][1]}")
             for array, within in arrays:
                 if str(array) not in own:
                     self.say(f, n, f"an array of {f.size(array)[0]} bytes" + (f" in {' in '.join(reversed(within))}" if within else ""))
         self.copies += len(large)
-        written = list(self.written(f, large))
+        boards = {n for n in large if f.types[int(n)] == self.board}
+        written = list(self.written(f, large, boards))
         if f.name not in self.makers:
             for n, what in written:
                 self.say(f, n, what)
@@ -170,8 +214,13 @@ class Test:
             if size > f.sets():
                 self.say(f, n, f"an array of {size} bytes, and the sets of a game have {f.sets()}")
 
-    def written(self, f, large):
-        """The locals of `large` that are written otherwise than whole, from a place or by a call, and how."""
+    def lent(self, f, pointer):
+        """Whether a pointer is handed to nothing but `board::lay`."""
+        uses = [t for t in walk(f.body) if t[0] in ("assign", "call") and any(u[0] == "place" and u[1] == pointer for u in walk(t[2]))]
+        return all(t[0] == "call" and t[1] == ["direct", ["fnRef", self.layer]] for t in uses)
+
+    def written(self, f, large, boards):
+        """The locals of `large` that are written otherwise than whole, from a place or by a call, and how. Boards may be made of zeros, and laid."""
         assigned = [t for t in walk(f.body) if t[0] == "assign"]
         # pointers into such a local, and those made from them
         into, before = {}, None
@@ -183,7 +232,7 @@ class Test:
                 if value[0] == "addrOf" and value[1][1] in large and not any(t[0] == "deref" for t in walk(value[1][2])):
                     into[place[1]] = value[1][1]
                     kind = f.types[int(place[1])]
-                    if kind[0] == "tyRef" and kind[2] == "mut":
+                    if kind[0] == "tyRef" and kind[2] == "mut" and not (value[1][1] in boards and self.lent(f, place[1])):
                         yield value[1][1], "a `&mut` to it is made"
                 elif value[0] in ("op2", "rvOpd", "addrOf"):
                     for term in walk(value):
@@ -194,6 +243,8 @@ class Test:
         for _, place, value in assigned:
             if place[1] in large and place[2] != "lnil":
                 yield place[1], "a part of it is written"
+            elif place[1] in boards and value[0] == "repeat" and value[1][2] == "0":
+                continue
             elif place[1] in large and not (value[0] == "rvOpd" and value[1][0] in ("copy", "move")):
                 yield place[1], f"it is made by `{value[0]}`"
             elif place[1] in into and place[2] != "lnil":
@@ -221,12 +272,17 @@ def main():
     eight = '(tyArray (tyNamed (pair "sets::Set" lnil)) (lenLit 4))'
     assert all(eight in texts[c] for c in ("solver", "kit"))
     listed, rows = (f"(tyArray (tyInt 64) (lenLit {n}))" for n in (128, 256))
-    assert all(listed in text and rows in text for text in texts.values())
+    assert all(rows in text for text in texts.values()) and listed in texts["solver"]
+    words = "(tyArray (tyInt 64) (lenLit 660))"
+    assert words in texts["map"]
     tries = {
         "a set more": over(texts, lambda text: text.replace(eight, eight.replace("4", "5"))),
         "a list as long as rows": over(texts, lambda text: text.replace(listed, rows)),
         "no type of the game's": over(texts, games=set()),
         "no maker": over(texts, makers=set()),
+        "a board that another function fills": over(texts, lambda text: text.replace(f'(direct (fnRef "{LAYER}"))', '(direct (fnRef "board::sizes_of"))')),
+        "a word more on a board": over(texts, lambda text: text.replace(words, words.replace("660", "661"))),
+        "a list in two parts": over(texts, parted=COPIES),
     }
     for what, tried in tries.items():
         print(f"arrays, {what}: {len(tried.found)} found, as {tried.found[0] if tried.found else 'nothing'}")

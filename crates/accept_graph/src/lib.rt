@@ -3,8 +3,8 @@ use game::Graph;
 use sets::Set;
 ghost use mathlib.Core.Path.{_≡_};
 ghost use Rattle.bits.specs.Member.{within};
-ghost use Prim.Native.Nat.{min};
-ghost use Rattle.sets.specs.Words.{capacity, bitsOf, setsIn};
+ghost use Prim.Native.Nat.{_≤_, min};
+ghost use Rattle.sets.specs.Words.{capacity, bitsOf, setsIn, setCount};
 ghost use Rattle.game.specs.Acceptance.{limit as limitOf, countFits, statesFit, hasInitial};
 ghost use Rattle.accept_graph.specs.Past.{Past};
 
@@ -36,13 +36,14 @@ fn row_fits(row: Set, n: usize, s: usize) -> bool
 }
 
 // The states of all rows past the first n, joined: a plain union goes through them faster than a test of each, and a small game has many.
-fn joined_past(moves: &[u64; sets::ROW_WORDS], n: usize) -> Set
+fn joined_past(moves: &[u64], n: usize) -> Set
+    requires { ⌜ capacity ≤ setCount (now moves) ⌝ }
     ensures { λ r. ⌜ Past (setsIn (now (moves .entry))) n capacity (bitsOf r) ⌝ }
 {
     let mut x = sets::empty();
     let mut s = n;
     while s < sets::CAPACITY {
-        x = sets::union(x, sets::row_of(moves, s));
+        x = sets::union(x, sets::row(moves, s));
         s += 1;
     }
     x
@@ -59,8 +60,8 @@ fn first_rows(n: usize) -> usize
 }
 
 // The rows past the count are looked at together. The rows of g are lent besides g, as a graph that goes by value is copied.
-pub fn states_fit(g: Graph, moves: &[u64; sets::ROW_WORDS]) -> bool
-    requires { ⌜ now moves ≡ g .moves ⌝ }
+pub fn states_fit(g: Graph, moves: &[u64]) -> bool
+    requires { ⌜ (now moves ≡ g .moves) × (capacity ≤ setCount (now moves)) ⌝ }
     ensures { λ r. ⌜ r ≡ statesFit g ⌝ }
 {
     if !sets::within(g.initial, g.states) {
@@ -73,7 +74,7 @@ pub fn states_fit(g: Graph, moves: &[u64; sets::ROW_WORDS]) -> bool
     let m = first_rows(g.states);
     let mut s = 0;
     while s < m {
-        if !row_fits(sets::row_of(moves, s), g.states, s) {
+        if !row_fits(sets::row(moves, s), g.states, s) {
             return false;
         }
         s += 1;

@@ -4,6 +4,8 @@ use game::Game;
 ghost use mathlib.Core.Path.{_≡_};
 ghost use mathlib.Core.Bool.{true};
 ghost use mathlib.Core.List.{[], _∷_};
+ghost use Prim.Native.Nat.{_≤_};
+ghost use Rattle.sets.specs.Words.{capacity, setCount};
 ghost use Rattle.game.specs.Acceptance.{countsFit, statesInCount, initialsExist, lengthsFit, setsFit, firstFailing};
 ghost use Rattle.game.specs.Numbers.{Accepts};
 
@@ -16,12 +18,8 @@ fn counts_fit(g: Game) -> bool
     accept_graph::count_fits(g.output)
 }
 
-fn states_in_count<'a>(
-    g: Game,
-    ins: &'a [u64; sets::ROW_WORDS],
-    outs: &'a [u64; sets::ROW_WORDS],
-) -> bool
-    requires { ⌜ (now ins ≡ g .input .moves) × (now outs ≡ g .output .moves) ⌝ }
+fn states_in_count<'a>(g: Game, ins: &'a [u64], outs: &'a [u64]) -> bool
+    requires { ⌜ (now ins ≡ g .input .moves) × (now outs ≡ g .output .moves) × (capacity ≤ setCount (now ins)) × (capacity ≤ setCount (now outs)) ⌝ }
     ensures { λ r. ⌜ r ≡ statesInCount g ⌝ }
 {
     if !accept_graph::states_fit(g.input, ins) {
@@ -99,12 +97,8 @@ fn first_failing(
 
 // Whether the game is accepted; else the lowest code whose condition holds. Every test is safe on every record. The rows of both graphs are lent besides
 // the game, so that they are read where the caller has them.
-pub fn accept_lent<'a>(
-    g: Game,
-    ins: &'a [u64; sets::ROW_WORDS],
-    outs: &'a [u64; sets::ROW_WORDS],
-) -> Acceptance
-    requires { ⌜ (now ins ≡ g .input .moves) × (now outs ≡ g .output .moves) ⌝ }
+pub fn accept_lent<'a>(g: Game, ins: &'a [u64], outs: &'a [u64]) -> Acceptance
+    requires { ⌜ (now ins ≡ g .input .moves) × (now outs ≡ g .output .moves) × (capacity ≤ setCount (now ins)) × (capacity ≤ setCount (now outs)) ⌝ }
     ensures { λ r. ⌜ Accepts g r ⌝ }
 {
     first_failing(
@@ -117,7 +111,7 @@ pub fn accept_lent<'a>(
     )
 }
 
-// The same for a caller that lends no rows. Only they are copied, where a part of g that is lent would have all of g copied.
+// The same for a caller that lends no rows. Only they are copied, where a part of g that is lent would have all of g copied. (SPEC 9.1, 9.2)
 pub fn accept(g: Game) -> Acceptance
     ensures { λ r. ⌜ Accepts g r ⌝ }
 {

@@ -25,16 +25,16 @@ fn component_rows<'a>(
     g: Game,
     given: Outline,
     l: &[u64; game_sets::WORDS],
+    b: &'a [u64; board::WORDS],
     ins: &'a [u64; sets::ROW_WORDS],
     outs: &'a [u64; sets::ROW_WORDS],
     s: &[u64],
     inner: InSet,
-    counters: usize,
     ahead: InSet,
     i: InState,
     room: &mut [u16],
 ) -> InSet
-    requires { ⌜ Known g (now s) (bitsOf (inner .0)) × Roomy g counters (length (now room)) × (i .0 < g .input .states)
+    requires { ⌜ Known g (now s) (bitsOf (inner .0)) × Roomy g (given .environment) (length (now room)) × (i .0 < g .input .states)
         × Outlined g given × (now ins ≡ g .input .moves) × (now outs ≡ g .output .moves) × Lists g (now l) × Ahead g (i .0) (bitsOf (ahead .0)) ⌝ }
     ensures { λ r. ⌜ EnvironmentFilled g (λ a h b. (number (graphOf (g .input)) a ≡ i .0) × (plain g a b ≡ false)) (now (room .entry)) (now (room .exit))
         × Ahead g (i .0 + 1) (bitsOf (r .0)) ⌝ }
@@ -42,7 +42,8 @@ fn component_rows<'a>(
     if !sets::member(ahead.0, i.0) {
         return ahead;
     }
-    let c = scratch::in_component(s, g.input.states, i, InSet(sets::row_of(ins, i.0)));
+    let c = scratch::in_component(s, g.input.states, i, board::in_row(b, i));
+    let counters = given.environment;
     let over = environment_escape::escapes(g, ins, outs, s, inner, counters, c, i, room);
     environment_tour::tours(g, given, l, ins, counters, c, over, room);
     InSet(sets::difference(ahead.0, c.0))
@@ -53,14 +54,14 @@ fn walked_rows<'a>(
     g: Game,
     given: Outline,
     l: &[u64; game_sets::WORDS],
+    b: &'a [u64; board::WORDS],
     ins: &'a [u64; sets::ROW_WORDS],
     outs: &'a [u64; sets::ROW_WORDS],
     s: &[u64],
     inner: InSet,
-    counters: usize,
     room: &mut [u16],
 )
-    requires { ⌜ Known g (now s) (bitsOf (inner .0)) × Roomy g counters (length (now room))
+    requires { ⌜ Known g (now s) (bitsOf (inner .0)) × Roomy g (given .environment) (length (now room))
         × Outlined g given × (now ins ≡ g .input .moves) × (now outs ≡ g .output .moves) × Lists g (now l) ⌝ }
     ensures { λ r. ⌜ EnvironmentFilled g (λ a h b. plain g a b ≡ false) (now (room .entry)) (now (room .exit)) ⌝ }
 {
@@ -68,40 +69,28 @@ fn walked_rows<'a>(
     let mut ahead = inner;
     let mut i: usize = 0;
     while i < n {
-        ahead = component_rows(
-            g,
-            given,
-            l,
-            ins,
-            outs,
-            s,
-            inner,
-            counters,
-            ahead,
-            InState(i),
-            room,
-        );
+        ahead = component_rows(g, given, l, b, ins, outs, s, inner, ahead, InState(i), room);
         i += 1;
     }
 }
 
 // The front of room becomes the environment's table; the rest stays. `inner` are the inputs in nontrivial components.
-pub fn fill<'a>(
+pub fn fill(
     g: Game,
     given: Outline,
     l: &[u64; game_sets::WORDS],
-    ins: &'a [u64; sets::ROW_WORDS],
-    outs: &'a [u64; sets::ROW_WORDS],
+    b: &[u64; board::WORDS],
     s: &[u64],
     inner: InSet,
     room: &mut [u16],
 )
     requires { ⌜ Solved g (now s) (bitsOf (inner .0)) (length (now room)) × Outlined g given
-        × (now ins ≡ g .input .moves) × (now outs ≡ g .output .moves) × Lists g (now l) ⌝ }
+        × Lists g (now l) ⌝ }
     ensures { λ r. ⌜ now (room .exit) ≡ environmentEntries (separatedOf g) ++ drop (length (environmentEntries (separatedOf g))) (now (room .entry)) ⌝ }
 {
-    let counters = given.environment;
+    let ins = g.input.moves;
+    let outs = g.output.moves;
     room[0] = environment_plain::start_entry(g, s, inner);
-    environment_plain::plain_rows(g, ins, outs, s, inner, counters, room);
-    walked_rows(g, given, l, ins, outs, s, inner, counters, room);
+    environment_plain::plain_rows(g, &ins, &outs, s, inner, given.environment, room);
+    walked_rows(g, given, l, b, &ins, &outs, s, inner, room);
 }

@@ -8,14 +8,14 @@ ghost use Rattle.game.specs.declared.Graph.{Graph};
 ghost use Rattle.graph_closure.specs.Sweep.{grown, firstRows, Given, Fixed, Ran, Closed};
 
 // Row s becomes s and its moves. A move past the count is none.
-fn start(moves: &[u64; sets::ROW_WORDS], n: usize, rows: &mut [u64])
-    requires { ⌜ (n ≤ capacity) × (n ≤ setCount (now rows)) ⌝ }
+fn start(moves: &[u64], n: usize, rows: &mut [u64])
+    requires { ⌜ (n ≤ capacity) × (n ≤ setCount (now rows)) × (n ≤ setCount (now moves)) ⌝ }
     ensures { λ r. ⌜ ((h : Graph) → Given h n (now (moves .entry)) → setsIn (now (rows .exit)) ≡ firstRows h (setsIn (now (rows .entry)))) ⌝ }
 {
     let states = sets::below(n);
     let mut s = 0;
     while s < n {
-        let next = sets::row_of(moves, s);
+        let next = sets::row(moves, s);
         sets::put(rows, s, sets::insert(sets::intersection(next, states), s));
         s += 1;
     }
@@ -111,8 +111,8 @@ fn sweep(rows: &mut [u64], n: usize, sweeps: &mut usize) -> bool
 
 // Row s becomes the set of the states that s reaches, of n states with the rows `moves`; later sets stay. Sweeps end at the first that adds no state; their
 // number is the answer. The graph is not passed itself, as it would be copied.
-pub fn close(moves: &[u64; sets::ROW_WORDS], n: usize, rows: &mut [u64]) -> usize
-    requires { ⌜ (n ≤ capacity) × (n ≤ setCount (now rows)) ⌝ }
+pub fn close(moves: &[u64], n: usize, rows: &mut [u64]) -> usize
+    requires { ⌜ (n ≤ capacity) × (n ≤ setCount (now rows)) × (n ≤ setCount (now moves)) ⌝ }
     ensures { λ r. ⌜ ((h : Graph) → Given h n (now (moves .entry)) → Closed h (setsIn (now (rows .entry))) (setsIn (now (rows .exit))) r) ⌝ }
 {
     start(moves, n, rows);

@@ -87,8 +87,8 @@ module _ (moves : List ℕ) (c n : ℕ) where
     first : has rest k ≡ true
     first = lowest-in capacity rest k (small-word capacity rest small) ne e
 
-    pub entered-below : k < capacity
-    entered-below = small k first
+    pub entered-here : has c k ≡ true
+    entered-here = E .inside k first .1
 
     module _ (r : ℕ) (d : (s : ℕ) → has r s ≡ (has rest s && not (eqb s (least capacity (has rest))))) where
       less : (s : ℕ) → has r s ≡ (has rest s && not (eqb s k))

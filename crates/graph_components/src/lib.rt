@@ -5,7 +5,6 @@ ghost use Prim.Native.Nat.{ℕ, _≤_, _<_};
 ghost use Rattle.bits.specs.Member.{has, pack, setsMeet};
 ghost use Rattle.sets.specs.Words.{capacity, bitsOf, setsIn, setCount};
 ghost use Rattle.graph_components.specs.Component.{Transitive, together, Pruned, nontrivialAt, enters};
-use game::Graph;
 use sets::Set;
 
 // Whether t belongs to row and s to other.
@@ -84,42 +83,40 @@ fn comes_back(rows: &[u64], n: usize, s: usize, x: Set) -> bool
     false
 }
 
-// The states of nontrivial components: a move stays inside. Of the graph its rows, `moves`, and the number n of its states are given: a graph goes by value,
-// and to read a row of it would copy all of them.
-pub fn nontrivial(moves: &[u64; sets::ROW_WORDS], n: usize, rows: &[u64]) -> Set
-    requires { ⌜ (n ≤ capacity) × (n ≤ setCount (now rows)) ⌝ }
+// The states of nontrivial components: a move stays inside. Of the graph its rows, `moves`, and the number n of its states are given.
+pub fn nontrivial(moves: &[u64], n: usize, rows: &[u64]) -> Set
+    requires { ⌜ (n ≤ capacity) × (n ≤ setCount (now rows)) × (n ≤ setCount (now moves)) ⌝ }
     ensures { λ r. ⌜ bitsOf r ≡ pack n (nontrivialAt (setsIn (now (moves .entry))) (setsIn (now (rows .entry))) n) ⌝ }
 {
     let mut c = sets::empty();
     let mut s: usize = 0;
     while s < n {
-        let row = sets::row_of(moves, s);
+        let row = sets::row(moves, s);
         c = sets::insert_if(c, s, comes_back(rows, n, s, row));
         s += 1;
     }
     c
 }
 
-// The states that moves out of the states of c enter. Here too the rows are read where they stand.
-fn entering(h: Graph, moves: &[u64; sets::ROW_WORDS], c: Set) -> Set
-    requires { ⌜ (h .states ≤ capacity) × (now moves ≡ h .moves) ⌝ }
-    ensures { λ r. ⌜ ((t : ℕ) → has (bitsOf r) t ≡ enters (setsIn (h .moves)) (bitsOf c) (h .states) t) ⌝ }
+// The states that moves out of the states of c enter.
+fn entering(moves: &[u64], n: usize, c: Set) -> Set
+    requires { ⌜ (n ≤ capacity) × (n ≤ setCount (now moves)) ⌝ }
+    ensures { λ r. ⌜ ((t : ℕ) → has (bitsOf r) t ≡ enters (setsIn (now (moves .entry))) (bitsOf c) n t) ⌝ }
 {
-    let n = h.states;
     let mut x = sets::empty();
     let mut rest = sets::intersection(c, sets::below(n));
     while !sets::is_empty(rest) {
         let k = sets::lowest(rest);
-        x = sets::union(x, sets::row_of(moves, k));
+        x = sets::union(x, sets::row(moves, k));
         rest = sets::without_lowest(rest);
     }
     x
 }
 
 // The states entered by a move out of the set c.
-pub fn leaving(h: Graph, moves: &[u64; sets::ROW_WORDS], c: Set) -> Set
-    requires { ⌜ (h .states ≤ capacity) × (now moves ≡ h .moves) ⌝ }
-    ensures { λ r. ⌜ ((t : ℕ) → has (bitsOf r) t ≡ (enters (setsIn (h .moves)) (bitsOf c) (h .states) t && not (has (bitsOf c) t))) ⌝ }
+pub fn leaving(moves: &[u64], n: usize, c: Set) -> Set
+    requires { ⌜ (n ≤ capacity) × (n ≤ setCount (now moves)) ⌝ }
+    ensures { λ r. ⌜ ((t : ℕ) → has (bitsOf r) t ≡ (enters (setsIn (now (moves .entry))) (bitsOf c) n t && not (has (bitsOf c) t))) ⌝ }
 {
-    sets::difference(entering(h, moves, c), c)
+    sets::difference(entering(moves, n, c), c)
 }

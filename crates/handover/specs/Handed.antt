@@ -30,7 +30,7 @@ chosen (System n) c e = c
 chosen (Environment n) c e = e
 chosen (NotSolved n) c e = c
 
--- "the answer is the filled front of one of two lent rooms"
+-- "the answer is the filled front of one of two lent rooms" (SPEC 7.4)
 unfoldable pub front : Game → Verdict → List ℕ
 front g (System n) = controllerEntries (separatedOf g)
 front g (Environment n) = environmentEntries (separatedOf g)
@@ -42,7 +42,7 @@ Beaten g (System n) t = DemandThree (playOf g) (system (controllerOf g t))
 Beaten g (Environment n) t = DemandThree (playOf g) (environment (environmentOf g t))
 Beaten g (NotSolved n) t = Unit {0}
 
--- the answer v, handed over as the part t of the buffer p, with the refusal's number n and the side b
+-- the answer v, handed over as the part t of the buffer p, with the refusal's number n and the side b (SPEC 7.4)
 pub record Handed (g : Game) (v : Verdict) (s s′ : List ℕ) (n : ℕ) (b b′ : Bool) (c e p : ℕ × ℕ) (t : List ℕ) : Type 0 where
   pub scratch : s′ ≡ verdictScratch g v s
   pub refusal : n ≡ verdictNumber v

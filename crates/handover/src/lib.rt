@@ -9,7 +9,7 @@ use solver::Verdict;
 // The winner's table: the filled front of the controller's room or of the panel's. On a refusal that front is empty.
 // Beside it stand the number of the refusal, or 0, and whether the system wins.
 // While the part lives both rooms are lent, so the contract cannot say what they hold besides it, on a refusal neither. That this is unchanged is
-// promised by `solver::solve_into`, which fills them.
+// promised by `solver::solve_into`, which fills them. (SPEC 7.4)
 pub fn solve<'a>(
     g: Game,
     scratch: &mut [u64],

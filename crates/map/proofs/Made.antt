@@ -1,6 +1,6 @@
 -- What the entries answer, case by case.
 use Prim.Native.Nat.{ℕ, _≤_, _<_}
-use mathlib.Core.Path.{_≡_, refl, sym, _∙_, ap}
+use mathlib.Core.Path.{_≡_, refl, sym, _∙_, ap, subst}
 use mathlib.Core.Bool.{Bool, true, false}
 use mathlib.Core.List.{List, [], _∷_}
 use lib.Dec.{leb}
@@ -23,6 +23,11 @@ use Rattle.map_marks.proofs.Marks.{marks}
 use Rattle.map_marks.specs.declared.Mapped.{Mapped}
 use Rattle.map_marks.specs.declared.Mapped.the-variants.{Done, Refused as NotMapped}
 use Rattle.map.specs.Map.{mapFits, mapRoom, mapAnswer, mapTests, mapScratch, MapMade}
+
+-- what is told of the game on a board, told of the game that was laid out on it
+module _ {g h : Game} (e : h ≡ g) where
+  pub filled-on : {s t : List ℕ} → MapFilled h s t → MapFilled g s t
+  filled-on {s} {t} = subst (λ (x : Game). MapFilled x s t) e
 
 -- ---- the map
 

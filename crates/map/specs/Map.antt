@@ -25,7 +25,7 @@ use Rattle.map_marks.specs.declared.Mapped.{Mapped}
 use Rattle.map_marks.specs.declared.Mapped.the-variants.{Done, Refused as NotMapped}
 use Rattle.map_marks.specs.Answer.{mapNumber, MapAfter}
 
--- "Number 8 is given below that length" (document 02, M-103); "or, where the call writes the map, map room under one word an input"
+-- "Number 8 is given below that length" (document 02, M-103); "or, where the call writes the map, map room under one word an input" (SPEC 9.3)
 unfoldable pub mapFits : Game → ℕ → ℕ → Bool
 mapFits g s m = leb (scratchLength g) s && leb (wordsFor (g .input .states)) m
 
@@ -35,14 +35,16 @@ mapRoom g s m = elim (mapFits g s m) [ true ↦ Done | false ↦ NotMapped 8 ]
 unfoldable pub mapAnswer : Game → ℕ → ℕ → Mapped
 mapAnswer g s m = elim (acceptance g) [ Accepted ↦ mapRoom g s m | Faulty n ↦ NotMapped n ]
 
+-- SPEC 9.1, 9.3
 unfoldable pub mapTests : Game → ℕ → ℕ → List (ℕ × Bool)
 mapTests g s m = gameTests g ++ (8, mapFits g s m) ∷ []
 
--- "after an answer the first that many words are zero and the rest unchanged"; "Each returns its number only .. and changes no lent memory"
+-- "after an answer the first that many words are zero and the rest unchanged"; "Each returns its number only .. and changes no lent memory" (SPEC 7.5)
 unfoldable pub mapScratch : Game → Mapped → List ℕ → List ℕ
 mapScratch g Done s = cleared (scratchLength g) s
 mapScratch g (NotMapped n) s = s
 
+-- SPEC 4.5, 7.5, 7.6
 pub record MapMade (g : Game) (s s′ m m′ : List ℕ) (r : Mapped) : Type 0 where
   pub answer : r ≡ mapAnswer g (length s) (length m)
   pub number : mapNumber r ≡ firstOf (mapTests g (length s) (length m))

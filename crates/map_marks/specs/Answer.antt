@@ -15,6 +15,7 @@ mapNumber Done = 0
 mapNumber (NotMapped n) = n
 
 -- "The won map writes one 64-bit set of outputs for each input", of two words by M-105; "later words of its room stay unchanged"; "changes no lent memory"
+-- SPEC 7.6
 unfoldable pub MapAfter : Game → Mapped → List ℕ → List ℕ → Type 0
 MapAfter g Done m m′ = MapFilled g m m′
 MapAfter g (NotMapped n) m m′ = m′ ≡ m

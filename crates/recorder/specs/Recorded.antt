@@ -35,18 +35,18 @@ abbrev pub inputOf : ℕ → InState
 inputOf i = record { 0 = i }
 
 -- "the first step where the outputs differ, or the first step where one recording has ended and the other has not"; "A fault goes before a difference or
--- an ending at its step."
+-- an ending at its step." (SPEC 10.4)
 unfoldable pub stepJudged : Played → List ℕ → ℕ → (Position → Compared) → Compared
 stepJudged (Stopped c) os n k = Fault n c
 stepJudged (At p) [] n k = Ended n
 stepJudged (At p) (o ∷ os) n k = elim (eqb (p .output .0) o) [ true ↦ k p | false ↦ Differ n ]
 
--- where the inputs have ended at step n, os being what is left of the outputs
+-- where the inputs have ended at step n, os being what is left of the outputs (SPEC 10.4)
 unfoldable pub ended : List ℕ → ℕ → Compared
 ended [] n = Agree
 ended (o ∷ os) n = Ended n
 
--- "Steps count from 0, the start": there the player begins, and p is not read
+-- "Steps count from 0, the start": there the player begins, and p is not read (SPEC 10.4)
 unfoldable pub answerAt : Game → List ℕ → ℕ → Position → InState → Played
 answerAt g l zero p i = beginning g l i
 answerAt g l (suc n) p i = stepping g l p i
@@ -55,7 +55,7 @@ unfoldable pub recorded : Game → List ℕ → List ℕ → List ℕ → ℕ �
 recorded g l [] os n p = ended os n
 recorded g l (i ∷ is) os n p = stepJudged (answerAt g l n p (inputOf i)) os n (recorded g l is (drop 1 os) (suc n))
 
--- "1 to 7 and 16 are tried before"
+-- "1 to 7 and 16 are tried before" (SPEC 10.4)
 unfoldable pub compared : Game → List ℕ → List ℕ → List ℕ → Compared
 compared g l is os =
     elim (acceptance g) [
@@ -63,7 +63,7 @@ compared g l is os =
       | Faulty n ↦ Refused n
     ]
 
--- "A bad input or row found earlier is reported by the player's number with its step."
+-- "A bad input or row found earlier is reported by the player's number with its step." (SPEC 10.4)
 unfoldable pub faultBy : Played → List ℕ → (Position → ℕ) → ℕ
 faultBy (Stopped c) os k = c
 faultBy (At p) [] k = 0
@@ -80,7 +80,7 @@ recorderNumber (Ended n) = 0
 recorderNumber (Fault n c) = c
 recorderNumber (Refused c) = c
 
--- a fault comes after the tests that are tried before
+-- a fault comes after the tests that are tried before (SPEC 9.1, 10.4)
 pub record Compares (g : Game) (l is os : List ℕ) (r : Compared) : Type 0 where
   pub answer : r ≡ compared g l is os
   pub number : recorderNumber r ≡ firstOf (gameTests g ++ (16, fitting g l) ∷ (faultNumber g l is os 0 nowhere, false) ∷ [])

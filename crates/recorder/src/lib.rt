@@ -133,7 +133,7 @@ fn compare_states(g: Game, table: &[u16], inputs: &[u8], outputs: &[u8]) -> Comp
     }
 }
 
-// Whether the recorded outputs are those that the table gives for the recorded inputs; else the first step that shows it.
+// Whether the recorded outputs are those that the table gives for the recorded inputs; else the first step that shows it. (SPEC 10.4)
 pub fn compare<'a, 'b, 'c>(
     g: Game,
     table: &'a [u16],

@@ -1,2 +1,3 @@
 -- Laws of the region in scratch.
+pub mod Board
 pub mod Parts

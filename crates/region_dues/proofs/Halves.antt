@@ -1,13 +1,13 @@
--- The sets in their two halves, and the sets of the list as those of the game.
+-- The sets in their two halves, and the sets of the board as those of the game.
 --
 --   server-first, server-second  : the set of a requirement is in the half that has it
 --   servers-none                 : the sets of empty words
 --   half-room                    : four sets in each half
---   assumed-few, guaranteed-few  : few enough sets for some requirements
---   due-listed, served-listed    : a requirement of the list is due or served where that of the game is
+--   few-sets                     : few enough sets on the board
+--   due-listed, served-listed    : a requirement of the board is due or served where that of the game is
 --   marked-both, accepted-both   : what is told of each half, told of all requirements
 use Prim.Native.Nat.{ℕ, _+_, _-_, _≤_, _<_}
-use mathlib.Core.Path.{_≡_, refl, sym, _∙_, ap, ap₂}
+use mathlib.Core.Path.{_≡_, refl, sym, _∙_, ap, ap₂, subst}
 use mathlib.Core.Bool.{Bool, true, false, not, _&&_, _||_}
 use mathlib.Core.List.{List}
 use native.Mathlib.Omega.{arith}
@@ -16,23 +16,21 @@ use lib.ListN.{length, getD, replicate, take, getD-replicate}
 use borrow.Author.Tests.{lt-ltb, le-ltb}
 use Rattle.finite.specs.Bounded.{all}
 use Rattle.finite.proofs.Truth.{same-test, and-intro, and-left, and-right}
-use Rattle.finite.proofs.Bounded.{all-intro, all-elim, all-same}
-use Rattle.bits.specs.Member.{has, setsMeet}
+use Rattle.finite.proofs.Bounded.{all-intro, all-elim}
+use Rattle.bits.specs.Member.{has}
 use Rattle.sets.specs.Words.{capacity, rowWords, setsIn, setCount, wordsFor}
 use Rattle.sets.proofs.Rows.{words-held, words-none, sets-words, sets-take}
 use Rattle.game.specs.declared.Game.{Game}
-use Rattle.game.specs.Access.{requirementAt}
-use Rattle.game_sets.specs.Lists.{Lists, AssumedCounts, GuaranteedCounts}
+use Rattle.game.specs.declared.Requirement.{Requirement}
+use Rattle.board.specs.declared.Sizes.{Sizes}
+use Rattle.board.specs.Board.{gameOn}
+use Rattle.board.proofs.Read.{requirement-on}
 use Rattle.region_dues.specs.Dues.{
-  inMeetsAt,
   inMeets,
-  outMeetsAt,
   outMeets,
   dueIn,
   servedIn,
-  inMeetsBy,
   dueBy,
-  outMeetsBy,
   servedBy,
   Few,
   FewSets,
@@ -74,46 +72,36 @@ servers-none r b = go (decLt r 4)
 pub half-room : (l : List ℕ) (n : ℕ) → length l ≡ wordsFor 4 → n ≤ 4 → n ≤ setCount l
 half-room l n e b = omega (arith, words-held l 4 (omega (arith, e)))
 
--- ---- the requirements of the list
+-- ---- the requirements of the board
 
-module _ {g : Game} (F : Few g) where
-  module _ {n : List ℕ} (C : AssumedCounts g n) where
-    few-assumed : (r : ℕ) → r < 8 → getD n r 0 ≤ 4
-    few-assumed r b = omega (arith, C .at r b, F .assumed r b)
+module _ (z : Sizes) (bd : List ℕ) (F : Few (gameOn z bd)) where
+  pub few-sets : FewSets bd
+  few-sets = record {
+    assumed = λ r b. subst (λ (q : Requirement). q .assumed ≤ 4) (requirement-on bd z r b) (F .assumed r b);
+    guaranteed = λ r b. subst (λ (q : Requirement). q .guaranteed ≤ 4) (requirement-on bd z r b) (F .guaranteed r b);
+  }
 
-    pub assumed-few : (i k : ℕ) → i + k ≤ 8 → FewSets n i k
-    assumed-few i k h = record { at = λ q b. few-assumed (i + q) (omega arith) }
+module _ (z : Sizes) (bd : List ℕ) where
+  due-listed : (a r : ℕ) → r < 8 → dueBy bd a r ≡ dueIn (gameOn z bd) a r
+  unfolding dueBy dueIn
+  due-listed a r b = sym (ap (λ (q : Requirement). inMeets q a (q .assumed)) (requirement-on bd z r b))
 
-    due-listed : {l : List ℕ} → Lists g l → (a r : ℕ) → r < 8 → dueBy l n a r ≡ dueIn g a r
-    unfolding dueBy dueIn inMeets inMeetsBy inMeetsAt
-    due-listed {l} L a r b =
-        all-same (getD n r 0) (inMeetsBy l a r) (inMeetsAt (requirementAt g r) a)
-        (λ j c. ap (λ (x : ℕ). setsMeet capacity x a) (L .assumed r j b (omega (arith, few-assumed r b))))
-        ∙ ap (λ (x : ℕ). all x (inMeetsAt (requirementAt g r) a)) (C .at r b)
-
-  module _ {n : List ℕ} (C : GuaranteedCounts g n) where
-    few-guaranteed : (r : ℕ) → r < 8 → getD n r 0 ≤ 4
-    few-guaranteed r b = omega (arith, C .at r b, F .guaranteed r b)
-
-    pub guaranteed-few : (i k : ℕ) → i + k ≤ 8 → FewSets n i k
-    guaranteed-few i k h = record { at = λ q b. few-guaranteed (i + q) (omega arith) }
-
-    served-listed : {l : List ℕ} → Lists g l → (c r : ℕ) → r < 8 → servedBy l n c r ≡ servedIn g c r
-    unfolding servedBy servedIn outMeets outMeetsBy outMeetsAt
-    served-listed {l} L c r b =
-        all-same (getD n r 0) (outMeetsBy l c r) (outMeetsAt (requirementAt g r) c)
-        (λ j d. ap (λ (x : ℕ). setsMeet capacity x c) (L .guaranteed r j b (omega (arith, few-guaranteed r b))))
-        ∙ ap (λ (x : ℕ). all x (outMeetsAt (requirementAt g r) c)) (C .at r b)
+  served-listed : (c r : ℕ) → r < 8 → servedBy bd c r ≡ servedIn (gameOn z bd) c r
+  unfolding servedBy servedIn
+  served-listed c r b = sym (ap (λ (q : Requirement). outMeets q c (q .guaranteed)) (requirement-on bd z r b))
 
 -- ---- both halves
 
-module _ {g : Game} (F : Few g) {l n : List ℕ} (L : Lists g l) {m : ℕ} (H : FirstFour (g .k) m) where
-  pub marked-both : GuaranteedCounts g n → (c : ℕ) (x y v w : List ℕ) → Marked l n 0 m c (setsIn x) (setsIn v) → Marked l n 4 (g .k - m) c (setsIn y) (setsIn w)
+module _ (z : Sizes) (bd : List ℕ) (F : Few (gameOn z bd)) {m : ℕ} (H : FirstFour (z .requirements) m) where
+  abbrev g : Game
+  g = gameOn z bd
+
+  pub marked-both : (c : ℕ) (x y v w : List ℕ) → Marked bd 0 m c (setsIn x) (setsIn v) → Marked bd 4 (g .k - m) c (setsIn y) (setsIn w)
       → (r : ℕ) → r < g .k → (t : ℕ) → has (serversAt v w r) t ≡ (has (serversAt x y r) t || (servedIn g c r && has c t))
-  marked-both C c x y v w M N r b t = go (decLt r 4)
+  marked-both c x y v w M N r b t = go (decLt r 4)
     where
-      at : (i : ℕ) → i ≡ r → servedBy l n c i ≡ servedIn g c r
-      at i e = ap (servedBy l n c) e ∙ served-listed F C L c r (omega (arith, F .requirements))
+      at : (i : ℕ) → i ≡ r → servedBy bd c i ≡ servedIn g c r
+      at i e = ap (servedBy bd c) e ∙ served-listed z bd c r (omega (arith, F .requirements))
 
       told : (p q : ℕ) (o : Bool) → p ≡ serversAt x y r → q ≡ serversAt v w r → o ≡ servedIn g c r → has q t ≡ (has p t || (o && has c t))
           → has (serversAt v w r) t ≡ (has (serversAt x y r) t || (servedIn g c r && has c t))
@@ -126,24 +114,24 @@ module _ {g : Game} (F : Few g) {l n : List ℕ} (L : Lists g l) {m : ℕ} (H : 
           told _ _ _ (server-second x y r (omega arith)) (server-second v w r (omega arith)) (at (4 + (r - 4)) (omega arith))
           (N .done (r - 4) (omega (arith, H .most)) t)
 
-  module _ (C : AssumedCounts g n) (a : ℕ) (x y : List ℕ) (d : ℕ) where
-    first-at : (r : ℕ) → r < 4 → admitsBy l n 0 a (setsIn x) d r ≡ admits g a x y d r
+  module _ (a : ℕ) (x y : List ℕ) (d : ℕ) where
+    first-at : (r : ℕ) → r < 4 → admitsBy bd 0 a (setsIn x) d r ≡ admits g a x y d r
     unfolding admitsBy admits
-    first-at r c = ap₂ (λ (u : Bool) (z : ℕ). not u || has z d) (ap (dueBy l n a) same ∙ due-listed F C L a r (omega arith)) (server-first x y r c)
+    first-at r c = ap₂ (λ (u : Bool) (z : ℕ). not u || has z d) (ap (dueBy bd a) same ∙ due-listed z bd a r (omega arith)) (server-first x y r c)
       where
         same : 0 + r ≡ r
         same = omega arith
 
-    second-at : (q : ℕ) → 4 + q < g .k → admitsBy l n 4 a (setsIn y) d q ≡ admits g a x y d (4 + q)
+    second-at : (q : ℕ) → 4 + q < g .k → admitsBy bd 4 a (setsIn y) d q ≡ admits g a x y d (4 + q)
     unfolding admitsBy admits
     second-at q b =
-        ap₂ (λ (u : Bool) (z : ℕ). not u || has z d) (due-listed F C L a (4 + q) (omega (arith, F .requirements)))
+        ap₂ (λ (u : Bool) (z : ℕ). not u || has z d) (due-listed z bd a (4 + q) (omega (arith, F .requirements)))
         (ap (λ (j : ℕ). getD (setsIn y) j 0) same ∙ server-second x y (4 + q) (omega arith))
       where
         same : q ≡ 4 + q - 4
         same = omega arith
 
-    both : (all m (admitsBy l n 0 a (setsIn x) d) && all (g .k - m) (admitsBy l n 4 a (setsIn y) d)) ≡ all (g .k) (admits g a x y d)
+    both : (all m (admitsBy bd 0 a (setsIn x) d) && all (g .k - m) (admitsBy bd 4 a (setsIn y) d)) ≡ all (g .k) (admits g a x y d)
     both =
         same-test (all m p && all (g .k - m) q) (all (g .k) (admits g a x y d))
         (λ h. all-intro (g .k) (admits g a x y d) (λ r b. to h r b (decLt r 4)))
@@ -153,10 +141,10 @@ module _ {g : Game} (F : Few g) {l n : List ℕ} (L : Lists g l) {m : ℕ} (H : 
         (all-intro (g .k - m) q (λ r b. second-at r (H .second r b) ∙ all-elim (g .k) (admits g a x y d) h (4 + r) (H .second r b))))
       where
         p : ℕ → Bool
-        p = admitsBy l n 0 a (setsIn x) d
+        p = admitsBy bd 0 a (setsIn x) d
 
         q : ℕ → Bool
-        q = admitsBy l n 4 a (setsIn y) d
+        q = admitsBy bd 4 a (setsIn y) d
 
         to : (all m p && all (g .k - m) q) ≡ true → (r : ℕ) → r < g .k → Dec (r < 4) → admits g a x y d r ≡ true
         to h r b (yes c) = sym (first-at r c) ∙ all-elim m p (and-left (all m p) (all (g .k - m) q) h) r (H .first r b c)
@@ -168,14 +156,14 @@ module _ {g : Game} (F : Few g) {l n : List ℕ} (L : Lists g l) {m : ℕ} (H : 
             back : r ≡ 4 + (r - 4)
             back = omega arith
 
-  pub accepted-both : AssumedCounts g n → (a : ℕ) (x y : List ℕ) (u v w : ℕ)
-      → ((d : ℕ) → has v d ≡ (has u d && all m (admitsBy l n 0 a (setsIn x) d)))
-      → ((d : ℕ) → has w d ≡ (has v d && all (g .k - m) (admitsBy l n 4 a (setsIn y) d)))
+  pub accepted-both : (a : ℕ) (x y : List ℕ) (u v w : ℕ)
+      → ((d : ℕ) → has v d ≡ (has u d && all m (admitsBy bd 0 a (setsIn x) d)))
+      → ((d : ℕ) → has w d ≡ (has v d && all (g .k - m) (admitsBy bd 4 a (setsIn y) d)))
       → (d : ℕ) → has w d ≡ (has u d && all (g .k) (admits g a x y d))
-  accepted-both C a x y u v w h k d =
-      k d ∙ ap (λ (b : Bool). b && all (g .k - m) (admitsBy l n 4 a (setsIn y) d)) (h d)
-      ∙ assoc (has u d) (all m (admitsBy l n 0 a (setsIn x) d)) (all (g .k - m) (admitsBy l n 4 a (setsIn y) d))
-      ∙ ap (λ (b : Bool). has u d && b) (both C a x y d)
+  accepted-both a x y u v w h k d =
+      k d ∙ ap (λ (b : Bool). b && all (g .k - m) (admitsBy bd 4 a (setsIn y) d)) (h d)
+      ∙ assoc (has u d) (all m (admitsBy bd 0 a (setsIn x) d)) (all (g .k - m) (admitsBy bd 4 a (setsIn y) d))
+      ∙ ap (λ (b : Bool). has u d && b) (both a x y d)
     where
       assoc : (b c e : Bool) → ((b && c) && e) ≡ (b && (c && e))
       assoc true c e = refl

@@ -1,21 +1,21 @@
--- Requirements that are due or served in a component, told of sets: of the sets of a game, and of the sets in a list that has them. The sets of outputs
+-- Requirements that are due or served in a component, told of sets: of the sets of a game, and of those of a board. The sets of outputs
 -- that serve each requirement stand in two lists of words: those of the first four requirements, then of the others.
 --
 --   inMeets q c k          == the first k input sets of q meet the set c
 --   outMeets q c k         == the first k output sets of q meet the set c
 --   dueIn g a r            == all input sets of requirement r meet a
 --   servedIn g b r         == all output sets of requirement r meet b
---   dueBy l n a r          == the input sets of requirement r in the list l, as many as n has for it, meet a
---   servedBy l n b r       == the output sets of requirement r in the list l, as many as n has for it, meet b
+--   dueBy b a r            == all input sets of requirement r of the board b meet a
+--   servedBy b c r         == all output sets of requirement r of the board b meet c
 --   Few g                  == few enough requirements and sets for their places
---   FewSets n i k          == n has at most four for each of k requirements from number i on
+--   FewSets b              == few enough sets on the board b for their places
 --   FirstFour k n          == n of k requirements are among the first four
 --   Whole f s              == the lists have the lengths of the arrays
 --   serversAt f s r        == the set of requirement r in the two lists
---   Marked l n i k c x y   == y is x where the sets of k requirements from number i on have c too, if c serves their requirements
+--   Marked b i k c x y     == y is x where the sets of k requirements from number i on have c too, if c serves their requirements
 --   serves g r d           == requirement r is served in the component of d
 --   Serving g f s          == the lists have for each requirement the outputs whose components serve it
---   admitsBy l n i a x d q == the requirement q past number i is not due in a, or d is in its set of x
+--   admitsBy b i a x d q   == the requirement q past number i is not due in a, or d is in its set of x
 --   admits g a f s d r     == requirement r is not due in a, or d is in its set of the two lists
 use Prim.Native.Nat.{ℕ, _+_, _-_, _≤_, _<_}
 use mathlib.Core.Path.{_≡_}
@@ -29,7 +29,7 @@ use Rattle.sets.specs.Words.{capacity, bitsOf, setsIn, wordsFor}
 use Rattle.game.specs.declared.Requirement.{Requirement}
 use Rattle.game.specs.declared.Game.{Game}
 use Rattle.game.specs.Access.{noInput, noOutput, requirementAt}
-use Rattle.game_sets.specs.Lists.{inSet, outSet}
+use Rattle.board.specs.Board.{requirementOn}
 use Rattle.play.specs.Play.{requirementOf, separatedOf}
 use Rattle.theory.specs.Region.{served}
 
@@ -51,25 +51,20 @@ dueIn g a r = inMeets (requirementAt g r) a (requirementAt g r .assumed)
 unfoldable pub servedIn : Game → ℕ → ℕ → Bool
 servedIn g b r = outMeets (requirementAt g r) b (requirementAt g r .guaranteed)
 
-unfoldable pub inMeetsBy : List ℕ → ℕ → ℕ → ℕ → Bool
-inMeetsBy l a r j = setsMeet capacity (inSet l r j) a
+unfoldable pub dueBy : List ℕ → ℕ → ℕ → Bool
+dueBy b a r = inMeets (requirementOn b r) a (requirementOn b r .assumed)
 
-unfoldable pub dueBy : List ℕ → List ℕ → ℕ → ℕ → Bool
-dueBy l n a r = all (getD n r 0) (inMeetsBy l a r)
-
-unfoldable pub outMeetsBy : List ℕ → ℕ → ℕ → ℕ → Bool
-outMeetsBy l b r j = setsMeet capacity (outSet l r j) b
-
-unfoldable pub servedBy : List ℕ → List ℕ → ℕ → ℕ → Bool
-servedBy l n b r = all (getD n r 0) (outMeetsBy l b r)
+unfoldable pub servedBy : List ℕ → ℕ → ℕ → Bool
+servedBy b c r = outMeets (requirementOn b r) c (requirementOn b r .guaranteed)
 
 pub record Few (g : Game) : Type 0 where
   pub requirements : g .k ≤ 8
   pub assumed : (r : ℕ) → r < 8 → requirementAt g r .assumed ≤ 4
   pub guaranteed : (r : ℕ) → r < 8 → requirementAt g r .guaranteed ≤ 4
 
-pub record FewSets (n : List ℕ) (i k : ℕ) : Type 0 where
-  pub at : (q : ℕ) → q < k → getD n (i + q) 0 ≤ 4
+pub record FewSets (b : List ℕ) : Type 0 where
+  pub assumed : (r : ℕ) → r < 8 → requirementOn b r .assumed ≤ 4
+  pub guaranteed : (r : ℕ) → r < 8 → requirementOn b r .guaranteed ≤ 4
 
 pub record FirstFour (k n : ℕ) : Type 0 where
   pub most : n ≤ 4
@@ -85,9 +80,9 @@ pub record Whole (f s : List ℕ) : Type 0 where
 unfoldable pub serversAt : List ℕ → List ℕ → ℕ → ℕ
 serversAt f s r = elim (ltb r 4) [ true ↦ getD (setsIn f) r 0 | false ↦ getD (setsIn s) (r - 4) 0 ]
 
-pub record Marked (l n : List ℕ) (i k c : ℕ) (x y : List ℕ) : Type 0 where
+pub record Marked (b : List ℕ) (i k c : ℕ) (x y : List ℕ) : Type 0 where
   pub long : length y ≡ length x
-  pub done : (q : ℕ) → q < k → (t : ℕ) → has (getD y q 0) t ≡ (has (getD x q 0) t || (servedBy l n c (i + q) && has c t))
+  pub done : (q : ℕ) → q < k → (t : ℕ) → has (getD y q 0) t ≡ (has (getD x q 0) t || (servedBy b c (i + q) && has c t))
   pub rest : (q : ℕ) → k ≤ q → getD y q 0 ≡ getD x q 0
 
 unfoldable pub serves : Game → ℕ → ℕ → Bool
@@ -97,8 +92,8 @@ pub record Serving (g : Game) (f s : List ℕ) : Type 0 where
   pub whole : Whole f s
   pub at : (r : ℕ) → r < g .k → serversAt f s r ≡ pack (g .output .states) (serves g r)
 
-unfoldable pub admitsBy : List ℕ → List ℕ → ℕ → ℕ → List ℕ → ℕ → ℕ → Bool
-admitsBy l n i a x d q = not (dueBy l n a (i + q)) || has (getD x q 0) d
+unfoldable pub admitsBy : List ℕ → ℕ → ℕ → List ℕ → ℕ → ℕ → Bool
+admitsBy b i a x d q = not (dueBy b a (i + q)) || has (getD x q 0) d
 
 unfoldable pub admits : Game → ℕ → List ℕ → List ℕ → ℕ → ℕ → Bool
 admits g a f s d r = not (dueIn g a r) || has (serversAt f s r) d

@@ -1,14 +1,14 @@
-// Requirements that are due or served in a component, and the outputs whose components accept those of an input. The sets of the requirements are read from
-// a list that is lent, since a game goes by value and to read a requirement of it would copy all of it for each component.
+// Requirements that are due or served in a component, and the outputs whose components accept those of an input.
 ghost use mathlib.Core.Path.{_≡_};
 ghost use mathlib.Core.Bool.{not, _&&_, _||_};
 ghost use Prim.Native.Nat.{ℕ, _+_, _≤_, _<_};
-ghost use lib.ListN.{length, getD};
+ghost use lib.ListN.{length};
 ghost use Rattle.finite.specs.Bounded.{all};
 ghost use Rattle.bits.specs.Member.{has};
 ghost use Rattle.sets.specs.Words.{bitsOf, setsIn, setCount};
 ghost use Rattle.game.specs.Fits.{Fits};
-ghost use Rattle.game_sets.specs.Lists.{Lists, AssumedCounts, GuaranteedCounts};
+ghost use Rattle.game.specs.declared.Game.{Game};
+ghost use Rattle.board.specs.Board.{gameOn};
 ghost use Rattle.scratch.specs.Stored.{Laid};
 ghost use Rattle.region_dues.specs.Dues.{
   dueBy,
@@ -22,7 +22,7 @@ ghost use Rattle.region_dues.specs.Dues.{
   admitsBy,
   admits,
 };
-use game::Game;
+use board::Sizes;
 use game::InSet;
 use game::OutSet;
 use game::OutState;
@@ -47,14 +47,14 @@ fn first_four(k: usize) -> usize
 }
 
 // Whether every input set in use of requirement r meets the set c.
-fn all_assumed(l: &[u64; game_sets::WORDS], assumed: &[usize; 8], r: usize, c: InSet) -> bool
-    requires { ⌜ (r < 8) × (getD (now assumed) r 0 ≤ 4) ⌝ }
-    ensures { λ x. ⌜ x ≡ dueBy (now (l .entry)) (now (assumed .entry)) (bitsOf (c .0)) r ⌝ }
+fn all_assumed(b: &[u64; board::WORDS], r: usize, c: InSet) -> bool
+    requires { ⌜ (r < 8) × FewSets (now b) ⌝ }
+    ensures { λ x. ⌜ x ≡ dueBy (now (b .entry)) (bitsOf (c .0)) r ⌝ }
 {
-    let n = assumed[r];
+    let n = board::assumed(b, r);
     let mut j: usize = 0;
     while j < n {
-        let x = game_sets::assumption(l, r, j);
+        let x = board::assumption(b, r, j);
         if !sets::meets(x.0, c.0) {
             return false;
         }
@@ -64,14 +64,14 @@ fn all_assumed(l: &[u64; game_sets::WORDS], assumed: &[usize; 8], r: usize, c: I
 }
 
 // Whether every output set in use of requirement r meets the set c.
-fn all_guaranteed(l: &[u64; game_sets::WORDS], guaranteed: &[usize; 8], r: usize, c: OutSet) -> bool
-    requires { ⌜ (r < 8) × (getD (now guaranteed) r 0 ≤ 4) ⌝ }
-    ensures { λ x. ⌜ x ≡ servedBy (now (l .entry)) (now (guaranteed .entry)) (bitsOf (c .0)) r ⌝ }
+fn all_guaranteed(b: &[u64; board::WORDS], r: usize, c: OutSet) -> bool
+    requires { ⌜ (r < 8) × FewSets (now b) ⌝ }
+    ensures { λ x. ⌜ x ≡ servedBy (now (b .entry)) (bitsOf (c .0)) r ⌝ }
 {
-    let n = guaranteed[r];
+    let n = board::guaranteed(b, r);
     let mut j: usize = 0;
     while j < n {
-        let x = game_sets::guarantee(l, r, j);
+        let x = board::guarantee(b, r, j);
         if !sets::meets(x.0, c.0) {
             return false;
         }
@@ -81,56 +81,38 @@ fn all_guaranteed(l: &[u64; game_sets::WORDS], guaranteed: &[usize; 8], r: usize
 }
 
 // Puts the outputs of a component c into the set of each requirement that it serves, of the n requirements from number `from` on, whose sets are those of t.
-fn mark(
-    l: &[u64; game_sets::WORDS],
-    guaranteed: &[usize; 8],
-    from: usize,
-    n: usize,
-    c: OutSet,
-    t: &mut [u64],
-)
-    requires { ⌜ (from + n ≤ 8) × FewSets (now guaranteed) from n × (n ≤ setCount (now t)) ⌝ }
-    ensures { λ _. ⌜ Marked (now (l .entry)) (now (guaranteed .entry)) from n (bitsOf (c .0)) (setsIn (now (t .entry))) (setsIn (now (t .exit)))
+fn mark(b: &[u64; board::WORDS], from: usize, n: usize, c: OutSet, t: &mut [u64])
+    requires { ⌜ (from + n ≤ 8) × FewSets (now b) × (n ≤ setCount (now t)) ⌝ }
+    ensures { λ _. ⌜ Marked (now (b .entry)) from n (bitsOf (c .0)) (setsIn (now (t .entry))) (setsIn (now (t .exit)))
         × (length (now (t .exit)) ≡ length (now (t .entry))) ⌝ }
 {
     let mut q: usize = 0;
     while q < n {
         let x = sets::row(t, q);
-        let y = sets::union_if(x, c.0, all_guaranteed(l, guaranteed, from + q, c));
+        let y = sets::union_if(x, c.0, all_guaranteed(b, from + q, c));
         sets::put(t, q, y);
         q += 1;
     }
 }
 
-// The outputs whose components serve each requirement, from scratch that holds the outputs' closure. Each component is worked out once, for its first output,
-// whose moves are read in `outs`, the rows of the output graph.
-pub fn served(
-    g: Game,
-    outs: &[u64; sets::ROW_WORDS],
-    l: &[u64; game_sets::WORDS],
-    guaranteed: &[usize; 8],
-    s: &[u64],
-) -> Servers
-    requires { ⌜ Fits g × Laid g (now s) × Lists g (now l) × GuaranteedCounts g (now guaranteed) ⌝ }
-    ensures { λ r. ⌜ Serving g (r .first) (r .second) ⌝ }
+// The outputs whose components serve each requirement, from scratch that holds the outputs' closure. Each component is worked out once, for its first output.
+pub fn served(z: Sizes, b: &[u64; board::WORDS], s: &[u64]) -> Servers
+    ghost { Game }
+    requires { λ g. ⌜ gameOn z (now b) ≡ g ⌝ }
+    requires { λ g. ⌜ Fits g × Laid g (now s) ⌝ }
+    ensures { λ g r. ⌜ Serving g (r .first) (r .second) ⌝ }
 {
-    let k = g.k;
+    let k = z.requirements;
     let few = first_four(k);
     let more = k - few;
     let mut first: [u64; 8] = [0; 8];
     let mut second: [u64; 8] = [0; 8];
-    let mut rest = sets::below(g.output.states);
+    let mut rest = sets::below(z.outputs);
     while !sets::is_empty(rest) {
-        let d = sets::lowest(rest);
-        let c = scratch::out_component(
-            s,
-            g.input.states,
-            g.output.states,
-            OutState(d),
-            OutSet(sets::row_of(outs, d)),
-        );
-        mark(l, guaranteed, 0, few, c, &mut first);
-        mark(l, guaranteed, 4, more, c, &mut second);
+        let d = OutState(sets::lowest(rest));
+        let c = scratch::out_component(s, z.inputs, z.outputs, d, board::out_row(b, d));
+        mark(b, 0, few, c, &mut first);
+        mark(b, 4, more, c, &mut second);
         rest = sets::difference(rest, c.0);
     }
     Servers { first, second }
@@ -148,23 +130,15 @@ fn admitted(due: bool, y: OutSet, x: OutSet) -> OutSet
 
 // The outputs of x that are in the set of each requirement that is due in the set a of inputs, of the n requirements from number `from` on, whose sets are
 // those of t.
-fn narrow(
-    l: &[u64; game_sets::WORDS],
-    assumed: &[usize; 8],
-    from: usize,
-    n: usize,
-    t: &[u64],
-    a: InSet,
-    x: OutSet,
-) -> OutSet
-    requires { ⌜ (from + n ≤ 8) × FewSets (now assumed) from n × (n ≤ setCount (now t)) ⌝ }
+fn narrow(b: &[u64; board::WORDS], from: usize, n: usize, t: &[u64], a: InSet, x: OutSet) -> OutSet
+    requires { ⌜ (from + n ≤ 8) × FewSets (now b) × (n ≤ setCount (now t)) ⌝ }
     ensures { λ r. ⌜ ((d : ℕ) → has (bitsOf (r .0)) d ≡ (has (bitsOf (x .0)) d
-        && all n (admitsBy (now (l .entry)) (now (assumed .entry)) from (bitsOf (a .0)) (setsIn (now (t .entry))) d))) ⌝ }
+        && all n (admitsBy (now (b .entry)) from (bitsOf (a .0)) (setsIn (now (t .entry))) d))) ⌝ }
 {
     let mut y = x;
     let mut q: usize = 0;
     while q < n {
-        let due = all_assumed(l, assumed, from + q, a);
+        let due = all_assumed(b, from + q, a);
         y = admitted(due, OutSet(sets::row(t, q)), y);
         q += 1;
     }
@@ -172,21 +146,15 @@ fn narrow(
 }
 
 // The outputs of x whose components serve every requirement that is due in the set a of inputs.
-pub fn accepted(
-    g: Game,
-    l: &[u64; game_sets::WORDS],
-    assumed: &[usize; 8],
-    first: &[u64; 8],
-    second: &[u64; 8],
-    a: InSet,
-    x: OutSet,
-) -> OutSet
-    requires { ⌜ Few g × Lists g (now l) × AssumedCounts g (now assumed) × Whole (now first) (now second) ⌝ }
-    ensures { λ r. ⌜ ((d : ℕ) → has (bitsOf (r .0)) d ≡ (has (bitsOf (x .0)) d
-        && all (g .k) (admits g (bitsOf (a .0)) (now (first .entry)) (now (second .entry)) d))) ⌝ }
+pub fn accepted(z: Sizes, b: &[u64; board::WORDS], t: Servers, a: InSet, x: OutSet) -> OutSet
+    ghost { Game }
+    requires { λ g. ⌜ gameOn z (now b) ≡ g ⌝ }
+    requires { λ g. ⌜ Few g × Whole (t .first) (t .second) ⌝ }
+    ensures { λ g r. ⌜ ((d : ℕ) → has (bitsOf (r .0)) d ≡ (has (bitsOf (x .0)) d
+        && all (z .requirements) (admits g (bitsOf (a .0)) (t .first) (t .second) d))) ⌝ }
 {
-    let k = g.k;
+    let k = z.requirements;
     let few = first_four(k);
-    let y = narrow(l, assumed, 0, few, first, a, x);
-    narrow(l, assumed, 4, k - few, second, a, y)
+    let y = narrow(b, 0, few, &t.first, a, x);
+    narrow(b, 4, k - few, &t.second, a, y)
 }

@@ -24,7 +24,7 @@ excused l n c next moves j p = not (has next j) || (has moves p && wonAt l n c j
 unfoldable pub replied : List ℕ → ℕ → ℕ → ℕ → ℕ → ℕ → ℕ → Bool
 replied l n c next moves m j = any m (excused l n c next moves j)
 
--- "it has a reply to every next input, each making a won position"
+-- "it has a reply to every next input, each making a won position" (SPEC 4.4)
 unfoldable pub repliesAt : List ℕ → ℕ → ℕ → ℕ → ℕ → ℕ → ℕ → Bool
 repliesAt l n c next moves m k = all k (replied l n c next moves m)
 

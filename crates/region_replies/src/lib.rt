@@ -5,12 +5,14 @@ ghost use mathlib.Core.List.{List};
 ghost use Prim.Native.Nat.{ℕ, _≤_, _<_};
 ghost use Rattle.bits.specs.Member.{has, pack};
 ghost use Rattle.sets.specs.Words.{capacity, bitsOf, setsIn, setCount};
+ghost use Rattle.board.specs.Board.{gameOn};
 ghost use Rattle.scratch.specs.Scratch.{scratchSets};
 ghost use Rattle.region_replies.specs.Replies.{Held, Known, replyAt};
-use game::Game;
+use board::Sizes;
 use game::InSet;
 use game::InState;
 use game::OutSet;
+use game::OutState;
 
 // The outputs of x that are to be looked at for the set `won`: none where they are known to have a move into it, since they have one into the set `last`.
 // Next inputs of one component are won with the same outputs, and are not looked at again.
@@ -29,25 +31,17 @@ fn unknown(last: OutSet, x: OutSet, won: OutSet) -> OutSet
 
 // The outputs with a reply to every next input of i, all at once: for each next input those that are left are looked at, and the ones with a move to an
 // output that is won with it stay. Where there is none, no later input is looked at.
-pub fn reply_row(
-    g: Game,
-    ins: &[u64; sets::ROW_WORDS],
-    outs: &[u64; sets::ROW_WORDS],
-    s: &[u64],
-    c: InSet,
-    i: InState,
-) -> OutSet
-    requires { ⌜ (g .input .states ≤ capacity) × (g .output .states ≤ capacity) × (i .0 < g .input .states)
-        × (scratchSets (g .input .states) (g .output .states) ≤ setCount (now s)) × (now ins ≡ g .input .moves) × (now outs ≡ g .output .moves) ⌝ }
-    ensures { λ r. ⌜ bitsOf (r .0) ≡ pack (g .output .states) (replyAt g (setsIn (now (s .entry))) (bitsOf (c .0)) (i .0)) ⌝ }
+pub fn reply_row(z: Sizes, b: &[u64; board::WORDS], s: &[u64], c: InSet, i: InState) -> OutSet
+    requires { ⌜ (z .inputs ≤ capacity) × (z .outputs ≤ capacity) × (i .0 < z .inputs) × (scratchSets (z .inputs) (z .outputs) ≤ setCount (now s)) ⌝ }
+    ensures { λ r. ⌜ bitsOf (r .0) ≡ pack (z .outputs) (replyAt (gameOn z (now (b .entry))) (setsIn (now (s .entry))) (bitsOf (c .0)) (i .0)) ⌝ }
 {
-    let n = g.input.states;
-    let m = g.output.states;
-    let next = sets::row_of(ins, i.0);
+    let n = z.inputs;
+    let m = z.outputs;
+    let next = board::in_row(b, i);
     let mut k = scratch::won_first();
     let mut last = OutSet(sets::empty());
     let mut x = sets::below(m);
-    let mut rest = sets::intersection(next, sets::below(n));
+    let mut rest = sets::intersection(next.0, sets::below(n));
     'next: while !sets::is_empty(rest) {
         let j = sets::lowest(rest);
         k = scratch::won_next(s, n, m, c, InState(j), k);
@@ -63,7 +57,8 @@ pub fn reply_row(
                 break;
             }
             let o = sets::lowest(left);
-            x = sets::insert_if(x, o, sets::meets(sets::row_of(outs, o), won.0));
+            let row = board::out_row(b, OutState(o));
+            x = sets::insert_if(x, o, sets::meets(row.0, won.0));
             left = sets::without_lowest(left);
         }
         last = won;

@@ -14,7 +14,7 @@ use Rattle.game.specs.declared.Game.{Game}
 abbrev pub scratchSets : ℕ → ℕ → ℕ
 scratchSets n m = 2 * n + m
 
--- "The solver and the map must give the same verdicts, maps and tables with scratch of 2 × inputs + outputs words" (document 02, M-103)
+-- "The solver and the map must give the same verdicts, maps and tables with scratch of 2 × inputs + outputs words" (document 02, M-103) (SPEC 7.5)
 abbrev pub scratchLength : Game → ℕ
 scratchLength g = wordsFor (scratchSets (g .input .states) (g .output .states))
 

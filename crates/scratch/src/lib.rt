@@ -10,9 +10,12 @@ ghost use Rattle.game.specs.declared.Graph.{Graph};
 ghost use Rattle.graph_closure.specs.Sweep.{Given};
 ghost use Rattle.graph_components.specs.Component.{Transitive, together, nontrivialAt};
 ghost use Rattle.game.specs.Fits.{Fits};
+ghost use Rattle.game.specs.declared.Game.{Game};
+ghost use Rattle.board.specs.Board.{gameOn};
 ghost use Rattle.scratch.specs.Scratch.{scratchSets, scratchLength, Kept};
 ghost use Rattle.scratch.specs.Stored.{inReachAt, rowAt, outReachAt, outArea, reachingAt, wonAt, someWonAt, WonKept, Reached, RowPut, NontrivialOf, Laid};
 ghost use Rattle.scratch.specs.Areas.{ClosedAt};
+use board::Sizes;
 use game::Game;
 use game::InSet;
 use game::InState;
@@ -94,34 +97,31 @@ pub fn out_component(s: &[u64], n: usize, m: usize, o: OutState, near: OutSet) -
     OutSet(graph_components::component(&s[at..], m, o.0, near.0))
 }
 
-// The closure of a graph of k states with the rows `moves`, from set number at of s on. The graph is not passed itself, as it would be copied.
-fn close_at(moves: &[u64; sets::ROW_WORDS], k: usize, s: &mut [u64], at: usize)
-    requires { ⌜ (k ≤ capacity) × (at ≤ capacity + capacity) × (at + k ≤ setCount (now s)) ⌝ }
+// The closure of a graph of k states with the rows `moves`, from set number at of s on.
+fn close_at(moves: &[u64], k: usize, s: &mut [u64], at: usize)
+    requires { ⌜ (k ≤ capacity) × (at ≤ capacity + capacity) × (at + k ≤ setCount (now s)) × (k ≤ setCount (now moves)) ⌝ }
     ensures { λ _. ⌜ ((f : Graph) → Given f k (now (moves .entry)) → ClosedAt f at (setsIn (now (s .entry))) (setsIn (now (s .exit)))) ⌝ }
 {
     let start = sets::words(at);
     graph_closure::close(moves, k, &mut s[start..]);
 }
 
-// Works out both closures. `ins` and `outs` are the rows of the graphs, which are lent so that they are read where they stand.
-pub fn close<'a>(
-    g: Game,
-    ins: &'a [u64; sets::ROW_WORDS],
-    outs: &'a [u64; sets::ROW_WORDS],
-    s: &mut [u64],
-)
-    requires { ⌜ Fits g × (scratchLength g ≤ lengthOf (now s)) × (now ins ≡ g .input .moves) × (now outs ≡ g .output .moves) ⌝ }
-    ensures { λ _. ⌜ Laid g (now (s .exit)) × Kept g (now (s .entry)) (now (s .exit)) ⌝ }
+// Works out both closures.
+pub fn close(z: Sizes, b: &[u64; board::WORDS], s: &mut [u64])
+    ghost { Game }
+    requires { λ g. ⌜ gameOn z (now b) ≡ g ⌝ }
+    requires { λ g. ⌜ Fits g × (scratchLength g ≤ lengthOf (now s)) ⌝ }
+    ensures { λ g _. ⌜ Laid g (now (s .exit)) × Kept g (now (s .entry)) (now (s .exit)) ⌝ }
 {
-    let n = g.input.states;
-    let m = g.output.states;
-    close_at(ins, n, s, 0);
-    close_at(outs, m, s, n + n);
+    let n = z.inputs;
+    let m = z.outputs;
+    close_at(board::in_rows(b), n, s, 0);
+    close_at(board::out_rows(b), m, s, n + n);
 }
 
 // The states in nontrivial components of a graph of k states with the rows `moves`, its closure standing from set number at of s on.
-fn nontrivial_at(moves: &[u64; sets::ROW_WORDS], k: usize, s: &[u64], at: usize) -> Set
-    requires { ⌜ (k ≤ capacity) × (at ≤ capacity + capacity) × (at + k ≤ setCount (now s)) ⌝ }
+fn nontrivial_at(moves: &[u64], k: usize, s: &[u64], at: usize) -> Set
+    requires { ⌜ (k ≤ capacity) × (at ≤ capacity + capacity) × (at + k ≤ setCount (now s)) × (k ≤ setCount (now moves)) ⌝ }
     ensures { λ r. ⌜ bitsOf r ≡ pack k (nontrivialAt (setsIn (now (moves .entry))) (drop at (setsIn (now (s .entry)))) k) ⌝ }
 {
     let start = sets::words(at);
@@ -129,20 +129,17 @@ fn nontrivial_at(moves: &[u64; sets::ROW_WORDS], k: usize, s: &[u64], at: usize)
 }
 
 // The states in nontrivial components, from both closures.
-pub fn nontrivial_states<'a>(
-    g: Game,
-    ins: &'a [u64; sets::ROW_WORDS],
-    outs: &'a [u64; sets::ROW_WORDS],
-    s: &[u64],
-) -> Nontrivial
-    requires { ⌜ Fits g × Laid g (now s) × (now ins ≡ g .input .moves) × (now outs ≡ g .output .moves) ⌝ }
-    ensures { λ r. ⌜ NontrivialOf g r ⌝ }
+pub fn nontrivial_states(z: Sizes, b: &[u64; board::WORDS], s: &[u64]) -> Nontrivial
+    ghost { Game }
+    requires { λ g. ⌜ gameOn z (now b) ≡ g ⌝ }
+    requires { λ g. ⌜ Fits g × Laid g (now s) ⌝ }
+    ensures { λ g r. ⌜ NontrivialOf g r ⌝ }
 {
-    let n = g.input.states;
-    let m = g.output.states;
+    let n = z.inputs;
+    let m = z.outputs;
     Nontrivial {
-        inputs: InSet(nontrivial_at(ins, n, s, 0)),
-        outputs: OutSet(nontrivial_at(outs, m, s, n + n)),
+        inputs: InSet(nontrivial_at(board::in_rows(b), n, s, 0)),
+        outputs: OutSet(nontrivial_at(board::out_rows(b), m, s, n + n)),
     }
 }
 

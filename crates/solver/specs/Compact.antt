@@ -45,30 +45,32 @@ compactScratchTested g s c e = elim (leb (scratchLength g) s) [ true ↦ compact
 unfoldable pub compactAnswer : Game → ℕ → ℕ → ℕ → Verdict
 compactAnswer g s c e = elim (acceptance g) [ Accepted ↦ compactScratchTested g s c e | Faulty n ↦ NotSolved n ]
 
+-- SPEC 9.1, 9.3
 unfoldable pub compactTests : Game → ℕ → ℕ → ℕ → List (ℕ × Bool)
 compactTests g s c e =
     gameTests g ++ (8, leb (scratchLength g) s) ∷ (9, leb (compactLength (separatedOf g)) c) ∷ (10, leb (environmentLength g) e) ∷ []
 
--- "On a verdict the answer is the filled front of one of two lent rooms; the rest of that room and all of the other stay unchanged."
+-- "On a verdict the answer is the filled front of one of two lent rooms; the rest of that room and all of the other stay unchanged." (SPEC 7.4)
 unfoldable pub compactAfter : Game → Verdict → List ℕ → List ℕ
 compactAfter g (System n) c = compactEntries (separatedOf g) ++ drop n c
 compactAfter g (Environment n) c = c
 compactAfter g (NotSolved n) c = c
 
 -- Demand 3 for this game: the table read through its layout from the filled front wins for the side named, and no table of any finite size wins for the
--- other.
+-- other. (SPEC 3.5, 11.2)
 unfoldable pub DecidedCompact : Game → Verdict → List ℕ → List ℕ → Type 0
 DecidedCompact g (System n) c e = DemandThree (playOf g) (system (compactTable (separatedOf g) (take n c)))
 DecidedCompact g (Environment n) c e = DemandThree (playOf g) (environment (environmentOf g (take n e)))
 DecidedCompact g (NotSolved n) c e = Unit {0}
 
--- "every row read from it equals the row of the old one"
+-- "every row read from it equals the row of the old one" (SPEC 11.2)
 unfoldable pub EqualRows : Game → Verdict → List ℕ → Type 0
 EqualRows g (System n) c = (o h j : ℕ) → o < g .output .states → h < controllerCounters (separatedOf g) → j < g .input .states
     → compactRow (separatedOf g) c o h j ≡ fullRow (separatedOf g) (controllerEntries (separatedOf g)) o h j
 EqualRows g (Environment n) c = Unit {0}
 EqualRows g (NotSolved n) c = Unit {0}
 
+-- SPEC 11.2
 pub record SolvedCompact (g : Game) (s s′ c c′ e e′ : List ℕ) (r : Verdict) : Type 0 where
   pub answer : r ≡ compactAnswer g (length s) (length c) (length e)
   pub number : verdictNumber r ≡ firstOf (compactTests g (length s) (length c) (length e))

@@ -6,6 +6,7 @@ ghost use mathlib.Core.Path.{_≡_};
 ghost use lib.Dec.{ltb};
 ghost use Rattle.game.specs.declared.Acceptance.the-variants.{Accepted};
 ghost use Rattle.game.specs.Acceptance.{acceptance};
+ghost use Rattle.board.specs.Board.{gameOn, sizesOf};
 ghost use Rattle.game_sets.specs.Lists.{Lists};
 ghost use Rattle.play.specs.Play.{separatedOf};
 ghost use Rattle.compact.specs.Compact.{compactLength};
@@ -39,14 +40,12 @@ pub fn solve_accepted<'a>(
     g: Game,
     given: Outline,
     l: &'a [u64; game_sets::WORDS],
-    ins: &'a [u64; sets::ROW_WORDS],
-    outs: &'a [u64; sets::ROW_WORDS],
+    b: &'a [u64; board::WORDS],
     scratch: &mut [u64],
     controller: &mut [u16],
     panel: &mut [u16],
 ) -> Verdict
-    requires { ⌜ (acceptance g ≡ Accepted) × Outlined g given × (now ins ≡ g .input .moves) × (now outs ≡ g .output .moves)
-        × Lists g (now l) ⌝ }
+    requires { ⌜ (acceptance g ≡ Accepted) × Outlined g given × Lists g (now l) × (gameOn (sizesOf g) (now b) ≡ g) ⌝ }
     ensures { λ r. ⌜ SolvedCompact g (now (scratch .entry)) (now (scratch .exit)) (now (controller .entry)) (now (controller .exit)) (now (panel .entry))
         (now (panel .exit)) r ⌝ }
 {
@@ -60,16 +59,7 @@ pub fn solve_accepted<'a>(
     if panel.len() < e {
         return Verdict::Refused(10);
     }
-    let c = solver_winner::by_component::write_winner(
-        g,
-        given,
-        l,
-        ins,
-        outs,
-        scratch,
-        controller,
-        panel,
-    );
+    let c = solver_winner::by_component::write_winner(g, given, l, b, scratch, controller, panel);
     if c == 0 {
         return Verdict::Environment(e);
     }

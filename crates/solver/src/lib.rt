@@ -2,6 +2,7 @@
 ghost use mathlib.Core.Path.{_≡_};
 ghost use Rattle.game.specs.declared.Acceptance.the-variants.{Accepted};
 ghost use Rattle.game.specs.Acceptance.{acceptance};
+ghost use Rattle.board.specs.Board.{gameOn, sizesOf};
 ghost use Rattle.game_sets.specs.Lists.{Lists};
 ghost use Rattle.table_sizes.specs.Outlined.{Outlined};
 ghost use Rattle.solver.specs.Promise.{Solved};
@@ -19,20 +20,18 @@ pub enum Verdict {
     Refused(u8),
 }
 
-// The solver on an accepted game, where the buffers are long enough. The rows of both graphs are lent to it, and its requirements outlined, so that nothing
-// below copies a game to read one of its rows.
+// The solver on an accepted game, where the buffers are long enough. The game is lent to it laid out on a board, and its requirements outlined, so that
+// nothing below copies a game to read one of its rows.
 fn solve_accepted<'a>(
     g: Game,
     given: Outline,
     l: &'a [u64; game_sets::WORDS],
-    ins: &'a [u64; sets::ROW_WORDS],
-    outs: &'a [u64; sets::ROW_WORDS],
+    b: &'a [u64; board::WORDS],
     scratch: &mut [u64],
     controller: &mut [u16],
     panel: &mut [u16],
 ) -> Verdict
-    requires { ⌜ (acceptance g ≡ Accepted) × Outlined g given × (now ins ≡ g .input .moves) × (now outs ≡ g .output .moves)
-        × Lists g (now l) ⌝ }
+    requires { ⌜ (acceptance g ≡ Accepted) × Outlined g given × Lists g (now l) × (gameOn (sizesOf g) (now b) ≡ g) ⌝ }
     ensures { λ r. ⌜ Solved g (now (scratch .entry)) (now (scratch .exit)) (now (controller .entry)) (now (controller .exit)) (now (panel .entry))
         (now (panel .exit)) r ⌝ }
 {
@@ -47,14 +46,14 @@ fn solve_accepted<'a>(
     if panel.len() < e {
         return Verdict::Refused(10);
     }
-    if solver_winner::write_winner(g, given, l, ins, outs, scratch, controller, panel) {
+    if solver_winner::write_winner(g, given, l, b, scratch, controller, panel) {
         return Verdict::System(c);
     }
     Verdict::Environment(e)
 }
 
-// Names the side that wins and writes its table into the front of its buffer. The rows of the graphs are copied to be lent: a part of the game that is lent
-// would have all of it copied.
+// Names the side that wins and writes its table into the front of its buffer. The game is laid out on a board once, from which the region is worked out.
+// (SPEC 3.5, 7.4, 7.5, 9.3)
 pub fn solve_into(
     g: Game,
     scratch: &mut [u64],
@@ -64,29 +63,20 @@ pub fn solve_into(
     ensures { λ r. ⌜ Solved g (now (scratch .entry)) (now (scratch .exit)) (now (controller .entry)) (now (controller .exit)) (now (panel .entry))
         (now (panel .exit)) r ⌝ }
 {
-    let ins = g.input.moves;
-    let outs = g.output.moves;
-    let accepted = acceptance::accept_lent(g, &ins, &outs);
+    let mut b: [u64; board::WORDS] = [0; board::WORDS];
+    board::lay(g, &mut b);
+    let accepted = acceptance::accept_lent(g, board::in_rows(&b), board::out_rows(&b));
     match accepted {
         Acceptance::Refused(n) => Verdict::Refused(n),
         Acceptance::Accepted => {
             let wanted = game_sets::list_of(g);
             let given = table_sizes::outline_of(g, wanted.assumed, wanted.guaranteed);
-            solve_accepted(
-                g,
-                given,
-                &wanted.sets,
-                &ins,
-                &outs,
-                scratch,
-                controller,
-                panel,
-            )
+            solve_accepted(g, given, &wanted.sets, &b, scratch, controller, panel)
         },
     }
 }
 
-// The same, the controller's table with its rows by component.
+// The same, the controller's table with its rows by component. (SPEC 11.2)
 pub fn solve_compact_into(
     g: Game,
     scratch: &mut [u64],
@@ -96,24 +86,15 @@ pub fn solve_compact_into(
     ensures { λ r. ⌜ SolvedCompact g (now (scratch .entry)) (now (scratch .exit)) (now (controller .entry)) (now (controller .exit)) (now (panel .entry))
         (now (panel .exit)) r ⌝ }
 {
-    let ins = g.input.moves;
-    let outs = g.output.moves;
-    let accepted = acceptance::accept_lent(g, &ins, &outs);
+    let mut b: [u64; board::WORDS] = [0; board::WORDS];
+    board::lay(g, &mut b);
+    let accepted = acceptance::accept_lent(g, board::in_rows(&b), board::out_rows(&b));
     match accepted {
         Acceptance::Refused(n) => Verdict::Refused(n),
         Acceptance::Accepted => {
             let wanted = game_sets::list_of(g);
             let given = table_sizes::outline_of(g, wanted.assumed, wanted.guaranteed);
-            by_component::solve_accepted(
-                g,
-                given,
-                &wanted.sets,
-                &ins,
-                &outs,
-                scratch,
-                controller,
-                panel,
-            )
+            by_component::solve_accepted(g, given, &wanted.sets, &b, scratch, controller, panel)
         },
     }
 }

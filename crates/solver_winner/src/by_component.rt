@@ -9,6 +9,7 @@ ghost use Rattle.game.specs.Acceptance.{acceptance};
 ghost use Rattle.play.specs.Play.{separatedOf};
 ghost use Rattle.theory.specs.Entries.{environmentEntries};
 ghost use Rattle.compact.specs.Compact.{compactLength};
+ghost use Rattle.board.specs.Board.{gameOn, sizesOf};
 ghost use Rattle.game_sets.specs.Lists.{Lists};
 ghost use Rattle.table_sizes.specs.Outlined.{Outlined};
 ghost use Rattle.scratch.specs.Scratch.{scratchLength};
@@ -19,28 +20,27 @@ pub fn write_winner<'a>(
     g: Game,
     given: Outline,
     l: &'a [u64; game_sets::WORDS],
-    ins: &'a [u64; sets::ROW_WORDS],
-    outs: &'a [u64; sets::ROW_WORDS],
+    b: &'a [u64; board::WORDS],
     scratch: &mut [u64],
     controller: &mut [u16],
     panel: &mut [u16],
 ) -> usize
     requires { ⌜ (acceptance g ≡ Accepted) × (scratchLength g ≤ length (now scratch)) × (compactLength (separatedOf g) ≤ length (now controller))
         × (length (environmentEntries (separatedOf g)) ≤ length (now panel))
-        × Outlined g given × (now ins ≡ g .input .moves) × (now outs ≡ g .output .moves)
-        × Lists g (now l) ⌝ }
+        × Outlined g given × Lists g (now l) × (gameOn (sizesOf g) (now b) ≡ g) ⌝ }
     ensures { λ r. ⌜ WrittenCompact g (now (scratch .entry)) (now (scratch .exit)) (now (controller .entry)) (now (controller .exit)) (now (panel .entry))
         (now (panel .exit)) r ⌝ }
 {
     let used = scratch::length(g);
-    let x = region::prepare(g, ins, outs, l, &given.assumed, &given.guaranteed, scratch);
+    let x = region::prepare(board::sizes_of(g), b, scratch);
     let inner = x.inputs;
     if region_verdict::system_wins(g, scratch, inner) {
-        let entries = controller::fill_compact(g, given, l, outs, scratch, inner, controller);
+        let outs = g.output.moves;
+        let entries = controller::fill_compact(g, given, l, &outs, scratch, inner, controller);
         scratch_clearing::clear(scratch, used);
         return entries;
     }
-    environment::fill(g, given, l, ins, outs, scratch, inner, panel);
+    environment::fill(g, given, l, b, scratch, inner, panel);
     scratch_clearing::clear(scratch, used);
     0
 }

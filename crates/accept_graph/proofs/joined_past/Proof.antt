@@ -20,8 +20,8 @@ empty-requires c κs = search needs
 loop-holds : tie.Need-loop-holds Inv-loop μ-loop
 loop-holds c = (omega arith, past-start _ _ _ (c .empty .ensures .1))
 
-row-of-requires : tie.Need-row-of-requires Inv-loop μ-loop
-row-of-requires c κs = omega arith
+row-requires : tie.Need-row-requires Inv-loop μ-loop
+row-requires c κs = omega (arith, c .before .before .before .before .pre)
 
 union-requires : tie.Need-union-requires Inv-loop μ-loop
 union-requires c κs = search needs
@@ -37,7 +37,7 @@ loop-again c =
     let r = c .before in
     let t = r .before in
     let i = t .before .loop .inv in
-    (omega arith, past-next _ _ _ _ _ _ (i .1) (i .0) (t .loop-test .taken) (r .row-of .ensures .1) (c .union .ensures))
+    (omega arith, past-next _ _ _ _ _ _ (i .1) (i .0) (t .loop-test .taken) (r .row .ensures) (c .union .ensures))
 
 returns : tie.Need-returns Inv-loop μ-loop
 returns c = past-end _ _ (c .before .loop .s) _ (c .loop-test .left) (c .before .loop .inv .1)
@@ -50,7 +50,7 @@ joined-past-spec =
     μ-loop
     empty-requires
     loop-holds
-    row-of-requires
+    row-requires
     union-requires
     add-s
     loop-less

@@ -37,7 +37,7 @@ returns-2 c =
     let e = c .before in
     let j = e .before in
     let i = j .before in
-    let lent = i .before .before .pre in
+    let lent = i .before .before .before .pre .0 in
     let w = (rw lent at (j .joined-past .ensures)) .some (is-some _ (e .is-empty .ensures) (c .if2 .taken)) in
     states-row _ (w .0) (passed (i .before .within .ensures) (i .if1 .left)) (w .2) (past-fails _ (w .0) (w .1) (w .3))
 
@@ -47,8 +47,11 @@ first-rows-requires c κs = search needs
 loop-holds : tie.Need-loop-holds Inv-loop μ-loop
 loop-holds c = (omega arith, all-start _)
 
-row-of-requires : tie.Need-row-of-requires Inv-loop μ-loop
-row-of-requires c κs = omega (arith, c .loop-test .taken, c .before .before .first-rows .ensures)
+row-requires : tie.Need-row-requires Inv-loop μ-loop
+row-requires c κs =
+    let f = c .before .before in
+    let i = f .before .before .before .before in
+    omega (arith, c .loop-test .taken, f .first-rows .ensures, i .before .before .before .pre .1)
 
 row-fits-requires : tie.Need-row-fits-requires Inv-loop μ-loop
 row-fits-requires c κs = search needs
@@ -60,11 +63,11 @@ returns-3 c =
     let t = o .before in
     let f = t .before .before in
     let i = f .before .before .before .before in
-    let lent = i .before .before .pre in
+    let lent = i .before .before .before .pre .0 in
     states-row _ _
     (passed (i .before .within .ensures) (i .if1 .left))
     (omega (arith, t .loop-test .taken, f .first-rows .ensures))
-    (failed (row-fits _ _ _ _ (rw lent at (o .row-of .ensures .1)) (r .row-fits .ensures)) (c .if3 .taken))
+    (failed (row-fits _ _ _ _ (rw lent at (o .row .ensures)) (r .row-fits .ensures)) (c .if3 .taken))
 
 add-s : tie.Need-add-s Inv-loop μ-loop
 add-s c =
@@ -80,9 +83,9 @@ loop-again c =
     let o = r .before in
     let l = o .before .before in
     let i = l .before .before .before .before .before in
-    let lent = i .before .before .pre in (
+    let lent = i .before .before .before .pre .0 in (
       omega arith,
-      all-turn _ _ (l .loop .inv .1) (passed (row-fits _ _ _ _ (rw lent at (o .row-of .ensures .1)) (r .row-fits .ensures)) (c .if3 .left)),
+      all-turn _ _ (l .loop .inv .1) (passed (row-fits _ _ _ _ (rw lent at (o .row .ensures)) (r .row-fits .ensures)) (c .if3 .left)),
     )
 
 returns-4 : tie.Need-returns-4 Inv-loop μ-loop
@@ -92,7 +95,7 @@ returns-4 c =
     let e = f .before .before in
     let j = e .before in
     let i = j .before in
-    let lent = i .before .before .pre in
+    let lent = i .before .before .before .pre .0 in
     let none = is-none _ (e .is-empty .ensures) (f .before .if2 .left) in
     states-end _ capacity
     (passed (i .before .within .ensures) (i .if1 .left))
@@ -113,7 +116,7 @@ states-fit-spec =
     returns-2
     first-rows-requires
     loop-holds
-    row-of-requires
+    row-requires
     row-fits-requires
     returns-3
     add-s

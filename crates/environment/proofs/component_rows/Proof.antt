@@ -30,8 +30,8 @@ returns c =
     let p = c .before .before .before .before .pre in
     ahead-skip _ _ (p .2) _ (p .7) (sym (c .before .member .ensures) ∙ not-true _ (c .if1 .taken)) _
 
-row-of-requires : tie.Need-row-of-requires
-row-of-requires c κs =
+in-row-requires : tie.Need-in-row-requires
+in-row-requires c κs =
     let p = c .before .before .before .before .pre in
     omega (arith, p .0 .ready .fits .input .most, p .2)
 
@@ -80,7 +80,7 @@ component-rows-spec =
     (tie.spec
     member-requires
     returns
-    row-of-requires
+    in-row-requires
     in-component-requires
     escapes-requires
     tours-requires

@@ -15,11 +15,11 @@ use Rattle.environment.proofs.walked_rows.Statement.{statement}
 use Rattle.environment.proofs.walked_rows.Tie as tie
 
 abbrev Inv-loop : tie.InvT-loop
-Inv-loop g given l ins outs s inner counters room₀ n ahead₀ i₀ room ahead i =
+Inv-loop g given l b ins outs s inner room₀ n ahead₀ i₀ room ahead i =
     (i ≤ n) × EnvironmentFilled g (λ a h b. (number (graphOf (g .input)) a < i) × (plain g a b ≡ false)) room₀ room × Ahead g i (bitsOf (ahead .0))
 
 abbrev μ-loop : tie.MeasureT-loop
-μ-loop g given l ins outs s inner counters room₀ n ahead₀ i₀ room ahead i = n - i
+μ-loop g given l b ins outs s inner room₀ n ahead₀ i₀ room ahead i = n - i
 
 loop-holds : tie.Need-loop-holds Inv-loop μ-loop
 loop-holds c = (omega arith, filled-none _ _ (λ a h b p. omega (arith, p .0)), ahead-start _ _ _ (c .before .before .pre .0))

@@ -24,14 +24,14 @@ start-requires c κs = search needs
 
 loop-holds : tie.Need-loop-holds Inv-loop μ-loop
 loop-holds c =
-    let l = c .before .before .before .before .before .args .rows .now in
+    let l = c .before .before .before .before .before .before .args .rows .now in
     (omega arith, refl, λ h G. counted-start _ _ (c .before .before .start .ensures h G) (omega (arith, sets-long l, G .states)))
 
 sweep-requires : tie.Need-sweep-requires Inv-loop μ-loop
 sweep-requires c κs =
     let b = c .before .before in
     let started = b .before .before .before in
-    let a = started .before .before .before .args in
+    let a = started .before .before .before .before .args in
     let some = graph-given (a .n) (a .moves .now) in (
       omega arith,
       omega (arith, count-same (b .loop .rows) (a .rows .now) (b .loop .inv .1 ∙ started .start .kept .1 .1 .0)),
@@ -43,7 +43,7 @@ loop-less c =
     let b = c .before .before .before in
     let l = b .before .before .before in
     let started = l .before .before .before in
-    let a = started .before .before .before .args in
+    let a = started .before .before .before .before .args in
     let some = graph-given (a .n) (a .moves .now) in
     let few = counted-few (l .loop .inv .2 (some .0) (some .1)) (ran-given (some .1) (b .sweep .ensures)) (c .if1 .taken) in
     omega (arith, few, some .1 .states, b .sweep .ensures .count)
@@ -65,7 +65,7 @@ returns c =
     let b = c .before .before .before in
     let l = b .before .before .before in
     let started = l .before .before .before in
-    let r = started .before .before .before .args .rows .now in
+    let r = started .before .before .before .before .args .rows .now in
     λ h G. counted-end (l .loop .inv .2 h G) (ran-given G (b .sweep .ensures)) _ (started .start .ensures h G) (omega (arith, sets-long r, G .states))
     (c .if1 .left)
 

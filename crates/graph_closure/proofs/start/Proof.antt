@@ -34,8 +34,8 @@ below-requires c κs = omega arith
 loop-holds : tie.Need-loop-holds Inv-loop μ-loop
 loop-holds c = (omega arith, refl, λ h G. rows-none _ _ _)
 
-row-of-requires : tie.Need-row-of-requires Inv-loop μ-loop
-row-of-requires c κs = omega arith
+row-requires : tie.Need-row-requires Inv-loop μ-loop
+row-requires c κs = omega arith
 
 intersection-requires : tie.Need-intersection-requires Inv-loop μ-loop
 intersection-requires c κs = search needs
@@ -47,7 +47,7 @@ put-requires : tie.Need-put-requires Inv-loop μ-loop
 put-requires c κs =
     let m = c .before .before .before in
     let b = m .before .before in
-    omega (arith, count-same (b .loop .rows) (b .before .before .before .args .rows .now) (b .loop .inv .1))
+    omega (arith, count-same (b .loop .rows) (b .before .before .before .before .args .rows .now) (b .loop .inv .1))
 
 add-s : tie.Need-add-s Inv-loop μ-loop
 add-s c = omega arith
@@ -61,13 +61,13 @@ loop-again c =
     let masked = written .before .before in
     let read = masked .before .before in
     let b = read .before .before in
-    let l = b .before .before .before .args .rows .now in (
+    let l = b .before .before .before .before .args .rows .now in (
       omega arith,
       written .put .kept .0 ∙ b .loop .inv .1,
       λ h G. written .put .ensures ∙ rows-next _ _ _ (b .loop .s) (omega (arith, sets-long l)) (b .loop .inv .2 h G)
           (first-word h (b .loop .s) _ _ _ (omega (arith, G .states)) (λ t. b .before .below .ensures t ∙ ap (ltb t) (sym (G .states)))
           (λ t. masked .intersection .ensures t ∙ ap (λ (k : ℕ). has k t && has (bitsOf (b .before .below .result)) t)
-          (read .row-of .ensures .1 ∙ ap (λ (k : List ℕ). getD (setsIn k) (b .loop .s) 0) (sym (G .moves))))
+          (read .row .ensures ∙ ap (λ (k : List ℕ). getD (setsIn k) (b .loop .s) 0) (sym (G .moves))))
           (written .before .insert .ensures)),
     )
 
@@ -88,7 +88,7 @@ start-spec =
     μ-loop
     below-requires
     loop-holds
-    row-of-requires
+    row-requires
     intersection-requires
     insert-requires
     put-requires

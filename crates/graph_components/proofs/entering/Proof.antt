@@ -1,13 +1,10 @@
 -- `entering` joins the rows of the states of c.
-use Prim.Native.Nat.{ℕ}
-use mathlib.Core.Path.{_∙_, ap}
-use mathlib.Core.List.{List}
+use mathlib.Core.Path.{_∙_}
 use Rattle.finite.specs.Bounded.{count}
 use Rattle.bits.specs.Member.{has}
 use Rattle.sets.specs.Words.{capacity, bitsOf, setsIn}
 use Rattle.sets.proofs.Rows.{is-some, is-none}
-use Rattle.graph_components.specs.Component.{enters}
-use Rattle.graph_components.proofs.Steps.{Entered, entered-start, entered-below, entered-falls, entered-next, entered-end, enters-cut}
+use Rattle.graph_components.proofs.Steps.{Entered, entered-start, entered-here, entered-falls, entered-next, entered-end, enters-cut}
 use Rattle.bits.proofs.Visit.{cut-in}
 use native.Mathlib.Omega.{arith}
 use borrow.Author.Needs.{needs}
@@ -32,7 +29,7 @@ intersection-requires c κs = search needs
 loop-holds : tie.Need-loop-holds Inv-loop μ-loop
 loop-holds c =
     let within = cut-in _ _ _ _ (c .before .below .ensures) (c .intersection .ensures) in
-    let most = c .before .before .before .pre .0 in
+    let most = c .before .before .before .before .pre .0 in
     entered-start _ _ capacity _ (λ k h. omega (arith, within k h .0, most)) (c .before .before .empty .ensures .1)
 
 is-empty-requires : tie.Need-is-empty-requires Inv-loop μ-loop
@@ -41,11 +38,13 @@ is-empty-requires c κs = search needs
 lowest-requires : tie.Need-lowest-requires Inv-loop μ-loop
 lowest-requires c κs = search needs
 
-row-of-requires : tie.Need-row-of-requires Inv-loop μ-loop
-row-of-requires c κs =
+row-requires : tie.Need-row-requires Inv-loop μ-loop
+row-requires c κs =
     let e = c .before .before in
     let ne = is-some _ (e .is-empty .ensures) (c .before .if1 .taken) in
-    entered-below _ _ capacity (omega arith) _ _ (e .before .loop .inv) ne _ (c .lowest .ensures)
+    let cut = e .before .before in
+    let within = cut-in _ _ _ _ (cut .before .below .ensures) (cut .intersection .ensures) in
+    omega (arith, within _ (entered-here _ _ capacity (omega arith) _ _ (e .before .loop .inv) ne _ (c .lowest .ensures)) .0)
 
 union-requires : tie.Need-union-requires Inv-loop μ-loop
 union-requires c κs = search needs
@@ -68,18 +67,17 @@ loop-again c =
     let l = read .before in
     let e = l .before .before in
     let ne = is-some _ (e .is-empty .ensures) (l .before .if1 .taken) in
-    entered-next _ _ capacity (omega arith) _ _ (e .before .loop .inv) ne _ (l .lowest .ensures) _ (c .without-lowest .ensures) _ _ (read .row-of .ensures .1)
+    entered-next _ _ capacity (omega arith) _ _ (e .before .loop .inv) ne _ (l .lowest .ensures) _ (c .without-lowest .ensures) _ _ (read .row .ensures)
     (c .before .union .ensures)
 
 returns : tie.Need-returns Inv-loop μ-loop
 returns c =
     let b = c .before .before in
     let cut = b .before in
-    let start = cut .before .before .before in
+    let start = cut .before .before .before .before in
     let a = start .args in
     let ended = entered-end _ _ capacity _ _ (b .loop .inv) (is-none _ (c .before .is-empty .ensures) (c .if1 .left)) in
-    λ t. ended t ∙ enters-cut _ (bitsOf (a .c)) (a .h .states) _ _ (start .pre .0) (cut .before .below .ensures) (cut .intersection .ensures) t
-    ∙ ap (λ (l : List ℕ). enters (setsIn l) (bitsOf (a .c)) (a .h .states) t) (start .pre .1)
+    λ t. ended t ∙ enters-cut _ (bitsOf (a .c)) (a .n) _ _ (start .pre .0) (cut .before .below .ensures) (cut .intersection .ensures) t
 
 pub entering-spec : {M : Type 1} → statement M
 entering-spec =
@@ -93,7 +91,7 @@ entering-spec =
     loop-holds
     is-empty-requires
     lowest-requires
-    row-of-requires
+    row-requires
     union-requires
     without-lowest-requires
     loop-less

@@ -15,7 +15,7 @@ difference-requires c κs = search needs
 
 returns : tie.Need-returns
 returns c =
-    λ t. c .difference .ensures t ∙ ap (λ (b : Bool). b && not (has (bitsOf (c .before .before .args .c)) t)) (c .before .entering .ensures t)
+    λ t. c .difference .ensures t ∙ ap (λ (b : Bool). b && not (has (bitsOf (c .before .before .before .args .c)) t)) (c .before .entering .ensures t)
 
 pub leaving-spec : {M : Type 1} → statement M
 leaving-spec = tie.close (tie.spec entering-requires difference-requires returns)

@@ -23,8 +23,8 @@ empty-requires c κs = search needs
 loop-holds : tie.Need-loop-holds Inv-loop μ-loop
 loop-holds c = (omega arith, c .empty .ensures .1 ∙ collect-none _)
 
-row-of-requires : tie.Need-row-of-requires Inv-loop μ-loop
-row-of-requires c κs = omega arith
+row-requires : tie.Need-row-requires Inv-loop μ-loop
+row-requires c κs = omega arith
 
 comes-back-requires : tie.Need-comes-back-requires Inv-loop μ-loop
 comes-back-requires c κs = omega arith
@@ -44,7 +44,7 @@ loop-again c =
     let b = read .before .before in (
       omega arith,
       collect-next _ (b .loop .s) _ _ _ (b .loop .inv .1)
-          (nontrivial-at _ _ _ _ _ (read .row-of .ensures .1) (c .before .comes-back .ensures)) (c .insert-if .ensures),
+          (nontrivial-at _ _ _ _ _ (read .row .ensures) (c .before .comes-back .ensures)) (c .insert-if .ensures),
     )
 
 returns : tie.Need-returns Inv-loop μ-loop
@@ -58,7 +58,7 @@ nontrivial-spec =
     μ-loop
     empty-requires
     loop-holds
-    row-of-requires
+    row-requires
     comes-back-requires
     insert-if-requires
     add-s

@@ -7,6 +7,7 @@ use Rattle.finite.specs.Tabulate.{tabulate}
 use Rattle.finite.proofs.Front.{front-none}
 use Rattle.sets.specs.Words.{setsIn}
 use Rattle.sets.proofs.Rows.{count-same, sets-long}
+use Rattle.board.specs.Board.{gameOn}
 use Rattle.scratch.specs.Stored.{WonKept}
 use Rattle.map_marks.specs.Marks.{mapRow}
 use Rattle.map_marks.proofs.Rows.{rows-more, rows-end, map-filled}
@@ -16,12 +17,12 @@ use Rattle.map.proofs.fill_map.Statement.{statement}
 use Rattle.map.proofs.fill_map.Tie as tie
 
 abbrev Inv-loop : tie.InvT-loop
-Inv-loop g s c map₀ k₀ i₀ map k i =
-    (i ≤ g .input .states) × (length map ≡ length map₀) × (setsIn map ≡ tabulate i (mapRow g) ++ drop i (setsIn map₀)) × ((e : ℕ) → getD map e 0 < 2 ^ 64)
-    × WonKept (setsIn s) (g .input .states) (g .output .states) k
+Inv-loop z b s c map₀ k₀ i₀ map k i =
+    (i ≤ z .inputs) × (length map ≡ length map₀) × (setsIn map ≡ tabulate i (mapRow (gameOn z b)) ++ drop i (setsIn map₀)) × ((e : ℕ) → getD map e 0 < 2 ^ 64)
+    × WonKept (setsIn s) (z .inputs) (z .outputs) k
 
 abbrev μ-loop : tie.MeasureT-loop
-μ-loop g s c map₀ k₀ i₀ map k i = g .input .states - i
+μ-loop z b s c map₀ k₀ i₀ map k i = z .inputs - i
 
 won-first-requires : tie.Need-won-first-requires Inv-loop μ-loop
 won-first-requires c κs = search needs
@@ -67,9 +68,9 @@ returns : tie.Need-returns Inv-loop μ-loop
 returns c =
     let b = c .before .before in
     let known = b .before .before in
-    let g = known .before .before .args .g in
-    let rows = rows-end _ _ _ (b .loop .i) (b .loop .inv .2) (g .input .states) (omega arith) (omega arith) in
-    map-filled g _ _ (b .loop .inv .3) (λ k. omega (arith, known .slice-known .given k)) (b .loop .inv .1) rows
+    let a = known .before .before .args in
+    let rows = rows-end _ _ _ (b .loop .i) (b .loop .inv .2) (a .z .inputs) (omega arith) (omega arith) in
+    map-filled (gameOn (a .z) (a .b .now)) _ _ (b .loop .inv .3) (λ k. omega (arith, known .slice-known .given k)) (b .loop .inv .1) rows
 
 pub fill-map-spec : {M : Type 1} → statement M
 fill-map-spec =

@@ -1,13 +1,30 @@
 -- `compare_states` by its tests.
 use mathlib.Core.Path.{refl, sym, _∙_}
+use native.Mathlib.Omega.{arith}
+use lib.ListN.{length-map}
+use Rattle.sets.proofs.Rows.{words-held}
 use Rattle.player.proofs.Answers.{fits}
 use Rattle.recorder.proofs.Steps.{compared-faulty, compared-misfit, compared-in, compares}
 use borrow.Author.Needs.{needs}
 use Rattle.recorder.proofs.compare_states.Statement.{statement}
 use Rattle.recorder.proofs.compare_states.Tie as tie
 
+slice-aggregate-accept-lent : tie.Need-slice-aggregate-accept-lent
+slice-aggregate-accept-lent c = search needs
+
+slice-aggregate-accept-lent-2 : tie.Need-slice-aggregate-accept-lent-2
+slice-aggregate-accept-lent-2 c = search needs
+
 accept-lent-requires : tie.Need-accept-lent-requires
-accept-lent-requires c κs = search needs
+accept-lent-requires c κs =
+    let start = c .before .before .before .before .before .before .before in
+    let g = start .args .g in
+    let fields = start .good .0 .1 .1 in (
+      refl,
+      refl,
+      words-held _ _ (omega (arith, sym (length-map (g .input .moves) _) ∙ fields .0 .1 .1 .1 .1 .0 .1 .0 .1)),
+      words-held _ _ (omega (arith, sym (length-map (g .output .moves) _) ∙ fields .1 .0 .1 .1 .1 .1 .0 .1 .0 .1)),
+    )
 
 enum-known-n : tie.Need-enum-known-n
 enum-known-n c = search needs
@@ -55,6 +72,8 @@ pub compare-states-spec : {M : Type 1} → statement M
 compare-states-spec =
     tie.close
     (tie.spec
+    slice-aggregate-accept-lent
+    slice-aggregate-accept-lent-2
     accept-lent-requires
     enum-known-n
     enum-told

@@ -3,6 +3,7 @@ use Rattle.finite.specs.Bounded.{count}
 use Rattle.bits.specs.Member.{has}
 use Rattle.sets.specs.Words.{capacity, bitsOf}
 use Rattle.sets.proofs.Rows.{is-some, is-none}
+use Rattle.board.specs.Board.{gameOn}
 use Rattle.region_rows.specs.Fill.{Filling, PastKept}
 use Rattle.region_rows.proofs.Order.{kept-none, kept-more, filling-done}
 use Rattle.region.proofs.Parts.{filling-first}
@@ -11,10 +12,10 @@ use Rattle.region.proofs.fill.Statement.{statement}
 use Rattle.region.proofs.fill.Tie as tie
 
 abbrev Inv-loop : tie.InvT-loop
-Inv-loop g ins outs l assumed first second s₀ x left₀ s left = Filling g x s (bitsOf (left .0)) × PastKept g s₀ s
+Inv-loop z b t s₀ x left₀ s left = Filling (gameOn z b) x s (bitsOf (left .0)) × PastKept (gameOn z b) s₀ s
 
 abbrev μ-loop : tie.MeasureT-loop
-μ-loop g ins outs l assumed first second s₀ x left₀ s left = count capacity (has (bitsOf (left .0)))
+μ-loop z b t s₀ x left₀ s left = count capacity (has (bitsOf (left .0)))
 
 below-requires : tie.Need-below-requires Inv-loop μ-loop
 below-requires c κs = c .before .pre .0 .input .most
@@ -30,7 +31,7 @@ fill-component-requires c κs =
     let e = c .before .before in
     let b = e .before in
     let p = b .before .before .before .pre in
-    (b .loop .inv .0, p .3, is-some _ (e .is-empty .ensures) (c .before .if1 .taken), p .4, p .5, p .6, p .7)
+    (b .loop .inv .0, p .3, is-some _ (e .is-empty .ensures) (c .before .if1 .taken))
 
 loop-less : tie.Need-loop-less Inv-loop μ-loop
 loop-less c = c .before .before .fill-component .ensures .2

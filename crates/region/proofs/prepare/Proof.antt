@@ -15,16 +15,16 @@ served-requires : tie.Need-served-requires
 served-requires c κs =
     let closed = c .before .before .before .before .before in
     let p = closed .before .before .before .pre in
-    (p .0, closed .close .ensures .0, p .4, p .5 .guaranteed)
+    (p .0, closed .close .ensures .0)
 
 fill-requires : tie.Need-fill-requires
 fill-requires c κs =
-    let served = c .before .before .before .before in
+    let served = c .before in
     let found = served .before .before in
     let closed = found .before .before .before .before in
     let p = closed .before .before .before .pre in
     let L = closed .close .ensures .0 in
-    (p .0, L, found .nontrivial-states .ensures, served .served .ensures, p .2, p .3, p .4, p .5 .assumed)
+    (p .0, L, found .nontrivial-states .ensures, served .served .ensures)
 
 same-length : tie.Need-same-length
 same-length c = search needs
@@ -32,7 +32,7 @@ same-length c = search needs
 returns : tie.Need-returns
 returns c =
     let filled = c .before .before in
-    let served = filled .before .before .before .before .before in
+    let served = filled .before .before in
     let found = served .before .before in
     let known = found .before .before in
     let closed = known .before .before in

@@ -12,13 +12,13 @@ use Rattle.region_dues.proofs.mark.Statement.{statement}
 use Rattle.region_dues.proofs.mark.Tie as tie
 
 abbrev Inv-loop : tie.InvT-loop
-Inv-loop l guaranteed from n c t₀ q₀ t q = (q ≤ n) × Marked l guaranteed from q (bitsOf (c .0)) (setsIn t₀) (setsIn t) × (length t ≡ length t₀)
+Inv-loop b from n c t₀ q₀ t q = (q ≤ n) × Marked b from q (bitsOf (c .0)) (setsIn t₀) (setsIn t) × (length t ≡ length t₀)
 
 abbrev μ-loop : tie.MeasureT-loop
-μ-loop l guaranteed from n c t₀ q₀ t q = n - q
+μ-loop b from n c t₀ q₀ t q = n - q
 
 loop-holds : tie.Need-loop-holds Inv-loop μ-loop
-loop-holds c = (omega arith, marked-start _ _ _ _ _, refl)
+loop-holds c = (omega arith, marked-start _ _ _ _, refl)
 
 row-requires : tie.Need-row-requires Inv-loop μ-loop
 row-requires c κs =
@@ -32,7 +32,7 @@ add-all-guaranteed c = omega (arith, c .before .before .before .before .before .
 all-guaranteed-requires : tie.Need-all-guaranteed-requires Inv-loop μ-loop
 all-guaranteed-requires c κs =
     let p = c .before .before .before .before .before .pre in
-    (omega (arith, p .0), p .1 .at _ (omega arith))
+    (omega (arith, p .0), p .1)
 
 union-if-requires : tie.Need-union-if-requires Inv-loop μ-loop
 union-if-requires c κs = search needs
@@ -60,7 +60,7 @@ loop-again c =
     let start = b .before .before in
     let room : b .loop .q < length (setsIn (start .args .t .now)) = omega (arith, start .pre .2, sets-long (start .args .t .now)) in (
       omega arith,
-      marked-next _ _ _ _ _ (b .loop .q) _ _ _ _ _ room (b .loop .inv .1) (rowed .row .ensures) (tested .all-guaranteed .ensures) (joined .union-if .ensures)
+      marked-next _ _ _ _ (b .loop .q) _ _ _ _ _ room (b .loop .inv .1) (rowed .row .ensures) (tested .all-guaranteed .ensures) (joined .union-if .ensures)
           (w .put .ensures),
       w .put .kept .0 ∙ b .loop .inv .2,
     )
@@ -71,7 +71,7 @@ same-length c = c .before .loop .inv .2
 returns : tie.Need-returns Inv-loop μ-loop
 returns c =
     let l = c .before .loop in
-    (marked-end _ _ _ _ _ (l .q) _ _ (omega arith) (omega arith) (l .inv .1), l .inv .2)
+    (marked-end _ _ _ _ (l .q) _ _ (omega arith) (omega arith) (l .inv .1), l .inv .2)
 
 pub mark-spec : {M : Type 1} → statement M
 mark-spec =

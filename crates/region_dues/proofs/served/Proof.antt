@@ -6,18 +6,19 @@ use Rattle.finite.specs.Bounded.{count}
 use Rattle.bits.specs.Member.{has}
 use Rattle.sets.specs.Words.{capacity, bitsOf}
 use Rattle.sets.proofs.Rows.{is-some, is-none}
+use Rattle.board.specs.Board.{gameOn}
 use Rattle.scratch.proofs.Areas.{area-closes, out-transitive}
-use Rattle.region_dues.proofs.Halves.{half-room, guaranteed-few, marked-both}
+use Rattle.region_dues.proofs.Halves.{half-room, few-sets, marked-both}
 use Rattle.region_dues.proofs.Meaning.{fits-few, Sorted, sorted-start, sorted-below, sorted-falls, sorted-next, sorted-end}
 use borrow.Author.Needs.{needs}
 use Rattle.region_dues.proofs.served.Statement.{statement}
 use Rattle.region_dues.proofs.served.Tie as tie
 
 abbrev Inv-loop : tie.InvT-loop
-Inv-loop g outs l guaranteed s k few more first₀ second₀ rest₀ first second rest = Sorted g (bitsOf rest) first second
+Inv-loop z b s k few more first₀ second₀ rest₀ first second rest = Sorted (gameOn z b) (bitsOf rest) first second
 
 abbrev μ-loop : tie.MeasureT-loop
-μ-loop g outs l guaranteed s k few more first₀ second₀ rest₀ first second rest = count capacity (has (bitsOf rest))
+μ-loop z b s k few more first₀ second₀ rest₀ first second rest = count capacity (has (bitsOf rest))
 
 first-four-requires : tie.Need-first-four-requires Inv-loop μ-loop
 first-four-requires c κs = c .before .pre .0 .few
@@ -39,7 +40,7 @@ lowest-requires c κs = search needs
 
 below : (c : tie.After-lowest Inv-loop μ-loop)
     → let b = c .before .before .before in
-    c .lowest .result < b .before .before .before .before .args .g .output .states
+    c .lowest .result < b .before .before .before .before .args .z .outputs
 below c =
     let e = c .before .before in
     let b = e .before in
@@ -47,8 +48,8 @@ below c =
     let some = is-some _ (e .is-empty .ensures) (c .before .if1 .taken) in
     sorted-below _ (p .0) _ (area-closes (p .1)) _ _ _ (b .loop .inv) some _ (c .lowest .ensures)
 
-row-of-requires : tie.Need-row-of-requires Inv-loop μ-loop
-row-of-requires c κs =
+out-row-requires : tie.Need-out-row-requires Inv-loop μ-loop
+out-row-requires c κs =
     let b = c .before .before .before in
     omega (arith, below c, b .before .before .before .before .pre .0 .output .most)
 
@@ -69,7 +70,7 @@ mark-requires c κs =
     let p = started .before .before .pre in
     let H = started .first-four .ensures in (
       omega (arith, H .most),
-      guaranteed-few (fits-few _ (p .0)) (p .3) _ _ (omega (arith, H .most)),
+      few-sets _ _ (fits-few _ (p .0)),
       half-room _ _ (b .loop .inv .whole .first) (H .most),
     )
 
@@ -85,7 +86,7 @@ mark-requires-2 c κs =
     let p = started .before .before .pre in
     let H = started .first-four .ensures in (
       omega (arith, H .others),
-      guaranteed-few (fits-few _ (p .0)) (p .3) _ _ (omega (arith, H .others)),
+      few-sets _ _ (fits-few _ (p .0)),
       half-room _ _ (b .loop .inv .whole .second) (omega (arith, H .others)),
     )
 
@@ -117,7 +118,7 @@ loop-again c =
     let S = b .loop .inv in
     sorted-next _ (p .0) _ (area-closes (p .1)) _ _ _ S some _ (l .lowest .ensures) _ (o .out-component .ensures) _ (c .difference .ensures) _ _
     (record { first = marked .mark .ensures .1 ∙ S .whole .first; second = M .1 ∙ S .whole .second })
-    (marked-both (fits-few _ (p .0)) (p .2) (started .first-four .ensures) (p .3) _ _ _ _ _ (marked .mark .ensures .0) (M .0))
+    (marked-both _ _ (fits-few _ (p .0)) (started .first-four .ensures) _ _ _ _ _ (marked .mark .ensures .0) (M .0))
 
 returns : tie.Need-returns Inv-loop μ-loop
 returns c =
@@ -136,7 +137,7 @@ served-spec =
     loop-holds
     is-empty-requires
     lowest-requires
-    row-of-requires
+    out-row-requires
     out-component-requires
     slice-aggregate-mark
     mark-requires

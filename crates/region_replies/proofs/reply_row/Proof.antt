@@ -1,9 +1,8 @@
 -- `reply_row`. The outer loop: x are the outputs that answer the next inputs, but those of `rest`. The inner one looks at those that are left, and leaves the
 -- outer one where none answers.
 use Prim.Native.Nat.{ℕ, _<_}
-use mathlib.Core.Path.{_≡_, sym, _∙_, ap, ap₂}
+use mathlib.Core.Path.{_≡_, sym, _∙_, ap}
 use mathlib.Core.Bool.{true}
-use mathlib.Core.List.{List}
 use lib.Dec.{ltb}
 use lib.ListN.{getD}
 use borrow.Author.Tests.{ltb-true}
@@ -12,6 +11,7 @@ use Rattle.bits.specs.Member.{has, pack, setsMeet}
 use Rattle.bits.proofs.Visit.{cut-in}
 use Rattle.sets.specs.Words.{capacity, bitsOf, setsIn}
 use Rattle.sets.proofs.Rows.{is-some, is-none, none, some}
+use Rattle.board.specs.Board.{outRows}
 use Rattle.scratch.specs.Stored.{WonKept}
 use Rattle.scratch.proofs.Narrow.{Narrowed, narrowed-start, narrowed-members, narrowed-below, narrowed-falls, narrowed-next, narrowed-stop, narrowed-end}
 use Rattle.region_replies.specs.Replies.{replyWith, replyAt, answersAt, Held}
@@ -26,22 +26,22 @@ all-below : (b m : ℕ) → ((s : ℕ) → has b s ≡ ltb s m) → (d : ℕ) �
 all-below b m f d h = ltb-true d m (sym (f d) ∙ h)
 
 abbrev Inv-loop : tie.InvT-loop
-Inv-loop ins outs s c n m k x₀ rest j won left₀ x left = Looking (setsIn outs) (bitsOf (won .0)) (bitsOf left₀) (bitsOf x₀) (bitsOf left) (bitsOf x)
+Inv-loop b s c n m k x₀ rest j won left₀ x left = Looking (setsIn (outRows b)) (bitsOf (won .0)) (bitsOf left₀) (bitsOf x₀) (bitsOf left) (bitsOf x)
 
 abbrev μ-loop : tie.MeasureT-loop
-μ-loop ins outs s c n m k x₀ rest j won left₀ x left = count capacity (has (bitsOf left))
+μ-loop b s c n m k x₀ rest j won left₀ x left = count capacity (has (bitsOf left))
 
 abbrev Inv-next : tie.InvT-next
-Inv-next ins outs s c n m k₀ last₀ x₀ rest₀ k last x rest =
+Inv-next b s c n m k₀ last₀ x₀ rest₀ k last x rest =
     WonKept (setsIn s) n m k
-    × Narrowed (answered (setsIn s) n (bitsOf (c .0)) (setsIn outs) m) n m (bitsOf rest₀) (bitsOf x₀) (bitsOf rest) (bitsOf x)
-    × Held (setsIn outs) (bitsOf (last .0)) (bitsOf x)
+    × Narrowed (answered (setsIn s) n (bitsOf (c .0)) (setsIn (outRows b)) m) n m (bitsOf rest₀) (bitsOf x₀) (bitsOf rest) (bitsOf x)
+    × Held (setsIn (outRows b)) (bitsOf (last .0)) (bitsOf x)
 
 abbrev μ-next : tie.MeasureT-next
-μ-next ins outs s c n m k₀ last₀ x₀ rest₀ k last x rest = count capacity (has (bitsOf rest))
+μ-next b s c n m k₀ last₀ x₀ rest₀ k last x rest = count capacity (has (bitsOf rest))
 
-row-of-requires : tie.Need-row-of-requires Inv-loop μ-loop Inv-next μ-next
-row-of-requires c κs = omega arith
+in-row-requires : tie.Need-in-row-requires Inv-loop μ-loop Inv-next μ-next
+in-row-requires c κs = omega arith
 
 won-first-requires : tie.Need-won-first-requires Inv-loop μ-loop Inv-next μ-next
 won-first-requires c κs = search needs
@@ -112,8 +112,8 @@ looked-small a o h =
     let outputs = all-below _ _ (first .below .ensures) in
     omega (arith, p .1, narrowed-members _ _ _ _ _ (λ j i. within j i .0) (p .0) outputs _ _ (b .next .inv .1) o (u .unknown .ensures .0 o h))
 
-row-of-requires-2 : tie.Need-row-of-requires-2 Inv-loop μ-loop Inv-next μ-next
-row-of-requires-2 c κs =
+out-row-requires : tie.Need-out-row-requires Inv-loop μ-loop Inv-next μ-next
+out-row-requires c κs =
     let i = c .before .before in
     let a = i .before in
     looking-below _ _ _ _ _ _ (looked-small a) (a .loop .inv) (some _ (i .is-empty2 .ensures) (c .before .if2 .left)) _ (c .lowest2 .ensures)
@@ -151,7 +151,7 @@ loop-again c =
     let u = a .before .before .before in
     let y = bitsOf (u .before .before .won-next .result .row .0) in
     looking-next _ _ _ _ _ _ (looked-small a) (a .loop .inv) (some _ (i .is-empty2 .ensures) (l .before .if2 .left)) _ (l .lowest2 .ensures) _
-    (c .without-lowest .ensures) _ _ (w .meets .ensures ∙ ap (λ (v : ℕ). setsMeet capacity v y) (r .row-of2 .ensures .1)) (c .before .insert-if .ensures)
+    (c .without-lowest .ensures) _ _ (w .meets .ensures ∙ ap (λ (v : ℕ). setsMeet capacity v y) (r .out-row .ensures)) (c .before .insert-if .ensures)
 
 without-lowest-requires-2 : tie.Need-without-lowest-requires-2 Inv-loop μ-loop Inv-next μ-next
 without-lowest-requires-2 c κs =
@@ -193,7 +193,7 @@ next-again c =
     let within = cut-in _ _ _ _ (cut .before .below2 .ensures) (cut .intersection .ensures) in
     let outputs = all-below _ _ (first .below .ensures) in
     let ne = is-some _ (e .is-empty .ensures) (l .before .if1 .taken) in
-    let rows = setsIn (first .before .before .before .before .before .args .outs .now) in
+    let rows = setsIn (outRows (first .before .before .before .before .before .args .b .now)) in
     let stay = looking-end rows _ _ _ _ _ _ (a .loop .inv) (none _ (i .is-empty2 .ensures) (t .if2 .taken)) (u .unknown .ensures .0)
     (u .unknown .ensures .1 rows (b .next .inv .2)) (a .before .difference .ensures) in (
       w .won-next .ensures .0,
@@ -212,12 +212,12 @@ returns c =
     let within = cut-in _ _ _ _ (cut .before .below2 .ensures) (cut .intersection .ensures) in
     let outputs = all-below _ _ (first .below .ensures) in
     let a = first .before .before .before .before .before .args in
-    let n = a .g .input .states in
-    let m = a .g .output .states in
+    let n = a .z .inputs in
+    let m = a .z .outputs in
     let ended = narrowed-end _ _ _ _ _ (λ j h. within j h .0) (p .0) outputs _ _ (b .next .inv .1) (is-none _ (c .before .is-empty .ensures) (c .if1 .left)) in
     answered-all _ _ _ _ _ _ (p .1) _ _ _ _ (cut .before .below2 .ensures) (cut .intersection .ensures) (first .below .ensures) ended
-    ∙ ap₂ (λ (y : ℕ) (l : List ℕ). pack m (replyWith (setsIn (a .s .now)) n (bitsOf (a .c .0)) y (setsIn l) m))
-    (first .before .before .before .row-of .ensures .1 ∙ ap (λ (l : List ℕ). getD (setsIn l) (a .i .0) 0) (p .4)) (p .5)
+    ∙ ap (λ (y : ℕ). pack m (replyWith (setsIn (a .s .now)) n (bitsOf (a .c .0)) y (setsIn (outRows (a .b .now))) m))
+    (first .before .before .before .in-row .ensures)
 
 returns-2 : tie.Need-returns-2 Inv-loop μ-loop Inv-next μ-next
 unfolding replyAt answered answersAt
@@ -237,16 +237,15 @@ returns-2 c =
     let outputs = all-below _ _ (first .below .ensures) in
     let ne = is-some _ (e .is-empty .ensures) (l .before .if1 .taken) in
     let g = first .before .before .before .before .before .args in
-    let rows = setsIn (g .outs .now) in
-    let n = g .g .input .states in
-    let m = g .g .output .states in
+    let rows = setsIn (outRows (g .b .now)) in
+    let n = g .z .inputs in
+    let m = g .z .outputs in
     let stay = looking-end rows _ _ _ _ _ _ (a .loop .inv) (none _ (i .is-empty2 .ensures) (t .if2 .taken)) (u .unknown .ensures .0)
     (u .unknown .ensures .1 rows (b .next .inv .2)) (a .before .difference .ensures) in
     let stopped = narrowed-stop _ _ _ _ _ (λ j h. within j h .0) (p .0) outputs _ _ (b .next .inv .1) ne _ (l .lowest .ensures) _ _
     (λ o h. ap (λ (v : ℕ). setsMeet capacity (getD rows o 0) v) (w .won-next .ensures .1)) stay (none _ (c .before .is-empty3 .ensures) (c .if3 .taken)) in
     answered-all _ _ _ _ _ _ (p .1) _ _ _ _ (cut .before .below2 .ensures) (cut .intersection .ensures) (first .below .ensures) stopped
-    ∙ ap₂ (λ (y : ℕ) (v : List ℕ). pack m (replyWith (setsIn (g .s .now)) n (bitsOf (g .c .0)) y (setsIn v) m))
-    (first .before .before .before .row-of .ensures .1 ∙ ap (λ (v : List ℕ). getD (setsIn v) (g .i .0) 0) (p .4)) (p .5)
+    ∙ ap (λ (y : ℕ). pack m (replyWith (setsIn (g .s .now)) n (bitsOf (g .c .0)) y rows m)) (first .before .before .before .in-row .ensures)
 
 pub reply-row-spec : {M : Type 1} → statement M
 reply-row-spec =
@@ -256,7 +255,7 @@ reply-row-spec =
     μ-loop
     Inv-next
     μ-next
-    row-of-requires
+    in-row-requires
     won-first-requires
     empty-requires
     below-requires
@@ -272,7 +271,7 @@ reply-row-spec =
     is-empty-requires-2
     is-empty-requires-3
     lowest-requires-2
-    row-of-requires-2
+    out-row-requires
     meets-requires
     insert-if-requires
     without-lowest-requires

@@ -3,6 +3,7 @@ use Rattle.finite.specs.Bounded.{count}
 use Rattle.bits.specs.Member.{has}
 use Rattle.sets.specs.Words.{capacity, bitsOf}
 use Rattle.sets.proofs.Rows.{none, some}
+use Rattle.board.specs.Board.{gameOn}
 use Rattle.region_rows.specs.Fill.{Descending}
 use Rattle.region_rows.proofs.Down.{first-below, descending-start, descending-end}
 use native.Mathlib.Omega.{arith}
@@ -11,10 +12,10 @@ use Rattle.region_rows.proofs.bottom.Statement.{statement}
 use Rattle.region_rows.proofs.bottom.Tie as tie
 
 abbrev Inv-loop : tie.InvT-loop
-Inv-loop g s left first d₀ d = Descending g (bitsOf (left .0)) d
+Inv-loop z b s left first d₀ d = Descending (gameOn z b) (bitsOf (left .0)) d
 
 abbrev μ-loop : tie.MeasureT-loop
-μ-loop g s left first d₀ d = count capacity (has (bitsOf (d .rest .0)))
+μ-loop z b s left first d₀ d = count capacity (has (bitsOf (d .rest .0)))
 
 lowest-requires : tie.Need-lowest-requires Inv-loop μ-loop
 lowest-requires c κs = search needs

@@ -11,8 +11,8 @@ bottom-requires c κs =
     let p = c .before .before .pre in
     (p .0 .fits .input .most, p .0 .laid, p .0 .inside, p .2)
 
-row-of-requires : tie.Need-row-of-requires
-row-of-requires c κs =
+in-row-requires : tie.Need-in-row-requires
+in-row-requires c κs =
     let b = c .before in
     let P = b .before .before .before .pre .0 in
     omega (arith, bottom-below P (b .bottom .ensures), P .fits .input .most)
@@ -29,7 +29,7 @@ stored-row-requires c κs =
     let b = a .before .before .before in
     let p = b .before .before .before .pre in
     let R = filling-ready (p .0) (b .bottom .ensures) in
-    (R, p .1, row-component R _ (a .in-component .ensures), p .3, p .4, p .5, p .6)
+    (R, p .1, row-component R _ (a .in-component .ensures))
 
 put-rows-requires : tie.Need-put-rows-requires
 put-rows-requires c κs =
@@ -64,7 +64,7 @@ fill-component-spec =
     tie.close
     (tie.spec
     bottom-requires
-    row-of-requires
+    in-row-requires
     in-component-requires
     stored-row-requires
     put-rows-requires

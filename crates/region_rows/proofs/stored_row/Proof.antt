@@ -12,10 +12,10 @@ member-requires c κs = search needs
 accepted-requires : tie.Need-accepted-requires
 accepted-requires c κs =
     let p = c .before .before .before .before .pre in
-    (fits-few _ (p .0 .fits), p .5, p .6, p .1 .whole)
+    (fits-few _ (p .0 .fits), p .1 .whole)
 
-leaving-requires : tie.Need-leaving-requires
-leaving-requires c κs = search needs
+entered-requires : tie.Need-entered-requires
+entered-requires c κs = search needs
 
 home-row-requires : tie.Need-home-row-requires
 home-row-requires c κs =
@@ -26,8 +26,8 @@ home-row-requires c κs =
       R .fits .input .most,
       R .fits .output .most,
       R .laid .long,
-      entered-below R _ _ _ _ _ (p .1) (p .2) (c .leaving .ensures) (a .accepted .ensures),
-      among-below R _ _ _ _ _ (p .1) (p .2) (c .leaving .ensures) (a .accepted .ensures),
+      entered-below R _ _ _ _ _ (p .1) (p .2) (c .entered .ensures) (a .accepted .ensures),
+      among-below R _ _ _ _ _ (p .1) (p .2) (c .entered .ensures) (a .accepted .ensures),
     )
 
 returns : tie.Need-returns
@@ -36,7 +36,7 @@ returns c =
     let a = l .before in
     let tested = a .before .before in
     let p = tested .before .before .before .pre in
-    row-homes (p .0) _ _ _ _ _ (p .1) (p .2) (l .leaving .ensures) (a .accepted .ensures) _ (sym (tested .member .ensures) ∙ a .before .if1 .taken)
+    row-homes (p .0) _ _ _ _ _ (p .1) (p .2) (l .entered .ensures) (a .accepted .ensures) _ (sym (tested .member .ensures) ∙ a .before .if1 .taken)
     (c .home-row .ensures)
 
 reply-row-requires : tie.Need-reply-row-requires
@@ -53,7 +53,7 @@ stored-row-spec =
     (tie.spec
     member-requires
     accepted-requires
-    leaving-requires
+    entered-requires
     home-row-requires
     returns
     reply-row-requires

@@ -13,18 +13,18 @@ mul-close : tie.Need-mul-close
 mul-close c = search needs
 
 sub-close : tie.Need-sub-close
-sub-close c = omega (arith, words-long (c .before .before .args .s .now) (c .before .before .args .at) (omega arith))
+sub-close c = omega (arith, words-long (c .before .before .before .args .s .now) (c .before .before .before .args .at) (omega arith))
 
 part-close-start : tie.Need-part-close-start
-part-close-start c = omega (arith, words-long (c .before .before .args .s .now) (c .before .before .args .at) (omega arith))
+part-close-start c = omega (arith, words-long (c .before .before .before .args .s .now) (c .before .before .before .args .at) (omega arith))
 
 part-close-end : tie.Need-part-close-end
 part-close-end c = search needs
 
 close-requires : tie.Need-close-requires
 close-requires c κs =
-    let a = c .before .before .before .args in
-    (omega arith, part-count (a .at) _ _ (a .s .now) (c .before .words .ensures) (omega arith))
+    let a = c .before .before .before .before .args in
+    (omega arith, part-count (a .at) _ _ (a .s .now) (c .before .words .ensures) (omega arith), omega arith)
 
 same-length : tie.Need-same-length
 same-length c = search needs

@@ -19,22 +19,22 @@ mul-nontrivial : tie.Need-mul-nontrivial
 mul-nontrivial c = search needs
 
 sub-nontrivial : tie.Need-sub-nontrivial
-sub-nontrivial c = omega (arith, words-long (c .before .before .args .s .now) (c .before .before .args .at) (omega arith))
+sub-nontrivial c = omega (arith, words-long (c .before .before .before .args .s .now) (c .before .before .before .args .at) (omega arith))
 
 part-nontrivial-start : tie.Need-part-nontrivial-start
-part-nontrivial-start c = omega (arith, words-long (c .before .before .args .s .now) (c .before .before .args .at) (omega arith))
+part-nontrivial-start c = omega (arith, words-long (c .before .before .before .args .s .now) (c .before .before .before .args .at) (omega arith))
 
 part-nontrivial-end : tie.Need-part-nontrivial-end
 part-nontrivial-end c = search needs
 
 nontrivial-requires : tie.Need-nontrivial-requires
 nontrivial-requires c κs =
-    let a = c .before .before .before .args in
-    (omega arith, part-count (a .at) _ _ (a .s .now) (c .before .words .ensures) (omega arith))
+    let a = c .before .before .before .before .args in
+    (omega arith, part-count (a .at) _ _ (a .s .now) (c .before .words .ensures) (omega arith), omega arith)
 
 returns : tie.Need-returns
 returns c =
-    let a = c .before .before .before .before .args in
+    let a = c .before .before .before .before .before .args in
     let part = part-sets (a .at) _ (a .s .now) (c .before .before .words .ensures) in
     c .nontrivial .ensures ∙ ap (λ (l : List ℕ). pack (a .k) (nontrivialAt (setsIn (a .moves .now)) l (a .k))) part
 

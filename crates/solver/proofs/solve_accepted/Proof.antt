@@ -61,7 +61,6 @@ write-winner-requires c κs =
       p .1,
       p .2,
       p .3,
-      p .4,
     )
 
 same-length : tie.Need-same-length

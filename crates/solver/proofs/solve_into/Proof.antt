@@ -1,12 +1,30 @@
 -- `solve_into`.
 use Rattle.solver.proofs.Verdicts.{solve-faulty}
-use mathlib.Core.Path.{refl, sym, _∙_}
+use mathlib.Core.Path.{refl, sym, _∙_, ap}
+use Rattle.game.specs.declared.Game.{Game}
+use Rattle.board.proofs.Laying.{own-sizes}
 use borrow.Author.Needs.{needs}
 use Rattle.solver.proofs.solve_into.Statement.{statement}
 use Rattle.solver.proofs.solve_into.Tie as tie
 
+lay-requires : tie.Need-lay-requires
+lay-requires c κs = refl
+
+in-rows-requires : tie.Need-in-rows-requires
+in-rows-requires c κs = search needs
+
+out-rows-requires : tie.Need-out-rows-requires
+out-rows-requires c κs = search needs
+
 accept-lent-requires : tie.Need-accept-lent-requires
-accept-lent-requires c κs = search needs
+accept-lent-requires c κs =
+    let i = c .before .before in
+    let same = i .before .before .lay .ensures in (
+      i .in-rows .ensures .0 ∙ ap (λ (y : Game). y .input .moves) same,
+      c .out-rows .ensures .0 ∙ ap (λ (y : Game). y .output .moves) same,
+      i .in-rows .ensures .1,
+      c .out-rows .ensures .1,
+    )
 
 enum-known-accepted : tie.Need-enum-known-accepted
 enum-known-accepted c = search needs
@@ -25,11 +43,14 @@ outline-of-requires c κs =
 
 solve-accepted-requires : tie.Need-solve-accepted-requires
 solve-accepted-requires c κs =
-    let r = c .before .before .before .before in
-    let o = r .before .before .before in
+    let o = c .before .before .before .before .before .before in
     let l = o .before .before .before in
-    let t = l .before in
-    (sym (t .before .before .accept-lent .ensures .answer) ∙ t .enum-told .given .1, o .outline-of .ensures, refl, refl, l .list-of .ensures .0)
+    let t = l .before in (
+      sym (t .before .before .accept-lent .ensures .answer) ∙ t .enum-told .given .1,
+      o .outline-of .ensures,
+      l .list-of .ensures .0,
+      own-sizes _ _ _ (t .before .before .before .before .before .before .before .lay .ensures),
+    )
 
 returns : tie.Need-returns
 returns c = solve-faulty _ _ _ _ _ (sym (c .before .before .before .accept-lent .ensures .answer) ∙ c .before .accepted .given .1)
@@ -50,6 +71,9 @@ pub solve-into-spec : {M : Type 1} → statement M
 solve-into-spec =
     tie.close
     (tie.spec
+    lay-requires
+    in-rows-requires
+    out-rows-requires
     accept-lent-requires
     enum-known-accepted
     enum-told

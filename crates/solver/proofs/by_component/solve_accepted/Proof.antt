@@ -69,7 +69,6 @@ write-winner-requires c κs =
       q .1,
       q .2,
       q .3,
-      q .4,
     )
 
 same-length : tie.Need-same-length

@@ -1,0 +1,3 @@
+-- Laws of boards.
+pub mod Read
+pub mod Laying

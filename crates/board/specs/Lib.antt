@@ -1,0 +1,2 @@
+-- A game laid out in words.
+pub mod Board
