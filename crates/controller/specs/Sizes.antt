@@ -11,12 +11,12 @@ use Rattle.play.specs.Play.{separatedOf}
 use Rattle.compact.specs.Rank.{leads, componentCount}
 use Rattle.controller_rows.specs.declared.Size.{Size}
 
--- "Controller: one start entry an input, then rows by output, counter, input"
+-- "Controller: one start entry an input, then rows by output, counter, input" (SPEC 7.2)
 pub record ByInput (z : Size) : Type 0 where
   pub base : z .base ≡ z .inputs
   pub width : z .width ≡ z .inputs
 
--- "starts as before, then the component's rank for each input, then rows by output, counter and component"
+-- "starts as before, then the component's rank for each input, then rows by output, counter and component" (SPEC 11.1)
 pub record ByComponent (g : Game) (z : Size) : Type 0 where
   pub base : z .base ≡ z .inputs + z .inputs
   pub width : z .width ≡ componentCount (separatedOf g)

@@ -3,6 +3,7 @@ use controller_rows::Home;
 use controller_rows::Size;
 use controller_rows::leaders;
 use controller_rows::rows;
+use controller_rows::sorts;
 use game::Game;
 use game::InSet;
 use game::InState;
@@ -171,7 +172,7 @@ pub fn approach(
         let inside = nearest(s, n, g.output.states, around, homes);
         let component = w.component;
         let over = leaders::columns_of(z, group);
-        table_walks::approach(outs, room, y, inside.0, component.0, over);
+        sorts::approach(outs, room, y, inside, component, over);
         rest = sets::difference(rest, group.0);
     }
 }

@@ -5,6 +5,7 @@ use game::InSet;
 use game::InState;
 use game::OutSet;
 use game::OutState;
+use table_layout::Other;
 ghost use mathlib.Core.Path.{_≡_};
 ghost use Prim.Native.Nat.{ℕ, _+_, _≤_, _<_};
 ghost use lib.ListN.{length};
@@ -50,13 +51,13 @@ fn plain_row(
     o: OutState,
     moves: OutSet,
     j: InState,
-    b: usize,
+    b: Other,
 )
-    requires { ⌜ Table z (length (now room)) × (o .0 < z .outputs) × (j .0 < z .inputs) × (b < z .width)
+    requires { ⌜ Table z (length (now room)) × (o .0 < z .outputs) × (j .0 < z .inputs) × (b .0 < z .width)
         × (scratchSets (z .inputs) (z .outputs) ≤ setCount (now s)) ⌝ }
     ensures { λ r. ⌜ ((c : ℕ) → has (bitsOf (x .0)) (j .0)
         ≡ settlesAt c (j .0) (rowAt (setsIn (now (s .entry))) (z .inputs) (j .0)) (outReachAt (setsIn (now (s .entry))) (z .inputs) (o .0))
-        → PlainRow z (setsIn (now (s .entry))) c (o .0) (bitsOf (moves .0)) (j .0) b (now (room .entry)) (now (room .exit)))
+        → PlainRow z (setsIn (now (s .entry))) c (o .0) (bitsOf (moves .0)) (j .0) (b .0) (now (room .entry)) (now (room .exit)))
         × (length (now (room .exit)) ≡ length (now (room .entry))) ⌝ }
 {
     if sets::member(x.0, j.0) {
@@ -83,7 +84,7 @@ fn plain(room: &mut [u16], s: &[u64], z: Size, c: InSet, firsts: InSet, o: OutSt
     let mut j: usize = 0;
     while j < z.inputs {
         if sets::member(leaders.0, j) {
-            plain_row(room, s, z, x, o, moves, InState(j), b);
+            plain_row(room, s, z, x, o, moves, InState(j), Other(b));
             b += 1;
         }
         j += 1;

@@ -34,7 +34,7 @@ use Rattle.table_layout.specs.Rows.{mostStarts, WroteColumn}
 use Rattle.controller_rows.specs.declared.Size.{Size}
 use Rattle.controller_rows.specs.Each.{Each}
 
--- "Entries are 16 bits: next state + 64 × next counter; none is 65,535.", 128 × by M-105
+-- "Entries are 16 bits: next state + 64 × next counter; none is 65,535.", 128 × by M-105 (SPEC 7.1)
 unfoldable pub first : ℕ → ℕ
 first p = elim (ltb p capacity) [ true ↦ entry (gives 0 p) | false ↦ entry none ]
 
@@ -48,14 +48,14 @@ pub record Stays (p f m : ℕ) : Type 0 where
 abbrev pub leading : Size → ℕ → Bool
 leading z = has (bitsOf (z .leaders .0))
 
--- "then rows by output, counter and component", "Components rank from 0 by smallest state."
+-- "then rows by output, counter and component", "Components rank from 0 by smallest state." (SPEC 11.1)
 unfoldable pub columnOf : Size → ℕ → ℕ
 columnOf z j = count j (leading z)
 
 unfoldable pub inputOf : Size → ℕ → ℕ
 inputOf z b = least (z .inputs) (λ j. leading z j && eqb (columnOf z j) b)
 
--- "one start entry an input, then rows by output, counter, input, the last running fastest"
+-- "one start entry an input, then rows by output, counter, input, the last running fastest" (SPEC 7.2)
 unfoldable pub layoutOf : Size → Layout
 layoutOf z = record { base = z .base; states = z .outputs; counters = z .counters; width = z .width }
 

@@ -2,6 +2,7 @@
 use crate::Size;
 use game::InSet;
 use sets::Set;
+use table_layout::OtherSet;
 ghost use mathlib.Core.Path.{_≡_};
 ghost use mathlib.Core.Bool.{_&&_};
 ghost use Prim.Native.Nat.{ℕ, _≤_};
@@ -31,16 +32,16 @@ fn among(z: Size, x: InSet) -> Set
 }
 
 // The same. Where every input leads its column is its own number, and where all leaders belong to x no column is asked for.
-pub fn columns_of(z: Size, x: InSet) -> Set
+pub fn columns_of(z: Size, x: InSet) -> OtherSet
     requires { ⌜ (z .inputs ≤ capacity) × (z .width ≡ count (z .inputs) (leading z)) ⌝ }
-    ensures { λ r. ⌜ ((b : ℕ) → has (bitsOf r) b ≡ (ltb b (z .width) && has (bitsOf (x .0)) (inputOf z b))) ⌝ }
+    ensures { λ r. ⌜ ((b : ℕ) → has (bitsOf (r .0)) b ≡ (ltb b (z .width) && has (bitsOf (x .0)) (inputOf z b))) ⌝ }
 {
     if z.width == z.inputs {
-        return sets::intersection(x.0, sets::below(z.inputs));
+        return OtherSet(sets::intersection(x.0, sets::below(z.inputs)));
     }
     let leaders = z.leaders;
     if sets::is_subset(leaders.0, x.0) {
-        return sets::below(z.width);
+        return OtherSet(sets::below(z.width));
     }
-    among(z, x)
+    OtherSet(among(z, x))
 }

@@ -6,6 +6,7 @@ use table_counters::CounterSet;
 
 pub mod leaders; // columns of the rows
 pub mod rows; // rows of the table, for all counters at once
+pub mod sorts; // the table engine's calls, with outputs and columns
 
 // The size of a table, with the set of its counters, and its rows: where they begin, and how many columns they have. Each of the leaders has a column
 // of its own, in order. Where rows are by input every input leads, where they are by component its smallest input.

@@ -2,6 +2,8 @@
 use crate::Size;
 use game::OutState;
 use table_layout::Layout;
+use table_layout::Other;
+use table_layout::Own;
 ghost use mathlib.Core.Path.{_≡_};
 ghost use Prim.Native.Nat.{_<_};
 ghost use lib.ListN.{length};
@@ -42,10 +44,10 @@ pub fn layout_of(z: Size) -> Layout
 }
 
 // The rows of output o and column b: state p, the counter stays.
-pub fn write_row(room: &mut [u16], z: Size, o: OutState, b: usize, p: usize)
-    requires { ⌜ Table z (length (now room)) × (o .0 < z .outputs) × (b < z .width) ⌝ }
-    ensures { λ r. ⌜ Row z (o .0) b p (now (room .entry)) (now (room .exit)) ⌝ }
+pub fn write_row(room: &mut [u16], z: Size, o: OutState, b: Other, p: usize)
+    requires { ⌜ Table z (length (now room)) × (o .0 < z .outputs) × (b .0 < z .width) ⌝ }
+    ensures { λ r. ⌜ Row z (o .0) (b .0) p (now (room .entry)) (now (room .exit)) ⌝ }
 {
     let e = staying(p);
-    table_layout::write_column(room, layout_of(z), o.0, b, z.all, e.first, e.more);
+    table_layout::write_column(room, layout_of(z), Own(o.0), b, z.all, e.first, e.more);
 }

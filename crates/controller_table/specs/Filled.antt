@@ -38,7 +38,7 @@ use Rattle.controller_rows.specs.declared.Size.{Size}
 use Rattle.controller_rows.specs.declared.Home.{Home}
 use Rattle.controller_rows.specs.Writes.{leading, inputOf, layoutOf}
 
--- "rows by output, counter, input, the last running fastest", "rows by output, counter and component"
+-- "rows by output, counter, input, the last running fastest", "rows by output, counter and component" (SPEC 7.2, 11.1)
 pub record Sheet (S : Separated) (y : Layout) (input : ℕ → ℕ) (E : List ℕ) : Type 0 where
   pub outputs : y .states ≡ S .output .states
   pub counters : y .counters ≡ controllerCounters S

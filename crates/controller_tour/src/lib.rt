@@ -3,6 +3,7 @@ use controller_rows::Home;
 use controller_rows::Size;
 use controller_rows::leaders;
 use controller_rows::rows;
+use controller_rows::sorts;
 use game::Game;
 use table_counters::CounterSet;
 use table_sizes::Outline;
@@ -39,7 +40,7 @@ fn seek_all(
     let mut r: usize = 0;
     while r < g.k {
         let t = table_sizes::guarantees_of(g, given, l, r, n);
-        table_tours::aim_some(outs, room, y, component.0, over, q, t);
+        sorts::aim_some(outs, room, y, component, over, q, t);
         n += t.count;
         r += 1;
     }
@@ -63,7 +64,7 @@ pub fn tour(
     let q = table_sizes::guarantees_met(g, given, l, component);
     if table_counters::is_empty(q) {
         let over = leaders::columns_of(z, w.inputs);
-        table_tours::stay(outs, room, rows::layout_of(z), component.0, over);
+        sorts::stay(outs, room, rows::layout_of(z), component, over);
         return;
     }
     seek_all(g, given, l, outs, room, z, w, q);

@@ -1,6 +1,7 @@
 // The rows of a nontrivial component with a way out to a position that is not won: at its gates, the states with a move there, the lowest such move; else
 // the way to a gate. The ways are searched once for outputs that follow one another and have the same gates.
 use environment_rows::rows;
+use environment_rows::sorts;
 use game::Game;
 use game::InSet;
 use game::InState;
@@ -77,7 +78,7 @@ fn join(
             outputs: OutSet(more),
         };
     }
-    table_walks::approach(moves, room, z, c.0, old.0, over.0);
+    sorts::approach(moves, room, z, c, old, over);
     let alone = sets::insert(sets::empty(), o.0);
     Group {
         gates,
@@ -127,7 +128,7 @@ fn escape(
     if sets::is_empty(gates.0) {
         return Turn { tours: true, group };
     }
-    table_walks::enter(moves, room, z, gates.0, out.0, o.0);
+    sorts::enter(moves, room, z, gates, out, o);
     let next = join(moves, room, z, c, group, gates, o);
     Turn {
         tours: false,
@@ -152,7 +153,7 @@ pub fn escapes<'a>(
     ensures { λ r. ⌜ Escaped g (first .0) (now (room .entry)) (now (room .exit)) (bitsOf (r .0)) ⌝ }
 {
     let z = rows::layout_of(g.input.states, counters, g.output.states);
-    let leaving = InSet(graph_components::leaving(g.input, ins, c.0));
+    let leaving = InSet(graph_components::leaving(ins, g.input.states, c.0));
     let part = Part {
         states: c,
         leaving,
@@ -182,6 +183,6 @@ pub fn escapes<'a>(
     }
     let gates = group.gates;
     let outputs = group.outputs;
-    table_walks::approach(ins, room, z, c.0, gates.0, outputs.0);
+    sorts::approach(ins, room, z, c, gates, outputs);
     OutSet(touring)
 }

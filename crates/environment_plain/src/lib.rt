@@ -1,5 +1,6 @@
 // The start, and the rows that need no walk: those of won positions, of trivial components, and of outputs without a move.
 use environment_rows::rows;
+use environment_rows::sorts;
 use game::Game;
 use game::InSet;
 use game::InState;
@@ -88,11 +89,11 @@ fn none_row(g: Game, s: &[u64], inner: InSet, counters: usize, i: InState, room:
 {
     let won = scratch::won_outputs(s, g.input.states, g.output.states, inner, i);
     let z = rows::layout_of(g.input.states, counters, g.output.states);
-    table_layout::write(
+    sorts::write(
         room,
         z,
-        i.0,
-        won.0,
+        i,
+        won,
         table_counters::below(counters),
         table_entries::NONE,
         0,
@@ -127,7 +128,7 @@ fn push_rows(
     ensures { λ r. ⌜ EnvironmentFilled g (λ a h b. (has (bitsOf (which .0)) a ≡ true) × (b ≡ o .0)) (now (room .entry)) (now (room .exit)) ⌝ }
 {
     let z = rows::layout_of(g.input.states, counters, g.output.states);
-    table_walks::enter(ins, room, z, which.0, refused.0, o.0);
+    sorts::enter(ins, room, z, which, refused, o);
 }
 
 // The inputs whose rows with an output need no walk, `moves` being its moves: those of `trivials`, and all n where there is none.

@@ -11,6 +11,7 @@ ghost use Rattle.scratch.specs.Scratch.{scratchSets};
 ghost use Rattle.environment_table.specs.Pressing.{lostIn};
 
 pub mod rows; // where its rows lie
+pub mod sorts; // the table engine's calls, with inputs and outputs
 
 // The members of x that make no won position with o. All of x are below n.
 pub fn lost(s: &[u64], n: usize, inner: InSet, x: InSet, o: OutState) -> InSet

@@ -39,7 +39,7 @@ pub record Ahead (g : Game) (i x : ℕ) : Type 0 where
 pub record Leaves (g : Game) (c x : ℕ) : Type 0 where
   pub entered : (t : ℕ) → has x t ≡ (enters (setsIn (g .input .moves)) c (g .input .states) t && not (has c t))
 
--- "Some move leaves the component to a j with (j, o) not won": such a j is entered
+-- "Some move leaves the component to a j with (j, o) not won": such a j is entered (SPEC 6.6)
 unfoldable pub lostIn : List ℕ → ℕ → ℕ → ℕ → ℕ → ℕ → Bool
 lostIn l n inner x o j = has x j && lostAt l n inner o j
 
@@ -50,7 +50,7 @@ exitsAt moves c out k = has c k && setsMeet capacity (getD moves k 0) out
 unfoldable pub pressedAt : Game → ℕ → ℕ → Bool
 pressedAt g k o = not (region (separatedOf g) k o) && not (stuck (separatedOf g .output) o)
 
--- "Some move leaves the component to a j with (j, o) not won: .."; "Otherwise tour the input sets inside the component"
+-- "Some move leaves the component to a j with (j, o) not won: .."; "Otherwise tour the input sets inside the component" (SPEC 6.6, 6.7)
 unfoldable pub leavingAt : Game → ℕ → ℕ → Bool
 leavingAt g k o = pressedAt g k o && escapes (separatedOf g) k o
 

@@ -43,12 +43,12 @@ unansweredAt l n m inner from set = least n (openAt l n m inner from set)
 unfoldable pub lostAt : List ℕ → ℕ → ℕ → ℕ → ℕ → Bool
 lostAt l n inner o j = not (wonAt l n inner j o)
 
--- "i's component not stayable"
+-- "i's component not stayable" (SPEC 6.5)
 pub record TrivialInputs (n inner x : ℕ) : Type 0 where
   pub each : (i : ℕ) → has x i ≡ (ltb i n && not (has inner i))
 
 -- "i's component not stayable"; "Where the output is stuck and the input is not" (M-102): such a row is the lowest move to an input that no move of o
--- answers
+-- answers (SPEC 6.4, 6.5)
 unfoldable pub unwalked : Game → ℕ → ℕ → Bool
 unwalked g i o = not (nontrivial (separatedOf g .input) i) || stuck (separatedOf g .output) o
 

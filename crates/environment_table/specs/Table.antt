@@ -31,7 +31,7 @@ use Rattle.table_layout.specs.declared.Layout.{Layout}
 unfoldable pub entriesOf : Game → List ℕ
 entriesOf g = environmentEntries (separatedOf g)
 
--- "Panel: one start entry, then rows by input, counter, output"
+-- "Panel: one start entry, then rows by input, counter, output" (SPEC 7.3)
 unfoldable pub environmentPlace : ℕ → ℕ → ℕ → ℕ → ℕ → ℕ
 environmentPlace M O i h o = 1 + ((i * M + h) * O + o)
 
@@ -51,7 +51,7 @@ pub record Roomy (g : Game) (M n : ℕ) : Type 0 where
   pub outputs : g .output .states ≤ capacity
   pub room : length (entriesOf g) ≤ n
 
--- "Panel: one start entry, then rows by input, counter, output"
+-- "Panel: one start entry, then rows by input, counter, output" (SPEC 7.3)
 pub record EnvironmentLayout (N M O : ℕ) (z : Layout) : Type 0 where
   pub base : z .base ≡ 1
   pub states : z .states ≡ N
@@ -63,7 +63,7 @@ pub record EnvironmentFilled (g : Game) (P : ℕ → ℕ → ℕ → Type 0) (l 
   pub rows : (i h o : ℕ) → i < g .input .states → h < environmentCounters (separatedOf g) → o < g .output .states → P i h o
       → Right (entriesOf g) m (environmentPlace (environmentCounters (separatedOf g)) (g .output .states) i h o)
 
--- "i's component not stayable: the lowest move to a j for which no output move from o makes a won position; h stays."
+-- "i's component not stayable: the lowest move to a j for which no output move from o makes a won position; h stays." (SPEC 6.5)
 pub record Pushes (g : Game) (which o refused : ℕ) : Type 0 where
   pub output : o < g .output .states
   pub below : (i : ℕ) → has which i ≡ true → i < g .input .states

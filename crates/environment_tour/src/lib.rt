@@ -1,5 +1,6 @@
 // Tours of a nontrivial component past the assumptions, for the outputs with which it has no way out.
 use environment_rows::rows;
+use environment_rows::sorts;
 use game::Game;
 use game::InSet;
 use game::OutSet;
@@ -38,7 +39,7 @@ fn aims(
     let mut r: usize = 0;
     while r < g.k {
         let t = table_sizes::assumptions_of(g, given, l, r, n);
-        table_tours::aim_some(ins, room, z, c.0, over.0, q, t);
+        sorts::aim_some(ins, room, z, c, over, q, t);
         n += t.count;
         r += 1;
     }
@@ -63,7 +64,7 @@ pub fn tours(
     let q = table_sizes::assumptions_met(g, given, l, c);
     if table_counters::is_empty(q) {
         let z = rows::layout_of(g.input.states, counters, g.output.states);
-        table_tours::stay(ins, room, z, c.0, over.0);
+        sorts::stay(ins, room, z, c, over);
         return;
     }
     aims(g, given, l, ins, counters, c, q, over, room);

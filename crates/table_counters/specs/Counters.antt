@@ -12,7 +12,7 @@ abbrev pub counterCapacity : ℕ
 counterCapacity = 64
 
 -- "G is the number of output sets over all requirements"; "the controller's counter g runs below max(1, G). H and h are the same for input sets": of eight
--- requirements with four sets each
+-- requirements with four sets each (SPEC 5.1)
 abbrev pub mostCounters : ℕ
 mostCounters = 32
 

@@ -20,11 +20,11 @@ pub record Goals (q m g : ℕ) : Type 0 where
   pub few : m ≤ counterCapacity
   pub below : g < m
 
--- "the aim is the first output set from g on, going round, that meets home"
+-- "the aim is the first output set from g on, going round, that meets home" (SPEC 5.6)
 unfoldable pub firstFrom : ℕ → ℕ → ℕ → ℕ
 firstFrom m q g = around m g (least m (λ k. has q (around m g k)))
 
--- "The counter becomes aim + 1, going round, if the move lands in the aim, else aim."
+-- "The counter becomes aim + 1, going round, if the move lands in the aim, else aim." (SPEC 5.6)
 unfoldable pub passedCounter : ℕ → Bool → ℕ → ℕ
 passedCounter m b a = elim b [ true ↦ around m a 1 | false ↦ a ]
 

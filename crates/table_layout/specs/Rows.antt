@@ -21,11 +21,11 @@ use Rattle.table_counters.specs.Counters.{mostCounters}
 use Rattle.table_filling.specs.Grows.{Right, Grows}
 use Rattle.table_layout.specs.declared.Layout.{Layout}
 
--- "rows by output, counter, input, the last running fastest", "rows by input, counter, output"
+-- "rows by output, counter, input, the last running fastest", "rows by input, counter, output" (SPEC 7.2, 7.3)
 unfoldable pub place : Layout → ℕ → ℕ → ℕ → ℕ
 place z a h b = z .base + ((a * z .counters + h) * z .width + b)
 
--- "one start entry an input", "one start entry": at most one for each state of the two graphs
+-- "one start entry an input", "one start entry": at most one for each state of the two graphs (SPEC 7.2, 7.3)
 abbrev pub mostStarts : ℕ
 mostStarts = capacity + capacity
 

@@ -123,7 +123,7 @@ stay-small moves n c s row r M le i e f k =
 
 -- what the move of a state writes where the counter stays
 pub record Staying (z : Layout) (over : ℕ) (w : Stamp) : Type 0 where
-  pub columns : bitsOf (w .over) ≡ over
+  pub columns : bitsOf (w .over .0) ≡ over
   pub which : (h : ℕ) → has (w .which .0) h ≡ ltb h (z .counters)
   pub hit : w .hit ≡ 0
   pub miss : w .miss ≡ 0
@@ -139,7 +139,7 @@ staying-stamps z over w S = record {
 
 staying-first : (z : Layout) (over : ℕ) (w : Stamp) (m : ℕ) → Staying z over w → firstEntry w m ≡ entry (gives 0 m)
 staying-first z over w m S =
-    elim (decide (has (bitsOf (w .goal)) m)) [
+    elim (decide (has (bitsOf (w .goal .0)) m)) [
       | inl e ↦ sym (first-hit w m e) ∙ ap (λ (k : ℕ). entry (gives k m)) (S .hit)
       | inr e ↦ sym (first-miss w m e) ∙ ap (λ (k : ℕ). entry (gives k m)) (S .miss)
     ]
@@ -182,7 +182,7 @@ module _ (moves : List ℕ) (z : Layout) (c over : ℕ) (w : Stamp) where
       left-falls = less-falls left s v less capacity left-small (lowest-in capacity left s small ne e)
 
       pub left-next : (row r : ℕ) {k : ℕ} {m′ m″ : List ℕ} → s < z .states → row ≡ getD moves s 0 → ((t : ℕ) → has r t ≡ (has row t && has c t))
-          → k ≡ prefer capacity s (has r) → Wrote z s (bitsOf (w .over)) (w .which .0) (firstEntry w k) (w .more) m m′ → m″ ≡ m′ → Left moves z c over w v l m″
+          → k ≡ prefer capacity s (has r) → Wrote z s (bitsOf (w .over .0)) (w .which .0) (firstEntry w k) (w .more) m m′ → m″ ≡ m′ → Left moves z c over w v l m″
       left-next row r {k} {m′} {m″} ls is in′ choice W q = rw q (record {
         staying = L .staying;
         bound = L .bound;
@@ -201,7 +201,7 @@ module _ (moves : List ℕ) (z : Layout) (c over : ℕ) (w : Stamp) where
       })
         where
           pick : (t h b : ℕ) → h < z .counters → (has c t ≡ true) × (has v t ≡ false) × (has over b ≡ true) → Dec (t ≡ s)
-              → ((has c t ≡ true) × (has left t ≡ false) × (has over b ≡ true)) ⊎ ((t ≡ s) × (has (w .which .0) h ≡ true) × (has (bitsOf (w .over)) b ≡ true))
+              → ((has c t ≡ true) × (has left t ≡ false) × (has over b ≡ true)) ⊎ ((t ≡ s) × (has (w .which .0) h ≡ true) × (has (bitsOf (w .over .0)) b ≡ true))
           pick t h b lh g (yes j) = inr (j, L .staying .which h ∙ lt-ltb h (z .counters) lh, rw (L .staying .columns) (g .2))
           pick t h b lh g (no j) = inl (g .0, sym (less-other left s v less t j) ∙ g .1, g .2)
 
@@ -215,9 +215,9 @@ module _ (moves : List ℕ) (z : Layout) (c over : ℕ) (w : Stamp) where
 
 -- what the move of a state towards goal a writes
 pub record Towards (z : Layout) (over q x a : ℕ) (w : Stamp) : Type 0 where
-  pub columns : bitsOf (w .over) ≡ over
+  pub columns : bitsOf (w .over .0) ≡ over
   pub which : w .which .0 ≡ pack (z .counters) (aimedAt (z .counters) q a)
-  pub goal : bitsOf (w .goal) ≡ x
+  pub goal : bitsOf (w .goal .0) ≡ x
   pub hit : w .hit ≡ passedCounter (z .counters) true a
   pub miss : w .miss ≡ a
   pub more : w .more ≡ 0

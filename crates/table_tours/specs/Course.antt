@@ -46,12 +46,12 @@ pub record Moving (moves : List ℕ) (n c : ℕ) : Type 0 where
   pub members : within c n ≡ true
   pub move : (s : ℕ) → has c s ≡ true → bitAnd (getD moves s 0) c ≢ 0
 
--- "With no aim: the lowest move inside home; g stays." "A move to the present state now goes first, then the lowest." (M-101)
+-- "With no aim: the lowest move inside home; g stays." "A move to the present state now goes first, then the lowest." (M-101) (SPEC 5.7)
 pub record Stayed (moves : List ℕ) (z : Layout) (c over : ℕ) (l m : List ℕ) : Type 0 where
   pub long : length m ≡ length l
   pub fills : (p : Course z moves c over 0) → Filled z (p .entries) (λ s h b. (has c s ≡ true) × (has over b ≡ true)) l m
 
--- "Take the move inside home with the shortest way to the aim inside home"
+-- "Take the move inside home with the shortest way to the aim inside home" (SPEC 5.6)
 pub record Aimed (moves : List ℕ) (z : Layout) (c over q x a : ℕ) (l m : List ℕ) : Type 0 where
   pub long : length m ≡ length l
   pub fills : (p : Course z moves c over q) → has x ≡ goalAt (p .sets) a

@@ -34,17 +34,17 @@ use Rattle.graph_ways.proofs.Levels.{Levels, levels-chosen, levels-leads, level
 
 -- the entry of a move
 
-pub first-hit : (w : Stamp) (p : ℕ) → has (bitsOf (w .goal)) p ≡ true → entry (gives (w .hit) p) ≡ firstEntry w p
+pub first-hit : (w : Stamp) (p : ℕ) → has (bitsOf (w .goal .0)) p ≡ true → entry (gives (w .hit) p) ≡ firstEntry w p
 unfolding firstEntry
 first-hit w p e = rw (e, firstEntry)
 
-pub first-miss : (w : Stamp) (p : ℕ) → has (bitsOf (w .goal)) p ≡ false → entry (gives (w .miss) p) ≡ firstEntry w p
+pub first-miss : (w : Stamp) (p : ℕ) → has (bitsOf (w .goal .0)) p ≡ false → entry (gives (w .miss) p) ≡ firstEntry w p
 unfolding firstEntry
 first-miss w p e = rw (e, firstEntry)
 
 first-small : (z : Layout) (w : Stamp) (p : ℕ) → Stamps z w → p < capacity → firstEntry w p < stride * mostCounters
 first-small z w p S b =
-    elim (decide (has (bitsOf (w .goal)) p)) [
+    elim (decide (has (bitsOf (w .goal .0)) p)) [
       | inl e ↦ omega (arith, first-hit w p e, entry-small (w .hit) p b (S .hit))
       | inr e ↦ omega (arith, first-miss w p e, entry-small (w .miss) p b (S .miss))
     ]
@@ -78,7 +78,7 @@ pub record Walked (rows : List ℕ) (z : Layout) (c target own : ℕ) (w : Stamp
   pub part : (s : ℕ) → has left s ≡ true → has own s ≡ true
   pub long : length y ≡ length x
   pub fills : (f : ℕ → ℕ → ℕ → Answer) (E : List ℕ) → Rows z f E → Leading rows z c target own w f
-      → Filled z E (λ s h b. (has own s ≡ true) × (has left s ≡ false) × (has (w .which .0) h ≡ true) × (has (bitsOf (w .over)) b ≡ true)) x y
+      → Filled z E (λ s h b. (has own s ≡ true) × (has left s ≡ false) × (has (w .which .0) h ≡ true) × (has (bitsOf (w .over .0)) b ≡ true)) x y
 
 module _ (rows : List ℕ) (z : Layout) (c target own : ℕ) (w : Stamp) where
   pub walked-start : (x : List ℕ) → Levels rows (z .states) c target target own → Walked rows z c target own w target own x x

@@ -46,7 +46,7 @@ module _ (z : Layout) (over : ℕ) (w : Stamp) (S : Staying z over w) where
 
   staying-first : (p : ℕ) → firstEntry w p ≡ entry (gives 0 p)
   staying-first p =
-      elim (decide (has (bitsOf (w .goal)) p)) [
+      elim (decide (has (bitsOf (w .goal .0)) p)) [
         | inl e ↦ sym (first-hit w p e) ∙ ap (λ (k : ℕ). entry (gives k p)) (S .hit)
         | inr e ↦ sym (first-miss w p e) ∙ ap (λ (k : ℕ). entry (gives k p)) (S .miss)
       ]
@@ -61,7 +61,7 @@ module _ (z : Layout) (over : ℕ) (w : Stamp) (S : Staying z over w) where
   counter-below : (h : ℕ) → has (w .which .0) h ≡ true → h < z .counters
   counter-below h e = ltb-true h (z .counters) (sym (S .which h) ∙ e)
 
-  in-over : (b : ℕ) → has (bitsOf (w .over)) b ≡ has over b
+  in-over : (b : ℕ) → has (bitsOf (w .over .0)) b ≡ has over b
   in-over b = ap (λ (k : ℕ). has k b) (S .columns)
 
 -- the lowest move into a set

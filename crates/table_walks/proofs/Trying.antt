@@ -114,7 +114,7 @@ module _ (rows : List ℕ) (z : Layout) (c left l : ℕ) (w : Stamp) where
               ]
 
       pub trying-hit : {m p r′ r″ : ℕ} {y′ y″ : List ℕ} → m ≡ choices rows c left l s → (m ≡ 0 → ⊥) → p ≡ prefer capacity s (has m)
-          → ((t : ℕ) → has r′ t ≡ (has r t || eqb t s)) → Wrote z s (bitsOf (w .over)) (w .which .0) (firstEntry w p) (w .more) y y′ → y″ ≡ y′ → r″ ≡ r′
+          → ((t : ℕ) → has r′ t ≡ (has r t || eqb t s)) → Wrote z s (bitsOf (w .over .0)) (w .which .0) (firstEntry w p) (w .more) y y′ → y″ ≡ y′ → r″ ≡ r′
           → Trying rows z c left l w x y″ r″ v
       trying-hit {m} {p} {r′} {r″} {y′} {y″} q some choice more W f g = rw (f, g) (record {
         bound = T .bound;
@@ -146,7 +146,7 @@ module _ (rows : List ℕ) (z : Layout) (c left l : ℕ) (w : Stamp) where
 
           fills : (k : ℕ → ℕ → ℕ → Answer) (E : List ℕ) → Rows z k E → Fair rows z c left l w k
               → Filled z E
-              (λ t h b. (has v t ≡ false) × (movesInto rows c left l t ≡ true) × (has (w .which .0) h ≡ true) × (has (bitsOf (w .over)) b ≡ true)) x y′
+              (λ t h b. (has v t ≡ false) × (movesInto rows c left l t ≡ true) × (has (w .which .0) h ≡ true) × (has (bitsOf (w .over .0)) b ≡ true)) x y′
           fills k E R F =
               filled-join z k E R (T .fills k E R F)
               (W .fills k E R

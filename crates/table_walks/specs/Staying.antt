@@ -24,9 +24,9 @@ use Rattle.table_layout.specs.declared.Layout.{Layout}
 use Rattle.table_layout.specs.Rows.{Rows, Filled}
 use Rattle.table_walks.specs.declared.Stamp.{Stamp}
 
--- "g stays", "h stays"
+-- "g stays", "h stays" (SPEC 5.5, 6.6)
 pub record Staying (z : Layout) (over : ℕ) (w : Stamp) : Type 0 where
-  pub columns : bitsOf (w .over) ≡ over
+  pub columns : bitsOf (w .over .0) ≡ over
   pub which : (h : ℕ) → has (w .which .0) h ≡ ltb h (z .counters)
   pub hit : w .hit ≡ 0
   pub miss : w .miss ≡ 0
@@ -36,7 +36,7 @@ pub record Entering (rows : List ℕ) (n own target : ℕ) : Type 0 where
   pub below : (s : ℕ) → has own s ≡ true → s < n
   pub move : (s : ℕ) → has own s ≡ true → setsMeet capacity (getD rows s 0) target ≡ true
 
--- "the lowest move to ..; h stays", "there take the lowest such j; h stays"
+-- "the lowest move to ..; h stays", "there take the lowest such j; h stays" (SPEC 6.5, 6.6)
 pub record Stepping (rows : List ℕ) (z : Layout) (own target b : ℕ) (f : ℕ → ℕ → ℕ → Answer) : Type 0 where
   pub row : (s h : ℕ) → has own s ≡ true → h < z .counters → f s h b ≡ gives h (least capacity (both (getD rows s 0) target))
 
@@ -45,7 +45,7 @@ pub record Enters (rows : List ℕ) (z : Layout) (own target b : ℕ) (x y : Lis
   pub fills : (f : ℕ → ℕ → ℕ → Answer) (E : List ℕ) → Rows z f E → Stepping rows z own target b f
       → Filled z E (λ s h c. (has own s ≡ true) × (c ≡ b)) x y
 
--- "the move with the shortest way to home, the lowest on ties; g stays", "go the shortest way inside the component"
+-- "the move with the shortest way to home, the lowest on ties; g stays", "go the shortest way inside the component" (SPEC 5.5, 6.6)
 pub record Heading (rows : List ℕ) (z : Layout) (c target over : ℕ) (f : ℕ → ℕ → ℕ → Answer) : Type 0 where
   pub row : (s h b : ℕ) → s < z .states → has c s ≡ true → has target s ≡ false → Leads (z .states) (kept rows c) (has target) s
       → h < z .counters → b < z .width → has over b ≡ true → f s h b ≡ gives h (toward (z .states) (kept rows c) (has target) s)

@@ -23,4 +23,4 @@ pub record Trying (rows : List ℕ) (z : Layout) (c left l : ℕ) (w : Stamp) (x
   pub only : (t : ℕ) → has r t ≡ true → (t < z .states) × (movesInto rows c left l t ≡ true)
   pub long : length y ≡ length x
   pub fills : (f : ℕ → ℕ → ℕ → Answer) (E : List ℕ) → Rows z f E → Fair rows z c left l w f
-      → Filled z E (λ s h b. (has rest s ≡ false) × (movesInto rows c left l s ≡ true) × (has (w .which .0) h ≡ true) × (has (bitsOf (w .over)) b ≡ true)) x y
+      → Filled z E (λ s h b. (has rest s ≡ false) × (movesInto rows c left l s ≡ true) × (has (w .which .0) h ≡ true) × (has (bitsOf (w .over .0)) b ≡ true)) x y

@@ -27,7 +27,7 @@ use Rattle.table_layout.specs.Rows.{Rows, Filled}
 use Rattle.table_walks.specs.declared.Stamp.{Stamp}
 
 unfoldable pub firstEntry : Stamp → ℕ → ℕ
-firstEntry w p = elim (has (bitsOf (w .goal)) p) [ true ↦ entry (gives (w .hit) p) | false ↦ entry (gives (w .miss) p) ]
+firstEntry w p = elim (has (bitsOf (w .goal .0)) p) [ true ↦ entry (gives (w .hit) p) | false ↦ entry (gives (w .miss) p) ]
 
 pub record Stamps (z : Layout) (w : Stamp) : Type 0 where
   pub counters : (h : ℕ) → has (w .which .0) h ≡ true → h < z .counters
@@ -36,28 +36,28 @@ pub record Stamps (z : Layout) (w : Stamp) : Type 0 where
   pub more : w .more ≤ stride
 
 pub record Fair (rows : List ℕ) (z : Layout) (c left l : ℕ) (w : Stamp) (f : ℕ → ℕ → ℕ → Answer) : Type 0 where
-  pub entry : (s h b : ℕ) → s < z .states → movesInto rows c left l s ≡ true → has (w .which .0) h ≡ true → b < z .width → has (bitsOf (w .over)) b ≡ true
+  pub entry : (s h b : ℕ) → s < z .states → movesInto rows c left l s ≡ true → has (w .which .0) h ≡ true → b < z .width → has (bitsOf (w .over .0)) b ≡ true
       → firstEntry w (prefer capacity s (has (choices rows c left l s))) + w .more * h ≡ entry (f s h b)
 
 pub record Settled (rows : List ℕ) (z : Layout) (c left l : ℕ) (w : Stamp) (x y : List ℕ) (r : ℕ) : Type 0 where
   pub states : r ≡ pack (z .states) (movesInto rows c left l)
   pub long : length y ≡ length x
   pub fills : (f : ℕ → ℕ → ℕ → Answer) (E : List ℕ) → Rows z f E → Fair rows z c left l w f
-      → Filled z E (λ s h b. (movesInto rows c left l s ≡ true) × (has (w .which .0) h ≡ true) × (has (bitsOf (w .over)) b ≡ true)) x y
+      → Filled z E (λ s h b. (movesInto rows c left l s ≡ true) × (has (w .which .0) h ≡ true) × (has (bitsOf (w .over .0)) b ≡ true)) x y
 
 pub record Ground (n c target own : ℕ) : Type 0 where
   pub members : within target n ≡ true
   pub inside : (s : ℕ) → has own s ≡ true → has c s ≡ true
   pub cover : (s : ℕ) → has c s ≡ true → has own s ≡ false → has target s ≡ true
 
--- "the move with the shortest way"
+-- "the move with the shortest way" (SPEC 5.5)
 pub record Leading (rows : List ℕ) (z : Layout) (c target own : ℕ) (w : Stamp) (f : ℕ → ℕ → ℕ → Answer) : Type 0 where
   pub entry : (s h b : ℕ) → s < z .states → has own s ≡ true → Leads (z .states) (kept rows c) (has target) s
-      → has (w .which .0) h ≡ true → b < z .width → has (bitsOf (w .over)) b ≡ true
+      → has (w .which .0) h ≡ true → b < z .width → has (bitsOf (w .over .0)) b ≡ true
       → firstEntry w (toward (z .states) (kept rows c) (has target) s) + w .more * h ≡ entry (f s h b)
 
 pub record Walks (rows : List ℕ) (z : Layout) (c target own : ℕ) (w : Stamp) (x y : List ℕ) : Type 0 where
   pub long : length y ≡ length x
   pub fills : (f : ℕ → ℕ → ℕ → Answer) (E : List ℕ) → Rows z f E → Leading rows z c target own w f
       → Filled z E
-      (λ s h b. (has own s ≡ true) × Leads (z .states) (kept rows c) (has target) s × (has (w .which .0) h ≡ true) × (has (bitsOf (w .over)) b ≡ true)) x y
+      (λ s h b. (has own s ≡ true) × Leads (z .states) (kept rows c) (has target) s × (has (w .which .0) h ≡ true) × (has (bitsOf (w .over .0)) b ≡ true)) x y

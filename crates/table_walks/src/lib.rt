@@ -3,6 +3,10 @@
 use sets::Set;
 use table_counters::CounterSet;
 use table_layout::Layout;
+use table_layout::Other;
+use table_layout::OtherSet;
+use table_layout::Own;
+use table_layout::OwnSet;
 ghost use mathlib.Core.Path.{_≡_};
 ghost use mathlib.Core.Bool.{true};
 ghost use Prim.Native.Nat.{_≤_, _<_};
@@ -18,9 +22,9 @@ ghost use Rattle.table_walks.specs.Staying.{Staying, Entering, Enters, A
 // What a state's move to p writes, for the columns of `over` and the counters of `which`: p with the counter `hit` where p is in the set `goal`, else with
 // the counter `miss`, and `more` × counter. So a counter stays where more is the step between counters and the others are 0.
 pub struct Stamp {
-    pub over: Set,
+    pub over: OtherSet,
     pub which: CounterSet,
-    pub goal: Set,
+    pub goal: OwnSet,
     pub hit: usize,
     pub miss: usize,
     pub more: u16,
@@ -32,18 +36,18 @@ fn first_entry(w: Stamp, p: usize) -> u16
     ensures { λ r. ⌜ r ≡ firstEntry w p ⌝ }
 {
     let goal = w.goal;
-    if sets::member(goal, p) {
+    if sets::member(goal.0, p) {
         return table_entries::pack(p, w.hit);
     }
     table_entries::pack(p, w.miss)
 }
 
 // The rows of state s, whose move is p.
-pub fn write_move(room: &mut [u16], z: Layout, s: usize, p: usize, w: Stamp)
-    requires { ⌜ LayoutFits z (length (now room)) × (s < z .states) × (p < capacity) × Stamps z w ⌝ }
-    ensures { λ r. ⌜ Wrote z s (bitsOf (w .over)) (w .which .0) (firstEntry w p) (w .more) (now (room .entry)) (now (room .exit)) ⌝ }
+pub fn write_move(room: &mut [u16], z: Layout, s: Own, p: Own, w: Stamp)
+    requires { ⌜ LayoutFits z (length (now room)) × (s .0 < z .states) × (p .0 < capacity) × Stamps z w ⌝ }
+    ensures { λ r. ⌜ Wrote z (s .0) (bitsOf (w .over .0)) (w .which .0) (firstEntry w (p .0)) (w .more) (now (room .entry)) (now (room .exit)) ⌝ }
 {
-    let first = first_entry(w, p);
+    let first = first_entry(w, p.0);
     let over = w.over;
     let which = w.which;
     table_layout::write(room, z, s, over, which, first, w.more);
@@ -78,7 +82,7 @@ fn settle_low(
         let s = sets::lowest_low(rest);
         let open = graph_ways::choices(rows, inside, left, reached, s);
         if !sets::is_empty(open) {
-            write_move(room, z, s, graph_ways::prefer(s, open), w);
+            write_move(room, z, Own(s), Own(graph_ways::prefer(s, open)), w);
             settled = sets::insert(settled, s);
         }
         rest = graph_ways::pass_over(rows, near, sets::without_lowest_low(rest));
@@ -107,7 +111,7 @@ fn settle(
         let t = sets::lowest(rest);
         let moves = graph_ways::choices(rows, inside, left, reached, t);
         if !sets::is_empty(moves) {
-            write_move(room, z, t, graph_ways::prefer(t, moves), w);
+            write_move(room, z, Own(t), Own(graph_ways::prefer(t, moves)), w);
             settled = sets::insert(settled, t);
         }
         rest = sets::without_lowest(rest);
@@ -121,18 +125,18 @@ pub fn walk(
     rows: &[u64; sets::ROW_WORDS],
     room: &mut [u16],
     z: Layout,
-    inside: Set,
-    target: Set,
-    own: Set,
+    inside: OwnSet,
+    target: OwnSet,
+    own: OwnSet,
     w: Stamp,
 )
-    requires { ⌜ LayoutFits z (length (now room)) × Stamps z w × Ground (z .states) (bitsOf inside) (bitsOf target) (bitsOf own) ⌝ }
-    ensures { λ r. ⌜ Walks (setsIn (now (rows .entry))) z (bitsOf inside) (bitsOf target) (bitsOf own) w (now (room .entry)) (now (room .exit)) ⌝ }
+    requires { ⌜ LayoutFits z (length (now room)) × Stamps z w × Ground (z .states) (bitsOf (inside .0)) (bitsOf (target .0)) (bitsOf (own .0)) ⌝ }
+    ensures { λ r. ⌜ Walks (setsIn (now (rows .entry))) z (bitsOf (inside .0)) (bitsOf (target .0)) (bitsOf (own .0)) w (now (room .entry)) (now (room .exit)) ⌝ }
 {
-    let mut reached = target;
-    let mut left = own;
+    let mut reached = target.0;
+    let mut left = own.0;
     while !sets::is_empty(left) {
-        let settled = settle(rows, room, z, inside, left, reached, w);
+        let settled = settle(rows, room, z, inside.0, left, reached, w);
         if sets::is_empty(settled) {
             return;
         }
@@ -142,14 +146,14 @@ pub fn walk(
 }
 
 // What a state's move writes for the columns of `over` where the counter stays, for all counters.
-fn counter_stays(z: Layout, over: Set) -> Stamp
+fn counter_stays(z: Layout, over: OtherSet) -> Stamp
     requires { ⌜ z .counters ≤ mostCounters ⌝ }
-    ensures { λ r. ⌜ Staying z (bitsOf over) r ⌝ }
+    ensures { λ r. ⌜ Staying z (bitsOf (over .0)) r ⌝ }
 {
     Stamp {
         over,
         which: table_counters::below(z.counters),
-        goal: sets::empty(),
+        goal: OwnSet(sets::empty()),
         hit: 0,
         miss: 0,
         more: table_entries::STEP,
@@ -161,20 +165,20 @@ pub fn enter(
     rows: &[u64; sets::ROW_WORDS],
     room: &mut [u16],
     z: Layout,
-    own: Set,
-    target: Set,
-    b: usize,
+    own: OwnSet,
+    target: OwnSet,
+    b: Other,
 )
-    requires { ⌜ LayoutFits z (length (now room)) × Entering (setsIn (now rows)) (z .states) (bitsOf own) (bitsOf target) × (b < z .width) ⌝ }
-    ensures { λ r. ⌜ Enters (setsIn (now (rows .entry))) z (bitsOf own) (bitsOf target) b (now (room .entry)) (now (room .exit)) ⌝ }
+    requires { ⌜ LayoutFits z (length (now room)) × Entering (setsIn (now rows)) (z .states) (bitsOf (own .0)) (bitsOf (target .0)) × (b .0 < z .width) ⌝ }
+    ensures { λ r. ⌜ Enters (setsIn (now (rows .entry))) z (bitsOf (own .0)) (bitsOf (target .0)) (b .0) (now (room .entry)) (now (room .exit)) ⌝ }
 {
     let all = table_counters::below(z.counters);
-    let mut rest = own;
+    let mut rest = own.0;
     while !sets::is_empty(rest) {
         let s = sets::lowest(rest);
-        let open = sets::intersection(sets::row_of(rows, s), target);
+        let open = sets::intersection(sets::row_of(rows, s), target.0);
         let first = table_entries::pack(sets::lowest(open), 0);
-        table_layout::write_column(room, z, s, b, all, first, table_entries::STEP);
+        table_layout::write_column(room, z, Own(s), b, all, first, table_entries::STEP);
         rest = sets::without_lowest(rest);
     }
 }
@@ -185,12 +189,12 @@ pub fn approach(
     rows: &[u64; sets::ROW_WORDS],
     room: &mut [u16],
     z: Layout,
-    inside: Set,
-    target: Set,
-    over: Set,
+    inside: OwnSet,
+    target: OwnSet,
+    over: OtherSet,
 )
-    requires { ⌜ LayoutFits z (length (now room)) × (within (bitsOf target) (z .states) ≡ true) ⌝ }
-    ensures { λ r. ⌜ Approaches (setsIn (now (rows .entry))) z (bitsOf inside) (bitsOf target) (bitsOf over) (now (room .entry)) (now (room .exit)) ⌝ }
+    requires { ⌜ LayoutFits z (length (now room)) × (within (bitsOf (target .0)) (z .states) ≡ true) ⌝ }
+    ensures { λ r. ⌜ Approaches (setsIn (now (rows .entry))) z (bitsOf (inside .0)) (bitsOf (target .0)) (bitsOf (over .0)) (now (room .entry)) (now (room .exit)) ⌝ }
 {
     let w = counter_stays(z, over);
     walk(
@@ -199,7 +203,7 @@ pub fn approach(
         z,
         inside,
         target,
-        sets::difference(inside, target),
+        OwnSet(sets::difference(inside.0, target.0)),
         w,
     );
 }

@@ -18,7 +18,7 @@ use Rattle.controller_tour.proofs.seek_all.Tie as tie
 
 abbrev Inv-loop : tie.InvT-loop
 Inv-loop g given l outs room₀ q y component over n₀ r₀ room n r =
-    (r ≤ g .k) × (g .k ≤ 8) × Upto guaranteeSide g r n × Toured g y (bitsOf (component .0)) (bitsOf over) (q .0) n room₀ room
+    (r ≤ g .k) × (g .k ≤ 8) × Upto guaranteeSide g r n × Toured g y (bitsOf (component .0)) (bitsOf (over .0)) (q .0) n room₀ room
 
 abbrev μ-loop : tie.MeasureT-loop
 μ-loop g given l outs room₀ q y component over n₀ r₀ room n r = g .k - r

@@ -8,6 +8,7 @@ use lib.ListN.{length, getD}
 use Rattle.bits.specs.Member.{pack}
 use Rattle.bits.proofs.Collect.{collect-none, collect-next, collect-end}
 use Rattle.sets.specs.Words.{bitsOf, setsIn}
+use Rattle.sets.proofs.Rows.{words-held}
 use Rattle.table_layout.proofs.Places.{fits-same}
 use Rattle.environment_table.specs.Table.{EnvironmentFilled}
 use Rattle.environment_table.specs.Pressing.{touringAt}
@@ -32,7 +33,7 @@ pressed : (c : tie.After-escape-arg Inv-loop μ-loop)
     → let t = c .before .before in
     let l = t .before .before in
     let y = l .before .before .before .before in
-    let v = y .before in
+    let v = y .before .before in
     let a = v .before .before .before .args in
     EscapeFits (v .layout-of .result) (setsIn (a .ins .now)) (a .s .now) (bitsOf (a .inner .0)) (bitsOf (a .c .0)) (bitsOf (y .leaving .result))
     (a .first .0) (l .loop .o) (bitsOf (c .before .row-of .result)) (length (l .loop .room))
@@ -40,7 +41,7 @@ pressed c =
     let t = c .before .before in
     let l = t .before .before in
     let y = l .before .before .before .before in
-    let v = y .before in
+    let v = y .before .before in
     let s = v .before .before .before in
     record {
       game = s .args .g;
@@ -51,7 +52,7 @@ pressed c =
       whole = s .pre .2;
       output = t .if1 .taken;
       replies = c .before .row-of .ensures .1 ∙ ap (λ (x : List ℕ). getD (setsIn x) (l .loop .o) 0) (s .pre .4);
-      leaves = record { entered = y .leaving .ensures };
+      leaves = record { entered = rw (s .pre .3) at (y .leaving .ensures) };
     }
 
 layout-of-requires : tie.Need-layout-of-requires Inv-loop μ-loop
@@ -59,8 +60,9 @@ layout-of-requires c κs = search needs
 
 leaving-requires : tie.Need-leaving-requires Inv-loop μ-loop
 leaving-requires c κs =
-    let s = c .before .before .before in
-    (s .pre .0 .ready .fits .input .most, s .pre .3)
+    let p = c .before .before .before .before .pre in
+    let most = p .0 .ready .fits .input .most in
+    (most, words-held _ _ (omega (arith, most, c .leaving-arg .given .0)))
 
 empty-requires : tie.Need-empty-requires Inv-loop μ-loop
 empty-requires c κs = search needs
@@ -84,7 +86,7 @@ row-of-requires c κs =
     let t = c in
     let l = t .before .before in
     let y = l .before .before .before .before in
-    let v = y .before in
+    let v = y .before .before in
     let s = v .before .before .before in
     omega (arith, t .if1 .taken, s .pre .0 .ready .fits .output .most)
 
@@ -93,7 +95,7 @@ escape-requires c κs =
     let t = c .before .before in
     let l = t .before .before in
     let y = l .before .before .before .before in
-    let v = y .before in
+    let v = y .before .before in
     (pressed c, gated-within _ _ _ (v .layout-of .ensures) (l .loop .inv .3))
 
 insert-if-requires : tie.Need-insert-if-requires Inv-loop μ-loop
@@ -102,7 +104,7 @@ insert-if-requires c κs =
     let t = e .before .before .before in
     let l = t .before .before in
     let y = l .before .before .before .before in
-    let v = y .before in
+    let v = y .before .before in
     let s = v .before .before .before in
     omega (arith, t .if1 .taken, s .pre .0 .ready .fits .output .most)
 
@@ -112,7 +114,7 @@ add-o c =
     let t = e .before .before .before in
     let l = t .before .before in
     let y = l .before .before .before .before in
-    let v = y .before in
+    let v = y .before .before in
     let s = v .before .before .before in
     omega (arith, t .if1 .taken, s .pre .0 .ready .fits .output .most)
 
@@ -137,7 +139,7 @@ approach-requires c κs =
     let t = c .before .before .before in
     let l = t .before .before in
     let y = l .before .before .before .before in
-    let v = y .before in
+    let v = y .before .before in
     let s = v .before .before .before in (
       fits-same _ _ _ (l .loop .inv .1 .grows .long) (laid-fits _ _ _ _ (s .pre .1) (v .layout-of .ensures)),
       gated-within _ _ _ (v .layout-of .ensures) (l .loop .inv .3),
@@ -156,7 +158,7 @@ returns c =
     let t = a .before .before .before .before in
     let l = t .before .before in
     let y = l .before .before .before .before in
-    let v = y .before in
+    let v = y .before .before in
     let s = v .before .before .before in
     record {
       filled =

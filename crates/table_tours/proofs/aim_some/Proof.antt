@@ -11,7 +11,7 @@ use Rattle.table_tours.proofs.aim_some.Statement.{statement}
 use Rattle.table_tours.proofs.aim_some.Tie as tie
 
 abbrev Inv-loop : tie.InvT-loop
-Inv-loop moves room₀ z c over q t j₀ room j = (j ≤ t .count) × RangeWritten (setsIn moves) z (bitsOf c) (bitsOf over) (q .0) t j room₀ room
+Inv-loop moves room₀ z c over q t j₀ room j = (j ≤ t .count) × RangeWritten (setsIn moves) z (bitsOf (c .0)) (bitsOf (over .0)) (q .0) t j room₀ room
 
 abbrev μ-loop : tie.MeasureT-loop
 μ-loop moves room₀ z c over q t j₀ room j = t .count - j

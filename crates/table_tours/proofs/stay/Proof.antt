@@ -25,7 +25,7 @@ use Rattle.table_tours.proofs.stay.Statement.{statement}
 use Rattle.table_tours.proofs.stay.Tie as tie
 
 abbrev Inv-loop : tie.InvT-loop
-Inv-loop moves room₀ z c w left₀ room left = Left (setsIn moves) z (bitsOf c) (bitsOf (w .over)) w (bitsOf left) room₀ room
+Inv-loop moves room₀ z c w left₀ room left = Left (setsIn moves) z (bitsOf (c .0)) (bitsOf (w .over .0)) w (bitsOf left) room₀ room
 
 abbrev μ-loop : tie.MeasureT-loop
 μ-loop moves room₀ z c w left₀ room left = count capacity (has (bitsOf left))
@@ -45,8 +45,8 @@ empty-requires c κs = search needs
 loop-holds : tie.Need-loop-holds Inv-loop μ-loop
 loop-holds c =
     let b = c .before in
-    let p = b .before .before .pre in
-    left-start _ _ _ _ _ _ (p .0 .states) (p .1 .members) (record { columns = refl; which = b .below .ensures; hit = refl; miss = refl; more = refl })
+    let p = b .before .before .before .pre in
+    left-start _ _ _ _ _ _ (p .0 .states) (p .1 .members) (record { columns = refl; which = b .before .below .ensures; hit = refl; miss = refl; more = refl })
 
 is-empty-requires : tie.Need-is-empty-requires Inv-loop μ-loop
 is-empty-requires c κs = search needs
@@ -68,7 +68,7 @@ write-move-requires c κs =
     let i = c .before .before in
     let o = i .before .before in
     let l = o .before .before .before in
-    let p = l .before .before .before .before .pre in
+    let p = l .before .before .before .before .before .pre in
     let inside = left-in _ _ _ _ _ (l .loop .inv) (some-left (o .before)) (o .lowest .ensures) in (
       fits-same _ _ _ (l .loop .inv .long) (p .0),
       within-has _ _ _ (p .1 .members) inside,
@@ -96,7 +96,7 @@ loop-again c =
     let o = i .before .before in
     let l = o .before .before .before in
     let more = some-left (o .before) in
-    let p = l .before .before .before .before .pre in
+    let p = l .before .before .before .before .before .pre in
     let inside = left-in _ _ _ _ _ (l .loop .inv) more (o .lowest .ensures) in
     left-next _ _ _ _ _ (l .loop .inv) more (o .lowest .ensures) _ (c .without-lowest .ensures) _ _ (within-has _ _ _ (p .1 .members) inside)
     (i .before .row-of .ensures .1) (i .intersection .ensures) (f .prefer .ensures) (c .before .before .before .write-move .ensures) refl

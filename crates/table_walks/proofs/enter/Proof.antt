@@ -25,7 +25,7 @@ use Rattle.table_walks.proofs.enter.Tie as tie
 
 abbrev Inv-loop : tie.InvT-loop
 Inv-loop rows room₀ z target b all rest₀ room rest =
-    Entered (setsIn rows) z (bitsOf rest₀) (bitsOf target) b (bitsOf rest) room₀ room
+    Entered (setsIn rows) z (bitsOf rest₀) (bitsOf (target .0)) (b .0) (bitsOf rest) room₀ room
 
 abbrev μ-loop : tie.MeasureT-loop
 μ-loop rows room₀ z target b all rest₀ room rest = count capacity (has (bitsOf rest))
@@ -41,7 +41,7 @@ chosen-small c =
     let i = c .before in
     let o = i .before .before in
     let l = o .before .before .before in
-    let p = l .before .before .before .pre in
+    let p = l .before .before .before .before .pre in
     let e = entered-in _ _ _ _ _ (l .loop .inv) (some-left (o .before)) (o .lowest .ensures) in
     step-small _ _ _ _ _ _ _ (p .1) e (i .before .row-of .ensures .1) (i .intersection .ensures) (c .lowest2 .ensures)
 
@@ -49,7 +49,7 @@ below-requires : tie.Need-below-requires Inv-loop μ-loop
 below-requires c κs = omega (arith, c .before .pre .0 .counters)
 
 loop-holds : tie.Need-loop-holds Inv-loop μ-loop
-loop-holds c = let p = c .before .before .pre in entered-start _ _ _ _ _ _ (p .0 .states) (p .1)
+loop-holds c = let p = c .before .before .before .pre in entered-start _ _ _ _ _ _ (p .0 .states) (p .1)
 
 is-empty-requires : tie.Need-is-empty-requires Inv-loop μ-loop
 is-empty-requires c κs = search needs
@@ -75,12 +75,12 @@ write-column-requires c κs =
     let o = m .before .before .before in
     let l = o .before .before .before in
     let w = l .before in
-    let p = w .before .before .pre in
+    let p = w .before .before .before .pre in
     let F = fits-same _ _ _ (l .loop .inv .long) (p .0) in (
       F,
       p .1 .below _ (entered-in _ _ _ _ _ (l .loop .inv) (some-left (o .before)) (o .lowest .ensures)),
       p .2,
-      step-entries _ _ _ _ _ F (w .below .ensures) (chosen-small m) (c .before .pack .ensures),
+      step-entries _ _ _ _ _ F (w .before .below .ensures) (chosen-small m) (c .before .pack .ensures),
     )
 
 without-lowest-requires : tie.Need-without-lowest-requires Inv-loop μ-loop
@@ -104,7 +104,7 @@ loop-again c =
     let l = o .before .before .before in
     let w = l .before in
     entered-next _ _ _ _ _ (l .loop .inv) (some-left (o .before)) (o .lowest .ensures) _ (c .without-lowest .ensures) _ _ _ _ _
-    (w .below .ensures) (w .before .before .pre .1) (i .before .row-of .ensures .1) (i .intersection .ensures)
+    (w .before .below .ensures) (w .before .before .before .pre .1) (i .before .row-of .ensures .1) (i .intersection .ensures)
     (m .lowest2 .ensures) (k .pack .ensures) (f .write-column .ensures) refl
 
 same-length : tie.Need-same-length Inv-loop μ-loop

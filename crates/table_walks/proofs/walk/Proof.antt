@@ -13,13 +13,13 @@ use Rattle.table_walks.proofs.walk.Tie as tie
 
 abbrev Inv-loop : tie.InvT-loop
 Inv-loop rows room₀ z inside w reached₀ left₀ room reached left =
-    Walked (setsIn rows) z (bitsOf inside) (bitsOf reached₀) (bitsOf left₀) w (bitsOf reached) (bitsOf left) room₀ room
+    Walked (setsIn rows) z (bitsOf (inside .0)) (bitsOf reached₀) (bitsOf left₀) w (bitsOf reached) (bitsOf left) room₀ room
 
 abbrev μ-loop : tie.MeasureT-loop
 μ-loop rows room₀ z inside w reached₀ left₀ room reached left = count capacity (has (bitsOf left))
 
 loop-holds : tie.Need-loop-holds Inv-loop μ-loop
-loop-holds c = let g = c .before .pre .2 in walked-start _ _ _ _ _ _ _ (levels-start _ _ _ _ _ (g .members) (g .inside) (g .cover))
+loop-holds c = let g = c .before .before .before .pre .2 in walked-start _ _ _ _ _ _ _ (levels-start _ _ _ _ _ (g .members) (g .inside) (g .cover))
 
 is-empty-requires : tie.Need-is-empty-requires Inv-loop μ-loop
 is-empty-requires c κs = search needs
@@ -27,7 +27,7 @@ is-empty-requires c κs = search needs
 settle-requires : tie.Need-settle-requires Inv-loop μ-loop
 settle-requires c κs =
     let l = c .before .before .before in
-    let p = l .before .before .pre in
+    let p = l .before .before .before .before .pre in
     (fits-same _ _ _ (l .loop .inv .long) (p .0), p .1, levels-within _ _ _ _ _ _ (l .loop .inv .levels))
 
 is-empty-requires-2 : tie.Need-is-empty-requires-2 Inv-loop μ-loop
@@ -42,7 +42,7 @@ returns : tie.Need-returns Inv-loop μ-loop
 returns c =
     let s = c .before .before .before .before in
     let l = s .before .before .before .before in
-    walked-still _ _ _ _ _ _ _ _ _ (l .before .before .pre .0 .states) (l .loop .inv) (s .settle .ensures)
+    walked-still _ _ _ _ _ _ _ _ _ (l .before .before .before .before .pre .0 .states) (l .loop .inv) (s .settle .ensures)
     (none _ (c .before .is-empty2 .ensures) (c .if2 .taken)) refl
 
 union-requires : tie.Need-union-requires Inv-loop μ-loop
@@ -56,7 +56,7 @@ loop-less c =
     let e = c .before .before in
     let s = e .before .before .before .before in
     let l = s .before .before .before .before in
-    left-falls _ _ _ _ _ _ _ (l .before .before .pre .0 .states) (l .loop .inv .levels) (s .settle .ensures .states) _ _
+    left-falls _ _ _ _ _ _ _ (l .before .before .before .before .pre .0 .states) (l .loop .inv .levels) (s .settle .ensures .states) _ _
     (c .before .union .ensures) (c .difference .ensures) (some _ (e .before .is-empty2 .ensures) (e .if2 .left))
 
 loop-again : tie.Need-loop-again Inv-loop μ-loop
@@ -64,7 +64,7 @@ loop-again c =
     let e = c .before .before in
     let s = e .before .before .before .before in
     let l = s .before .before .before .before in
-    walked-turn _ _ _ _ _ _ _ _ _ (l .before .before .pre .0 .states) (l .loop .inv) (s .settle .ensures) _ _
+    walked-turn _ _ _ _ _ _ _ _ _ (l .before .before .before .before .pre .0 .states) (l .loop .inv) (s .settle .ensures) _ _
     (c .before .union .ensures) (c .difference .ensures) refl
 
 same-length-2 : tie.Need-same-length-2 Inv-loop μ-loop

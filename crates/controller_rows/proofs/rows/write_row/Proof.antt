@@ -25,7 +25,7 @@ returns c =
     let d = w .before in
     let s = d .before .before in
     let b = s .before .before in
-    row-of (b .args .z) (b .args .o .0) (b .args .b) (b .args .p) (d .layout-of .ensures) (s .staying .ensures) (w .write-column .ensures)
+    row-of (b .args .z) (b .args .o .0) (b .args .b .0) (b .args .p) (d .layout-of .ensures) (s .staying .ensures) (w .write-column .ensures)
 
 pub write-row-spec : {M : Type 1} → statement M
 write-row-spec =
