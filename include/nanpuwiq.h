@@ -1,9 +1,10 @@
 /* The public entries of Nanpuwiq for C, in the static library libnanpuwiq.a (`rt staticlib nanpuwiq`), x86-64 Linux.
  *
  * Numbers. A code is 0, or the number of a refusal: nanpuwiq_words.h has the list of them with a sentence each, nanpuwiq_words(code) gives the sentence.
- * The lowest number whose condition holds is given; the reader tries 12, 11, then 1 to 7; the player, of a controller's table or against a panel's,
- * 1 to 7, 16, 14, 15; the comparison of recordings 1 to 7, 16, then 14, 15 step by step; a kit 1, 17, 18, then 2 to 10; the map on the joined
- * positions 1 to 7, 24, 8; the checker of tables 1 to 7, 19, 20, 8; a table that is moved 1 to 7, 23, 22 or 21, 9.
+ * Each call tries its tests in an order, and the first that fails gives the number. For a game that order is 1 to 7, then 8, 9, 10 or 13, so the lowest number
+ * is given. The reader tries 12, 11, then 1 to 7; the player, of a controller's table or against a panel's, 1 to 7, 16, 14, 15; the comparison of recordings
+ * 1 to 7, 16, then 14, 15 step by step; a kit 1, 17, 18, then 2 to 10; the map on the joined positions 1 to 7, 24, 8; the explanation of a position 1 to 7,
+ * 25, 8; the calls with bars 1 to 7, 29, 28, 8; the checker of tables 1 to 7, 19, 20, 8; a table that is moved 1 to 7, 23, 22 or 21, 9.
  *
  * Every value of every parameter has an answer, and on a refusal every buffer holds what it held before. What each entry promises is proved
  * in crates/nanpuwiq (specs/Calls.antt) and crates/nanpuwiq_results (specs/Results.antt), on the following, which C cannot check and a caller keeps to:
@@ -11,6 +12,34 @@
  *  - a length, a recording's steps too, counts elements, not bytes, and that many elements can be read (written, where the pointer is not const);
  *  - buffers and positions that are written overlap no other buffer of the same call, and no other thread uses them during it.
  * Games, kits, results and other positions go by value. No entry keeps a pointer, allocates, or has state of its own.
+ *
+ * The stack, in bytes beside the caller's own, that each entry takes at most on any game tried (tests/stack.py):
+ *   nanpuwiq_accept              15,500
+ *   nanpuwiq_won_map             22,000
+ *   nanpuwiq_joined_map          24,000
+ *   nanpuwiq_barred_map          31,500
+ *   nanpuwiq_barred_verdict      38,000
+ *   nanpuwiq_explain             29,500
+ *   nanpuwiq_explain_all         36,500
+ *   nanpuwiq_check              250,500
+ *   nanpuwiq_solve               29,000
+ *   nanpuwiq_solve_compact       34,000
+ *   nanpuwiq_components          15,500
+ *   nanpuwiq_to_compact          32,500
+ *   nanpuwiq_to_full             22,000
+ *   nanpuwiq_compact_row             64
+ *   nanpuwiq_accept_kit          31,000
+ *   nanpuwiq_solve_kit           41,000
+ *   nanpuwiq_read                26,500
+ *   nanpuwiq_write               24,000
+ *   nanpuwiq_begin               20,500
+ *   nanpuwiq_step                21,000
+ *   nanpuwiq_advance             21,000
+ *   nanpuwiq_panel_first         20,500
+ *   nanpuwiq_panel_begin         20,500
+ *   nanpuwiq_panel_next          20,500
+ *   nanpuwiq_panel_step          20,500
+ *   nanpuwiq_compare             16,500
  */
 #ifndef NANPUWIQ_H
 #define NANPUWIQ_H
@@ -38,6 +67,7 @@ extern "C" {
 #define NANPUWIQ_TEXT_MOST 40960    /* bytes of the longest text that is read; a large game's may be longer */
 #define NANPUWIQ_WALK_ROOM 24576    /* entries of the room that the checker's walk is lent */
 #define NANPUWIQ_CHECKED_PLACES 4096  /* inputs * outputs * values of the counter at most, of a table that is checked */
+#define NANPUWIQ_POSITIONS_MOST 16384  /* positions of the largest game, each an entry for its ground */
 #define NANPUWIQ_COMMANDS 16        /* commands of a drive at most */
 #define NANPUWIQ_BARRED 255         /* the next mode where a command is barred */
 #define NANPUWIQ_KIT_MOST 8388736   /* entries of the longest kit's table */
@@ -127,12 +157,14 @@ typedef struct {
     size_t count;
 } nanpuwiq_counted;
 
-/* What made a position won or lost. On a refusal ground, first and second are 0; first and second are 0 where the ground names nothing. */
+/* What made a position won or lost. What a ground does not name is 0; on a refusal all but the code is. */
 typedef struct {
     uint8_t code;
-    uint8_t ground;  /* one of the grounds below */
-    size_t first;    /* the number of the home, the next input, the state entered, or the requirement, from 0 */
-    size_t second;   /* the output set, from 0 within its requirement */
+    uint8_t ground;             /* one of the grounds below */
+    nanpuwiq_out_state output;  /* the number of the home: the smallest output of that component */
+    nanpuwiq_in_state input;    /* the next input, or the input entered */
+    size_t requirement;         /* from 0 */
+    size_t set;                 /* the output set, from 0 within its requirement */
 } nanpuwiq_explained;
 
 /* The verdict with bars: the code; whether the system wins, false on a refusal. */
@@ -145,11 +177,11 @@ typedef struct {
 enum {
     NANPUWIQ_INPUT_STUCK = 1,   /* won: the input has no move */
     NANPUWIQ_BY_REPLIES = 2,    /* won: every next input has a won reply; the input's component is not stayable */
-    NANPUWIQ_AT_HOME = 3,       /* won with a home: the output reaches component `first`, where the controller stays while the input does */
+    NANPUWIQ_AT_HOME = 3,       /* won with a home: the output reaches component `output`, where the controller stays while the input does */
     NANPUWIQ_OUTPUT_STUCK = 4,  /* lost: the output has no move, and the input has one */
-    NANPUWIQ_UNANSWERED = 5,    /* lost: no output move makes a won position with the next input `first`; the input's component is not stayable */
-    NANPUWIQ_BY_WAY_OUT = 6,    /* lost: a move out of the input's component enters `first`, which is lost with this output */
-    NANPUWIQ_UNSERVED = 7,      /* lost: requirement `first` is due there, and the output's component, a stayable one, misses its output set `second` */
+    NANPUWIQ_UNANSWERED = 5,    /* lost: no output move makes a won position with the next input `input`; the input's component is not stayable */
+    NANPUWIQ_BY_WAY_OUT = 6,    /* lost: a move out of the input's component enters `input`, which is lost with this output */
+    NANPUWIQ_UNSERVED = 7,      /* lost: `requirement` is due there, and the output's component, a stayable one, misses its output set `set` */
     NANPUWIQ_PUSHED_ON = 8      /* lost: the output's component is not stayable */
 };
 
@@ -274,6 +306,33 @@ uint8_t nanpuwiq_joined_map(nanpuwiq_game game, uint64_t *scratch, size_t scratc
  * What it names holds with won and lost as the won map has them; the grounds 1 to 3 are given exactly where the position is won.
  * Code 0, 1 to 7, 25 a position outside the game, or 8. On 0 scratch's first nanpuwiq_scratch_words(game) words are zero and the rest is as it was. */
 nanpuwiq_explained nanpuwiq_explain(nanpuwiq_game game, uint64_t *scratch, size_t scratch_words, nanpuwiq_in_state input, nanpuwiq_out_state output);
+
+/* The same of every position at once; the game is solved once. Entry i * outputs + o of the room grounds tells of input i and output o: it is the ground's
+ * number + 16 * what it names, the output's or the input's number or 4 * requirement + set, 0 where it names nothing. nanpuwiq_ground_of reads an entry, as
+ * nanpuwiq_explain would have answered. A game has inputs * outputs positions, at most NANPUWIQ_POSITIONS_MOST; later entries stay as they were.
+ * Code 0, 1 to 7, or 8: scratch too short, or under an entry a position. On 0 scratch's first nanpuwiq_scratch_words(game) words are zero and the rest is as it
+ * was. */
+uint8_t nanpuwiq_explain_all(nanpuwiq_game game, uint64_t *scratch, size_t scratch_words, uint16_t *grounds, size_t entries);
+static inline nanpuwiq_explained nanpuwiq_ground_of(uint16_t entry)
+{
+    nanpuwiq_explained told = {0};
+    size_t name = entry / 16;
+    told.ground = entry % 16;
+    switch (told.ground) {
+    case NANPUWIQ_AT_HOME:
+        told.output.number = name;
+        break;
+    case NANPUWIQ_UNANSWERED:
+    case NANPUWIQ_BY_WAY_OUT:
+        told.input.number = name;
+        break;
+    case NANPUWIQ_UNSERVED:
+        told.requirement = name / 4;
+        told.set = name % 4;
+        break;
+    }
+    return told;
+}
 
 /* The won map and the verdict of a game with bars, interlocks: some outputs are barred while the panel is at certain inputs, and the system may never make a
  * barred pair, at the start or later. Words 2 * i and 2 * i + 1 of bars are the set of the outputs that are barred with input i. A position is marked exactly where it is

@@ -292,12 +292,14 @@ static void scratch_of_the_largest(void)
     same("128 states, map: the word after it", scratch[768], UINT64_MAX);
 }
 
-static void explained(const char *what, nanpuwiq_explained got, uint8_t code, uint8_t ground, size_t first, size_t second)
+static void explained(const char *what, nanpuwiq_explained got, nanpuwiq_explained wanted)
 {
-    same(what, got.code, code);
-    same(what, got.ground, ground);
-    same(what, got.first, first);
-    same(what, got.second, second);
+    same(what, got.code, wanted.code);
+    same(what, got.ground, wanted.ground);
+    same(what, got.output.number, wanted.output.number);
+    same(what, got.input.number, wanted.input.number);
+    same(what, got.requirement, wanted.requirement);
+    same(what, got.set, wanted.set);
 }
 
 /* Inputs 0 stuck; 1 to 0 and 2; 2 to itself; 3 to 2 and 3. Outputs 0 to itself; 1 stuck; 2 to 0; 3 to itself; 4 to 1 and 3. If {3} then {0}; if {2} then
@@ -392,21 +394,52 @@ static void explaining(void)
     nanpuwiq_game g = eight();
     uint64_t scratch[27];
     memset(scratch, 255, sizeof scratch);
-    explained("explain, outside", explain(g, scratch, 0, 4, 0), 25, 0, 0, 0);
-    explained("explain, scratch short", explain(g, scratch, 25, 0, 0), 8, 0, 0, 0);
+    explained("explain, outside", explain(g, scratch, 0, 4, 0), (nanpuwiq_explained){.code = 25});
+    explained("explain, scratch short", explain(g, scratch, 25, 0, 0), (nanpuwiq_explained){.code = 8});
     same("explain refused: scratch", scratch[0], UINT64_MAX);
-    explained("input stuck", explain(g, scratch, 27, 0, 1), 0, NANPUWIQ_INPUT_STUCK, 0, 0);
+    explained("input stuck", explain(g, scratch, 27, 0, 1), (nanpuwiq_explained){.ground = NANPUWIQ_INPUT_STUCK});
     same("explain: the last word", scratch[25], 0);
     same("explain: the word after it", scratch[26], UINT64_MAX);
-    explained("by replies", explain(g, scratch, 27, 1, 2), 0, NANPUWIQ_BY_REPLIES, 0, 0);
-    explained("at home", explain(g, scratch, 27, 2, 2), 0, NANPUWIQ_AT_HOME, 0, 0);
-    explained("output stuck", explain(g, scratch, 27, 3, 1), 0, NANPUWIQ_OUTPUT_STUCK, 0, 0);
-    explained("unanswered", explain(g, scratch, 27, 1, 4), 0, NANPUWIQ_UNANSWERED, 2, 0);
-    explained("by a way out", explain(g, scratch, 27, 3, 3), 0, NANPUWIQ_BY_WAY_OUT, 2, 0);
-    explained("unserved", explain(g, scratch, 27, 2, 3), 0, NANPUWIQ_UNSERVED, 1, 1);
-    explained("pushed on", explain(g, scratch, 27, 2, 4), 0, NANPUWIQ_PUSHED_ON, 0, 0);
+    explained("by replies", explain(g, scratch, 27, 1, 2), (nanpuwiq_explained){.ground = NANPUWIQ_BY_REPLIES});
+    explained("at home", explain(g, scratch, 27, 2, 2), (nanpuwiq_explained){.ground = NANPUWIQ_AT_HOME});
+    explained("output stuck", explain(g, scratch, 27, 3, 1), (nanpuwiq_explained){.ground = NANPUWIQ_OUTPUT_STUCK});
+    explained("unanswered", explain(g, scratch, 27, 1, 4), (nanpuwiq_explained){.ground = NANPUWIQ_UNANSWERED, .input = {2}});
+    explained("by a way out", explain(g, scratch, 27, 3, 3), (nanpuwiq_explained){.ground = NANPUWIQ_BY_WAY_OUT, .input = {2}});
+    explained("unserved", explain(g, scratch, 27, 2, 3), (nanpuwiq_explained){.ground = NANPUWIQ_UNSERVED, .requirement = 1, .set = 1});
+    explained("pushed on", explain(g, scratch, 27, 2, 4), (nanpuwiq_explained){.ground = NANPUWIQ_PUSHED_ON});
     g.output.initial = low(0);
-    explained("explain, no initial output", explain(g, scratch, 27, 4, 0), 3, 0, 0, 0);
+    explained("explain, no initial output", explain(g, scratch, 27, 4, 0), (nanpuwiq_explained){.code = 3});
+    /* a home that is not output 0: both graphs stay, at input 0 and at output 1 */
+    nanpuwiq_game home = {.input = {1, low(1), {1, 0}}, .output = {2, low(1), {2, 0, 2, 0}}};
+    explained("at home 1", explain(home, scratch, 27, 0, 0), (nanpuwiq_explained){.ground = NANPUWIQ_AT_HOME, .output = {1}});
+}
+
+static void explaining_all(void)
+{
+    nanpuwiq_game g = eight();
+    uint64_t scratch[27];
+    uint16_t grounds[21];
+    memset(scratch, 255, sizeof scratch);
+    memset(grounds, 255, sizeof grounds);
+    same("explain all, scratch short", nanpuwiq_explain_all(g, scratch, 25, grounds, 21), 8);
+    same("explain all, room short", nanpuwiq_explain_all(g, scratch, 27, grounds, 19), 8);
+    nanpuwiq_game none = g;
+    none.output.initial = low(0);
+    same("explain all, no initial output", nanpuwiq_explain_all(none, scratch, 0, grounds, 0), 3);
+    same("explain all refused: scratch", scratch[0], UINT64_MAX);
+    same("explain all refused: the room", grounds[0], UINT16_MAX);
+    same("explain all", nanpuwiq_explain_all(g, scratch, 27, grounds, 21), 0);
+    same("explain all: the last word", scratch[25], 0);
+    same("explain all: the word after it", scratch[26], UINT64_MAX);
+    same("explain all: the entry after the last", grounds[20], UINT16_MAX);
+    same("explain all: a way out", grounds[3 * 5 + 3], 6 + 16 * 2);
+    same("explain all: unserved", grounds[2 * 5 + 3], 7 + 16 * (1 * 4 + 1));
+    for (size_t i = 0; i < 4; i++)
+        for (size_t o = 0; o < 5; o++)
+            explained("explain all, as explain", nanpuwiq_ground_of(grounds[i * 5 + o]), explain(g, scratch, 27, i, o));
+    nanpuwiq_game home = {.input = {1, low(1), {1, 0}}, .output = {2, low(1), {2, 0, 2, 0}}};
+    same("explain all, exact lengths", nanpuwiq_explain_all(home, scratch, 8, grounds, 2), 0);
+    same("explain all: home 1", grounds[0], 3 + 16 * 1);
 }
 
 static void texts(void)
@@ -1359,6 +1392,7 @@ int main(void)
     moving_tables();
     scratch_of_the_largest();
     explaining();
+    explaining_all();
     checking();
     texts();
     playing();

@@ -56,8 +56,10 @@ pub struct JudgeResult {
 pub struct ExplainResult {
     pub code: u8,
     pub ground: u8,
-    pub first: usize,
-    pub second: usize,
+    pub output: OutState,
+    pub input: InState,
+    pub requirement: usize,
+    pub set: usize,
 }
 
 #[repr(C)]
@@ -105,6 +107,7 @@ extern "C" {
     ) -> u8;
     fn nanpuwiq_barred_verdict(game: Game, bars: *const u64, bar_words: usize, scratch: *mut u64, scratch_words: usize) -> JudgeResult;
     fn nanpuwiq_explain(game: Game, scratch: *mut u64, scratch_words: usize, input: InState, output: OutState) -> ExplainResult;
+    fn nanpuwiq_explain_all(game: Game, scratch: *mut u64, scratch_words: usize, grounds: *mut u16, entries: usize) -> u8;
     fn nanpuwiq_check(game: Game, table: *const u16, entries: usize, room: *mut u16, room_entries: usize) -> CheckResult;
     fn nanpuwiq_solve(
         game: Game,
@@ -186,6 +189,10 @@ pub fn barred_verdict(game: Game, bars: &[u64], scratch: &mut [u64]) -> JudgeRes
 
 pub fn explain(game: Game, scratch: &mut [u64], input: InState, output: OutState) -> ExplainResult {
     unsafe { nanpuwiq_explain(game, scratch.as_mut_ptr(), scratch.len(), input, output) }
+}
+
+pub fn explain_all(game: Game, scratch: &mut [u64], grounds: &mut [u16]) -> u8 {
+    unsafe { nanpuwiq_explain_all(game, scratch.as_mut_ptr(), scratch.len(), grounds.as_mut_ptr(), grounds.len()) }
 }
 
 pub fn check(game: Game, table: &[u16], room: &mut [u16]) -> CheckResult {

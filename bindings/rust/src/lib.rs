@@ -204,7 +204,7 @@ pub struct PanelMove {
     pub counter: usize,
 }
 
-/// A refusal: its number, 1 to 20, 24 or 25, and for 11 how far the bytes could be a game's text (else 0).
+/// A refusal: its number, 1 to 25, 28 or 29, and for 11 how far the bytes could be a game's text (else 0).
 #[derive(Clone, Copy, Debug, PartialEq, Eq)]
 pub struct Error {
     pub number: u8,
@@ -255,6 +255,21 @@ pub enum Ground {
 }
 
 impl Ground {
+    /// The ground that an entry of `Game::explain_all_into` stands for: its number, from 1 in this order, + 16 × what it names.
+    pub fn of_entry(entry: u16) -> Ground {
+        let name = usize::from(entry / 16);
+        match entry % 16 {
+            1 => Ground::InputStuck,
+            2 => Ground::ByReplies,
+            3 => Ground::AtHome(OutState(name)),
+            4 => Ground::OutputStuck,
+            5 => Ground::Unanswered(InState(name)),
+            6 => Ground::ByWayOut(InState(name)),
+            7 => Ground::Unserved(name / SETS, name % SETS),
+            _ => Ground::PushedOn,
+        }
+    }
+
     /// Whether the position is won.
     pub fn is_won(self) -> bool {
         matches!(self, Ground::InputStuck | Ground::ByReplies | Ground::AtHome(_))
@@ -474,14 +489,15 @@ fn sets_in(words: &[u64]) -> Vec<Set> {
 pub struct Bars(Vec<u64>);
 
 impl Bars {
-    /// Nothing is barred with these inputs.
-    pub fn none(inputs: usize) -> Bars {
-        Bars(vec![0; SET_WORDS * inputs])
+    /// Nothing is barred with these inputs: 1 a count that no game has.
+    pub fn none(inputs: usize) -> Result<Bars, Error> {
+        ensure((1..=STATES).contains(&inputs), 1)?;
+        Ok(Bars(vec![0; SET_WORDS * inputs]))
     }
 
-    /// These pairs are barred. A pair that no game has is 29.
+    /// These pairs are barred: 1 a count that no game has, 29 a pair that no game has.
     pub fn new(inputs: usize, pairs: &[(InState, OutState)]) -> Result<Bars, Error> {
-        let mut bars = Bars::none(inputs);
+        let mut bars = Bars::none(inputs)?;
         for &(InState(i), OutState(o)) in pairs {
             ensure(i < inputs && o < STATES, 29)?;
             bars.0[SET_WORDS * i + o / 64] |= 1 << (o % 64);
@@ -579,11 +595,11 @@ impl Game {
         Ok(match r.ground {
             1 => Ground::InputStuck,
             2 => Ground::ByReplies,
-            3 => Ground::AtHome(OutState(r.first)),
+            3 => Ground::AtHome(r.output),
             4 => Ground::OutputStuck,
-            5 => Ground::Unanswered(InState(r.first)),
-            6 => Ground::ByWayOut(InState(r.first)),
-            7 => Ground::Unserved(r.first, r.second),
+            5 => Ground::Unanswered(r.input),
+            6 => Ground::ByWayOut(r.input),
+            7 => Ground::Unserved(r.requirement, r.set),
             _ => Ground::PushedOn,
         })
     }
@@ -591,6 +607,19 @@ impl Game {
     /// What made a position won or lost.
     pub fn explain(&self, input: InState, output: OutState) -> Result<Ground, Error> {
         self.explain_into(&mut [0; SCRATCH_MOST], input, output)
+    }
+
+    /// What made each position won or lost, an entry each, input by input, the outputs running fastest: 1 to 7, 8 a scratch or a room too short. The game is
+    /// solved once. `Ground::of_entry` reads an entry; those past the positions are as they were.
+    pub fn explain_all_into(&self, scratch: &mut [u64], grounds: &mut [u16]) -> Result<(), Error> {
+        refusal(entries::explain_all(*self, scratch, grounds))
+    }
+
+    /// What made each position won or lost, input by input, the outputs running fastest.
+    pub fn explain_all(&self) -> Result<Vec<Ground>, Error> {
+        let mut grounds = vec![0; self.input.states.min(STATES) * self.output.states.min(STATES)];
+        self.explain_all_into(&mut [0; SCRATCH_MOST], &mut grounds)?;
+        Ok(grounds.into_iter().map(Ground::of_entry).collect())
     }
 
     /// Whether a controller's table, from anywhere, wins; else what shows that it does not: 1 to 7, 19 a table of another length, 20 more than

@@ -1,5 +1,5 @@
 //! From the print of a controller's table, as the program `solve` writes it, to the table's entries.
-use crate::{Game, CHECKED_PLACES, NONE, STATES};
+use crate::{Game, CONTROLLER_MOST, NONE, STATES};
 use std::fmt;
 
 /// Why a print is not taken: the line, from 1, and what is wrong there.
@@ -21,7 +21,7 @@ pub enum PrintFault {
     Twice,
     /// An output and a counter that no entry can hold.
     NoEntry,
-    /// A game with more places than the checker takes.
+    /// A game that is not accepted, with longer tables than any that is.
     TooLarge,
 }
 
@@ -33,7 +33,7 @@ impl fmt::Display for PrintFault {
             PrintFault::NoSuchRow => "a start or a row that the game does not have",
             PrintFault::Twice => "a second line for one start or row",
             PrintFault::NoEntry => "an output and a counter that no entry can hold",
-            PrintFault::TooLarge => "a table of a game with over 4,096 places",
+            PrintFault::TooLarge => "a table of a game that is not accepted",
         })
     }
 }
@@ -48,10 +48,11 @@ impl std::error::Error for PrintError {}
 
 impl Game {
     /// The entries of a controller's table that is printed as `solve` prints it; a start or row without a line is none. The lines may come in any order,
-    /// and may name outputs and counters that are no legal reply: that is for `check` to say. A start's counter is 0.
+    /// and may name outputs and counters that are no legal reply: that is for `check` to say, which also
+    /// says where the game has more places than it takes. A start's counter is 0.
     pub fn entries_of_print(&self, print: &[u8]) -> Result<Vec<u16>, PrintError> {
         let (inputs, outputs, counters) = (self.input.states, self.output.states, self.controller_counters());
-        let places = inputs.checked_mul(outputs).and_then(|n| n.checked_mul(counters)).filter(|n| *n <= CHECKED_PLACES);
+        let places = inputs.checked_mul(outputs).and_then(|n| n.checked_mul(counters)).filter(|n| *n <= CONTROLLER_MOST);
         let places = places.ok_or(PrintError { line: 1, fault: PrintFault::TooLarge })?;
         let mut lines = print.split_inclusive(|byte| *byte == b'\n').zip(1..);
         match lines.next() {

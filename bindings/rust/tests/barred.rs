@@ -414,7 +414,11 @@ fn words_past_the_inputs() {
 fn bars_of_pairs() {
     let (g, bars) = fine();
     assert_eq!(Bars::new(2, &[(InState(0), OutState(1))]).unwrap(), Bars::from_words(bars));
-    assert_eq!(Bars::new(2, &[]).unwrap(), Bars::none(2));
+    assert_eq!(Bars::new(2, &[]), Bars::none(2));
+    for count in [0, 129, 1 << 40, usize::MAX] {
+        assert_eq!(Bars::none(count), Err(Error { number: 1, place: 0 }));
+        assert_eq!(Bars::new(count, &[]), Err(Error { number: 1, place: 0 }));
+    }
     for outside in [(InState(2), OutState(0)), (InState(0), OutState(STATES))] {
         assert_eq!(Bars::new(2, &[outside]), Err(Error { number: 29, place: 0 }));
     }

@@ -249,11 +249,14 @@ fn games_at_random() {
         let model = draw.model();
         let game = model.game();
         let map = game.won_map().unwrap();
+        let all = game.explain_all().unwrap();
+        assert_eq!(all.len(), model.input.states() * model.output.states());
         for i in 0..model.input.states() {
             for o in 0..model.output.states() {
                 let fit = model.grounds(i, o);
                 let got = game.explain(InState(i), OutState(o)).unwrap();
                 assert_eq!(got, fit[0], "game {turn}, input {i}, output {o}");
+                assert_eq!(got, all[i * model.output.states() + o], "all of game {turn}, input {i}, output {o}");
                 assert_eq!(got.is_won(), model.won[i][o]);
                 assert_eq!(got.is_won(), map[i].has(o));
                 given[place(got)] += 1;
@@ -282,6 +285,45 @@ fn refusals_in_order() {
     assert_eq!(game.explain_into(&mut scratch, InState(3), OutState(4)), Ok(ByWayOut(InState(2))));
     assert_eq!(scratch[..words], [0; 26]);
     assert_eq!(scratch[words..], [7; 3]);
+}
+
+#[test]
+fn all_positions_refused_in_order() {
+    let game = eight();
+    let (words, positions) = (SET_WORDS * (2 * 4 + 5), 4 * 5);
+    let refused = |number| Err(Error { number, place: 0 });
+    let (mut scratch, mut grounds) = ([7; 29], [7; 23]);
+    let mut no_initial = game;
+    no_initial.output.initial = Set::from_bits(0);
+    assert_eq!(no_initial.explain_all_into(&mut [], &mut []), refused(3));
+    assert_eq!(no_initial.explain_all(), Err(Error { number: 3, place: 0 }));
+    assert_eq!(Game { k: 9, ..game }.explain_all_into(&mut scratch, &mut grounds), refused(5));
+    assert_eq!(game.explain_all_into(&mut scratch[..words - 1], &mut grounds), refused(8));
+    assert_eq!(game.explain_all_into(&mut scratch, &mut grounds[..positions - 1]), refused(8));
+    assert_eq!((scratch, grounds), ([7; 29], [7; 23]));
+    assert_eq!(game.explain_all_into(&mut scratch[..words], &mut grounds[..positions]), Ok(()));
+    assert_eq!((&scratch[..words], &scratch[words..]), (&[0; 26][..], &[7; 3][..]));
+    let told: Vec<Ground> = grounds[..positions].iter().map(|entry| Ground::of_entry(*entry)).collect();
+    assert_eq!((told, &grounds[positions..]), (game.explain_all().unwrap(), &[7; 3][..]));
+    let mut huge = game;
+    huge.input.states = usize::MAX;
+    assert_eq!(huge.explain_all(), Err(Error { number: 1, place: 0 }));
+}
+
+// Rings of 32 states, each with moves on to the next ring; outputs of the last ring are too far for what the first two rings of inputs ask for.
+#[test]
+fn all_positions_of_a_large_game() {
+    let moves: Vec<Vec<usize>> = (0..STATES).map(|s| [s / 32 * 32 + (s + 1) % 32, s + 32].into_iter().filter(|t| *t < STATES).collect()).collect();
+    let drawn = Drawn::new(moves).graph();
+    let game = made(drawn, drawn, &[requirement(&[&[0, 32]], &[&[70]])]);
+    let all = game.explain_all().unwrap();
+    assert_eq!(all.len(), STATES * STATES);
+    for (p, ground) in all.iter().enumerate() {
+        assert_eq!(Ok(*ground), game.explain(InState(p / STATES), OutState(p % STATES)), "position {p}");
+    }
+    for ground in [AtHome(OutState(64)), ByWayOut(InState(32)), Unserved(0, 0)] {
+        assert!(all.contains(&ground), "{ground}");
+    }
 }
 
 #[test]

@@ -38,20 +38,22 @@ use Rattle.ground_search.specs.declared.Explanation.the-variants.{
 }
 use Rattle.ground_search.specs.Told.{told}
 
+-- SPEC 14.2
 unfoldable pub inGame : Game → InState → OutState → Bool
 inGame g i o = ltb (i .0) (g .input .states) && ltb (o .0) (g .output .states)
 
--- "The first fitting ground in this order is given, lowest numbers first."
+-- "The first fitting ground in this order is given, lowest numbers first." (SPEC 14.1)
 unfoldable pub explainRoom : Game → ℕ → InState → OutState → Explanation
 explainRoom g s i o = elim (leb (scratchLength g) s) [ true ↦ told (ground (separatedOf g) (i .0) (o .0)) | false ↦ Refused 8 ]
 
--- "New numbers: 25 a position outside the game, after 7 and before 8."
+-- "New numbers: 25 a position outside the game, after 7 and before 8." (SPEC 14.2)
 unfoldable pub explainPosition : Game → ℕ → InState → OutState → Explanation
 explainPosition g s i o = elim (inGame g i o) [ true ↦ explainRoom g s i o | false ↦ Refused 25 ]
 
 unfoldable pub explainAnswer : Game → ℕ → InState → OutState → Explanation
 explainAnswer g s i o = elim (acceptance g) [ Accepted ↦ explainPosition g s i o | Faulty n ↦ Refused n ]
 
+-- SPEC 9.1, 14.2
 unfoldable pub explainTests : Game → ℕ → InState → OutState → List (ℕ × Bool)
 explainTests g s i o = gameTests g ++ (25, inGame g i o) ∷ (8, leb (scratchLength g) s) ∷ []
 
@@ -66,17 +68,18 @@ explainNumber (Unserved k n) = 0
 explainNumber PushedOn = 0
 explainNumber (Refused n) = n
 
--- "after an answer the first that many words are zero and the rest unchanged" (M-103); "Each returns its number only .. and changes no lent memory"
+-- "after an answer the first that many words are zero and the rest unchanged" (M-103); "Each returns its number only .. and changes no lent memory" (SPEC 7.5)
 unfoldable pub scratchAfter : Game → ℕ → List ℕ → List ℕ
 scratchAfter g zero s = cleared (scratchLength g) s
 scratchAfter g (suc n) s = s
 
--- "What the reply names holds with won and lost as 01 defines them, not by a map."
+-- "What the reply names holds with won and lost as 01 defines them, not by a map." (SPEC 14.2)
 pub record Grounded (g : Game) (i : InState) (o : OutState) (r : Explanation) : Type 0 where
   pub ground : Ground
   pub tells : r ≡ told ground
   pub explains : Explains (separatedOf g) (i .0) (o .0) ground
 
+-- SPEC 14.1
 pub record Explained (g : Game) (s s′ : List ℕ) (i : InState) (o : OutState) (r : Explanation) : Type 0 where
   pub answer : r ≡ explainAnswer g (length s) i o
   pub number : explainNumber r ≡ firstOf (explainTests g (length s) i o)

@@ -23,16 +23,9 @@ fn explain_position(g: Game, scratch: &mut [u64], i: InState, o: OutState) -> Ex
     ensures { λ r. ⌜ (now (scratch .exit) ≡ cleared (scratchLength g) (now (scratch .entry)))
         × (r ≡ told (ground (separatedOf g) (i .0) (o .0))) ⌝ }
 {
-    let l = game_sets::list_of(g);
-    let x = region::prepare(
-        g,
-        &g.input.moves,
-        &g.output.moves,
-        &l.sets,
-        &l.assumed,
-        &l.guaranteed,
-        scratch,
-    );
+    let mut b: [u64; board::WORDS] = [0; board::WORDS];
+    let z = board::lay(g, &mut b);
+    let x = region::prepare(z, &b, scratch);
     let r = ground_search::find(g, scratch, x.inputs, i, o);
     scratch_clearing::clear(scratch, scratch::length(g));
     r
@@ -55,7 +48,7 @@ fn explain_accepted(g: Game, scratch: &mut [u64], i: InState, o: OutState) -> Ex
     explain_position(g, scratch, i, o)
 }
 
-// Tells what made the position of input i and output o won or lost: the first ground that fits, with the lowest numbers.
+// Tells what made the position of input i and output o won or lost: the first ground that fits, with the lowest numbers. (SPEC 14.1, 14.2)
 pub fn explain(g: Game, scratch: &mut [u64], i: InState, o: OutState) -> Explanation
     ensures { λ r. ⌜ Explained g (now (scratch .entry)) (now (scratch .exit)) i o r ⌝ }
 {

@@ -42,7 +42,7 @@ component-meets : (h : Graph) (s x : ℕ) → h .states ≤ capacity
 unfolding meetsAt graphOf
 component-meets h s x b = meets-pack capacity (h .states) x (joined (graphOf h) s) b
 
-nth : (g : Game) (r : ℕ) → r < g .k → nthRequirement (separatedOf g) r ≡ requirementOf (requirementAt g r)
+pub nth : (g : Game) (r : ℕ) → r < g .k → nthRequirement (separatedOf g) r ≡ requirementOf (requirementAt g r)
 unfolding nthRequirement separatedOf requirementsOf
 nth g r b = getD-tabulate (λ k. requirementOf (requirementAt g k)) (g .k) r (record { assumptions = []; guarantees = [] }) b
 

@@ -92,7 +92,7 @@ fn exits(g: Game, s: &[u64], c: InSet, i: InState, o: OutState) -> InSet
     let h = g.input;
     let n = h.states;
     let inside = scratch::in_component(s, n, i, game::in_moves(g, i));
-    InSet(graph_components::leaving(h, &h.moves, inside.0))
+    InSet(graph_components::leaving(&h.moves, n, inside.0))
 }
 
 // Whether j is one of the states x, and lost with o.

@@ -29,7 +29,7 @@ use Rattle.theory.specs.Choice.{home}
 -- with a stuck output; lost by a next input without a won reply, and which, the input's component not stayable; lost by a way out, and the state it
 -- enters outside the component, lost with this output; lost by a requirement due there (its input sets all meet the input's component) and its first
 -- output set that the output's component misses, that one stayable; lost by being pushed on, that one not stayable." Output sets are counted within
--- their requirement.
+-- their requirement. (SPEC 14.1)
 pub data Ground : Type 0 where
   inputStuck : Ground
   byReplies : Ground
@@ -126,6 +126,6 @@ lostGround S i o =
       | false ↦ elim (nontrivial (S .input) i) [ true ↦ nontrivialGround S i o | false ↦ unanswered (least (S .input .states) (unreplied S i o)) ]
     ]
 
--- "The first fitting ground in this order is given, lowest numbers first."
+-- "The first fitting ground in this order is given, lowest numbers first." (SPEC 14.1)
 unfoldable pub ground : Separated → ℕ → ℕ → Ground
 ground S i o = elim (region S i o) [ true ↦ wonGround S i o | false ↦ lostGround S i o ]

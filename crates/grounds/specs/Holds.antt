@@ -40,24 +40,24 @@ use Rattle.grounds.specs.Component.{Together, Nontrivial, Meets, Leaves}
 abbrev pub Lost : Separated → ℕ → ℕ → Type 0
 Lost S i o = Won (arenaOf S) i o → ⊥
 
--- "a requirement due there (its input sets all meet the input's component)"
+-- "a requirement due there (its input sets all meet the input's component)" (SPEC 4.2)
 pub record Due (S : Separated) (i k : ℕ) : Type 0 where
   pub number : k < length (S .requirements)
   pub meets : (n : ℕ) → n < length (nthRequirement S k .assumptions) → Meets (S .input) i (goalAt (nthRequirement S k .assumptions) n)
 
 module _ (S : Separated) (i o : ℕ) where
-  -- "won with a stuck input"
+  -- "won with a stuck input" (SPEC 14.1)
   pub record InputStuck : Type 0 where
     pub won : Won (arenaOf S) i o
     pub stuck : (j : ℕ) → edge (S .input) i j ≡ false
 
-  -- "it has a reply to every next input, each making a won position"
+  -- "it has a reply to every next input, each making a won position" (SPEC 4.4)
   pub record Reply (j : ℕ) : Type 0 where
     pub output : ℕ
     pub move : Moves (S .output) o output
     pub won : Won (arenaOf S) j output
 
-  -- "won by replies, the input's component not stayable"
+  -- "won by replies, the input's component not stayable" (SPEC 14.1)
   pub record ByReplies : Type 0 where
     pub won : Won (arenaOf S) i o
     pub trivial : Nontrivial (S .input) i → ⊥
@@ -65,7 +65,7 @@ module _ (S : Separated) (i o : ℕ) where
 
   -- "won with a home, and its number": "home is the lowest-numbered stayable component D such that o reaches it, no requirement has all its input
   -- sets meeting j's component while one of its output sets misses D, and every state entered by a move out of j's component makes won positions
-  -- with D's states." That it is the lowest is said by UpTo. Where the input's component is not stayable there is no home.
+  -- with D's states." That it is the lowest is said by UpTo. Where the input's component is not stayable there is no home. (SPEC 14.1)
   pub record AtHome (d : ℕ) : Type 0 where
     pub won : Won (arenaOf S) i o
     pub staying : Nontrivial (S .input) i
@@ -76,25 +76,25 @@ module _ (S : Separated) (i o : ℕ) where
         → Meets (S .output) d (goalAt (nthRequirement S k .guarantees) n)
     pub safe : (j e : ℕ) → Leaves (S .input) i j → Together (S .output) d e → Won (arenaOf S) j e
 
-  -- "lost with a stuck output"
+  -- "lost with a stuck output" (SPEC 14.1)
   pub record OutputStuck : Type 0 where
     pub lost : Lost S i o
     pub stuck : (p : ℕ) → edge (S .output) o p ≡ false
 
-  -- "lost by a next input without a won reply, and which, the input's component not stayable"
+  -- "lost by a next input without a won reply, and which, the input's component not stayable" (SPEC 14.1)
   pub record Unanswered (j : ℕ) : Type 0 where
     pub lost : Lost S i o
     pub trivial : Nontrivial (S .input) i → ⊥
     pub move : Moves (S .input) i j
     pub unreplied : (p : ℕ) → Moves (S .output) o p → Lost S j p
 
-  -- "lost by a way out, and the state it enters outside the component, lost with this output"
+  -- "lost by a way out, and the state it enters outside the component, lost with this output" (SPEC 14.1)
   pub record ByWayOut (j : ℕ) : Type 0 where
     pub lost : Lost S i o
     pub leaves : Leaves (S .input) i j
     pub entered : Lost S j o
 
-  -- "lost by a requirement due there .. and its first output set that the output's component misses, that one stayable"
+  -- "lost by a requirement due there .. and its first output set that the output's component misses, that one stayable" (SPEC 14.1)
   pub record Unserved (k n : ℕ) : Type 0 where
     pub lost : Lost S i o
     pub staying : Nontrivial (S .output) o
@@ -103,7 +103,7 @@ module _ (S : Separated) (i o : ℕ) where
     pub misses : Meets (S .output) o (goalAt (nthRequirement S k .guarantees) n) → ⊥
     pub first : (m : ℕ) → m < n → Meets (S .output) o (goalAt (nthRequirement S k .guarantees) m)
 
-  -- "lost by being pushed on, that one not stayable"
+  -- "lost by being pushed on, that one not stayable" (SPEC 14.1)
   pub record PushedOn : Type 0 where
     pub lost : Lost S i o
     pub trivial : Nontrivial (S .output) o → ⊥
@@ -123,10 +123,10 @@ pub data UpTo (g h : Ground) : Type 0 where
   lower : groundNumber g ≡ groundNumber h → firstNamed g < firstNamed h → UpTo g h
   within : groundNumber g ≡ groundNumber h → firstNamed g ≡ firstNamed h → secondNamed g ≤ secondNamed h → UpTo g h
 
--- "The first fitting ground in this order is given, lowest numbers first."
+-- "The first fitting ground in this order is given, lowest numbers first." (SPEC 14.1, 14.2)
 pub record Explains (S : Separated) (i o : ℕ) (g : Ground) : Type 0 where
   pub holds : Holds S i o g
   pub earliest : (h : Ground) → Holds S i o h → UpTo g h
   pub decides : (wins g ≡ true) ↔ Won (arenaOf S) i o
-  -- the home that is named is the one of "Controller row (output o, counter g, new input j)", here with the counter c
+  -- the home that is named is the one of "Controller row (output o, counter g, new input j)", here with the counter c (SPEC 14.2)
   pub row : (d c : ℕ) → g ≡ atHome d → controllerRow S o c i ≡ homeward S d o c

@@ -14,6 +14,7 @@ use Rattle.solver.specs.declared.Verdict.{Verdict}
 use Rattle.map.specs.Map.{MapMade}
 use Rattle.ground_search.specs.declared.Explanation.{Explanation}
 use Rattle.explain.specs.Explain.{Explained}
+use Rattle.explain_all.specs.All.{ExplainedAll}
 use Rattle.solver.specs.Promise.{Solved}
 use Rattle.solver.specs.Compact.{SolvedCompact}
 use Rattle.compact_moves.specs.declared.Move.{Move}
@@ -31,7 +32,7 @@ use Rattle.nanpuwiq_results.specs.declared.MoveResult.{MoveResult}
 use Rattle.nanpuwiq_results.specs.declared.CountResult.{CountResult}
 use Rattle.nanpuwiq_results.specs.Results.{solveResult, writeResult, explainResult, judgeResult, moveResult, countResult}
 use Rattle.nanpuwiq.specs.Calls.{MapCalled, JoinedCalled, BarredCalled, JudgeCalled, SolveCalled, KitCalled, WriteCalled, ExplainCalled}
-use Rattle.nanpuwiq.specs.Calls.{CompactCalled, OverCalled, BackCalled, CountCalled}
+use Rattle.nanpuwiq.specs.Calls.{ExplainAllCalled, CompactCalled, OverCalled, BackCalled, CountCalled}
 
 pub map-called : {g : Game} {s s′ m m′ : List ℕ} {a : Mapped} {r : ℕ} → MapMade g s s′ m m′ a → r ≡ mapNumber a → MapCalled g s s′ m m′ r
 map-called {g} {s} {s′} {m} {m′} f e = record { answer = e ∙ f .number; made = subst (MapMade g s s′ m m′) (f .answer) f }
@@ -50,6 +51,10 @@ pub explain-called : {g : Game} {s s′ : List ℕ} {i : InState} {o : OutState}
 explain-called {g} {s} {s′} {i} {o} f e =
     record { answer = e ∙ ap explainResult (f .answer); explained = subst (Explained g s s′ i o) (f .answer) f }
 
+pub explain-all-called : {g : Game} {s s′ m m′ : List ℕ} {a : Mapped} {r : ℕ} → ExplainedAll g s s′ m m′ a → r ≡ mapNumber a
+    → ExplainAllCalled g s s′ m m′ r
+explain-all-called {g} {s} {s′} {m} {m′} f e = record { answer = e ∙ f .number; made = subst (ExplainedAll g s s′ m m′) (f .answer) f }
+
 pub solve-called : {g : Game} {s s′ c c′ e e′ : List ℕ} {v : Verdict} {r : SolveResult} → Solved g s s′ c c′ e e′ v → r ≡ solveResult v
     → SolveCalled g s s′ c c′ e e′ r
 solve-called {g} {s} {s′} {c} {c′} {e} {e′} f is =
@@ -66,7 +71,7 @@ kit-called {k} {s} {s′} {c} {c′} {e} {e′} {t} {t′} f is =
     record { answer = is ∙ ap solveResult (f .answer); solved = subst (KitSolved k s s′ c c′ e e′ t t′) (f .answer) f }
 
 pub write-called : {g : Game} {d d′ : List ℕ} {a : WriteAnswer} {r : WriteResult} → Writes g d a d′ → r ≡ writeResult a → WriteCalled g d d′ r
-write-called f e = record { answer = e ∙ ap writeResult (f .answer); buffer = f .buffer }
+write-called f e = record { answer = e ∙ ap writeResult (f .answer); buffer = f .buffer; reads-back = λ n h. f .reads-back n (f .answer ∙ h) }
 
 pub count-called : {g : Game} {a : Count} {r : CountResult} → Counted g a → r ≡ countResult a → CountCalled g r
 count-called {g} f e = record { answer = e ∙ ap countResult (f .answer); counted = subst (Counted g) (f .answer) f }

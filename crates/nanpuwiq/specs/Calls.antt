@@ -5,6 +5,7 @@
 --   BarredCalled g b s s′ m m′ r       == the same of the map with the bars b
 --   JudgeCalled g b s s′ r             == the verdict with the bars b is r, and scratch s is left as s′
 --   ExplainCalled g s s′ i o r          == the call that explains (i, o) answers r and leaves scratch s as s′
+--   ExplainAllCalled g s s′ m m′ r     == the call that explains all positions answers r and leaves scratch s as s′ and the room m as m′
 --   CheckCalled g l w w′ r             == the checker answers r to the table l and leaves the room w as w′
 --   SolveCalled g s s′ c c′ e e′ r     == the solver answers r and leaves scratch s as s′, the controller's buffer c as c′ and the environment's e as e′
 --   CompactCalled g s s′ c c′ e e′ r   == the same, the controller's table in the compact layout
@@ -13,11 +14,11 @@
 --   BackCalled g l w w′ r              == the same of the move to the full layout
 --   KitCalled k s s′ c c′ e e′ t t′ r  == the same of a kit, whose room t is left as t′
 --   ReadCalled s r                     == the reader answers r to the bytes s
---   WriteCalled g d d′ r               == the writer answers r and leaves the buffer d as d′
+--   WriteCalled g d d′ r               == the writer answers r and leaves the buffer d as d′; what it has written, read again, is g
 use Prim.Native.Nat.{ℕ}
 use mathlib.Core.Path.{_≡_}
 use mathlib.Core.List.{List}
-use lib.ListN.{length}
+use lib.ListN.{length, take}
 use Rattle.game.specs.declared.Game.{Game}
 use Rattle.game.specs.declared.InState.{InState}
 use Rattle.game.specs.declared.OutState.{OutState}
@@ -33,6 +34,7 @@ use Rattle.interlock.specs.Interlock.{
   BarredJudged,
 }
 use Rattle.explain.specs.Explain.{explainAnswer, Explained}
+use Rattle.explain_all.specs.All.{allAnswer, allTests, ExplainedAll}
 use Rattle.checker.specs.declared.Checked.{Checked}
 use Rattle.checker.specs.Check.{Checks}
 use Rattle.solver.specs.Promise.{verdictAnswer, Solved}
@@ -41,8 +43,9 @@ use Rattle.compact_moves.specs.Promise.{overAnswer, backAnswer, countAnswer, Mo
 use Rattle.kit_drives.specs.declared.Kit.{Kit}
 use Rattle.kit.specs.Promise.{kitAnswer, KitSolved}
 use Rattle.text.specs.declared.Reading.{Reading}
+use Rattle.text.specs.declared.WriteAnswer.the-variants.{Written}
 use Rattle.text.specs.Read.{Reads}
-use Rattle.text.specs.Write.{writeAnswer, writeBuffer}
+use Rattle.text.specs.Write.{writeAnswer, writeBuffer, ReadsBack}
 use Rattle.nanpuwiq_results.specs.declared.SolveResult.{SolveResult}
 use Rattle.nanpuwiq_results.specs.declared.ExplainResult.{ExplainResult}
 use Rattle.nanpuwiq_results.specs.declared.CheckResult.{CheckResult}
@@ -77,6 +80,11 @@ pub record JudgeCalled (g : Game) (b s s′ : List ℕ) (r : JudgeResult) : Type
 pub record ExplainCalled (g : Game) (s s′ : List ℕ) (i : InState) (o : OutState) (r : ExplainResult) : Type 0 where
   pub answer : r ≡ explainResult (explainAnswer g (length s) i o)
   pub explained : Explained g s s′ i o (explainAnswer g (length s) i o)
+
+-- `made` says what both buffers hold, and that what is read from each entry holds
+pub record ExplainAllCalled (g : Game) (s s′ m m′ : List ℕ) (r : ℕ) : Type 0 where
+  pub answer : r ≡ firstOf (allTests g (length s) (length m))
+  pub made : ExplainedAll g s s′ m m′ (allAnswer g (length s) (length m))
 
 -- `checks` says what the room holds and what the answer shows; which finding is handed back is free
 pub record CheckCalled (g : Game) (l w w′ : List ℕ) (r : CheckResult) : Type 0 where
@@ -122,3 +130,4 @@ pub record ReadCalled (s : List ℕ) (r : ReadResult) : Type 0 where
 pub record WriteCalled (g : Game) (d d′ : List ℕ) (r : WriteResult) : Type 0 where
   pub answer : r ≡ writeResult (writeAnswer g d)
   pub buffer : d′ ≡ writeBuffer g d
+  pub reads-back : (n : ℕ) → writeAnswer g d ≡ Written n → ReadsBack g (take n d′)

@@ -9,7 +9,7 @@ ghost use Rattle.nanpuwiq_results.specs.Results.{compareResult, panelMoved, zer
 ghost use Rattle.kit_drives.specs.Acceptance.{kitTests};
 ghost use Rattle.compact_view.specs.Rows.{Looked};
 ghost use Rattle.nanpuwiq.specs.Calls.{MapCalled, JoinedCalled, SolveCalled, CompactCalled, KitCalled, ReadCalled, WriteCalled};
-ghost use Rattle.nanpuwiq.specs.Calls.{ExplainCalled, CheckCalled, BarredCalled, JudgeCalled};
+ghost use Rattle.nanpuwiq.specs.Calls.{ExplainCalled, ExplainAllCalled, CheckCalled, BarredCalled, JudgeCalled};
 ghost use Rattle.nanpuwiq.specs.Calls.{OverCalled, BackCalled, CountCalled};
 use game::Game;
 use game::InState;
@@ -87,6 +87,14 @@ pub extern "C" fn nanpuwiq_explain(
     ensures { λ r. ⌜ ExplainCalled g (now (scratch .entry)) (now (scratch .exit)) i o r ⌝ }
 {
     nanpuwiq_results::explain_result(explain::explain(g, scratch, i, o))
+}
+
+// The same of every position, an entry each, by input and then by output. The region is worked out once.
+#[no_mangle]
+pub extern "C" fn nanpuwiq_explain_all(g: Game, scratch: &mut [u64], grounds: &mut [u16]) -> u8
+    ensures { λ r. ⌜ ExplainAllCalled g (now (scratch .entry)) (now (scratch .exit)) (now (grounds .entry)) (now (grounds .exit)) r ⌝ }
+{
+    nanpuwiq_results::map_code(explain_all::explain_all(g, scratch, grounds))
 }
 
 // Names the side that wins and writes its table into the front of its buffer.

@@ -4,7 +4,7 @@ ghost use Rattle.player.specs.Player.{movedOf};
 ghost use Rattle.game.specs.Acceptance.{acceptanceNumber as acceptNumber};
 ghost use Rattle.map_marks.specs.Answer.{mapNumber as mapNumber};
 ghost use Rattle.nanpuwiq_results.specs.Results.{solveResult, readResult, writeResult, compareResult, panelMoved, zeroPosition};
-ghost use Rattle.nanpuwiq_results.specs.Results.{explainResult, checkResult, judgedAs, judgeResult};
+ghost use Rattle.nanpuwiq_results.specs.Results.{namesNothing, namesInput, explainResult, checkResult, judgedAs, judgeResult};
 ghost use Rattle.nanpuwiq_results.specs.Results.{moveResult, countResult};
 use checker::Checked;
 use compact_moves::Count;
@@ -34,14 +34,16 @@ pub struct SolveResult {
     pub entries: usize,
 }
 
-// What made a position won or lost: the code; the ground's number, 1 to 8 in the order of document 02's request, 0 on a refusal; the first number that the
-// ground names, and the second, 0 where it names none.
+// What made a position won or lost: the code; the ground's number, 1 to 8 in the order of document 02's request, 0 on a refusal; the output that the ground
+// names, the input, or the requirement with its output set. What it does not name is 0.
 #[repr(C)]
 pub struct ExplainResult {
     pub code: u8,
     pub ground: u8,
-    pub first: usize,
-    pub second: usize,
+    pub output: OutState,
+    pub input: InState,
+    pub requirement: usize,
+    pub set: usize,
 }
 
 // What the checker finds in a table: the code; 0 for a table that wins, 1 for a bad start, 2 for a bad row, 3 for a bad round; the input of the start, or the
@@ -167,64 +169,61 @@ pub fn solve_result(v: Verdict) -> SolveResult
     }
 }
 
+// A ground that names nothing, or the code of a refusal.
+fn names_nothing(code: u8, ground: u8) -> ExplainResult
+    ensures { λ r. ⌜ r ≡ namesNothing code ground ⌝ }
+{
+    ExplainResult {
+        code,
+        ground,
+        output: OutState(0),
+        input: InState(0),
+        requirement: 0,
+        set: 0,
+    }
+}
+
+// A ground that names an input.
+fn names_input(ground: u8, input: InState) -> ExplainResult
+    ensures { λ r. ⌜ r ≡ namesInput ground input ⌝ }
+{
+    ExplainResult {
+        code: 0,
+        ground,
+        output: OutState(0),
+        input,
+        requirement: 0,
+        set: 0,
+    }
+}
+
 pub fn explain_result(a: Explanation) -> ExplainResult
     ensures { λ r. ⌜ r ≡ explainResult a ⌝ }
 {
     match a {
-        Explanation::InputStuck => ExplainResult {
-            code: 0,
-            ground: 1,
-            first: 0,
-            second: 0,
-        },
-        Explanation::ByReplies => ExplainResult {
-            code: 0,
-            ground: 2,
-            first: 0,
-            second: 0,
-        },
+        Explanation::InputStuck => names_nothing(0, 1),
+        Explanation::ByReplies => names_nothing(0, 2),
         Explanation::AtHome(d) => ExplainResult {
             code: 0,
             ground: 3,
-            first: d.0,
-            second: 0,
+            output: d,
+            input: InState(0),
+            requirement: 0,
+            set: 0,
         },
-        Explanation::OutputStuck => ExplainResult {
-            code: 0,
-            ground: 4,
-            first: 0,
-            second: 0,
-        },
-        Explanation::Unanswered(j) => ExplainResult {
-            code: 0,
-            ground: 5,
-            first: j.0,
-            second: 0,
-        },
-        Explanation::ByWayOut(j) => ExplainResult {
-            code: 0,
-            ground: 6,
-            first: j.0,
-            second: 0,
-        },
+        Explanation::OutputStuck => names_nothing(0, 4),
+        Explanation::Unanswered(j) => names_input(5, j),
+        Explanation::ByWayOut(j) => names_input(6, j),
         Explanation::Unserved(k, n) => ExplainResult {
             code: 0,
             ground: 7,
-            first: k,
-            second: n,
+            output: OutState(0),
+            input: InState(0),
+            requirement: k,
+            set: n,
         },
-        Explanation::PushedOn => ExplainResult {
-            code: 0,
-            ground: 8,
-            first: 0,
-            second: 0,
-        },
-        Explanation::Refused(n) => ExplainResult {
-            code: n,
-            ground: 0,
-            first: 0,
-            second: 0,
-        },
+        Explanation::PushedOn => names_nothing(0, 8),
+        Explanation::Refused(n) => names_nothing(n, 0),
     }
 }
 

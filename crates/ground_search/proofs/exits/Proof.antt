@@ -1,5 +1,6 @@
 -- `exits`.
 use native.Mathlib.Omega.{arith}
+use Rattle.sets.specs.Words.{setCount}
 use Rattle.scratch.proofs.Areas.{in-transitive}
 use Rattle.ground_search.proofs.Meaning.{exits-means}
 use borrow.Author.Needs.{needs}
@@ -15,11 +16,12 @@ in-component-requires c κs =
     (p .ready .fits .input .most, p .input, omega (arith, p .ready .laid .long), in-transitive (p .ready .laid))
 
 leaving-requires : tie.Need-leaving-requires
+unfolding setCount
 leaving-requires c κs = search needs
 
 returns : tie.Need-returns
 returns c =
-    let a = c .before .before .before in
+    let a = c .before .before .before .before in
     exits-means (a .before .before .before .before .pre) (a .in-component .ensures) (c .leaving .ensures)
 
 pub exits-spec : {M : Type 1} → statement M

@@ -1,0 +1,3 @@
+-- What the call that explains all positions promises.
+pub mod Entry
+pub mod All
