@@ -19,9 +19,10 @@ pub record Replied (A : Arena) (T : ControllerTable) (c : Configuration) (j : �
   pub input : next .input ≡ j
   pub turn : ControllerTurn A T c next
 
+-- SPEC 3.6
 pub record ControllerNeverStopped (A : Arena) (T : ControllerTable) : Type 0 where
   pub begins : (i : ℕ) → A .inInitial i ≡ true → (c : Configuration) × ControllerFirst A T c × (c .input ≡ i)
-  -- "A play that stops for want of an input move is won": either that, or the table has a reply to every input move, and there is one
+  -- "A play that stops for want of an input move is won": either that, or the table has a reply to every input move, and there is one (SPEC 3.2)
   pub onward : (c : Configuration) → Reachable (ControllerFirst A T) (ControllerTurn A T) c
       → ((j : ℕ) → A .inMove (c .input) j ≡ false)
       ⊎ (((j : ℕ) × (A .inMove (c .input) j ≡ true)) × ((j : ℕ) → A .inMove (c .input) j ≡ true → Replied A T c j))
@@ -34,15 +35,17 @@ pub record Asked (A : Arena) (P : EnvironmentTable) (c : Configuration) : Type 0
   pub input : ℕ
   pub names : Names (P .memories) (A .inMove (c .input)) (P .step (c .memory) (c .input) (c .output)) memory input
 
+-- SPEC 3.6
 pub record EnvironmentNeverStopped (A : Arena) (P : EnvironmentTable) : Type 0 where
   pub begins : Some (P .memories) (A .inInitial) (P .start)
-  -- "and one that stops for want of an output move is lost": the table has a move, and the system has no reply to it, or a turn goes on
+  -- "and one that stops for want of an output move is lost": the table has a move, and the system has no reply to it, or a turn goes on (SPEC 3.2)
   pub onward : (c : Configuration) → Reachable (EnvironmentFirst A P) (EnvironmentTurn A P) c
       → (a : Asked A P c) × (((p : ℕ) → A .reply (a .input) (c .output) p ≡ false) ⊎ ((d : Configuration) × EnvironmentTurn A P c d))
   -- so where no turn goes on, it is the system that is stopped
   pub other : (c : Configuration) → Reachable (EnvironmentFirst A P) (EnvironmentTurn A P) c → ((d : Configuration) → EnvironmentTurn A P c d → ⊥)
       → (a : Asked A P c) × ((p : ℕ) → A .reply (a .input) (c .output) p ≡ false)
 
+-- SPEC 3.6
 unfoldable pub NeverStopped : Arena → Outcome → Type 0
 NeverStopped A (system T) = ControllerNeverStopped A T
 NeverStopped A (environment P) = EnvironmentNeverStopped A P

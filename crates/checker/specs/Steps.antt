@@ -34,7 +34,7 @@ pub record RoundWritten (queue from : List ℕ) (n : ℕ) (walk : List ℕ) (c :
 pub record Found (g : Game) (l w w′ : List ℕ) (r : Checked) : Type 0 where
   pub number : checkerNumber r ≡ 0
   pub told : Told g l w′ r
-  pub fits : walkLength r ≤ length w
+  pub fits : walkLength r ≤ walkRoom
   pub long : length w′ ≡ length w
   pub rest : (k : ℕ) → walkLength r ≤ k → getD w′ k 0 ≡ getD w k 0
   pub whole : walkLength r ≡ 0 → w′ ≡ w

@@ -123,6 +123,7 @@ fn check_accepted(g: Game, table: &[u16], room: &mut [u16]) -> Checked
 }
 
 // Checks a controller's table: accepted exactly when it wins; else what is handed back, with the walk at the room's front, shows that it does not.
+// SPEC 12.1, 12.2, 12.3, 12.4
 pub fn check(g: Game, table: &[u16], room: &mut [u16]) -> Checked
     ensures { λ r. ⌜ Checks g (now (table .entry)) (now (room .entry)) (now (room .exit)) r ⌝ }
 {

@@ -20,7 +20,7 @@ pub record Suspect (q : Requirement) (Q : ℕ → Bool) (cs : List Configuration
   pub visits : allOf (λ s. visitsInput s cs) (q .assumptions) ≡ true
   pub misses : visitsOutput Q cs ≡ false
 
--- "every reachable round meets all requirements" holds where such a set is empty for each requirement and each of its output sets
+-- "every reachable round meets all requirements" holds where such a set is empty for each requirement and each of its output sets (SPEC 12.1)
 pub record Holds (First : Configuration → Type 0) (Turn : Configuration → Configuration → Type 0) (q : Requirement) (Q : ℕ → Bool)
     (X : Configuration → Bool) : Type 0 where
   pub round : (r : Cycle First Turn) → Suspect q Q (configurations First Turn r) → (c : Configuration)

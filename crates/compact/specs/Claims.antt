@@ -41,11 +41,12 @@ Output S o = o < S .output .states
 abbrev pub Counter : Separated → ℕ → Type 0
 Counter S g = g < controllerCounters S
 
+-- SPEC 11.1, 11.2, 11.3
 pub record RowsByComponent (G : Game) : Type 0 where
-  -- "A controller row depends on the new input only through its component"
+  -- "A controller row depends on the new input only through its component" (SPEC 11.1)
   pub depends : (o g j k : ℕ) → Output (separatedOf G) o → joined (separatedOf G .input) j k ≡ true
       → controllerRow (separatedOf G) o g j ≡ controllerRow (separatedOf G) o g k
-  -- "Components rank from 0 by smallest state."
+  -- "Components rank from 0 by smallest state." (SPEC 11.1)
   pub below : (j : ℕ) → Input (separatedOf G) j → rankOf (separatedOf G) j < componentCount (separatedOf G)
   pub together : (j k : ℕ) → Input (separatedOf G) j → Input (separatedOf G) k
       → (rankOf (separatedOf G) j ≡ rankOf (separatedOf G) k) ↔ (joined (separatedOf G .input) j k ≡ true)
@@ -53,7 +54,7 @@ pub record RowsByComponent (G : Game) : Type 0 where
       → Input (separatedOf G) (leaderOf (separatedOf G) c) × (rankOf (separatedOf G) (leaderOf (separatedOf G) c) ≡ c)
   pub smallest : (j : ℕ) → Input (separatedOf G) j → leaderOf (separatedOf G) (rankOf (separatedOf G) j) ≡ number (separatedOf G .input) j
   pub rises : (c d : ℕ) → c < d → d < componentCount (separatedOf G) → leaderOf (separatedOf G) c < leaderOf (separatedOf G) d
-  -- "The solver can write this layout directly, and every row read from it equals the row of the old one."
+  -- "The solver can write this layout directly, and every row read from it equals the row of the old one." (SPEC 11.2)
   pub entries : length (compactEntries (separatedOf G)) ≡ compactLength (separatedOf G)
   pub starts : (i : ℕ) → Input (separatedOf G) i
       → getD (compactEntries (separatedOf G)) i noneEntry ≡ getD (controllerEntries (separatedOf G)) i noneEntry
@@ -63,10 +64,10 @@ pub record RowsByComponent (G : Game) : Type 0 where
       (compactTable (separatedOf G) (compactEntries (separatedOf G)))
   -- demand 3 of the table read through the compact layout
   pub demand : DemandThree (playOf G) (compactOutcome (separatedOf G))
-  -- "Stored tables are moved both ways": what the solver writes in one layout, moved, is what it writes in the other
+  -- "Stored tables are moved both ways": what the solver writes in one layout, moved, is what it writes in the other (SPEC 11.3)
   pub over : toCompact (separatedOf G) (controllerEntries (separatedOf G)) ≡ compactEntries (separatedOf G)
   pub back : fromCompact (separatedOf G) (compactEntries (separatedOf G)) ≡ controllerEntries (separatedOf G)
-  -- "and over and back or back and over is the same table", for every list that is not refused
+  -- "and over and back or back and over is the same table", for every list that is not refused (SPEC 11.3)
   pub over-and-back : (l : List ℕ) → fullFits (separatedOf G) l ≡ true → rowsFit (separatedOf G) l ≡ true
       → fromCompact (separatedOf G) (toCompact (separatedOf G) l) ≡ l
   pub back-and-over : (l : List ℕ) → compactFits (separatedOf G) l ≡ true → ranksFit (separatedOf G) l ≡ true

@@ -24,24 +24,25 @@ use Rattle.theory.specs.Choice.{controllerRow, controllerStart}
 use Rattle.theory.specs.Entries.{noneEntry, entry, answer, controllerCounters, environmentCounters, environmentEntries, environmentTable}
 use Rattle.compact.specs.Rank.{componentCount, rankOf, leaderOf}
 
--- "inputs + outputs × max(1, G) × inputs entries"
+-- "inputs + outputs × max(1, G) × inputs entries" (SPEC 7.2)
 unfoldable pub fullLength : Separated → ℕ
 fullLength S = S .input .states + S .output .states * controllerCounters S * S .input .states
 
--- inputs + inputs + outputs × max(1, G) × components
+-- inputs + inputs + outputs × max(1, G) × components (SPEC 11.1)
 unfoldable pub compactLength : Separated → ℕ
 compactLength S = S .input .states + (S .input .states + S .output .states * controllerCounters S * componentCount S)
 
 unfoldable pub cellOf : ℕ → ℕ → (ℕ → ℕ → ℕ → ℕ) → ℕ → ℕ
 cellOf B C f r = f (r / C / B) (r / C % B) (r % C)
 
--- "Controller: one start entry an input, then rows by output, counter, input, the last running fastest"
+-- "Controller: one start entry an input, then rows by output, counter, input, the last running fastest" (SPEC 7.2)
 unfoldable pub fullList : Separated → (ℕ → ℕ) → (ℕ → ℕ → ℕ → ℕ) → List ℕ
 fullList S start row =
     let I : ℕ = S .input .states in
     let M : ℕ = controllerCounters S in
     tabulate I start ++ tabulate (S .output .states * M * I) (cellOf M I row)
 
+-- SPEC 11.1
 unfoldable pub compactList : Separated → (ℕ → ℕ) → (ℕ → ℕ → ℕ → ℕ) → List ℕ
 compactList S start row =
     let I : ℕ = S .input .states in
@@ -49,7 +50,7 @@ compactList S start row =
     let C : ℕ = componentCount S in
     tabulate I start ++ (tabulate I (rankOf S) ++ tabulate (S .output .states * M * C) (cellOf M C row))
 
--- "The solver can write this layout directly": the row of a component is that of its smallest state.
+-- "The solver can write this layout directly": the row of a component is that of its smallest state. (SPEC 11.2)
 unfoldable pub compactEntries : Separated → List ℕ
 compactEntries S = compactList S (λ i. entry (controllerStart S i)) (λ o g c. entry (controllerRow S o g (leaderOf S c)))
 
@@ -60,6 +61,7 @@ unfoldable pub compactCell : Separated → List ℕ → ℕ → ℕ → ℕ → 
 compactCell S l o g c =
     getD l (S .input .states + (S .input .states + ((o * controllerCounters S + g) * componentCount S + c))) noneEntry
 
+-- SPEC 11.2
 unfoldable pub compactRow : Separated → List ℕ → ℕ → ℕ → ℕ → ℕ
 compactRow S l o g j = compactCell S l o g (getD l (S .input .states + j) noneEntry)
 

@@ -40,11 +40,12 @@ unfoldable pub backAnswer : Game → List ℕ → ℕ → Move
 backAnswer g l n =
     elim (acceptance g) [ Accepted ↦ moveAs (backNumber (separatedOf g) l n) (fullLength (separatedOf g)) | Faulty k ↦ Refused k ]
 
--- "After 1 to 7 come 23, 22, 21, then 9 for a target room too short, by the layout written"
+-- "After 1 to 7 come 23, 22, 21, then 9 for a target room too short, by the layout written" (SPEC 9.1, 11.3)
 unfoldable pub overTests : Game → List ℕ → ℕ → List (ℕ × Bool)
 overTests g l n =
     gameTests g ++ (23, fullFits (separatedOf g) l) ∷ (21, rowsFit (separatedOf g) l) ∷ (9, leb (compactLength (separatedOf g)) n) ∷ []
 
+-- SPEC 9.1, 11.3
 unfoldable pub backTests : Game → List ℕ → ℕ → List (ℕ × Bool)
 backTests g l n =
     gameTests g ++ (23, compactFits (separatedOf g) l) ∷ (22, ranksFit (separatedOf g) l) ∷ (9, leb (fullLength (separatedOf g)) n) ∷ []
@@ -53,16 +54,17 @@ abbrev pub moveNumber : Move → ℕ
 moveNumber (Moved n) = 0
 moveNumber (Refused n) = n
 
--- "the rest of that room is unchanged"
+-- "the rest of that room is unchanged" (SPEC 11.3)
 unfoldable pub overRoom : Game → Move → List ℕ → List ℕ → List ℕ
 overRoom g (Moved n) l w = toCompact (separatedOf g) l ++ drop n w
 overRoom g (Refused n) l w = w
 
+-- SPEC 11.3
 unfoldable pub backRoom : Game → Move → List ℕ → List ℕ → List ℕ
 backRoom g (Moved n) l w = fromCompact (separatedOf g) l ++ drop n w
 backRoom g (Refused n) l w = w
 
--- `over-and-back`, `back-and-over`: what was written, moved again to a room of the table's length, is not refused and is the table
+-- `over-and-back`, `back-and-over`: what was written, moved again to a room of the table's length, is not refused and is the table (SPEC 11.3)
 pub record MovedOver (g : Game) (l w w′ : List ℕ) (r : Move) : Type 0 where
   pub answer : r ≡ overAnswer g l (length w)
   pub number : moveNumber r ≡ firstOf (overTests g l (length w))
@@ -70,6 +72,7 @@ pub record MovedOver (g : Game) (l w w′ : List ℕ) (r : Move) : Type 0 where
   pub over-and-back : (n : ℕ) → r ≡ Moved n
       → (backAnswer g (toCompact (separatedOf g) l) (length l) ≡ Moved (length l)) × (fromCompact (separatedOf g) (toCompact (separatedOf g) l) ≡ l)
 
+-- SPEC 11.3
 pub record MovedBack (g : Game) (l w w′ : List ℕ) (r : Move) : Type 0 where
   pub answer : r ≡ backAnswer g l (length w)
   pub number : moveNumber r ≡ firstOf (backTests g l (length w))
@@ -84,6 +87,7 @@ abbrev pub countNumber : Count → ℕ
 countNumber (Components n) = 0
 countNumber (NotCounted n) = n
 
+-- SPEC 11.1
 pub record Counted (g : Game) (r : Count) : Type 0 where
   pub answer : r ≡ countAnswer g
   pub number : countNumber r ≡ firstOf (gameTests g)

@@ -96,7 +96,7 @@ fn back_accepted(g: Game, table: &[u16], room: &mut [u16]) -> Move
     Move::Moved(n)
 }
 
-// Writes a table of the full layout in the compact one into the front of the room.
+// Writes a table of the full layout in the compact one into the front of the room. (SPEC 11.3)
 pub fn to_compact(g: Game, table: &[u16], room: &mut [u16]) -> Move
     ensures { λ r. ⌜ MovedOver g (now (table .entry)) (now (room .entry)) (now (room .exit)) r ⌝ }
 {
@@ -107,7 +107,7 @@ pub fn to_compact(g: Game, table: &[u16], room: &mut [u16]) -> Move
     }
 }
 
-// Writes a table of the compact layout in the full one into the front of the room.
+// Writes a table of the compact layout in the full one into the front of the room. (SPEC 11.3)
 pub fn to_full(g: Game, table: &[u16], room: &mut [u16]) -> Move
     ensures { λ r. ⌜ MovedBack g (now (table .entry)) (now (room .entry)) (now (room .exit)) r ⌝ }
 {
@@ -118,7 +118,7 @@ pub fn to_full(g: Game, table: &[u16], room: &mut [u16]) -> Move
     }
 }
 
-// How many components the input graph has: so a caller knows the compact layout's length.
+// How many components the input graph has: so a caller knows the compact layout's length. (SPEC 11.1)
 pub fn count_components(g: Game) -> Count
     ensures { λ r. ⌜ Counted g r ⌝ }
 {

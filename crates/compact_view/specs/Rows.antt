@@ -21,11 +21,11 @@ use Rattle.compact.specs.Compact.{fullRow}
 use Rattle.compact.specs.Moving.{fromCompact, ranksFit}
 use Rattle.view.specs.Rows.{inRange}
 
--- "then rows by output, counter and component"
+-- "then rows by output, counter and component" (SPEC 11.1)
 unfoldable pub rankEntry : List ℕ → (I M C o g c : ℕ) → ℕ
 rankEntry l I M C o g c = elim (ltb c C) [ true ↦ getD l (I + (I + ((o * M + g) * C + c))) noneEntry | false ↦ noneEntry ]
 
--- "starts as before, then the component's rank for each input": there are no more components than inputs
+-- "starts as before, then the component's rank for each input": there are no more components than inputs (SPEC 9.5, 11.2)
 unfoldable pub compactEntry : List ℕ → (I M C o g j : ℕ) → ℕ
 compactEntry l I M C o g j = elim (inRange I M o g j && leb C I) [ true ↦ rankEntry l I M C o g (getD l (I + j) noneEntry) | false ↦ noneEntry ]
 
@@ -36,7 +36,7 @@ pub record Ranked (G : Game) (l : List ℕ) (I M C : ℕ) : Type 0 where
   pub components : C ≡ componentCount (separatedOf G)
   pub ranks : ranksFit (separatedOf G) l ≡ true
 
--- "every row read from it equals the row of the old one"
+-- "every row read from it equals the row of the old one" (SPEC 11.2)
 pub record Looked (l : List ℕ) (I M C o g j r : ℕ) : Type 0 where
   pub entry : r ≡ compactEntry l I M C o g j
   pub row : (G : Game) → Ranked G l I M C → o < G .output .states → g < M → j < I

@@ -10,7 +10,7 @@ fn wide(x: u16) -> usize
     x as usize
 }
 
-// The entry of a row: that of the rank which the table has for the new input.
+// The entry of a row: that of the rank which the table has for the new input. (SPEC 9.5, 11.2)
 pub fn lookup(rows: &[u16], inputs: usize, counters: usize, components: usize, at: RowIndex) -> u16
     ensures { λ r. ⌜ Looked (now (rows .entry)) inputs counters components (at .output .0) (at .counter) (at .input .0) r ⌝ }
 {

@@ -19,13 +19,14 @@ use Rattle.theory.specs.Entries.{controllerCounters, environmentCounters, contr
 unfoldable pub playOf : Game → Arena
 playOf g = arenaOf (separatedOf g)
 
--- Demand 2: "A position is won when some controller started there makes all reachable rounds meet all requirements.", and those are marked.
+-- Demand 2: "A position is won when some controller started there makes all reachable rounds meet all requirements.", and those are marked. (SPEC 3.1, 4.5)
 pub record DemandTwo (g : Game) (w : ℕ → ℕ → Bool) : Type 0 where
   pub marks : (i o : ℕ) → i < g .input .states → o < g .output .states → (w i o ≡ true) ↔ Won (playOf g) i o
 
--- "The table handed over is the filled front, read as under Rooms, its counters being the memory."
+-- "The table handed over is the filled front, read as under Rooms, its counters being the memory." (SPEC 7.2)
 unfoldable pub controllerOf : Game → List ℕ → ControllerTable
 controllerOf g l = controllerTable (g .input .states) (controllerCounters (separatedOf g)) l
 
+-- SPEC 7.3
 unfoldable pub environmentOf : Game → List ℕ → EnvironmentTable
 environmentOf g l = environmentTable (g .output .states) (environmentCounters (separatedOf g)) l

@@ -16,14 +16,16 @@ pub record Later (p : ℕ → Bool) (n : ℕ) : Type 0 where
   pub late : n ≤ at
   pub here : p at ≡ true
 
+-- SPEC 3.7
 abbrev pub Recurs : (ℕ → Bool) → Type 0
 Recurs p = (n : ℕ) → Later p n
 
+-- SPEC 3.7
 pub record Endless (First : Configuration → Type 0) (Turn : Configuration → Configuration → Type 0) (f : ℕ → Configuration) : Type 0 where
   pub first : First (f 0)
   pub turn : (n : ℕ) → Turn (f n) (f (n + 1))
 
--- "if these old modes recur, these new modes recur"
+-- "if these old modes recur, these new modes recur" (SPEC 3.7)
 pub record RecurringMeet (q : Requirement) (f : ℕ → Configuration) : Type 0 where
   pub guaranteed : ((s : ℕ → Bool) → List·Memᴰ s (q .assumptions) → Recurs (λ n. s (f n .input)))
       → (s : ℕ → Bool) → List·Memᴰ s (q .guarantees) → Recurs (λ n. s (f n .output))

@@ -80,40 +80,41 @@ requirementFitsAt g r = requirementFits g r (requirementAt g r)
 
 -- ---- the seven tests
 
--- fails: "1 a count not 1 to 64", to 128 by M-105: "Number 1 begins at 129"
+-- fails: "1 a count not 1 to 64", to 128 by M-105: "Number 1 begins at 129" (SPEC 9.2)
 unfoldable pub countsFit : Game → Bool
 countsFit g = countFits (g .input) && countFits (g .output)
 
--- fails: "2 a move or initial state past the count, or a used row past it"
+-- fails: "2 a move or initial state past the count, or a used row past it" (SPEC 9.2)
 unfoldable pub statesInCount : Game → Bool
 statesInCount g = statesFit (g .input) && statesFit (g .output)
 
--- fails: "3 no initial state"
+-- fails: "3 no initial state" (SPEC 9.2)
 unfoldable pub initialsExist : Game → Bool
 initialsExist g = hasInitial (g .input) && hasInitial (g .output)
 
--- fails: "5 k over 8"
+-- fails: "5 k over 8" (SPEC 9.2)
 unfoldable pub fewRequirements : Game → Bool
 fewRequirements g = leb (g .k) 8
 
--- fails: "6 a length over 4, all eight places counted"
+-- fails: "6 a length over 4, all eight places counted" (SPEC 9.2)
 unfoldable pub lengthsFit : Game → Bool
 lengthsFit g = all 8 (fewSetsAt g)
 
--- fails: "7 a state past its count in a set, an unused set not empty, or an unused requirement with a length not 0"
+-- fails: "7 a state past its count in a set, an unused set not empty, or an unused requirement with a length not 0" (SPEC 9.2)
 unfoldable pub setsFit : Game → Bool
 setsFit g = all 8 (requirementFitsAt g)
 
--- "So a state without a move is accepted, and 4 no longer occurs." (M-102)
+-- "So a state without a move is accepted, and 4 no longer occurs." (M-102) (SPEC 1.2, 9.2)
 unfoldable pub tests : Game → List Bool
 tests g = countsFit g ∷ statesInCount g ∷ initialsExist g ∷ true ∷ fewRequirements g ∷ lengthsFit g ∷ setsFit g ∷ []
 
--- "The lowest number whose condition holds is given"
+-- "The lowest number whose condition holds is given" (SPEC 9.1)
 unfoldable pub firstFailing : ℕ → List Bool → Acceptance
 firstFailing n [] = Accepted
 firstFailing n (true ∷ ts) = firstFailing (suc n) ts
 firstFailing n (false ∷ ts) = Refused n
 
+-- SPEC 9.1, 9.2
 unfoldable pub acceptance : Game → Acceptance
 acceptance g = firstFailing 1 (tests g)
 

@@ -30,6 +30,7 @@ pub record RequirementFits (q : Requirement) (a b : ℕ) : Type 0 where
   pub guarantee-below : (j s : ℕ) → j < q .guaranteed → has (bitsOf (getD (q .guarantees) j noOutput .0)) s ≡ true → s < b
   pub guarantee-past : (j : ℕ) → q .guaranteed ≤ j → j < 4 → bitsOf (getD (q .guarantees) j noOutput .0) ≡ 0
 
+-- SPEC 1.6
 pub record Fits (g : Game) : Type 0 where
   pub input : GraphFits (g .input)
   pub output : GraphFits (g .output)

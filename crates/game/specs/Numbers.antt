@@ -16,7 +16,7 @@ unfoldable pub numbered : ℕ → List Bool → List (ℕ × Bool)
 numbered n [] = []
 numbered n (b ∷ ts) = (n, b) ∷ numbered (suc n) ts
 
--- "The lowest number whose condition holds is given, except for file and player as noted; none is given otherwise."
+-- "The lowest number whose condition holds is given, except for file and player as noted; none is given otherwise." (SPEC 9.1)
 unfoldable pub firstOf : List (ℕ × Bool) → ℕ
 firstOf [] = 0
 firstOf ((n, true) ∷ ts) = firstOf ts
@@ -25,6 +25,7 @@ firstOf ((n, false) ∷ ts) = n
 unfoldable pub gameTests : Game → List (ℕ × Bool)
 gameTests g = numbered 1 (tests g)
 
+-- SPEC 9.1
 pub record Accepts (g : Game) (a : Acceptance) : Type 0 where
   pub answer : a ≡ acceptance g
   pub number : acceptanceNumber a ≡ firstOf (gameTests g)

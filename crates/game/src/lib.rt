@@ -5,23 +5,23 @@ ghost use Rattle.sets.specs.Words.{capacity};
 ghost use Rattle.game.specs.Access.{inMoves, outMoves, assumptionAt, guaranteeAt, inInitial, outInitial};
 use sets::Set;
 
-// The number of an input state.
+// The number of an input state. (SPEC 1.4)
 #[repr(C)]
 pub struct InState(pub usize);
 
-// The number of an output state.
+// The number of an output state. (SPEC 1.4)
 #[repr(C)]
 pub struct OutState(pub usize);
 
-// A set of input states.
+// A set of input states. (SPEC 1.4)
 #[repr(C)]
 pub struct InSet(pub Set);
 
-// A set of output states.
+// A set of output states. (SPEC 1.4)
 #[repr(C)]
 pub struct OutSet(pub Set);
 
-// Row s of `moves`, two words, low states first, is the set of the states that state s moves to.
+// Row s of `moves`, two words, low states first, is the set of the states that state s moves to. (SPEC 1.6)
 #[repr(C)]
 pub struct Graph {
     pub states: usize,
@@ -29,7 +29,7 @@ pub struct Graph {
     pub moves: [u64; sets::ROW_WORDS],
 }
 
-// If every assumption is visited, every guarantee is. Of the four places each, `assumed` and `guaranteed` are in use.
+// If every assumption is visited, every guarantee is. Of the four places each, `assumed` and `guaranteed` are in use. (SPEC 1.6)
 #[repr(C)]
 pub struct Requirement {
     pub assumptions: [InSet; 4],
@@ -38,7 +38,7 @@ pub struct Requirement {
     pub guaranteed: usize,
 }
 
-// Of the eight places for requirements k are in use.
+// Of the eight places for requirements k are in use. (SPEC 1.6)
 #[repr(C)]
 pub struct Game {
     pub input: Graph,

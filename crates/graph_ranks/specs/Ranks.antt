@@ -26,7 +26,7 @@ pub record Put (n c v : ℕ) (l m : List ℕ) : Type 0 where
 unfoldable pub ranked : ℕ → ℕ → ℕ → List ℕ → Bool
 ranked n c v l = all capacity (λ t. not (has c t) || eqb (getD l (n + t) noneEntry) v)
 
--- "starts as before, then the component's rank for each input"
+-- "starts as before, then the component's rank for each input" (SPEC 11.1)
 pub record RanksWritten (g : Game) (l m : List ℕ) : Type 0 where
   pub long : length m ≡ length l
   pub rank : (t : ℕ) → t < g .input .states → getD m (g .input .states + t) 0 ≡ rankOf (separatedOf g) t

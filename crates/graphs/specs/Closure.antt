@@ -22,5 +22,6 @@ unfoldable pub via : Graph → ℕ → List ℕ
 via G zero = rowsOf (G .states) (G .states) (nearby G)
 via G (suc k) = let r : List ℕ = via G k in rowsOf (G .states) (G .states) (joins r k)
 
+-- SPEC 4.1
 unfoldable pub reaches : Graph → ℕ → ℕ → Bool
 reaches G s t = rel (via G (G .states)) s t

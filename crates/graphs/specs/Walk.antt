@@ -4,7 +4,7 @@
 --   passed w      == that list
 use mathlib.Core.List.{List, [], _∷_}
 
--- "A walk is a list of configurations, each after the first made from the one before by a turn."
+-- "A walk is a list of configurations, each after the first made from the one before by a turn." (SPEC 2.6)
 pub data Walk {A : Type 0} (R : A → A → Type 0) : A → A → Type 0 where
   stay : {a : A} → Walk R a a
   step : {a b c : A} → R a b → Walk R b c → Walk R a c

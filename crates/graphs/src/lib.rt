@@ -1,1 +1,1 @@
-// Graphs and walks: definitions in specs/, laws in proofs/. The sweeps that compute a closure are in the crate closure.
+// Graphs and walks: definitions in specs/, laws in proofs/. The sweeps that compute a closure are in the crate graph_closure.

@@ -24,11 +24,11 @@ use Rattle.map_marks.specs.declared.Mapped.the-variants.{Done, Refused as NotMa
 use Rattle.map_marks.specs.Answer.{mapNumber, MapAfter}
 use Rattle.joined_reach.specs.Words.{joinedWords}
 
--- "24 a count over 32, after 7 and before 8" (document 02, M-108)
+-- "24 a count over 32, after 7 and before 8" (document 02, M-108) (SPEC 14.3)
 unfoldable pub countsSmall : Game → Bool
 countsSmall g = leb (g .input .states) 32 && leb (g .output .states) 32
 
--- "Its scratch is 4,096 words, under the same rules."; "or, where the call writes the map, map room under one word an input"
+-- "Its scratch is 4,096 words, under the same rules."; "or, where the call writes the map, map room under one word an input" (SPEC 14.3)
 unfoldable pub joinedFits : Game → ℕ → ℕ → Bool
 joinedFits g s m = leb joinedWords s && leb (wordsFor (g .input .states)) m
 
@@ -41,18 +41,20 @@ joinedSize g s m = elim (countsSmall g) [ true ↦ joinedRoom g s m | false ↦ 
 unfoldable pub joinedAnswer : Game → ℕ → ℕ → Mapped
 joinedAnswer g s m = elim (acceptance g) [ Accepted ↦ joinedSize g s m | Faulty n ↦ NotMapped n ]
 
+-- SPEC 9.1, 14.3
 unfoldable pub joinedTests : Game → ℕ → ℕ → List (ℕ × Bool)
 joinedTests g s m = gameTests g ++ (24, countsSmall g) ∷ (8, joinedFits g s m) ∷ []
 
--- "after an answer the first that many words are zero and the rest unchanged"; "Each returns its number only .. and changes no lent memory"
+-- "after an answer the first that many words are zero and the rest unchanged"; "Each returns its number only .. and changes no lent memory" (SPEC 7.5, 14.3)
 unfoldable pub joinedScratch : Mapped → List ℕ → List ℕ
 joinedScratch Done s = cleared joinedWords s
 joinedScratch (NotMapped n) s = s
 
+-- SPEC 14.3
 pub record JoinedMade (g : Game) (s s′ m m′ : List ℕ) (r : Mapped) : Type 0 where
   pub answer : r ≡ joinedAnswer g (length s) (length m)
   pub number : mapNumber r ≡ firstOf (joinedTests g (length s) (length m))
-  -- "Its won map equals ours on every game both accept, dead ends included."
+  -- "Its won map equals ours on every game both accept, dead ends included." (SPEC 14.3)
   pub map : MapAfter g r m m′
   pub scratch : s′ ≡ joinedScratch r s
   pub won : r ≡ Done → (i o : ℕ) → i < g .input .states → o < g .output .states → (has (getD (setsIn m′) i 0) o ≡ true) ↔ Won (playOf g) i o

@@ -142,7 +142,7 @@ fn map_accepted(g: Game, scratch: &mut [u64], map: &mut [u64]) -> Mapped
     Mapped::Done
 }
 
-// Marks the won positions, one set of outputs for each input, in a game of at most 32 states a graph.
+// Marks the won positions, one set of outputs for each input, in a game of at most 32 states a graph. (SPEC 14.3)
 pub fn joined_map(g: Game, scratch: &mut [u64], map: &mut [u64]) -> Mapped
     ensures { λ r. ⌜ JoinedMade g (now (scratch .entry)) (now (scratch .exit)) (now (map .entry)) (now (map .exit)) r ⌝ }
 {

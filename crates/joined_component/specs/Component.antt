@@ -40,7 +40,7 @@ pub record Drawn (g : Game) (n : ℕ) (l m : List ℕ) : Type 0 where
   pub rows : (i o : ℕ) → i < g .input .states
       → has (getD m (componentAt + i) 0) o ≡ (has (getD l i 0) o && rankedIn l (g .output .states) i n o)
 
--- "each SCC in its game graph is either an accepting SCC or a non-accepting SCC" (source document 000, section 6.1), the requirement told of sets
+-- "each SCC in its game graph is either an accepting SCC or a non-accepting SCC" (source document 000, section 6.1), the requirement told of sets (SPEC 14.3)
 unfoldable pub dueAt : Requirement → ℕ → ℕ → Bool
 dueAt q x j = setsMeet capacity (bitsOf (getD (q .assumptions) j noInput .0)) x
 

@@ -18,7 +18,7 @@ use Rattle.game.specs.declared.Game.{Game}
 use Rattle.game.specs.Fits.{Fits}
 use Rattle.play.specs.Play.{separatedOf}
 
--- "Its scratch is 4,096 words" (M-108)
+-- "Its scratch is 4,096 words" (M-108) (SPEC 14.3)
 abbrev pub joinedWords : ℕ
 joinedWords = 4096
 
@@ -43,7 +43,7 @@ aheadAt = 1024
 unfoldable pub belongs : ℕ → ℕ → List ℕ → ℕ → ℕ → Bool
 belongs n a l i o = ltb i n && has (getD l (a + i) 0) o
 
--- "for graphs of at most 32 states" (document 02, M-108)
+-- "for graphs of at most 32 states" (document 02, M-108) (SPEC 14.3)
 pub record Small (g : Game) : Type 0 where
   pub fits : Fits g
   pub inputs : g .input .states ≤ 32

@@ -27,13 +27,13 @@ joint G H = record {
 abbrev pub reachesAt : Separated → ℕ → ℕ → ℕ → ℕ → Bool
 reachesAt S i o j p = reaches (joint (S .input) (S .output)) (at (S .output) i o) (at (S .output) j p)
 
--- "the last components of the joined graph": components of this graph, never of one of the two
+-- "the last components of the joined graph": components of this graph, never of one of the two (SPEC 14.3)
 unfoldable pub joinedAt : Separated → ℕ → ℕ → ℕ → ℕ → Bool
 joinedAt S i o j p = joined (joint (S .input) (S .output)) (at (S .output) i o) (at (S .output) j p)
 
 unfoldable pub nontrivialAt : Separated → ℕ → ℕ → Bool
 nontrivialAt S i o = nontrivial (joint (S .input) (S .output)) (at (S .output) i o)
 
--- "working backward": what is joined has the same number ahead, what is entered by a move out of a component has fewer
+-- "working backward": what is joined has the same number ahead, what is entered by a move out of a component has fewer (SPEC 14.3)
 unfoldable pub rankAt : Separated → ℕ → ℕ → ℕ
 rankAt S i o = rank (joint (S .input) (S .output)) (at (S .output) i o)

@@ -34,40 +34,43 @@ kitNamed k = elim (verdict (separatedOf (gameFrom k))) [ true ↦ System (kitLen
 unfoldable pub kitEnvironmentTested : Kit → ℕ → Verdict
 kitEnvironmentTested k e = elim (leb (environmentLength (gameFrom k)) e) [ true ↦ kitNamed k | false ↦ Refused 10 ]
 
--- "9 also covers a kit's room too short, whoever wins."
+-- "9 also covers a kit's room too short, whoever wins." (SPEC 13.4)
 unfoldable pub kitRoomsTested : Kit → ℕ → ℕ → ℕ → Verdict
 kitRoomsTested k c e t = elim (leb (controllerLength (gameFrom k)) c && leb (kitLength k) t) [ true ↦ kitEnvironmentTested k e | false ↦ Refused 9 ]
 
--- "The kit and later calls that take scratch and name no length keep this rule." (document 02, M-103)
+-- "The kit and later calls that take scratch and name no length keep this rule." (document 02, M-103) (SPEC 7.5)
 unfoldable pub kitScratchTested : Kit → ℕ → ℕ → ℕ → ℕ → Verdict
 kitScratchTested k s c e t = elim (leb (scratchLength (gameFrom k)) s) [ true ↦ kitRoomsTested k c e t | false ↦ Refused 8 ]
 
 unfoldable pub kitAnswer : Kit → ℕ → ℕ → ℕ → ℕ → Verdict
 kitAnswer k s c e t = elim (kitAcceptance k) [ Accepted ↦ kitScratchTested k s c e t | Faulty n ↦ Refused n ]
 
+-- SPEC 9.1, 13.4
 unfoldable pub solveKitTests : Kit → ℕ → ℕ → ℕ → ℕ → List (ℕ × Bool)
 solveKitTests k s c e t =
     kitTests k
     ++ (8, leb (scratchLength (gameFrom k)) s) ∷ (9, leb (controllerLength (gameFrom k)) c && leb (kitLength k) t)
     ∷ (10, leb (environmentLength (gameFrom k)) e) ∷ []
 
--- "the other rooms are as the solver leaves them"
+-- "the other rooms are as the solver leaves them" (SPEC 13.4)
 unfoldable pub solverAnswer : Kit → Verdict → Verdict
 solverAnswer k (System n) = System (controllerLength (gameFrom k))
 solverAnswer k (Environment n) = Environment n
 solverAnswer k (Refused n) = Refused n
 
--- "The rest of the kit's room is unchanged, all of it where the panel wins"
+-- "The rest of the kit's room is unchanged, all of it where the panel wins" (SPEC 13.4)
 unfoldable pub kitAfter : Kit → Verdict → List ℕ → List ℕ
 kitAfter k (System n) t = kitEntries k (controllerEntries (separatedOf (gameFrom k))) ++ drop n t
 kitAfter k (Environment n) t = t
 kitAfter k (Refused n) t = t
 
+-- SPEC 13.3
 unfoldable pub KitKept : Kit → Verdict → List ℕ → Type 0
 KitKept k (System n) t = Exchanged k (take n t)
 KitKept k (Environment n) t = Unit {0}
 KitKept k (Refused n) t = Unit {0}
 
+-- SPEC 13.3, 13.4
 pub record KitSolved (k : Kit) (s s′ c c′ e e′ t t′ : List ℕ) (r : Verdict) : Type 0 where
   pub answer : r ≡ kitAnswer k (length s) (length c) (length e) (length t)
   pub number : verdictNumber r ≡ firstOf (solveKitTests k (length s) (length c) (length e) (length t))

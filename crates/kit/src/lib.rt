@@ -78,6 +78,7 @@ fn solve_accepted(
 }
 
 // Names the side that wins. Where the system does, the front of room becomes the kit's table, and the controller's room holds the controller's.
+// SPEC 13.2, 13.3, 13.4
 pub fn solve_kit(
     k: Kit,
     scratch: &mut [u64],

@@ -99,7 +99,7 @@ fn entries_fit(k: Kit) -> bool
     drive_fits(k.new)
 }
 
-// Refused with the first number that applies.
+// Refused with the first number that applies. (SPEC 13.1, 13.4)
 pub fn accept_kit(k: Kit) -> Acceptance
     ensures { λ r. ⌜ KitAccepts k r ⌝ }
 {

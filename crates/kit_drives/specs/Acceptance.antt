@@ -26,15 +26,15 @@ use Rattle.kit_drives.specs.declared.Drive.{Drive}
 use Rattle.kit_drives.specs.declared.Kit.{Kit}
 use Rattle.kit_drives.specs.Drive.{nextIn, gameFrom}
 
--- fails: "1 a count not 1 to 64", to 128 by M-105
+-- fails: "1 a count not 1 to 64", to 128 by M-105 (SPEC 13.1)
 unfoldable pub modesFit : Drive → Bool
 modesFit d = leb 1 (d .modes) && leb (d .modes) capacity
 
--- fails: "17 command count not 1 to 16"
+-- fails: "17 command count not 1 to 16" (SPEC 13.4)
 unfoldable pub commandsFit : Drive → Bool
 commandsFit d = leb 1 (d .commands) && leb (d .commands) 16
 
--- fails: "18 an entry neither barred nor a mode, or past the counts and not barred"
+-- fails: "18 an entry neither barred nor a mode, or past the counts and not barred" (SPEC 13.4)
 unfoldable pub entryFits : List ℕ → (M C m u : ℕ) → Bool
 entryFits n M C m u = eqb (nextIn n m u) 255 || (ltb m M && (ltb u C && ltb (nextIn n m u) M))
 
@@ -44,7 +44,7 @@ entriesFit d = all capacity (λ m. all 16 (entryFits (d .next) (d .modes) (d .co
 abbrev pub bothDrives : (Drive → Bool) → Kit → Bool
 bothDrives p k = p (k .old) && p (k .new)
 
--- "17 ..; 18 ..; both after 1 and before 2"
+-- "17 ..; 18 ..; both after 1 and before 2" (SPEC 9.1)
 unfoldable pub inOrder : (modes commands entries : Bool) → Acceptance → Acceptance
 inOrder false c e a = Refused 1
 inOrder true false e a = Refused 17
@@ -54,6 +54,7 @@ inOrder true true true a = a
 unfoldable pub kitAcceptance : Kit → Acceptance
 kitAcceptance k = inOrder (bothDrives modesFit k) (bothDrives commandsFit k) (bothDrives entriesFit k) (acceptance (gameFrom k))
 
+-- SPEC 9.1, 13.4
 unfoldable pub kitTests : Kit → List (ℕ × Bool)
 kitTests k = (1, bothDrives modesFit k) ∷ (17, bothDrives commandsFit k) ∷ (18, bothDrives entriesFit k) ∷ gameTests (gameFrom k)
 

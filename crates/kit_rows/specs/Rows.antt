@@ -25,15 +25,16 @@ use Rattle.kit_drives.specs.Drive.{nextMode, gameFrom, commandFor, Small}
 unfoldable pub counters : Kit → ℕ
 counters k = controllerCounters (separatedOf (gameFrom k))
 
+-- SPEC 13.2
 unfoldable pub kitLength : Kit → ℕ
 kitLength k = k .old .modes + k .new .modes * counters k * k .old .modes * k .old .commands
 
--- "A row is the lowest command making the controller's move + 16 × next counter, or 65,535 where .. the controller's row is none."
+-- "A row is the lowest command making the controller's move + 16 × next counter, or 65,535 where .. the controller's row is none." (SPEC 13.2)
 unfoldable pub commanded : Drive → ℕ → Answer → ℕ
 commanded d o none = noneEntry
 commanded d o (gives c t) = commandFor d o t + 16 * c
 
--- ".. or 65,535 where the old command is barred"
+-- ".. or 65,535 where the old command is barred" (SPEC 13.2)
 unfoldable pub kitRow : Kit → ControllerTable → (o c i u : ℕ) → ℕ
 kitRow k T o c i u =
     elim (eqb (nextMode (k .old) i u) 255) [ true ↦ noneEntry | false ↦ commanded (k .new) o (T .step c o (nextMode (k .old) i u)) ]
@@ -41,7 +42,7 @@ kitRow k T o c i u =
 unfoldable pub kitPlace : Kit → (o c i u : ℕ) → ℕ
 kitPlace k o c i u = k .old .modes + (((o * counters k + c) * k .old .modes + i) * k .old .commands + u)
 
--- "The kit's table has the controller's starts, then rows by output, counter, old mode and old command, the last fastest."
+-- "The kit's table has the controller's starts, then rows by output, counter, old mode and old command, the last fastest." (SPEC 13.2)
 unfoldable pub kitEntries : Kit → List ℕ → List ℕ
 kitEntries k l =
     let I : ℕ = k .old .modes in

@@ -32,7 +32,7 @@ use Rattle.kit_rows.specs.Rows.{counters, kitPlace}
 unfoldable pub startsIn : Drive → ℕ → Bool
 startsIn d i = ltb i (d .modes) && has (bitsOf (d .initial)) i
 
--- "the lowest command .. + 16 × next counter, or 65,535"
+-- "the lowest command .. + 16 × next counter, or 65,535" (SPEC 13.2)
 unfoldable pub reply : ℕ → Answer
 reply e = elim (eqb e noneEntry) [ true ↦ none | false ↦ gives (e / 16) (e % 16) ]
 
@@ -69,9 +69,10 @@ pub record Played (k : Kit) (l : List ℕ) (i : ℕ) (us : ℕ → ℕ) (f : ℕ
   pub begins : f 0 .input ≡ i
   pub turn : (n : ℕ) → KitTurn k l (us n) (f n) (f (n + 1))
 
+-- SPEC 13.3
 pub record Exchanged (k : Kit) (l : List ℕ) : Type 0 where
   -- "any sequence of commands the old drive allows is answered by commands the new drive allows": each initial mode of the old drive has a start,
-  -- and in every configuration that is come to each command that the old drive allows there has an answer;
+  -- and in every configuration that is come to each command that the old drive allows there has an answer; (SPEC 13.3)
   pub starts : (i : ℕ) → startsIn (k .old) i ≡ true → (x : Configuration) × KitFirst k l x × (x .input ≡ i)
   pub answers : (x : Configuration) → Reachable (KitFirst k l) (KitMove k l) x → (u : ℕ) → allows (k .old) (x .input) u ≡ true
       → (y : Configuration) × KitTurn k l u x y
@@ -81,6 +82,6 @@ pub record Exchanged (k : Kit) (l : List ℕ) : Type 0 where
   -- and one that never ends is answered for ever,
   pub plays : (i : ℕ) → startsIn (k .old) i ≡ true → (us : ℕ → ℕ) → ((n : ℕ) → allows (k .old) (modeAt (k .old) i us n) (us n) ≡ true)
       → (f : ℕ → Configuration) × Played k l i us f
-  -- "and where the sequence never ends, the recurring modes meet every requirement"
+  -- "and where the sequence never ends, the recurring modes meet every requirement" (SPEC 3.7, 13.3)
   pub meets : (f : ℕ → Configuration) → Endless (KitFirst k l) (KitMove k l) f → (q : Requirement) → List·Memᴰ q (requirementsOf (gameFrom k))
       → RecurringMeet q f

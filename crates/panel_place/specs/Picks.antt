@@ -21,17 +21,17 @@ unfoldable pub granted : Bool → ℕ → Picked → Picked
 granted true n a = a
 granted false n a = Refused n
 
--- "Entries are 16 bits: next state + 128 × next counter"
+-- "Entries are 16 bits: next state + 128 × next counter" (SPEC 7.1)
 abbrev pub namedInput : ℕ → InState
 namedInput e = record { 0 = entryState e }
 
--- as for a controller's table: "15 the row is none, or names a counter out of range or an output that is no move (at the start, not initial)"
+-- as for a controller's table: "15 the row is none, or names a counter out of range or an output that is no move (at the start, not initial)" (SPEC 10.2, 10.3)
 unfoldable pub picks : ℕ → (ℕ → Bool) → Answer → Picked
 unfolding granted
 picks M ok none = Refused 15
 picks M ok (gives c s) = granted (ltb c M && ok s) 15 (To (record { input = record { 0 = s }; counter = c }))
 
--- "A position is an input and an output after the system's pick."
+-- "A position is an input and an output after the system's pick." (SPEC 10.3)
 unfoldable pub positionWith : OutState → Picked → Played
 positionWith o (To m) = played·.At (record { input = m .input; output = o; counter = m .counter })
 positionWith o (Refused n) = played·.Refused n

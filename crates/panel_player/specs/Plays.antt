@@ -37,7 +37,7 @@ unfoldable pub moveTo : Position → PanelMove
 moveTo p = record { input = p .input; counter = p .counter }
 
 -- Whatever the table: "The first ones are .. the panel's start with any initial output", "A turn makes the next: an input move, then an output move, one by
--- the table's step, which also gives the memory, the other any move".
+-- the table's step, which also gives the memory, the other any move". (SPEC 10.3)
 pub record Faithful (g : Game) (l : List ℕ) : Type 0 where
   pub begins : (o : OutState) (p : Position) → panelBegin g l o ≡ At p → EnvironmentFirst (playOf g) (environmentOf g l) (configuration p)
   pub turns : (p : Position) (q : OutState) (r : Position) → panelStep g l p q ≡ At r
@@ -80,7 +80,7 @@ play g l o qs = playOn g l qs (panelBegin g l o)
 unfoldable pub panelTrail : Game → List ℕ → OutState → List OutState → List Position
 panelTrail g l o qs = trailOn g l qs (panelBegin g l o)
 
--- "A configuration is reachable when a walk from a first one ends in it"
+-- "A configuration is reachable when a walk from a first one ends in it" (SPEC 2.6)
 abbrev pub PanelReached : Game → List ℕ → Position → Type 0
 PanelReached g l p = Reachable (EnvironmentFirst (playOf g) (environmentOf g l)) (EnvironmentTurn (playOf g) (environmentOf g l)) (configuration p)
 

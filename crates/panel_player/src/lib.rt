@@ -129,7 +129,7 @@ fn step_accepted(g: Game, table: &[u16], at: Position, next: OutState) -> Played
     panel_place::join(next, row_move(g, table, counters, at))
 }
 
-// The panel's first input and counter, by the table's start.
+// The panel's first input and counter, by the table's start. (SPEC 10.3)
 pub fn first(g: Game, table: &[u16]) -> Picked
     ensures { λ r. ⌜ Picks (panelFirstTests g (now (table .entry))) (panelFirst g (now (table .entry))) r ⌝ }
 {
@@ -139,7 +139,7 @@ pub fn first(g: Game, table: &[u16]) -> Picked
     }
 }
 
-// The first position: the input and the counter of the table's start with the output `first`.
+// The first position: the input and the counter of the table's start with the output `first`. (SPEC 10.3)
 pub fn begin(g: Game, table: &[u16], first: OutState) -> Played
     ensures { λ r. ⌜ Plays (panelBeginTests g (now (table .entry)) first) (panelBegin g (now (table .entry)) first) r ⌝ }
 {
@@ -149,7 +149,7 @@ pub fn begin(g: Game, table: &[u16], first: OutState) -> Played
     }
 }
 
-// The panel's next input and counter at a position, by the table's row.
+// The panel's next input and counter at a position, by the table's row. (SPEC 10.3)
 pub fn next(g: Game, table: &[u16], at: Position) -> Picked
     ensures { λ r. ⌜ Picks (panelNextTests g (now (table .entry)) at) (panelNext g (now (table .entry)) at) r ⌝ }
 {
@@ -159,7 +159,7 @@ pub fn next(g: Game, table: &[u16], at: Position) -> Picked
     }
 }
 
-// The position after that move, with the output `next`.
+// The position after that move, with the output `next`. (SPEC 10.3)
 pub fn step(g: Game, table: &[u16], at: Position, next: OutState) -> Played
     ensures { λ r. ⌜ Plays (panelStepTests g (now (table .entry)) at next) (panelStep g (now (table .entry)) at next) r ⌝ }
 {
@@ -169,7 +169,7 @@ pub fn step(g: Game, table: &[u16], at: Position, next: OutState) -> Played
     }
 }
 
-// The next position with code 0; a refusal gives the old one back with its code.
+// The next position with code 0; a refusal gives the old one back with its code. (SPEC 10.3)
 pub fn step_or_stay(g: Game, table: &[u16], at: Position, next: OutState) -> Moved
     ensures { λ r. ⌜ r ≡ movedOf at (panelStep g (now (table .entry)) at next) ⌝ }
 {

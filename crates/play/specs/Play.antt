@@ -16,6 +16,7 @@ use Rattle.game.specs.declared.Requirement.{Requirement as RequirementRecord}
 use Rattle.game.specs.declared.Game.{Game}
 use Rattle.game.specs.Access.{noInput, noOutput, requirementAt}
 
+-- SPEC 1.6
 unfoldable pub graphOf : GraphRecord → Graph
 graphOf g = record { states = g .states; initial = has (bitsOf (g .initial)); moves = λ s. has (getD (setsIn (g .moves)) s 0) }
 
@@ -25,9 +26,10 @@ requirementOf q = record {
   guarantees = tabulate (q .guaranteed) (λ j. has (bitsOf (getD (q .guarantees) j noOutput .0)));
 }
 
+-- SPEC 1.6
 unfoldable pub requirementsOf : Game → List Requirement
 requirementsOf g = tabulate (g .k) (λ r. requirementOf (requirementAt g r))
 
--- "The input graph (old drive) and the output graph (new drive)"; "There are k requirements, 0 to 8."
+-- "The input graph (old drive) and the output graph (new drive)"; "There are k requirements, 0 to 8." (SPEC 1.1, 1.3)
 unfoldable pub separatedOf : Game → Separated
 separatedOf g = record { input = graphOf (g .input); output = graphOf (g .output); requirements = requirementsOf g }

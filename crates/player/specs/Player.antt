@@ -43,18 +43,18 @@ pub record Lent (g : Game) (n : Sizes) (ins outs : List ℕ) : Type 0 where
   pub inputs : ins ≡ g .input .moves
   pub outputs : outs ≡ g .output .moves
 
--- "16 table not of the controller's length"
+-- "16 table not of the controller's length" (SPEC 10.2)
 unfoldable pub fitting : Game → List ℕ → Bool
 fitting g l = eqb (length l) (length (controllerEntries (separatedOf g)))
 
--- "14 first input not initial"
+-- "14 first input not initial" (SPEC 10.2)
 unfoldable pub begun : Game → List ℕ → InState → Played
 begun g l i =
     provided (fitting g l) 16
     (provided (begins (graphOf (g .input)) (i .0)) 14
     (arrives (controllerCounters (separatedOf g)) (begins (graphOf (g .output))) i (controllerOf g l .start (i .0))))
 
--- "or next input not a move"
+-- "or next input not a move" (SPEC 10.2)
 unfoldable pub stepped : Game → List ℕ → Position → InState → Played
 stepped g l p j =
     provided (fitting g l && hasPosition g (controllerCounters (separatedOf g)) p) 16
@@ -62,20 +62,20 @@ stepped g l p j =
     (arrives (controllerCounters (separatedOf g)) (edge (graphOf (g .output)) (p .output .0)) j
     (controllerOf g l .step (p .counter) (p .output .0) (j .0))))
 
--- "Whoever drives a player, after 1 to 7"
+-- "Whoever drives a player, after 1 to 7" (SPEC 9.1)
 unfoldable pub afterAcceptance : Acceptance → Played → Played
 afterAcceptance acceptance·.Accepted p = p
 afterAcceptance (acceptance·.Refused n) p = Refused n
 
--- "Beginning is a call of its own: it takes the first input and gives the first place."
+-- "Beginning is a call of its own: it takes the first input and gives the first place." (SPEC 10.1)
 unfoldable pub beginning : Game → List ℕ → InState → Played
 beginning g l i = afterAcceptance (acceptance g) (begun g l i)
 
--- "The player keeps its place (input, output, counter) itself, and each accepted input moves that place on."
+-- "The player keeps its place (input, output, counter) itself, and each accepted input moves that place on." (SPEC 10.1)
 unfoldable pub stepping : Game → List ℕ → Position → InState → Played
 stepping g l p j = afterAcceptance (acceptance g) (stepped g l p j)
 
--- "Whoever drives a player, after 1 to 7: 16 ..; 14 ..; 15 .."
+-- "Whoever drives a player, after 1 to 7: 16 ..; 14 ..; 15 .." (SPEC 9.1, 10.2)
 unfoldable pub beginTests : Game → List ℕ → InState → List (ℕ × Bool)
 beginTests g l i =
     gameTests g
@@ -84,6 +84,7 @@ beginTests g l i =
     ∷ (15, names (controllerCounters (separatedOf g)) (begins (graphOf (g .output))) (controllerOf g l .start (i .0)))
     ∷ []
 
+-- SPEC 9.1, 10.2
 unfoldable pub stepTests : Game → List ℕ → Position → InState → List (ℕ × Bool)
 stepTests g l p j =
     gameTests g
@@ -96,12 +97,12 @@ pub record Plays (ts : List (ℕ × Bool)) (a r : Played) : Type 0 where
   pub answer : r ≡ a
   pub number : playerNumber r ≡ firstOf ts
 
--- "Each returns its number only .. and changes no lent memory or player's place."
+-- "Each returns its number only .. and changes no lent memory or player's place." (SPEC 9.1, 10.2)
 unfoldable pub movedOf : Position → Played → Moved
 movedOf old (At p) = record { at = p; code = 0 }
 movedOf old (Refused n) = record { at = old; code = n }
 
--- What the step in place leaves: "each accepted input moves that place on", and a refusal leaves it as it was.
+-- What the step in place leaves: "each accepted input moves that place on", and a refusal leaves it as it was. (SPEC 10.1)
 pub record Advanced (old : Position) (answer : Played) (new : Position) (code : ℕ) : Type 0 where
   pub position : new ≡ movedOf old answer .at
   pub number : code ≡ movedOf old answer .code

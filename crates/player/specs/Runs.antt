@@ -26,7 +26,7 @@ use Rattle.player_place.specs.declared.Played.{Played}
 use Rattle.player_place.specs.declared.Played.the-variants.{At, Refused}
 use Rattle.player.specs.Player.{beginning, stepping}
 
--- "A configuration is input, output and memory." "its counters being the memory"
+-- "A configuration is input, output and memory." "its counters being the memory" (SPEC 2.4)
 unfoldable pub configuration : Position → Configuration
 configuration p = record { input = p .input .0; output = p .output .0; memory = p .counter }
 
@@ -58,7 +58,7 @@ run g l i js = runOf g l js (beginning g l i)
 unfoldable pub trail : Game → List ℕ → InState → List InState → List Position
 trail g l i js = trailOf g l js (beginning g l i)
 
--- "A configuration is reachable when a walk from a first one ends in it"
+-- "A configuration is reachable when a walk from a first one ends in it" (SPEC 2.6)
 abbrev pub PlayerReached : Game → List ℕ → Position → Type 0
 PlayerReached g l p = Reachable (ControllerFirst (playOf g) (controllerOf g l)) (ControllerTurn (playOf g) (controllerOf g l)) (configuration p)
 

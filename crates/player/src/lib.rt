@@ -108,7 +108,7 @@ fn step_accepted(g: Game, table: &[u16], at: Position, next: InState) -> Played
     step_lent(g, sizes_of(g), &ins, &outs, table, at, next)
 }
 
-// The first position: `first` with the output and the counter that the table's start gives.
+// The first position: `first` with the output and the counter that the table's start gives. (SPEC 10.1, 10.2)
 pub fn begin(g: Game, table: &[u16], first: InState) -> Played
     ensures { λ r. ⌜ Plays (beginTests g (now (table .entry)) first) (beginning g (now (table .entry)) first) r ⌝ }
 {
@@ -118,7 +118,7 @@ pub fn begin(g: Game, table: &[u16], first: InState) -> Played
     }
 }
 
-// The position after the next input, with the output and the counter that the table's row gives.
+// The position after the next input, with the output and the counter that the table's row gives. (SPEC 10.1, 10.2)
 pub fn step(g: Game, table: &[u16], at: Position, next: InState) -> Played
     ensures { λ r. ⌜ Plays (stepTests g (now (table .entry)) at next) (stepping g (now (table .entry)) at next) r ⌝ }
 {
@@ -128,7 +128,7 @@ pub fn step(g: Game, table: &[u16], at: Position, next: InState) -> Played
     }
 }
 
-// The next position with code 0; a refusal gives the old one back with its code.
+// The next position with code 0; a refusal gives the old one back with its code. (SPEC 10.1, 10.2)
 pub fn step_or_stay(g: Game, table: &[u16], at: Position, next: InState) -> Moved
     ensures { λ r. ⌜ r ≡ movedOf at (stepping g (now (table .entry)) at next) ⌝ }
 {
@@ -138,7 +138,7 @@ pub fn step_or_stay(g: Game, table: &[u16], at: Position, next: InState) -> Move
     }
 }
 
-// Moves the position on and answers 0; a refusal leaves it as it was and answers its code.
+// Moves the position on and answers 0; a refusal leaves it as it was and answers its code. (SPEC 10.1, 10.2)
 pub fn advance(g: Game, table: &[u16], at: &mut Position, next: InState) -> u8
     ensures { λ r. ⌜ Advanced (now (at .entry)) (stepping g (now (table .entry)) (now (at .entry)) next) (now (at .exit)) r ⌝ }
 {

@@ -19,7 +19,7 @@ unfoldable pub provided : Bool → ℕ → Played → Played
 provided true n p = p
 provided false n p = Refused n
 
--- "15 the row is none, or names a counter out of range or an output that is no move (at the start, not initial)"
+-- "15 the row is none, or names a counter out of range or an output that is no move (at the start, not initial)" (SPEC 10.2)
 unfoldable pub arrives : ℕ → (ℕ → Bool) → InState → Answer → Played
 unfolding provided
 arrives M ok i none = Refused 15
@@ -33,6 +33,6 @@ abbrev pub playerNumber : Played → ℕ
 playerNumber (At p) = 0
 playerNumber (Refused n) = n
 
--- "or a place the game lacks"
+-- "or a place the game lacks" (SPEC 10.2)
 unfoldable pub hasPosition : Game → ℕ → Position → Bool
 hasPosition g M p = ltb (p .input .0) (g .input .states) && (ltb (p .output .0) (g .output .states) && ltb (p .counter) M)

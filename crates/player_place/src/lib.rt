@@ -18,7 +18,7 @@ ghost use Rattle.play.specs.Play.{graphOf};
 ghost use Rattle.theory.specs.Entries.{answer};
 ghost use Rattle.player_place.specs.Place.{arrives, hasPosition};
 
-// Input, output and counter after the controller's answer.
+// Input, output and counter after the controller's answer. (SPEC 10.1)
 #[repr(C)]
 pub struct Position {
     pub input: InState,

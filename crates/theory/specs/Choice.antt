@@ -25,20 +25,21 @@ unfoldable pub setsOf : (Requirement → List (ℕ → Bool)) → List Requireme
 setsOf f [] = []
 setsOf f (q ∷ l) = f q ++ setsOf f l
 
--- "G is the number of output sets over all requirements, in file order"; "H and h are the same for input sets and the panel."
+-- "G is the number of output sets over all requirements, in file order"; "H and h are the same for input sets and the panel." (SPEC 5.1)
 unfoldable pub guarantees : Separated → List (ℕ → Bool)
 guarantees S = setsOf (λ q. q .guarantees) (S .requirements)
 
+-- SPEC 6.1
 unfoldable pub assumptions : Separated → List (ℕ → Bool)
 assumptions S = setsOf (λ q. q .assumptions) (S .requirements)
 
 -- "home is the lowest-numbered stayable component D such that o reaches it, .." The states of a component are homes together, so the smallest home
--- that o reaches is the number of its component.
+-- that o reaches is the number of its component. (SPEC 5.5)
 unfoldable pub home : Separated → ℕ → ℕ → ℕ
 home S j o = least (S .output .states) (λ d. reaches (S .output) o d && homeFor S (region S) j d)
 
 -- "At home: .." and "Outside home: the move with the shortest way to home, the lowest on ties; g stays." Outside home no shortest way begins with a
--- move to the present state, so M-101 changes no row here.
+-- move to the present state, so M-101 changes no row here. (SPEC 5.5, 5.6)
 unfoldable pub homeward : Separated → ℕ → ℕ → ℕ → Answer
 homeward S d o g =
     elim (joined (S .output) d o) [
@@ -46,7 +47,7 @@ homeward S d o g =
       | false ↦ gives g (toward (S .output .states) (edge (S .output)) (joined (S .output) d) o)
     ]
 
--- "The component of j is not stayable: the lowest move to a won position; g stays."
+-- "The component of j is not stayable: the lowest move to a won position; g stays." (SPEC 5.4)
 unfoldable pub settled : Separated → ℕ → ℕ → ℕ → Answer
 settled S o g j =
     elim (nontrivial (S .input) j) [
@@ -54,11 +55,11 @@ settled S o g j =
       | false ↦ gives g (least (S .output .states) (λ p. edge (S .output) o p && region S j p))
     ]
 
--- "Controller row (output o, counter g, new input j)." "No output move leads to a won position with j: none."
+-- "Controller row (output o, counter g, new input j)." "No output move leads to a won position with j: none." (SPEC 5.3)
 unfoldable pub controllerRow : Separated → ℕ → ℕ → ℕ → Answer
 controllerRow S o g j = elim (answers S (region S) j o) [ true ↦ settled S o g j | false ↦ none ]
 
--- "Start for an initial input: the lowest initial output making a won position, counter 0; none for other inputs."
+-- "Start for an initial input: the lowest initial output making a won position, counter 0; none for other inputs." (SPEC 5.2)
 unfoldable pub controllerStart : Separated → ℕ → Answer
 controllerStart S i =
     elim (begins (S .input) i && opens S i) [
@@ -66,18 +67,19 @@ controllerStart S i =
       | false ↦ none
     ]
 
--- "a j with (j, o) not won" that a move of i enters, leaving the component
+-- "a j with (j, o) not won" that a move of i enters, leaving the component (SPEC 6.6)
 unfoldable pub lost : Separated → ℕ → ℕ → ℕ → Bool
 lost S o i j = edge (S .input) i j && (not (joined (S .input) i j) && not (region S j o))
 
+-- SPEC 6.6
 unfoldable pub wayOut : Separated → ℕ → ℕ → Bool
 wayOut S o i = any (S .input .states) (lost S o i)
 
--- a state of the component c with such a move
+-- a state of the component c with such a move (SPEC 6.6)
 unfoldable pub gate : Separated → ℕ → ℕ → ℕ → Bool
 gate S o c k = joined (S .input) c k && wayOut S o k
 
--- "go the shortest way inside the component to a state with such a move, lowest on ties; there take the lowest such j; h stays."
+-- "go the shortest way inside the component to a state with such a move, lowest on ties; there take the lowest such j; h stays." (SPEC 6.6)
 unfoldable pub outward : Separated → ℕ → ℕ → ℕ → Answer
 outward S i h o =
     elim (wayOut S o i) [
@@ -86,9 +88,11 @@ outward S i h o =
     ]
 
 -- "Some move leaves the component to a j with (j, o) not won: .." "Otherwise tour the input sets inside the component as the controller does at home."
+-- SPEC 6.6
 unfoldable pub escapes : Separated → ℕ → ℕ → Bool
 escapes S i o = any (S .input .states) (gate S o (number (S .input) i))
 
+-- SPEC 6.6, 6.7
 unfoldable pub pressing : Separated → ℕ → ℕ → ℕ → Answer
 pressing S i h o =
     elim (escapes S i o) [
@@ -96,7 +100,7 @@ pressing S i h o =
       | false ↦ tour (S .input) (number (S .input) i) (assumptions S) i h
     ]
 
--- "i's component not stayable: the lowest move to a j for which no output move from o makes a won position; h stays."
+-- "i's component not stayable: the lowest move to a j for which no output move from o makes a won position; h stays." (SPEC 6.5)
 unfoldable pub pushing : Separated → ℕ → ℕ → ℕ → Answer
 pushing S i h o =
     elim (nontrivial (S .input) i) [
@@ -105,7 +109,7 @@ pushing S i h o =
     ]
 
 -- "Where the output is stuck and the input is not, the panel row is the lowest move and h stays." (M-102) The input has a move wherever the position
--- is not won. Shortest ways are not compared here, so the present state does not go first.
+-- is not won. Shortest ways are not compared here, so the present state does not go first. (SPEC 6.4)
 unfoldable pub opposing : Separated → ℕ → ℕ → ℕ → Answer
 opposing S i h o =
     elim (stuck (S .output) o) [
@@ -114,13 +118,15 @@ opposing S i h o =
     ]
 
 -- "Panel row (input i, counter h, output o)." "Position won: none." So "in a position with the input stuck the panel row is none" (M-102): it is won.
+-- SPEC 6.3
 unfoldable pub environmentRow : Separated → ℕ → ℕ → ℕ → Answer
 environmentRow S i h o = elim (region S i o) [ true ↦ none | false ↦ opposing S i h o ]
 
--- "Start: the lowest initial input with no won reply, h = 0."
+-- "Start: the lowest initial input with no won reply, h = 0." (SPEC 6.2)
 unfoldable pub refused : Separated → ℕ → Bool
 refused S i = begins (S .input) i && not (opens S i)
 
+-- SPEC 6.2
 unfoldable pub environmentStart : Separated → Answer
 environmentStart S =
     elim (any (S .input .states) (refused S)) [

@@ -29,11 +29,11 @@ use Rattle.theory.specs.Choice.{
   environmentStart,
 }
 
--- "An entry becomes next state + 128 × next counter." (M-105)
+-- "An entry becomes next state + 128 × next counter." (M-105) (SPEC 7.1)
 abbrev pub stride : ℕ
 stride = 128
 
--- "none is 65,535"
+-- "none is 65,535" (SPEC 7.1)
 abbrev pub noneEntry : ℕ
 noneEntry = 65535
 
@@ -43,18 +43,20 @@ entryState e = e % stride
 abbrev pub entryCounter : ℕ → ℕ
 entryCounter e = e / stride
 
--- "Entries are 16 bits: next state + 64 × next counter; none is 65,535.", 128 × by M-105
+-- "Entries are 16 bits: next state + 64 × next counter; none is 65,535.", 128 × by M-105 (SPEC 7.1)
 unfoldable pub entry : Answer → ℕ
 entry none = noneEntry
 entry (gives counter state) = state + stride * counter
 
+-- SPEC 7.1
 unfoldable pub answer : ℕ → Answer
 answer e = elim (eqb e noneEntry) [ true ↦ none | false ↦ gives (entryCounter e) (entryState e) ]
 
--- "the controller's counter g runs below max(1, G)"
+-- "the controller's counter g runs below max(1, G)" (SPEC 5.1)
 unfoldable pub controllerCounters : Separated → ℕ
 controllerCounters S = max 1 (length (guarantees S))
 
+-- SPEC 6.1
 unfoldable pub environmentCounters : Separated → ℕ
 environmentCounters S = max 1 (length (assumptions S))
 
@@ -62,7 +64,7 @@ environmentCounters S = max 1 (length (assumptions S))
 unfoldable pub rowOf : ℕ → ℕ → (ℕ → ℕ → ℕ → Answer) → ℕ → ℕ
 rowOf B C f r = entry (f (r / C / B) (r / C % B) (r % C))
 
--- "Controller: one start entry an input, then rows by output, counter, input, the last running fastest"
+-- "Controller: one start entry an input, then rows by output, counter, input, the last running fastest" (SPEC 7.2)
 unfoldable pub controllerEntries : Separated → List ℕ
 controllerEntries S =
     let I : ℕ = S .input .states in
@@ -70,7 +72,7 @@ controllerEntries S =
     let M : ℕ = controllerCounters S in
     tabulate I (λ i. entry (controllerStart S i)) ++ tabulate (O * M * I) (rowOf M I (controllerRow S))
 
--- "Panel: one start entry, then rows by input, counter, output"
+-- "Panel: one start entry, then rows by input, counter, output" (SPEC 7.3)
 unfoldable pub environmentEntries : Separated → List ℕ
 environmentEntries S =
     let I : ℕ = S .input .states in
@@ -78,7 +80,7 @@ environmentEntries S =
     let M : ℕ = environmentCounters S in
     entry (environmentStart S) ∷ tabulate (I * M * O) (rowOf M O (environmentRow S))
 
--- "The table handed over is the filled front, read as under Rooms, its counters being the memory."
+-- "The table handed over is the filled front, read as under Rooms, its counters being the memory." (SPEC 7.2)
 unfoldable pub controllerTable : (I M : ℕ) → List ℕ → ControllerTable
 controllerTable I M l = record {
   memories = M;
@@ -86,6 +88,7 @@ controllerTable I M l = record {
   step = λ g o j. answer (getD l (I + ((o * M + g) * I + j)) noneEntry);
 }
 
+-- SPEC 7.3
 unfoldable pub environmentTable : (O M : ℕ) → List ℕ → EnvironmentTable
 environmentTable O M l = record {
   memories = M;

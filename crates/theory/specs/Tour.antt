@@ -26,13 +26,14 @@ goalAt l k = getD l k (λ s. false)
 unfoldable pub around : ℕ → ℕ → ℕ → ℕ
 around m g k = elim (ltb (g + k) m) [ true ↦ g + k | false ↦ g + k - m ]
 
+-- SPEC 5.6
 unfoldable pub inside : Graph → ℕ → ℕ → ℕ → Bool
 inside G c s t = edge G s t && (joined G c s && joined G c t)
 
 unfoldable pub ahead : Graph → ℕ → List (ℕ → Bool) → ℕ → ℕ
 ahead G c l g = least (length l) (λ k. meetsAt G c (goalAt l (around (length l) g k)))
 
--- "the aim is the first output set from g on, going round, that meets home"
+-- "the aim is the first output set from g on, going round, that meets home" (SPEC 5.6)
 unfoldable pub goal : Graph → ℕ → List (ℕ → Bool) → ℕ → ℕ
 goal G c l g = around (length l) g (ahead G c l g)
 
@@ -42,13 +43,13 @@ hasGoal G c l = any (length l) (λ k. meetsAt G c (goalAt l k))
 unfoldable pub target : Graph → ℕ → List (ℕ → Bool) → ℕ → ℕ → Bool
 target G c l a t = goalAt l a t && joined G c t
 
--- "The counter becomes aim + 1, going round, if the move lands in the aim, else aim."
+-- "The counter becomes aim + 1, going round, if the move lands in the aim, else aim." (SPEC 5.6)
 unfoldable pub arrive : List (ℕ → Bool) → ℕ → ℕ → Answer
 arrive l a t = elim (goalAt l a t) [ true ↦ gives (around (length l) a 1) t | false ↦ gives a t ]
 
 -- "Take the move inside home with the shortest way to the aim inside home (0 if it lands there), the lowest on ties." "With no aim: the lowest move
 -- inside home; g stays." "A move to the present state now goes first, then the lowest. The same holds for the lowest move inside home with no aim,
--- and for the panel's walks." (M-101)
+-- and for the panel's walks." (M-101) (SPEC 5.6, 5.7)
 unfoldable pub tour : Graph → ℕ → List (ℕ → Bool) → ℕ → ℕ → Answer
 tour G c l s g =
     elim (hasGoal G c l) [

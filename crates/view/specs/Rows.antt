@@ -13,7 +13,7 @@ use Rattle.theory.specs.Entries.{noneEntry}
 unfoldable pub inRange : (I M o g j : ℕ) → Bool
 inRange I M o g j = leb I capacity && (leb M 32 && (ltb o capacity && (ltb g M && ltb j I)))
 
--- "one start entry an input, then rows by output, counter, input, the last running fastest"
+-- "one start entry an input, then rows by output, counter, input, the last running fastest" (SPEC 7.2, 9.5)
 unfoldable pub rowEntry : List ℕ → (I M o g j : ℕ) → ℕ
 rowEntry l I M o g j =
     elim (inRange I M o g j) [ true ↦ getD l (I + ((o * M + g) * I + j)) noneEntry | false ↦ noneEntry ]

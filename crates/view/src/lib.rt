@@ -6,7 +6,7 @@ ghost use lib.ListN.{getD};
 ghost use Rattle.theory.specs.Entries.{noneEntry};
 ghost use Rattle.view.specs.Rows.{rowEntry, inRange as isRow};
 
-// Entry number k.
+// Entry number k. (SPEC 9.5)
 pub fn entry(rows: &[u16], k: usize) -> u16
     ensures { λ r. ⌜ r ≡ getD (now (rows .entry)) k noneEntry ⌝ }
 {
@@ -16,7 +16,7 @@ pub fn entry(rows: &[u16], k: usize) -> u16
     table_entries::NONE
 }
 
-// The start entry of input i.
+// The start entry of input i. (SPEC 9.5)
 pub fn start(rows: &[u16], i: InState) -> u16
     ensures { λ r. ⌜ r ≡ getD (now (rows .entry)) (i .0) noneEntry ⌝ }
 {
@@ -49,7 +49,7 @@ pub fn in_range(inputs: usize, counters: usize, at: RowIndex) -> bool
     at.input.0 < inputs
 }
 
-// The entry of a row.
+// The entry of a row. (SPEC 9.5)
 pub fn lookup(rows: &[u16], inputs: usize, counters: usize, at: RowIndex) -> u16
     ensures { λ r. ⌜ r ≡ rowEntry (now (rows .entry)) inputs counters (at .output .0) (at .counter) (at .input .0) ⌝ }
 {
@@ -68,14 +68,14 @@ pub struct Table<'a> {
     pub counters: usize,
 }
 
-// The entry of a row of the table.
+// The entry of a row of the table. (SPEC 9.5)
 pub fn row<'a>(t: Table<'a>, at: RowIndex) -> u16
     ensures { λ r. ⌜ r ≡ rowEntry (now (t .entry .rows)) (t .entry .inputs) (t .entry .counters) (at .output .0) (at .counter) (at .input .0) ⌝ }
 {
     lookup(t.rows, t.inputs, t.counters, at)
 }
 
-// The entry of a row, read through a view of the table.
+// The entry of a row, read through a view of the table. (SPEC 9.5)
 pub fn read(rows: &[u16], inputs: usize, counters: usize, at: RowIndex) -> u16
     ensures { λ r. ⌜ r ≡ rowEntry (now (rows .entry)) inputs counters (at .output .0) (at .counter) (at .input .0) ⌝ }
 {

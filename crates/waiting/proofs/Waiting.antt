@@ -13,6 +13,7 @@ use Rattle.graphs.proofs.Closure.{Path, path-reaches, reaches-path, reaches-edg
 use Rattle.graphs.proofs.Component.{joined-intro, joined-trans, joined-back, nontrivial-move, nontrivial-same}
 use Rattle.graphs.proofs.Measure.{targets}
 use Rattle.arena.specs.Arena.{arenaOf}
+use Rattle.arena.specs.Table.{Some}
 use Rattle.arena.specs.Play.{Configuration, ControllerFirst, ControllerTurn, Reachable, visitsOutput}
 use Rattle.arena.specs.Win.{SystemWins}
 use Rattle.game.specs.declared.Game.{Game}
@@ -24,7 +25,7 @@ use Rattle.theory.specs.Choice.{guarantees, home}
 use Rattle.theory.proofs.Region.{region-in, region-out}
 use Rattle.theory.proofs.Delay.{delay}
 use Rattle.theory.proofs.Entries.{read-follows}
-use Rattle.theory.proofs.Controller.{Follows, Kept, turn-kept}
+use Rattle.theory.proofs.Controller.{Follows, Kept, turn-kept, step-some}
 use Rattle.theory.proofs.Demands.{wins-verdict, reached-won}
 use Rattle.demands.specs.Demands.{playOf, controllerOf}
 use Rattle.demands.proofs.Demands.{demand-two}
@@ -78,6 +79,12 @@ module _ (g : Game) (a : acceptance g ≡ Accepted) where
   turn-keeps : (x y : Configuration) → KeptFrom g x → ControllerTurn (playOf g) (ours g) x y → Kept (separatedOf g) y
   unfolding playOf
   turn-keeps x y B t = turn-kept (separatedOf g) (ours g) follows x y (begins-kept x B) t
+
+  -- it has a reply to every next input of such a configuration
+  kept-answers : (x : Configuration) → KeptFrom g x → (j : ℕ) → playOf g .inMove (x .input) j ≡ true
+      → Some (ours g .memories) (playOf g .reply j (x .output)) (ours g .step (x .memory) (x .output) j)
+  unfolding playOf arenaOf
+  kept-answers x B j e = step-some (separatedOf g) (ours g) follows x j (begins-kept x B) e
 
   reached-begins : SystemWins (playOf g) → (x : Configuration) → Reachable (ControllerFirst (playOf g) (ours g)) (ControllerTurn (playOf g) (ours g)) x
       → KeptFrom g x
@@ -202,5 +209,6 @@ module _ (g : Game) (a : acceptance g ≡ Accepted) where
     arrives = λ x b y B t n w l. arrives-home x b B t n w l;
     visits = λ x y z B n v h w l q b m. visits-each x B n v h w l q b m;
     keeps = λ x y B t. kept-begins y (turn-keeps x y B t);
+    answers = kept-answers;
     begins = reached-begins;
   }
