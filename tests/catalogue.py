@@ -17,7 +17,7 @@ import subprocess
 import sys
 import tempfile
 
-from program import EXAMPLE, ONE, TWO, game, refusals
+from program import EXAMPLE, ONE, TWO, game, refusals, typed
 
 LIMIT = 60  # seconds
 LIMIT_NAMES = 1000
@@ -95,6 +95,28 @@ def expected(judge, text, where):
     lines += ["(won %d %d)" % (won, positions)]
     assert sum(sides.values()) == len(listed)
     return "".join(line + "\n" for line in lines).encode()
+
+
+WAITING = b"catalogue: waiting for names of game files on standard input, one a line (Ctrl-D ends them)\n"
+UNREAD = b"catalogue: standard input cannot be read\n"
+UNWRITTEN = b"catalogue: standard output cannot be written\n"
+NONE = b"(system 0)\n(environment 0)\n(refused 0)\n(won 0 0)\n"
+
+
+def told(program, where, **how):
+    """What is said on standard error beside the figures: a name, and whether it was."""
+    def said(redirect):
+        given = subprocess.run("'%s' %s" % (program, redirect), shell=True, input=b"example\n", capture_output=True, timeout=LIMIT, cwd=where, **how)
+        return given.stdout, given.stderr
+
+    figures = run([program], b"example\n", where, **how).stdout
+    yield "nothing said", said("") == (figures, b"")
+    yield "a list that is a folder", said("< folder") == (NONE, UNREAD)
+    yield "a closed list", said("<&-") == (NONE, UNREAD)
+    yield "a list that ends", said("< /dev/null") == (NONE, b"")
+    yield "a full output", said("> /dev/full") == (b"", UNWRITTEN)
+    yield "a closed output", said(">&-") == (b"", UNWRITTEN)
+    yield "a list that is typed", typed(program, b"example\n", cwd=where, **how) == (figures, WAITING)
 
 
 def random_game(rng):
@@ -191,6 +213,10 @@ def main():
             else:
                 failed += 1
                 print("%s: got %r and %r, not %r" % (label, got.stdout, got.stderr, want))
+        for label, good in told(program, where, **how):
+            passed, failed = passed + good, failed + (not good)
+            if not good:
+                print("FAILED:", label)
         met = {judge.of(content)[1] for content in known.values()}
         if met != {0, 2, 3, 7, 9, 10, 11, 12}:
             failed += 1

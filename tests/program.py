@@ -7,7 +7,9 @@ Every NAME.game of tests/prints and examples is run and held to NAME.print. The 
 table in crates/check_cases. Then come the refusals that a file can cause, drives that latch, and what a person may do to a program: give
 it nothing, a binary file, or an output that is full or closed. The last line says how many passed and how many failed."""
 
+import os
 import pathlib
+import pty
 import subprocess
 import sys
 
@@ -129,6 +131,7 @@ def rooms_filled(solve):
     return answer(solve, counted(64, 64, 0, 7)).count(b"(step ") == 64 * 7 * 64
 
 
+WAITING = b"solve: waiting for a game's text on standard input (Ctrl-D ends it)\n"
 UNREAD = b"solve: standard input cannot be read\n"
 UNWRITTEN = b"solve: standard output cannot be written\n"
 
@@ -137,6 +140,21 @@ def said(solve, redirect):
     """What the program says on standard error with its input or output elsewhere."""
     with open(ROOT / "tests/prints/case_8.game", "rb") as given:
         return subprocess.run("%s %s" % (solve, redirect), shell=True, stdin=given, capture_output=True, timeout=LIMIT, cwd=ROOT).stderr
+
+
+def typed(program, text, **how):
+    """What a program prints and says where a person types its standard input and ends it once."""
+    person, terminal = pty.openpty()
+    running = subprocess.Popen([program], stdin=terminal, stdout=subprocess.PIPE, stderr=subprocess.PIPE, **how)
+    os.close(terminal)
+    os.write(person, text + b"\x04")
+    try:
+        return running.communicate(timeout=LIMIT)
+    except subprocess.TimeoutExpired:
+        running.kill()
+        return running.communicate()
+    finally:
+        os.close(person)
 
 
 def main():
@@ -154,6 +172,7 @@ def main():
     checks.append(("an output nobody reads", said(solve, "| true") == b""))
     checks.append(("a closed input", said(solve, "<&-") == UNREAD))
     checks.append(("an input that is a folder", said(solve, "< tests") == UNREAD))
+    checks.append(("an input that is typed", typed(solve, EXAMPLE) == (answer(solve, EXAMPLE), WAITING)))
     checks.append(("an input that ends", said(solve, "< /dev/null") == b""))
     for name, good in checks:
         if not good:
