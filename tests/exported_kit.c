@@ -6,19 +6,19 @@
 
 int main(void)
 {
-    for (unsigned mode = 0; mode <= kit_old_modes; mode++) {
-        kit_place at = {0, 0, 0};
-        int code = kit_begin(&at, mode);
-        printf("begin %u: %d %u %u %u\n", mode, code, at.old_mode, at.new_mode, at.counter);
+    for (unsigned mode = 0; mode <= KIT_OLD_MODES; mode++) {
+        kit_place at = {0, 0, 0, 0};
+        unsigned code = kit_begin(&at, (uint8_t)mode);
+        printf("begin %u: %u %u %u %u\n", mode, code, at.old_mode, at.new_mode, at.counter);
     }
-    for (unsigned o = 0; o <= kit_new_modes; o++)
-        for (unsigned g = 0; g <= kit_counters; g++)
-            for (unsigned i = 0; i <= kit_old_modes; i++)
-                for (unsigned c = 0; c <= kit_old_commands; c++) {
-                    kit_place at = {(uint8_t)i, (uint8_t)o, (uint8_t)g};
-                    unsigned answer = 99;
-                    int code = kit_step(&at, c, &answer);
-                    printf("step %u %u %u %u: %d %u %u %u %u\n", o, g, i, c, code, answer, at.old_mode, at.new_mode, at.counter);
+    for (unsigned o = 0; o <= KIT_NEW_MODES; o++)
+        for (unsigned g = 0; g <= KIT_COUNTERS; g++)
+            for (unsigned i = 0; i <= KIT_OLD_MODES; i++)
+                for (unsigned c = 0; c <= KIT_OLD_COMMANDS; c++) {
+                    kit_place at = {(uint8_t)i, (uint8_t)o, (uint8_t)g, KIT_NO_COMMAND};
+                    uint8_t answer = 99;
+                    unsigned code = kit_step(&at, (uint8_t)c, &answer);
+                    printf("step %u %u %u %u: %u %u %u %u %u\n", o, g, i, c, code, answer, at.old_mode, at.new_mode, at.counter);
                 }
     return 0;
 }

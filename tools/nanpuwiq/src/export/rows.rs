@@ -1,4 +1,4 @@
-//! Numbers of an array in lines, with a comment before each row, for both languages.
+//! Numbers of an array in lines, with a comment before each row, and prose in lines, for both languages.
 
 /// Numbers on a line at most.
 const WIDTH: usize = 16;
@@ -31,4 +31,28 @@ fn lines(values: &[String], last: bool) -> String {
 
 pub fn numbers<T: ToString>(values: &[T]) -> Vec<String> {
     values.iter().map(T::to_string).collect()
+}
+
+/// Letters of a line of prose at most.
+const PROSE: usize = 116;
+
+/// Prose in lines that are not too long: lines that follow each other are one paragraph; empty and indented lines stay as they are.
+pub fn wrapped(text: &str) -> Vec<String> {
+    let mut lines: Vec<String> = Vec::new();
+    let mut open = false;
+    for line in text.lines() {
+        if line.is_empty() || line.starts_with(' ') {
+            lines.push(line.to_string());
+            open = false;
+            continue;
+        }
+        for word in line.split(' ') {
+            match lines.last_mut().filter(|last| open && last.chars().count() + 1 + word.chars().count() <= PROSE) {
+                Some(last) => *last += &format!(" {word}"),
+                None => lines.push(word.to_string()),
+            }
+            open = true;
+        }
+    }
+    lines
 }
