@@ -30,14 +30,14 @@ def piped(command, game, lines, *options):
     return subprocess.run([command, "play", *options, game], input=text, capture_output=True, timeout=LIMIT, cwd=ROOT)
 
 
-def typed(command, game, lines):
+def typed(command, game, lines, words=None, folder=ROOT):
     """Types each line after a prompt; what the terminal shows, and the status."""
     process, terminal = pty.fork()
     if process == 0:
-        os.chdir(ROOT)
+        os.chdir(folder)
         os.environ["TERM"] = "xterm"
         os.environ.pop("NO_COLOR", None)
-        os.execv(command, [command, "play", game])
+        os.execv(command, words or [command, "play", game])
     shown, waiting, end = b"", list(lines), time.monotonic() + LIMIT
     prompts = 0
     while time.monotonic() < end:
@@ -113,7 +113,7 @@ def why_in_the_stories(check, command):
     check.same("why, status", (got.returncode, got.stderr), (1, b""))
     prime = "lost: the panel can go to 1 prime, and whatever the new drive answers from 0 standby is lost"
     drain = "lost: the panel can go to 2 drain, and whatever the new drive answers from 2 supply is lost"
-    broken = "lost: while the old drive stays in 2 drain requirement 0 can be due, and while the new drive stays in 2 supply it is never in drain"
+    broken = "lost: while the old drive stays in 2 drain, requirement 0 can be due, and while the new drive stays in 2 supply it is never in drain"
     beginning = "> why\nNothing is played yet. The positions that you can begin with:\n    old 0 standby, new 0 standby, %s.\n> standby\n" % prime
     check.holds("why before anything is played", beginning in said, said)
     check.same("why in case 6", whys(said), [prime, drain, broken, drain])
@@ -140,7 +140,7 @@ GROUNDS = [
     ("(game 4 2 1)(in 0 1 (1))(in 1 0 (0 2 3))(in 2 0 (2))(in 3 0 (3))(out 0 1 (0))(out 1 0 (1))(if ((3)) ((1)))", "0",
      "lost: the panel can leave 0, 1 for 3, and there new 0 is lost"),
     ("(game 2 4 3)(in 0 1 (1))(in 1 0 (0))(out 0 1 (1))(out 1 0 (0))(out 2 0 (2))(out 3 0 (3))(if ((0)) ((1)))(if ((0) (1)) ((0) (2 3)))(if () ((2)))", "0",
-     "lost: while the old drive stays among 0, 1 requirement 1 can be due, and while the new drive stays among 0, 1 it is never in 2 or 3"),
+     "lost: while the old drive stays among 0, 1, requirement 1 can be due, and while the new drive stays among 0, 1 it is never in 2 or 3"),
     ("(game 1 2 1)(in 0 1 (0))(out 0 1 (1))(out 1 0 (1))(if ((0)) ((0)))", "0",
      "lost: the new drive can neither stay in 0 nor come back to it, and wherever it goes is lost"),
 ]
@@ -163,6 +163,34 @@ def on_a_terminal(check, command):
     check.same("terminal, flush, status", status, 0)
     check.holds("terminal, flush, met", "Requirement 0 is \x1b[32mmet\x1b[0m" in shown, shown)
     check.holds("terminal, the end of the input", "The input has ended." in shown, shown)
+
+
+def edited(check, command):
+    """Lines that are edited before they are sent, each to standby; lines from before; and a terminal that is left as it was."""
+    for what, keys in (
+        ("backspace", "standbx\x7fy\n"),
+        ("to the beginning", "tandby\x01s\n"),
+        ("Home and right", "sndby\x1b[H\x1b[Cta\n"),
+        ("left and delete", "stanbdby\x1b[D\x1b[D\x1b[D\x1b[D\x1b[3~\n"),
+        ("cut before the cursor", "nonsense\x15standby\n"),
+        ("cut words", "standby or not\x17\x17\n"),
+        ("cut after the cursor", "standby now\x1b[D\x1b[D\x1b[D\x1b[D\x0b\n"),
+        ("a key that means nothing", "st\x1b[24~andby\x1b[F\n"),
+    ):
+        shown, _ = typed(command, EARLY, [keys, "quit\n"])
+        check.holds("edited, " + what, "Old drive: 0 standby. New drive: 0 standby." in shown, shown)
+    shown, status = typed(command, EARLY, ["standby\n", "drain\n", "\x1b[A\n", "\x1b[A\n", "\x1b[A\x1b[A\x1b[B\n", "quit\n"])
+    check.holds("lines from before", "a round of 1 turn is closed." in shown and status == 1, shown)
+    shown, _ = typed(command, EARLY, ["standby\n", "sup\x1b[A\x1b[Bply\n", "quit\n"])
+    check.holds("the line that was begun comes back", "New drive: 2 supply." in shown, shown)
+    shown, _ = typed(command, EARLY, ["prüf\x7f\x7f\x7f\x7fstandby\n", "quit\n"])
+    check.holds("a letter is taken back whole", "Old drive: 0 standby." in shown, shown)
+    check.same("an interrupt", typed(command, EARLY, ["sta\x03"])[1], -2)
+    # the terminal is as it was: what a shell types next is echoed, and read as a line
+    script = "stty -a >before; %s play %s <&0; stty -a >after; cmp before after && echo as it was" % (command, ROOT / EARLY)
+    with tempfile.TemporaryDirectory() as folder:
+        shown, _ = typed("/bin/sh", None, ["quit\n"], ["sh", "-c", script], folder)
+    check.holds("the terminal is as it was", "as it was" in shown, shown)
 
 
 def stories(check, command):
@@ -189,16 +217,41 @@ class Judged:
             rows = re.findall(r"^\(%s \d+ ([01]) \(([\d ]*)\)\)$" % side, text, re.M)
             self.graphs[side] = [(first == "1", [int(t) for t in row.split()]) for first, row in rows]
         sets = lambda part: [{int(s) for s in one.split()} for one in re.findall(r"\(([\d ]*)\)", part[1:-1])]
-        self.requirements = [(sets(a), sets(b)) for a, b in re.findall(r"^\(if (\(.*\)) (\(.*\))\)$", text, re.M)]
+        # a side ends where its own bracket does: "((1) (2))", or "()" where it has no set
+        side = r"(\(\)|\(\([\d ]*\)(?: \([\d ]*\))*\))"
+        self.requirements = [(sets(a), sets(b)) for a, b in re.findall(r"^\(if %s %s\)$" % (side, side), text, re.M)]
 
     def moved(self, side, before, after):
         first, _ = self.graphs[side][after]
         return first if before is None else after in self.graphs[side][before][1]
 
+    def together(self, side, a, b):
+        """Whether two states reach one another."""
+        def reached(state):
+            seen, waiting = set(), [state]
+            while waiting:
+                new = set(self.graphs[side][waiting.pop()][1]) - seen
+                seen |= new
+                waiting += new
+            return seen
+        return a == b or (b in reached(a) and a in reached(b))
+
     def meets(self, round_, number):
         a, b = self.requirements[number]
         visits = lambda states, one: any(s in one for s in states)
         return any(not visits([i for i, _ in round_], one) for one in a) or all(visits([o for _, o in round_], one) for one in b)
+
+
+def aims(check, name, game, said):
+    """What the table aims at changes only when it has come there, as long as the old drive stays in its component."""
+    told = re.findall(r"^Old drive: (\d+)\. New drive: (\d+)\.\n(?:The (panel|controller) aims at (?:one of )?([\d, or]+), for requirement (\d+)\.\n)?", said, re.M)
+    turns = [(int(i), int(o), who, {int(s) for s in re.findall(r"\d+", states)}, number) for i, o, who, states, number in told]
+    for (i, _, who, states, number), (j, p, _, next_, after) in zip(turns, turns[1:]):
+        if states:
+            sides = game.requirements[int(number)][0 if who == "panel" else 1]
+            check.holds("the aim is a set of its requirement, " + name, states in sides, states)
+        if states and next_ and (states, number) != (next_, after) and game.together("in", i, j):
+            check.holds("the aim is reached before the next, " + name, (j if who == "panel" else p) in states, (i, j, p, states, next_))
 
 
 def random_plays(check, command, rng):
@@ -213,6 +266,7 @@ def random_plays(check, command, rng):
                 break
             picks.append(rng.choice(offered[-1].split(", ")))
         walk = [tuple(map(int, at)) for at in re.findall(r"^Old drive: (\d+)\. New drive: (\d+)\.$", said, re.M)]
+        aims(check, name, game, said)
         before = (None, None)
         for at in walk:
             legal = game.moved("in", before[0], at[0]) and game.moved("out", before[1], at[1])
@@ -244,6 +298,7 @@ def main():
     why_in_the_stories(check, command)
     every_ground(check, command)
     on_a_terminal(check, command)
+    edited(check, command)
     stories(check, command)
     random_plays(check, command, random.Random(1))
     check.end()

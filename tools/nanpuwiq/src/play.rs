@@ -1,15 +1,19 @@
 //! `nanpuwiq play`: a person takes the side that loses and plays against the winner's table. Plain lines: it works in any terminal, and with lines piped in.
-mod hint;
-mod screen;
-mod table;
-mod why;
+pub mod aim;
+mod editor;
+pub mod hint;
+pub mod screen;
+pub mod table;
+pub mod why;
 
 use crate::arguments::Arguments;
 use crate::failure::{Failure, Status};
 use crate::files::{self, GameFile};
-use crate::standard::{self, Lines};
+use crate::said;
+use crate::standard;
 use crate::subcommand::Subcommand;
-use nanpuwiq::{Error, Position, Verdict};
+use editor::Typed;
+use nanpuwiq::{Error, Position};
 use screen::Screen;
 use table::Match;
 
@@ -31,7 +35,8 @@ You take the side that loses: the new drive where no adapter exists, else the pa
   why     what makes the position won or lost
   help    what can be typed
   quit    end; the end of the input ends it too
-When a configuration comes back, the round that is closed is shown with the requirements that it meets and breaks.
+Each turn tells what the table aims at. When a configuration comes back, the round that is closed is shown with the requirements that it meets
+and breaks, and who has lost. On a terminal the line can be edited with the usual keys, and the arrows up and down bring earlier lines back.
 
   --names NAMES   names for the states; without it FILE.names is taken where FILE is FILE.game and it is there
 ";
@@ -43,12 +48,12 @@ fn run(arguments: Arguments) -> Result<Status, Failure> {
     }
     let GameFile { name, game, names } = files::read_game(file, arguments.value("--names"))?;
     let refused = |error: Error| Failure::Refused(format!("{name}: {error}"));
-    let Verdict { winner, table } = game.solve().map_err(refused)?;
-    let won = game.won_map().map_err(refused)?;
+    let game = Match::of(game, names).map_err(refused)?;
+    let winner = game.winner;
     let screen = Screen { colour: screen::colour_wanted() };
-    let mut play = Play { game: Match { game, names, winner, table, won }, walk: Vec::new(), screen };
+    let mut play = Play { game, walk: Vec::new(), screen };
     play.told(&play.screen.opening(&play.game))?;
-    play.rounds(&mut Lines::of_input()).map_err(|failure| match failure {
+    play.rounds(&mut Typed::begin(play.screen.prompt())).map_err(|failure| match failure {
         Stop::Failed(failure) => failure,
         Stop::Refused(error) => refused(error),
     })?;
@@ -82,7 +87,7 @@ impl From<Error> for Stop {
 
 impl Play {
     /// Asks and answers until the person quits or the input ends.
-    fn rounds(&mut self, lines: &mut Lines) -> Result<(), Stop> {
+    fn rounds(&mut self, lines: &mut Typed) -> Result<(), Stop> {
         let mut shown = false;
         loop {
             if !shown {
@@ -122,7 +127,7 @@ impl Play {
     fn undo(&mut self) -> Result<bool, Failure> {
         match self.walk.pop() {
             Some(_) => Ok(false),
-            None => self.told("There is nothing to take back.\n"),
+            None => self.told(&(said::NOTHING_TO_UNDO.with(&[]) + "\n")),
         }
     }
 

@@ -1,6 +1,8 @@
 //! What the person sees.
+use super::aim::Aim;
 use super::table::{Match, Pick};
 use crate::requirements;
+use crate::said::{self, Form};
 use crate::standard;
 use nanpuwiq::{Error, Position, Winner};
 use std::fmt::Write;
@@ -29,29 +31,13 @@ impl Screen {
         }
     }
 
-    /// Who plays whom, and what is required.
+    /// Who plays whom, what is required, and what can be typed.
     pub fn opening(&self, game: &Match) -> String {
-        let mut text = String::from(match game.winner {
-            Winner::System => {
-                "An adapter exists: the controller's table plays the new drive. You are the panel.\n\
-                 You pick what the old drive does; the table answers with the new drive.\n"
-            }
-            Winner::Environment => {
-                "No adapter exists: the panel's table plays the old drive. You are the new drive.\n\
-                 The panel picks what the old drive does; you answer with the new drive.\n"
-            }
-        });
-        for (number, q) in game.game.requirements.iter().take(game.game.k).enumerate() {
-            let _ = writeln!(text, "Requirement {number}: {}.", requirements::words(q, &game.names));
+        let mut text = String::new();
+        for line in opening_lines(game) {
+            let _ = writeln!(text, "{line}");
         }
-        text.push_str(match game.winner {
-            Winner::System => "You win if a round breaks a requirement, or if the new drive is left without a move.\n",
-            Winner::Environment => {
-                "You win if a round meets every requirement, or if the old drive is left without a move.\n"
-            }
-        });
-        text.push_str(self.help());
-        text
+        text + self.help()
     }
 
     pub fn help(&self) -> &'static str {
@@ -62,36 +48,30 @@ impl Screen {
         "> "
     }
 
-    /// The position, the panel's pick where the table is the panel, and what is allowed.
+    /// The position, what the table aims at, the panel's pick where the table is the panel, and what is allowed.
     pub fn position(&self, game: &Match, at: Option<Position>) -> Result<String, Error> {
         let mut text = String::from("\n");
         if let Some(at) = at {
-            let line =
-                format!("Old drive: {}. New drive: {}.", game.input_called(at.input), game.output_called(at.output));
-            let _ = writeln!(text, "{}", self.painted(BOLD, &line));
+            let (old, new) = (game.input_called(at.input), game.output_called(at.output));
+            let _ = writeln!(text, "{}", self.painted(BOLD, &said::HERE.with(&[("old", &old), ("new", &new)])));
         }
         let allowed = game.allowed(at)?;
         if allowed.is_empty() {
-            text.push_str(stuck(game.winner));
+            let _ = writeln!(text, "{} Undo or quit.", stuck(game.winner).with(&[]));
             return Ok(text);
         }
-        match (game.announced(at)?, at) {
-            (Some(input), None) => {
-                let _ = writeln!(text, "The panel begins in {}.", game.input_called(input));
+        if let Some(at) = at {
+            if let Some(aim) = Aim::of(game, at, game.ground(at)?) {
+                let _ = writeln!(text, "{}", aim.words(game, at.counter));
             }
-            (Some(input), Some(_)) => {
-                let _ = writeln!(text, "The panel goes to {}.", game.input_called(input));
-            }
-            (None, _) => {}
+        }
+        if let Some(input) = game.announced(at)? {
+            let form = if at.is_none() { said::PANEL_BEGINS } else { said::PANEL_GOES };
+            let _ = writeln!(text, "{}", form.with(&[("next", &game.input_called(input))]));
         }
         let allowed: Vec<String> = allowed.iter().map(|pick| game.called(*pick)).collect();
-        let may = match (game.winner, at) {
-            (Winner::System, None) => "The panel may begin in",
-            (Winner::System, Some(_)) => "The panel may go to",
-            (Winner::Environment, None) => "The new drive may begin in",
-            (Winner::Environment, Some(_)) => "The new drive may answer with",
-        };
-        let _ = writeln!(text, "{may}: {}.", allowed.join(", "));
+        let may = may(game.winner, at.is_none());
+        let _ = writeln!(text, "{}", may.with(&[("moves", &allowed.join(", "))]));
         Ok(text)
     }
 
@@ -104,47 +84,94 @@ impl Screen {
         format!("{} is no move from here. {}", game.called(pick), self.help())
     }
 
-    /// A round from a configuration back to it, and what it does to each requirement.
+    /// A round from a configuration back to it, what it does to each requirement, and who has lost.
     pub fn round(&self, game: &Match, round: &[Position]) -> String {
-        let moves = round.len().saturating_sub(1);
-        let turns = if moves == 1 { "1 turn".to_string() } else { format!("{moves} turns") };
-        let mut text =
-            format!("\n{}\n", self.painted(BOLD, &format!("This has been seen before: a round of {turns} is closed.")));
+        let turns = match round.len().saturating_sub(1) {
+            1 => said::ONE_TURN.with(&[]),
+            moves => said::MORE_TURNS.with(&[("count", &moves.to_string())]),
+        };
+        let mut text = format!("\n{}\n", self.painted(BOLD, &said::ROUND_CLOSED.with(&[("turns", &turns)])));
         for at in round {
-            let _ = writeln!(
-                text,
-                "    old {}, new {}, counter {}",
-                game.input_called(at.input),
-                game.output_called(at.output),
-                at.counter
-            );
+            let (old, new) = (game.input_called(at.input), game.output_called(at.output));
+            let step = said::STEP.with(&[("old", &old), ("new", &new), ("counter", &at.counter.to_string())]);
+            let _ = writeln!(text, "    {step}");
         }
-        let mut broken = 0;
+        let mut broken = None;
         for (number, q) in game.game.requirements.iter().take(game.game.k).enumerate() {
             let judged = requirements::judge(q, round, &game.names);
-            let word = if judged.met { self.painted(GREEN, "met") } else { self.painted(RED, "BROKEN") };
-            broken += usize::from(!judged.met);
-            let _ = writeln!(text, "Requirement {number} is {word}: {}.", judged.words);
+            let (colour, word) = if judged.met { (GREEN, said::MET) } else { (RED, said::BROKEN) };
+            if !judged.met {
+                broken = broken.or(Some(number));
+            }
+            let holes = [
+                ("number", number.to_string()),
+                ("judgement", self.painted(colour, word.text)),
+                ("words", judged.words),
+            ];
+            let _ =
+                writeln!(text, "{}", said::JUDGED.with(&holes.each_ref().map(|(hole, value)| (*hole, value.as_str()))));
         }
-        text.push_str(&self.outcome(broken, game.game.k));
-        text
+        text + &self.outcome(game, broken)
     }
 
-    fn outcome(&self, broken: usize, requirements: usize) -> String {
-        match (broken, requirements) {
-            (0, 0) => "Nothing is required, and the round meets it: the new drive keeps up for ever.\n".to_string(),
-            (0, _) => "The round meets every requirement: played for ever it is what was asked for.\n".to_string(),
-            _ => "Played for ever this round is a failure of the new drive.\n".to_string(),
+    /// What the round is, who has lost, and why it goes on.
+    fn outcome(&self, game: &Match, broken: Option<usize>) -> String {
+        let round = match (broken, game.game.k) {
+            (None, 0) => said::ROUND_EMPTY,
+            (None, _) => said::ROUND_MET,
+            (Some(_), _) => said::ROUND_BROKEN,
+        };
+        let end = match (broken, game.winner) {
+            (None, Winner::System) => said::LOST_BY_MEETING,
+            (None, Winner::Environment) => said::WON_BY_MEETING,
+            (Some(_), Winner::System) => said::WON_BY_BREAKING,
+            (Some(_), Winner::Environment) => said::LOST_BY_BREAKING,
+        };
+        let number = broken.map_or(String::new(), |number| number.to_string());
+        let end = self.painted(BOLD, &end.with(&[("number", &number)]));
+        format!("{}\n{end}\n{}\n", round.with(&[]), said::FOR_EVER.with(&[]))
+    }
+}
+
+/// Who plays whom, what is required, and when the person wins.
+pub fn opening_lines(game: &Match) -> Vec<String> {
+    let lines = |lines: [&str; 2]| lines.map(String::from).to_vec();
+    let mut text = lines(match game.winner {
+        Winner::System => [
+            "An adapter exists: the controller's table plays the new drive. You are the panel.",
+            "You pick what the old drive does; the table answers with the new drive.",
+        ],
+        Winner::Environment => [
+            "No adapter exists: the panel's table plays the old drive. You are the new drive.",
+            "The panel picks what the old drive does; you answer with the new drive.",
+        ],
+    });
+    for (number, q) in game.game.requirements.iter().take(game.game.k).enumerate() {
+        text.push(format!("Requirement {number}: {}.", requirements::words(q, &game.names)));
+    }
+    text.push(String::from(match game.winner {
+        Winner::System => "You win if a round breaks a requirement, or if the new drive is left without a move.",
+        Winner::Environment => {
+            "You win if a round meets every requirement, or if the old drive is left without a move."
         }
+    }));
+    text
+}
+
+/// What the person may do: at the beginning, or later.
+pub fn may(winner: Winner, beginning: bool) -> Form {
+    match (winner, beginning) {
+        (Winner::System, true) => said::PANEL_MAY_BEGIN,
+        (Winner::System, false) => said::PANEL_MAY_GO,
+        (Winner::Environment, true) => said::DRIVE_MAY_BEGIN,
+        (Winner::Environment, false) => said::DRIVE_MAY_ANSWER,
     }
 }
 
 /// The person has no move.
-fn stuck(winner: Winner) -> &'static str {
+pub fn stuck(winner: Winner) -> Form {
     match winner {
-        Winner::System => "The old drive has no move any more: the play stops here, and you have lost: undo or quit.\n",
-        Winner::Environment => {
-            "The new drive has no move any more: it cannot answer, and you have lost: undo or quit.\n"
-        }
+        Winner::System => said::OLD_STUCK,
+        Winner::Environment => said::NEW_STUCK,
     }
 }

@@ -1,8 +1,8 @@
 //! The match: whose turn it is, what may be picked, and what the winner's table does then. Every step is the library's.
-use crate::graphs::{members, moves};
+use crate::graphs::{components, members, moves};
 use crate::names::Names;
 use crate::panel;
-use nanpuwiq::{Error, Game, InState, OutState, Position, Set, Winner};
+use nanpuwiq::{Error, Game, Ground, InState, OutState, Position, Set, Verdict, Winner};
 
 /// A game with its winner's table, and the won map.
 pub struct Match {
@@ -11,6 +11,9 @@ pub struct Match {
     pub winner: Winner,
     pub table: Vec<u16>,
     pub won: Vec<Set>,
+    /// The component of each input and of each output.
+    old_components: Vec<Set>,
+    new_components: Vec<Set>,
 }
 
 /// What a person may pick: an input where they are the panel, an output where they are the new drive.
@@ -21,6 +24,29 @@ pub enum Pick {
 }
 
 impl Match {
+    /// The game solved, by the library.
+    pub fn of(game: Game, names: Names) -> Result<Match, Error> {
+        let Verdict { winner, table } = game.solve()?;
+        let won = game.won_map()?;
+        let (old_components, new_components) = (components(&game.input), components(&game.output));
+        Ok(Match { game, names, winner, table, won, old_components, new_components })
+    }
+
+    /// The inputs of a state's component.
+    pub fn old_component(&self, state: InState) -> Set {
+        self.old_components.get(state.0).copied().unwrap_or_default()
+    }
+
+    /// The outputs of a state's component.
+    pub fn new_component(&self, state: OutState) -> Set {
+        self.new_components.get(state.0).copied().unwrap_or_default()
+    }
+
+    /// What made a position won or lost.
+    pub fn ground(&self, at: Position) -> Result<Ground, Error> {
+        self.game.explain(at.input, at.output)
+    }
+
     /// The picks that are allowed at a position, or at the start.
     pub fn allowed(&self, at: Option<Position>) -> Result<Vec<Pick>, Error> {
         let Match { game, winner, .. } = self;
@@ -83,4 +109,28 @@ impl Match {
     pub fn output_called(&self, state: OutState) -> String {
         self.called(Pick::Output(state))
     }
+
+    /// The inputs of a component: "0 pump, 1 flush".
+    pub fn inputs_around(&self, state: InState) -> String {
+        self.inputs_of(state).join(", ")
+    }
+
+    /// The same with a word before it: "in 2 drain", "among 0 pump, 1 flush".
+    pub fn inputs_staying(&self, state: InState) -> String {
+        staying(self.inputs_of(state))
+    }
+
+    pub fn outputs_staying(&self, state: OutState) -> String {
+        let states = members(self.new_component(state));
+        staying(states.map(|s| self.output_called(OutState(s))).collect())
+    }
+
+    fn inputs_of(&self, state: InState) -> Vec<String> {
+        members(self.old_component(state)).map(|s| self.input_called(InState(s))).collect()
+    }
+}
+
+fn staying(states: Vec<String>) -> String {
+    let word = if states.len() == 1 { "in" } else { "among" };
+    format!("{word} {}", states.join(", "))
 }
