@@ -39,7 +39,8 @@ static int answer(nanpuwiq_game game, size_t entries)
 {
     nanpuwiq_moved moved = {{{0}, {0}, 0}, 0};
     unsigned long number;
-    for (int begun = 0; scanf("%lu", &number) == 1; begun = 1) {
+    int read;
+    for (int begun = 0; (read = scanf("%lu", &number)) == 1; begun = 1) {
         nanpuwiq_in_state input = {number};
         if (begun)
             moved = nanpuwiq_step(game, controller, entries, moved.at, input);
@@ -49,7 +50,14 @@ static int answer(nanpuwiq_game game, size_t entries)
             return refused("input", moved.code);
         printf("old %zu, new %zu\n", moved.at.input.number, moved.at.output.number);
     }
-    return fflush(stdout) || ferror(stdin) ? failed("adapter") : 0;
+    if (fflush(stdout) || ferror(stdin))
+        return failed("adapter");
+    /* what ends the loop is the end of the input, or a word that is no number */
+    if (read != EOF) {
+        fprintf(stderr, "adapter: input: a word that is no number\n");
+        return 2;
+    }
+    return 0;
 }
 
 int main(int count, char **words)

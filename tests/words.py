@@ -3,7 +3,8 @@
 
     tests/words.py [NANPUWIQ]
 
-Also: one version in the header, both crates, the changelog and the man pages, and every option of the command in its man page where the command is given."""
+Also: one version in the header, both crates, the changelog and the man pages, every entry of docs/API.md in the table of subcommands of the
+man page, and every option of the command in that page where the command is given."""
 
 import pathlib
 import re
@@ -63,12 +64,22 @@ def options_missing(command):
             yield option
 
 
+def entries_missing():
+    """Entries of docs/API.md that the man page's table of subcommands has not, and names there that are none."""
+    section = (ROOT / "docs/API.md").read_text().split("\n## From C and from Rust\n")[1].split("\n## ")[0]
+    entries = {name for row in re.findall(r"^\| (`.*?`) \|", section, re.M) for name in re.findall(r"`nanpuwiq_(\w+)`", row)}
+    table = (ROOT / "man/nanpuwiq.1").read_text().split(".SH ENTRIES\n")[1].split(".TS\n")[1].split(".TE\n")[0]
+    named = {name for line in table.splitlines()[3:] for name in line.split("\t")[0].split(", ")}
+    return entries ^ (named - {"words"})
+
+
 def main():
     words = listed()
     expected = {0: "not refused", **dict(words)}
     checks = [("docs/API.md", in_api() == words), ("nanpuwiq_words", from_c() == [expected.get(n, "no number of a refusal") for n in range(256)])]
     found = dict(versions())
     checks.append(("versions %s" % found, len(set(found.values())) == 1))
+    checks.append(("the man page's table of entries: %s" % entries_missing(), not entries_missing()))
     if len(sys.argv) > 1:
         missing = list(options_missing(sys.argv[1]))
         checks.append(("man page without %s" % missing, not missing))

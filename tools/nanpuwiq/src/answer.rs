@@ -3,12 +3,26 @@ use crate::sizes;
 use nanpuwiq::{Error, Game, Winner};
 use std::fmt::Write;
 
-/// The winner and the lines of its table; rows of none are left out.
+/// A table by its lines: the numbers of each start and of each step. Rows of none are left out.
+pub struct Lines {
+    pub starts: Vec<Vec<usize>>,
+    pub steps: Vec<Vec<usize>>,
+}
+
+/// The winner and the lines of its table.
 pub fn print(game: &Game, winner: Winner, table: &[u16]) -> String {
-    match winner {
-        Winner::System => controller(game, table),
-        Winner::Environment => panel(game, table),
+    let Lines { starts, steps } = lines(game, winner, table);
+    let mut text = String::from(match winner {
+        Winner::System => "(wins system)\n",
+        Winner::Environment => "(wins environment)\n",
+    });
+    for (word, rows) in [("start", starts), ("step", steps)] {
+        for row in rows {
+            let numbers: Vec<String> = row.iter().map(usize::to_string).collect();
+            let _ = writeln!(text, "({word} {})", numbers.join(" "));
+        }
     }
+    text
 }
 
 /// The line of a refusal.
@@ -19,36 +33,37 @@ pub fn refused(error: Error) -> String {
     }
 }
 
-fn controller(game: &Game, table: &[u16]) -> String {
-    let (inputs, counters) = (game.input.states, sizes::controller_counters(game));
-    let (starts, rows) = table.split_at(inputs.min(table.len()));
-    let mut text = String::from("(wins system)\n");
-    for (input, start) in starts.iter().enumerate() {
-        if let Some((output, _)) = sizes::controller_entry(*start) {
-            let _ = writeln!(text, "(start {input} {})", output.0);
-        }
+/// The lines of the winner's table.
+pub fn lines(game: &Game, winner: Winner, table: &[u16]) -> Lines {
+    match winner {
+        Winner::System => controller(game, table),
+        Winner::Environment => panel(game, table),
     }
-    for (row, entry) in rows.iter().enumerate() {
-        if let Some((output, next)) = sizes::controller_entry(*entry) {
-            let (at, counter, input) = (row / inputs / counters, row / inputs % counters, row % inputs);
-            let _ = writeln!(text, "(step {at} {counter} {input} {} {next})", output.0);
-        }
-    }
-    text
 }
 
-fn panel(game: &Game, table: &[u16]) -> String {
+/// Starts as input, output; steps as output, counter, input, next output, next counter.
+fn controller(game: &Game, table: &[u16]) -> Lines {
+    let (inputs, counters) = (game.input.states, sizes::controller_counters(game));
+    let (starts, rows) = table.split_at(inputs.min(table.len()));
+    let starts = starts.iter().enumerate().filter_map(|(input, entry)| {
+        let (output, _) = sizes::controller_entry(*entry)?;
+        Some(vec![input, output.0])
+    });
+    let steps = rows.iter().enumerate().filter_map(|(row, entry)| {
+        let (output, next) = sizes::controller_entry(*entry)?;
+        Some(vec![row / inputs / counters, row / inputs % counters, row % inputs, output.0, next])
+    });
+    Lines { starts: starts.collect(), steps: steps.collect() }
+}
+
+/// One start, an input; steps as input, counter, output, next input, next counter.
+fn panel(game: &Game, table: &[u16]) -> Lines {
     let (outputs, counters) = (game.output.states, sizes::panel_counters(game));
     let (start, rows) = table.split_at(1.min(table.len()));
-    let mut text = String::from("(wins environment)\n");
-    if let Some((input, _)) = start.first().and_then(|entry| sizes::panel_entry(*entry)) {
-        let _ = writeln!(text, "(start {})", input.0);
-    }
-    for (row, entry) in rows.iter().enumerate() {
-        if let Some((input, next)) = sizes::panel_entry(*entry) {
-            let (at, counter, output) = (row / outputs / counters, row / outputs % counters, row % outputs);
-            let _ = writeln!(text, "(step {at} {counter} {output} {} {next})", input.0);
-        }
-    }
-    text
+    let starts = start.iter().filter_map(|entry| Some(vec![sizes::panel_entry(*entry)?.0 .0]));
+    let steps = rows.iter().enumerate().filter_map(|(row, entry)| {
+        let (input, next) = sizes::panel_entry(*entry)?;
+        Some(vec![row / outputs / counters, row / outputs % counters, row % outputs, input.0, next])
+    });
+    Lines { starts: starts.collect(), steps: steps.collect() }
 }

@@ -3,9 +3,12 @@ use crate::failure::Failure;
 use crate::subcommand::Subcommand;
 use std::ffi::{OsStr, OsString};
 
+/// How many values an option takes that takes one or more: those up to the next option. It may be given again, for more of them.
+pub const MANY: usize = usize::MAX;
+
 /// What was given to a subcommand.
 pub struct Arguments {
-    command: &'static str,
+    pub command: &'static str,
     options: Vec<(&'static str, Vec<OsString>)>,
     files: Vec<OsString>,
 }
@@ -15,33 +18,41 @@ impl Arguments {
     pub fn of(subcommand: &Subcommand, words: &[OsString]) -> Result<Arguments, Failure> {
         let (command, known) = (subcommand.name, subcommand.options);
         let mut arguments = Arguments { command, options: Vec::new(), files: Vec::new() };
-        let mut words = words.iter();
+        let mut words = words.iter().peekable();
         while let Some(word) = words.next() {
             if word == "--" {
                 arguments.files.extend(words.cloned());
                 break;
             }
-            if word == "-" || !word.to_string_lossy().starts_with('-') {
+            if !is_option(word) {
                 arguments.files.push(word.clone());
                 continue;
             }
-            let Some(&(name, values)) = known.iter().find(|(name, _)| word == name) else {
+            let Some(&(name, count)) = known.iter().find(|(name, _)| word == name) else {
                 return Err(arguments.wrong(&format!("no option '{}'", word.to_string_lossy())));
             };
-            let values: Vec<OsString> = words.by_ref().take(values).cloned().collect();
-            arguments.add(name, values, known)?;
+            let mut values = Vec::new();
+            while values.len() < count {
+                match words.next_if(|word| count != MANY || !is_option(word)) {
+                    Some(value) => values.push(value.clone()),
+                    None => break,
+                }
+            }
+            arguments.add(name, count, values)?;
         }
         Ok(arguments)
     }
 
-    fn add(&mut self, name: &'static str, values: Vec<OsString>, known: &[(&str, usize)]) -> Result<(), Failure> {
-        if known.iter().any(|&(other, count)| other == name && count != values.len()) {
+    fn add(&mut self, name: &'static str, count: usize, values: Vec<OsString>) -> Result<(), Failure> {
+        let enough = if count == MANY { !values.is_empty() } else { values.len() == count };
+        if !enough {
             return Err(self.wrong(&format!("{name} without its value")));
         }
-        if self.has(name) {
-            return Err(self.wrong(&format!("{name} twice")));
+        match self.options.iter_mut().find(|(given, _)| *given == name) {
+            Some((_, given)) if count == MANY => given.extend(values),
+            Some(_) => return Err(self.wrong(&format!("{name} twice"))),
+            None => self.options.push((name, values)),
         }
-        self.options.push((name, values));
         Ok(())
     }
 
@@ -83,6 +94,12 @@ impl Arguments {
         }
     }
 
+    /// The files and words of a subcommand that takes so many: `what` tells them.
+    pub fn words<const COUNT: usize>(&self, what: &str) -> Result<[&OsStr; COUNT], Failure> {
+        let words: Vec<&OsStr> = self.files.iter().map(OsString::as_os_str).collect();
+        words.try_into().map_err(|_| self.wrong(&format!("expected {what}")))
+    }
+
     /// The file, where it may be left out.
     pub fn file_if_any(&self) -> Result<Option<&OsStr>, Failure> {
         match &self.files[..] {
@@ -92,8 +109,18 @@ impl Arguments {
         }
     }
 
+    /// All files, for a subcommand that takes any number of them.
+    pub fn files(&self) -> &[OsString] {
+        &self.files
+    }
+
     /// Wrong use of this subcommand.
     pub fn wrong(&self, words: &str) -> Failure {
         Failure::usage_of(self.command, words)
     }
+}
+
+/// Whether a word is written as an option; `-` is a file.
+fn is_option(word: &OsStr) -> bool {
+    word != "-" && word.to_string_lossy().starts_with('-')
 }

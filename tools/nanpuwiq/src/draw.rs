@@ -22,8 +22,8 @@ pub const SUBCOMMAND: Subcommand = Subcommand {
 const HELP: &str = "\
 nanpuwiq draw [--names NAMES] [--position I O] FILE
 
-Prints both graphs in graphviz's language: 'nanpuwiq draw FILE | dot -Tsvg'. Components are boxes, initial states have an arrow from nowhere,
-and a state tells the requirements whose sets it belongs to.
+Prints both graphs in graphviz's language, the old drive above the new one: 'nanpuwiq draw FILE | dot -Tsvg'. Components are boxes, initial states
+have an arrow from a dot, and a state tells the requirements whose sets it belongs to; a legend says so. 'nanpuwiq format' makes the game of it again.
 
   --names NAMES     names for the states, as for play
   --position I O    mark input I and output O: every input shows whether it is won or lost with O, every output whether it is with I
@@ -33,11 +33,10 @@ fn run(arguments: Arguments) -> Result<Status, Failure> {
     let GameFile { name, game, names } = files::read_game(arguments.file()?, arguments.value("--names"))?;
     let refused = |error: Error| Failure::Refused(format!("{name}: {error}"));
     let position = position(&arguments, &game, &names)?;
-    let winner = game.solve().map_err(refused)?.winner;
     let won = game.won_map().map_err(refused)?;
     let picture = Picture { game: &game, names: &names, position, won };
-    standard::write(picture.text(&name).as_bytes())?;
-    Ok(Status::of(winner))
+    standard::write(picture.text(&name).map_err(refused)?.as_bytes())?;
+    Ok(Status::Fine)
 }
 
 /// The position that is asked for, by numbers or names.
@@ -72,13 +71,46 @@ struct Node {
 const COLOURS: [&str; 8] = ["#fde8c8", "#cfe3f6", "#d8efd3", "#f6d5d5", "#e6dcf3", "#fff3b0", "#d5f0ee", "#e8e0d8"];
 
 impl Picture<'_> {
-    fn text(&self, title: &str) -> String {
+    /// Graphviz draws the first part lowest: the old drive stands above the new one, and the legend under both.
+    fn text(&self, title: &str) -> Result<String, Error> {
         let mut text = String::from("digraph game {\n    rankdir=LR;\n");
         text += "    node [shape=box, style=\"rounded,filled\", fillcolor=white];\n";
         let _ = writeln!(text, "    label=\"{}\";\n    labelloc=t;", quoted(&self.heading(title)));
-        text += &side("in", "old drive (inputs)", &self.game.input, |s| self.input(InState(s)));
+        text += &self.asked()?;
+        text += &self.legend();
         text += &side("out", "new drive (outputs)", &self.game.output, |s| self.output(OutState(s)));
-        text + "}\n"
+        text += &side("in", "old drive (inputs)", &self.game.input, |s| self.input(InState(s)));
+        Ok(text + "}\n")
+    }
+
+    /// The lines of the requirements as comments, which `format` reads.
+    fn asked(&self) -> Result<String, Error> {
+        let text = self.game.write()?;
+        let text = String::from_utf8_lossy(&text);
+        let lines = text.lines().filter(|line| line.starts_with("(if "));
+        Ok(lines.map(|line| format!("    // {line}\n")).collect())
+    }
+
+    /// What the signs mean, and the colour of each requirement that a state can have.
+    fn legend(&self) -> String {
+        let mut signs = vec![
+            "dashed box: states that reach one another",
+            "arrow from a dot: an initial state",
+            "if 0.1: belongs to input set 1 of requirement 0",
+            "then 0.1: belongs to output set 1 of requirement 0",
+        ];
+        if self.position.is_some() {
+            signs.push("thick border: the position");
+            signs.push("won (green) or lost (red): with the other state of the position");
+        }
+        let signs: String = signs.iter().map(|sign| format!("{sign}\\l")).collect();
+        let mut text =
+            String::from("    subgraph cluster_legend {\n        label=\"legend\";\n        style=dotted;\n");
+        let _ = writeln!(text, "        legend [shape=plaintext, style=solid, label=\"{signs}\"];");
+        for (number, colour) in COLOURS.iter().enumerate().take(self.game.k) {
+            let _ = writeln!(text, "        legend{number} [label=\"requirement {number}\", fillcolor=\"{colour}\"];");
+        }
+        text + "    }\n"
     }
 
     /// The title, the requirements, and who wins at the position.

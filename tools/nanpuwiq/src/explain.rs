@@ -1,51 +1,83 @@
 //! `nanpuwiq explain`: a refusal in words, with its line and column; of a game that is not refused, what it asks and who wins.
 use crate::arguments::Arguments;
 use crate::diagnosis::{self, Finding};
-use crate::failure::{Failure, Status};
+use crate::failure::{Failure, Fault, Status};
+use crate::fields::{self, Fields};
 use crate::files::{self, GameFile, Source};
 use crate::graphs;
+use crate::json::Json;
+use crate::report::{self, Report};
 use crate::requirements;
 use crate::sizes;
 use crate::solve;
 use crate::standard;
 use crate::subcommand::Subcommand;
 use crate::words::{count, grouped};
-use nanpuwiq::{InState, OutState, Winner};
+use nanpuwiq::{Error, Game, InState, OutState, Requirement, Set, Verdict, Winner};
 use std::fmt::Write;
 
 pub const SUBCOMMAND: Subcommand = Subcommand {
     name: "explain",
     form: "FILE",
     words: "say in words what is wrong with a game's file, or what the game asks and who wins",
-    options: &[("--names", 1)],
+    options: &[("--names", 1), ("--json", 0)],
     help: HELP,
     run,
 };
 
 const HELP: &str = "\
-nanpuwiq explain [--names NAMES] FILE
+nanpuwiq explain [--names NAMES] [--json] FILE
 
 Says why a game's file is refused, with line and column, or else what the game asks and who wins.
 
   --names NAMES   names for the states, as for play
+  --json          one JSON object, as nanpuwiq(5) tells
 ";
 
 fn run(arguments: Arguments) -> Result<Status, Failure> {
-    let file = arguments.file()?;
-    let Source { name, text } = files::read_text(file)?;
-    match solve::solved(&text) {
-        Err(error) => {
-            let finding = diagnosis::of_text(&text, error);
-            standard::write(pointed(&finding, &name, &text).as_bytes())?;
+    let (told, found) = match found(&arguments) {
+        Ok(Explained::Game(report)) => (None, Ok(report)),
+        Ok(Explained::Refused(told, fault)) => (Some(told), Err(fault.into())),
+        Err(failure) => (None, Err(failure)),
+    };
+    match told {
+        // a refusal is the answer here, and stands on standard output
+        Some(told) if !arguments.has("--json") => {
+            standard::write(told.as_bytes())?;
             Ok(Status::Refused)
         }
-        Ok((game, winner, table)) => {
-            let names = files::read_names(file, arguments.value("--names"), &game)?;
-            let told = summary(&GameFile { name, game, names }, winner, table.len())?;
-            standard::write(told.as_bytes())?;
-            Ok(Status::of(winner))
-        }
+        _ => report::written(&arguments, found),
     }
+}
+
+/// What is said of a file: of its game, or why it is refused, with the line that is at fault.
+enum Explained {
+    Game(Report),
+    Refused(String, Fault),
+}
+
+fn found(arguments: &Arguments) -> Result<Explained, Failure> {
+    let file = arguments.file()?;
+    let Source { name, text } = files::read_text(file)?;
+    let game = match Game::read(&text) {
+        Ok(game) => game,
+        Err(error) => {
+            let finding = diagnosis::of_text(&text, error);
+            return Ok(Explained::Refused(pointed(&finding, &name, &text), finding.fault(&name, &text)));
+        }
+    };
+    let names = files::read_names(file, arguments.value("--names"), &game)?;
+    let file = GameFile { name, game, names };
+    let refused = |error: Error| Fault::of(&file.name, error);
+    let Verdict { winner, table } = file.game.solve().map_err(refused)?;
+    let map = file.game.won_map().map_err(refused)?;
+    let programs = solve::solved(&text).err();
+    let report = Report {
+        text: summary(&file, winner, table.len(), &map, programs),
+        fields: of_game(&file, winner, table.len(), &map, programs),
+        status: Status::of(winner),
+    };
+    Ok(Explained::Game(report))
 }
 
 /// The finding, and under it the line that it is about with a mark at the column.
@@ -68,7 +100,8 @@ fn visible(line: &[u8]) -> String {
     line.iter().map(|byte| if byte.is_ascii_graphic() || *byte == b' ' { char::from(*byte) } else { '?' }).collect()
 }
 
-fn summary(file: &GameFile, winner: Winner, entries: usize) -> Result<String, Failure> {
+/// What the game asks, how much of it is won and who wins. `programs` is what the programs refuse it with, whose rooms are shorter.
+fn summary(file: &GameFile, winner: Winner, entries: usize, map: &[Set], programs: Option<Error>) -> String {
     let GameFile { name, game, names } = file;
     let (inputs, outputs) = (game.input.states, game.output.states);
     let mut told = format!(
@@ -82,21 +115,71 @@ fn summary(file: &GameFile, winner: Winner, entries: usize) -> Result<String, Fa
     }
     let first_inputs: Vec<String> = graphs::members(game.input.initial).map(|s| names.input(InState(s))).collect();
     let first_outputs: Vec<String> = graphs::members(game.output.initial).map(|s| names.output(OutState(s))).collect();
-    let _ = writeln!(
-        told,
-        "The panel begins in {}; the new drive in {}.",
-        first_inputs.join(" or "),
-        first_outputs.join(" or ")
-    );
-    let map = game.won_map().map_err(|error| Failure::Refused(format!("{name}: {error}")))?;
+    let _ = writeln!(told, "The panel begins in {}; the new drive in {}.", any_of(first_inputs), any_of(first_outputs));
     let won: usize = map.iter().map(|row| row.count()).sum();
-    let _ = writeln!(told, "{} of {} are won.", grouped(won), count(inputs * outputs, "position", "positions"));
+    let _ = writeln!(told, "{}", won_positions(won, inputs * outputs));
     told.push_str(match winner {
         Winner::System => "An adapter exists: the old panel can run the new drive.\n",
         Winner::Environment => "No adapter exists: the panel can be used so that every controller fails.\n",
     });
     let whose = if winner == Winner::System { "controller" } else { "panel" };
     let (entries, room) = (count(entries, "entry", "entries"), grouped(sizes::PROGRAM_ROOM));
-    let _ = writeln!(told, "The {whose}'s table has {entries}; the programs lend {room} for each table.");
-    Ok(told)
+    let _ = write!(told, "The {whose}'s table has {entries}; the programs lend {room} for each table");
+    let _ = match programs {
+        Some(error) => {
+            let (whose, entries) = diagnosis::short_table(game, error.number);
+            writeln!(
+                told,
+                ", too few for the {whose}'s {}, and refuse this game (refused {}).",
+                grouped(entries),
+                error.number
+            )
+        }
+        None => writeln!(told, "."),
+    };
+    told
+}
+
+/// States that are listed at most, before the rest are counted.
+const LISTED_MOST: usize = 8;
+
+/// "pump or flush"
+fn any_of(states: Vec<String>) -> String {
+    match states.len().checked_sub(LISTED_MOST) {
+        Some(more @ 1..) => format!("{} or one of {more} more", states[..LISTED_MOST].join(" or ")),
+        _ => states.join(" or "),
+    }
+}
+
+/// "5 of 12 positions are won."
+fn won_positions(won: usize, all: usize) -> String {
+    match (won, all) {
+        (0, 1) => "The one position is lost.".to_string(),
+        (1, 1) => "The one position is won.".to_string(),
+        (1, _) => format!("1 of {} positions is won.", grouped(all)),
+        _ => format!("{} of {} positions are won.", grouped(won), grouped(all)),
+    }
+}
+
+fn of_game(file: &GameFile, winner: Winner, entries: usize, map: &[Set], programs: Option<Error>) -> Fields {
+    let GameFile { game, names, .. } = file;
+    let requirement = |q: &Requirement| {
+        let sets = |sets: Vec<Set>| Json::list(sets.into_iter().map(|set| Json::list(set.states())));
+        Json::object([
+            ("if", sets(requirements::assumptions(q).iter().map(|set| set.0).collect())),
+            ("then", sets(requirements::guarantees(q).iter().map(|set| set.0).collect())),
+            ("words", requirements::words(q, names).into()),
+        ])
+    };
+    let mut fields = fields::of_game(file);
+    fields.extend([
+        ("initial_inputs", Json::list(game.input.initial.states())),
+        ("initial_outputs", Json::list(game.output.initial.states())),
+        ("requirements", Json::list(game.requirements.iter().take(game.k).map(requirement))),
+        ("winner", fields::winner(winner)),
+        ("positions", fields::positions(game, map)),
+        ("entries", entries.into()),
+        ("refused_by_programs", programs.map(|error| error.number).into()),
+    ]);
+    fields
 }

@@ -29,6 +29,11 @@ pub struct GameFile {
 pub fn read(file: &OsStr, most: usize) -> Result<Source, Failure> {
     let most = most as u64 + 1;
     let (name, bytes) = if file == "-" {
+        if standard::input_is_terminal() {
+            standard::say(
+                "reading from this terminal: type or paste the text, then a line with Ctrl-D alone; or give a FILE",
+            );
+        }
         ("standard input".to_string(), standard::read_input(most))
     } else {
         (file.to_string_lossy().into_owned(), read_file(Path::new(file), most))
@@ -53,21 +58,24 @@ pub fn read_text(file: &OsStr) -> Result<Source, Failure> {
 /// The game of a file, with names.
 pub fn read_game(file: &OsStr, names: Option<&OsStr>) -> Result<GameFile, Failure> {
     let Source { name, text } = read_text(file)?;
-    let game =
-        Game::read(&text).map_err(|error| Failure::Refused(diagnosis::of_text(&text, error).line(&name, &text)))?;
+    let game = Game::read(&text).map_err(|error| diagnosis::of_text(&text, error).fault(&name, &text))?;
     let names = read_names(file, names, &game)?;
     Ok(GameFile { name, game, names })
 }
 
 /// The names for a game: those of the file given, else of the one beside the game's file, if there is one.
 pub fn read_names(file: &OsStr, names: Option<&OsStr>, game: &Game) -> Result<Names, Failure> {
-    let source = match names {
-        Some(given) => Some(read(given, FORM_MOST)?),
-        None => names_beside(file)?,
-    };
-    match source {
+    match names_source(file, names)? {
         Some(source) => Names::read(&source, game),
         None => Ok(Names::default()),
+    }
+}
+
+/// The file of names that goes with a game's file.
+pub fn names_source(file: &OsStr, names: Option<&OsStr>) -> Result<Option<Source>, Failure> {
+    match names {
+        Some(given) => Ok(Some(read(given, FORM_MOST)?)),
+        None => names_beside(file),
     }
 }
 

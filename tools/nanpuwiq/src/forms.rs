@@ -1,11 +1,14 @@
-//! Bracketed forms, the common shape of files of names and of kits: words and lists in brackets, with blanks or line ends between them.
-//! From `;` on the rest of a line is a comment.
+//! Bracketed forms, the common shape of files of names and of kits: words and lists in brackets, with blanks, commas or line ends between them.
+//! From `;`, `#` or `//` on the rest of a line is a comment. A byte-order mark at the front is passed over.
 use crate::diagnosis::line_column;
-use crate::failure::Failure;
+use crate::failure::{Failure, Fault};
 use crate::files::{Source, FORM_MOST};
 
 /// Lists inside lists inside lists: no file needs more.
 const DEPTH_MOST: usize = 8;
+
+/// What editors on Windows put before a text.
+pub const BYTE_ORDER_MARK: &[u8] = b"\xef\xbb\xbf";
 
 /// A word or a list, and where it begins.
 #[derive(Clone, Debug)]
@@ -45,8 +48,8 @@ impl Form {
 
 /// The file's refusal at a place: `FILE:LINE:COLUMN: words`.
 pub fn refused(source: &Source, place: usize, words: &str) -> Failure {
-    let (line, column) = line_column(&source.text, place);
-    Failure::Refused(format!("{}:{line}:{column}: {words}", source.name))
+    let place = Some(line_column(&source.text, place));
+    Fault { file: source.name.clone(), place, number: None, words: words.to_string() }.into()
 }
 
 /// All forms of a file.
@@ -54,7 +57,8 @@ pub fn read(source: &Source) -> Result<Vec<Form>, Failure> {
     if source.text.len() > FORM_MOST {
         return Err(Failure::Refused(format!("{}: over {FORM_MOST} bytes", source.name)));
     }
-    let mut reader = Reader { source, at: 0 };
+    let mark = if source.text.starts_with(BYTE_ORDER_MARK) { BYTE_ORDER_MARK.len() } else { 0 };
+    let mut reader = Reader { source, at: mark };
     let mut forms = Vec::new();
     while let Some(byte) = reader.next_item() {
         if byte == b')' {
@@ -79,14 +83,18 @@ impl Reader<'_> {
     fn next_item(&mut self) -> Option<u8> {
         loop {
             match self.byte()? {
-                b' ' | b'\t' | b'\r' | b'\n' => self.at += 1,
-                b';' => {
-                    while self.byte().is_some_and(|byte| byte != b'\n') {
-                        self.at += 1;
-                    }
-                }
+                b' ' | b'\t' | b'\r' | b'\n' | b',' => self.at += 1,
+                b';' | b'#' => self.pass_line(),
+                b'/' if self.source.text.get(self.at + 1) == Some(&b'/') => self.pass_line(),
                 byte => return Some(byte),
             }
+        }
+    }
+
+    /// Passes over the rest of a line.
+    fn pass_line(&mut self) {
+        while self.byte().is_some_and(|byte| byte != b'\n') {
+            self.at += 1;
         }
     }
 
@@ -118,17 +126,24 @@ impl Reader<'_> {
 
     fn word(&mut self) -> Result<Form, Failure> {
         let place = self.at;
-        let mut word = String::new();
-        while let Some(byte) = self.byte().filter(|byte| byte.is_ascii_alphanumeric() || *byte == b'_' || *byte == b'-')
-        {
-            word.push(char::from(byte));
+        while self.byte().is_some_and(is_of_word) {
             self.at += 1;
         }
-        match word.is_empty() {
-            true => Err(refused(self.source, place, &format!("a byte that no word has: {}", shown(self.byte())))),
-            false => Ok(Form { place, kind: Kind::Word(word) }),
+        match std::str::from_utf8(&self.source.text[place..self.at]) {
+            Ok("") => Err(refused(self.source, place, &format!("a byte that no word has: {}", shown(self.byte())))),
+            Ok(word) => Ok(Form { place, kind: Kind::Word(word.to_string()) }),
+            Err(error) => {
+                let bad = place + error.valid_up_to();
+                let byte = shown(self.source.text.get(bad).copied());
+                Err(refused(self.source, bad, &format!("a byte that no word has: {byte} (the file is not UTF-8)")))
+            }
         }
     }
+}
+
+/// A byte of a word: letters of other languages have bytes past ASCII's.
+fn is_of_word(byte: u8) -> bool {
+    byte.is_ascii_alphanumeric() || byte == b'_' || byte == b'-' || !byte.is_ascii()
 }
 
 fn shown(byte: Option<u8>) -> String {

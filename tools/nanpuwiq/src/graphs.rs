@@ -32,6 +32,15 @@ pub fn component(graph: &Graph, state: usize) -> Set {
     together.fold(Set::of(state), |set, s| set | Set::of(s))
 }
 
+/// The component of each state, all worked out at once.
+pub fn components(graph: &Graph) -> Vec<Set> {
+    let reached: Vec<Set> = (0..graph.states).map(|s| reached(graph, s)).collect();
+    let together = |s: usize, t: usize| s == t || has(reached[s], t) && has(reached[t], s);
+    let component =
+        |s: usize| (0..graph.states).filter(|t| together(s, *t)).fold(Set::default(), |set, t| set | Set::of(t));
+    (0..graph.states).map(component).collect()
+}
+
 /// Whether a play can come to the set again and again from this state on.
 pub fn can_recur(graph: &Graph, state: usize, set: Set) -> bool {
     let ahead = reached(graph, state) | Set::of(state);

@@ -10,7 +10,8 @@
 use crate::failure::Failure;
 use crate::files::{Source, FORM_MOST};
 use crate::forms::{self, Form};
-use crate::names::{is_name, Names, NAME_RULE};
+use crate::kinds::{self, Kind};
+use crate::names::{is_name, is_same, Names, NAME_RULE};
 use nanpuwiq::{words, Drive, Kit, Requirement, BARRED, COMMANDS, REQUIREMENTS, SETS, STATES};
 use std::ffi::OsStr;
 
@@ -92,7 +93,11 @@ impl<'a> Reader<'a> {
     fn heads(&self) -> Result<(), Failure> {
         match self.forms.iter().find(|form| !head(form).is_some_and(|word| HEADS.contains(&word))) {
             Some(form) => {
-                self.wrong(form.place, "expected a line in brackets with old-commands, old, new-commands, new or if")
+                let expected = "expected a line in brackets with old-commands, old, new-commands, new or if";
+                match kinds::of(&self.source.text) {
+                    Kind::Kit | Kind::Requirements | Kind::Other => self.wrong(form.place, expected),
+                    kind => self.wrong(form.place, &format!("{expected}: {}", kind.words())),
+                }
             }
             None => Ok(()),
         }
@@ -155,7 +160,7 @@ impl<'a> Reader<'a> {
         for (number, form) in forms.iter().enumerate() {
             match form.word() {
                 Some(word) if is_name(word) => {
-                    if names.iter().any(|name| name.eq_ignore_ascii_case(word)) {
+                    if names.iter().any(|name| is_same(name, word)) {
                         return self.wrong(form.place, &format!("{what} twice: {word}"));
                     }
                     names.push(word.to_string());
@@ -191,7 +196,7 @@ impl<'a> Reader<'a> {
     fn mode(&self, form: &Form, modes: &[String]) -> Result<usize, Failure> {
         let found = match form.number() {
             Some(number) => Some(number).filter(|number| *number < modes.len()),
-            None => modes.iter().position(|name| form.word().is_some_and(|word| name.eq_ignore_ascii_case(word))),
+            None => modes.iter().position(|name| form.word().is_some_and(|word| is_same(name, word))),
         };
         match found {
             Some(mode) => Ok(mode),

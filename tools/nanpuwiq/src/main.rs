@@ -8,27 +8,51 @@
 
 mod answer;
 mod arguments;
+mod bars;
+mod catalogue;
 mod check;
+mod compare;
+mod completion;
+mod csv;
 mod diagnosis;
+mod dot;
 mod draw;
+mod drive_file;
 mod explain;
 mod export;
 mod failure;
+mod fields;
 mod files;
+mod format;
 mod forms;
 mod graphs;
+mod ground;
+mod json;
+mod kinds;
 mod kit;
 mod kit_file;
+mod listing;
 mod map;
+mod meant;
+mod moved;
 mod names;
+mod page;
 mod panel;
 mod play;
+mod print_faults;
+mod recordings;
+mod report;
 mod requirements;
+mod said;
 mod shape;
 mod sizes;
+mod sketch;
 mod solve;
 mod standard;
 mod subcommand;
+mod tables;
+mod template;
+mod why;
 mod words;
 
 use arguments::Arguments;
@@ -54,7 +78,7 @@ fn command(words: &[OsString]) -> Result<Status, Failure> {
         return Err(Failure::usage("which subcommand?"));
     };
     if is_any(first, &["--help", "-h", "help"]) {
-        return told(&subcommand::help());
+        return help(rest);
     }
     if is_any(first, &["--version", "-V"]) {
         return told(&format!("nanpuwiq {}\n", nanpuwiq::VERSION));
@@ -63,6 +87,18 @@ fn command(words: &[OsString]) -> Result<Status, Failure> {
         Some(subcommand) if rest.iter().any(|word| is_any(word, &["--help", "-h"])) => told(subcommand.help),
         Some(subcommand) => (subcommand.run)(Arguments::of(subcommand, rest)?),
         None => Err(Failure::usage(&format!("no subcommand '{}'", first.to_string_lossy()))),
+    }
+}
+
+/// The help of the whole command, or of the subcommand that is named.
+fn help(words: &[OsString]) -> Result<Status, Failure> {
+    match words {
+        [] => told(&subcommand::help()),
+        [name] => match subcommand::ALL.iter().find(|subcommand| name == subcommand.name) {
+            Some(subcommand) => told(subcommand.help),
+            None => Err(Failure::usage(&format!("no subcommand '{}'", name.to_string_lossy()))),
+        },
+        _ => Err(Failure::usage("help of which subcommand?")),
     }
 }
 

@@ -2,9 +2,12 @@
 use crate::failure::Failure;
 use crate::files::Source;
 use crate::forms::{self, Form};
+use crate::meant::hint;
 use nanpuwiq::{Game, InState, OutState};
 use std::collections::BTreeMap;
-use std::ffi::OsStr;
+
+/// Names that are listed at most, where a word means none of them.
+const LISTED_MOST: usize = 8;
 
 /// Letters of a name at most.
 const NAME_MOST: usize = 32;
@@ -49,7 +52,7 @@ impl Names {
         let Some(word) = name.word().filter(|word| is_name(word)) else {
             return wrong(name.place, NAME_RULE);
         };
-        if names.values().any(|other| other.eq_ignore_ascii_case(word)) {
+        if names.values().any(|other| is_same(other, word)) {
             return wrong(name.place, &format!("two {what}s with the name {word}"));
         }
         if names.insert(number, word.to_string()).is_some() {
@@ -76,6 +79,24 @@ impl Names {
         meant(&self.outputs, word, states).map(OutState)
     }
 
+    /// The input for people: "1 flush", or "1" where it has no name.
+    pub fn input_called(&self, state: InState) -> String {
+        called(&self.inputs, state.0)
+    }
+
+    pub fn output_called(&self, state: OutState) -> String {
+        called(&self.outputs, state.0)
+    }
+
+    /// The input that a word means by its number or its name, or in words that there is none. Whether the game has such a number is not asked.
+    pub fn find_input(&self, word: &str) -> Result<InState, String> {
+        found(&self.inputs, word, "input", (&self.outputs, "output")).map(InState)
+    }
+
+    pub fn find_output(&self, word: &str) -> Result<OutState, String> {
+        found(&self.outputs, word, "output", (&self.inputs, "input")).map(OutState)
+    }
+
     /// The lines of a file with these names.
     pub fn text(&self) -> String {
         let lines = |side: &str, names: &BTreeMap<usize, String>| -> String {
@@ -87,20 +108,73 @@ impl Names {
 
 /// A state by its number or its name; capital and small letters are the same.
 fn meant(names: &BTreeMap<usize, String>, word: &str, states: usize) -> Option<usize> {
-    let named = names.iter().find(|(_, name)| name.eq_ignore_ascii_case(word)).map(|(state, _)| *state);
+    let named = names.iter().find(|(_, name)| is_same(name, word)).map(|(state, _)| *state);
     named.or_else(|| word.parse().ok()).filter(|state| *state < states)
 }
 
-pub const NAME_RULE: &str = "a name is a letter, then letters and digits with single '_' between them, 32 at most";
+/// Whether two names are the same: capital and small letters are not told apart.
+pub fn is_same(one: &str, other: &str) -> bool {
+    one.eq_ignore_ascii_case(other) || one.to_lowercase() == other.to_lowercase()
+}
 
-/// Names are words of C and of Structured Text alike.
+/// "1 flush", or "1".
+fn called(names: &BTreeMap<usize, String>, state: usize) -> String {
+    names.get(&state).map_or_else(|| state.to_string(), |name| format!("{state} {name}"))
+}
+
+/// A state by its number or its name, whatever the number. A name of the other side is told to be one: files are easily exchanged.
+fn found(
+    names: &BTreeMap<usize, String>,
+    word: &str,
+    side: &str,
+    (others, other): (&BTreeMap<usize, String>, &str),
+) -> Result<usize, String> {
+    let none = format!("no {side} is called '{word}'");
+    match meant(names, word, usize::MAX) {
+        Some(state) => Ok(state),
+        None if !word.is_empty() && word.bytes().all(|byte| byte.is_ascii_digit()) => Ok(usize::MAX),
+        None if meant(others, word, usize::MAX).is_some() => Err(format!("{none}: it is an {other}")),
+        None if names.is_empty() => Err(format!("{none}: {side}s have numbers alone here, and no names")),
+        None => match hint(word, names.values().map(String::as_str)) {
+            near if near.is_empty() && names.len() <= LISTED_MOST => {
+                let known: Vec<String> = names.keys().map(|state| called(names, *state)).collect();
+                Err(format!("{none}: expected {}", known.join(", ")))
+            }
+            near => Err(none + &near),
+        },
+    }
+}
+
+pub const NAME_RULE: &str =
+    "a name is a letter of any language, then letters and digits with single '_' between them, 32 at most";
+
+/// Names are read by people; words of code are made from them (export/identifiers.rs).
 pub fn is_name(word: &str) -> bool {
-    let letters = word.bytes().all(|b| b.is_ascii_alphanumeric() || b == b'_');
+    let letters = word.chars().all(|c| is_letter(c) || c == '_');
     let joined = !word.contains("__") && !word.ends_with('_');
-    letters && joined && word.len() <= NAME_MOST && word.starts_with(|c: char| c.is_ascii_alphabetic())
+    let first = word.starts_with(|c: char| c.is_alphabetic());
+    letters && joined && first && word.chars().count() <= NAME_MOST
 }
 
-/// The same of a word of the command line.
-pub fn is_name_given(word: &OsStr) -> Option<&str> {
-    word.to_str().filter(|word| is_name(word))
+/// A letter or a digit. The marks that some languages write over, under or between letters belong to them.
+fn is_letter(c: char) -> bool {
+    c.is_alphanumeric() || MARKS.iter().any(|&(first, last)| (first..=last).contains(&c))
 }
+
+/// Marks that are no letters by themselves: accents, points of Hebrew and Arabic, signs of the Indic scripts, of Thai, Lao, Tibetan and Burmese.
+const MARKS: [(char, char); 14] = [
+    ('\u{300}', '\u{36f}'),
+    ('\u{483}', '\u{487}'),
+    ('\u{591}', '\u{5bd}'),
+    ('\u{64b}', '\u{65f}'),
+    ('\u{93c}', '\u{94d}'),
+    ('\u{9bc}', '\u{9cd}'),
+    ('\u{a3c}', '\u{a4d}'),
+    ('\u{abc}', '\u{acd}'),
+    ('\u{b3c}', '\u{b4d}'),
+    ('\u{bbe}', '\u{bcd}'),
+    ('\u{c3c}', '\u{ccd}'),
+    ('\u{d3b}', '\u{dca}'),
+    ('\u{e31}', '\u{ecd}'),
+    ('\u{f18}', '\u{103a}'),
+];

@@ -1,6 +1,7 @@
 //! Requirements in words, and what a round does to them.
 use crate::graphs::{has, members};
 use crate::names::Names;
+use crate::said;
 use nanpuwiq::{InSet, InState, OutSet, OutState, Position, Requirement};
 
 /// What a round does to a requirement, and why.
@@ -60,14 +61,8 @@ pub fn judge(q: &Requirement, round: &[Position], names: &Names) -> Judgement {
     let missed_input = assumptions(q).iter().find(|set| !round.iter().any(|at| has(set.0, at.input.0)));
     let missed_output = guarantees(q).iter().find(|set| !round.iter().any(|at| has(set.0, at.output.0)));
     match (missed_input, missed_output) {
-        (Some(set), _) => Judgement {
-            met: true,
-            words: format!("the old drive is never in {}, so nothing is due", input_set(*set, names)),
-        },
-        (None, None) => Judgement { met: true, words: "all that it asks of the new drive is there".to_string() },
-        (None, Some(set)) => Judgement {
-            met: false,
-            words: format!("it is due, and the new drive is never in {}", output_set(*set, names)),
-        },
+        (Some(set), _) => Judgement { met: true, words: said::NOT_DUE.with(&[("set", &input_set(*set, names))]) },
+        (None, None) => Judgement { met: true, words: said::SERVED.with(&[]) },
+        (None, Some(set)) => Judgement { met: false, words: said::MISSED.with(&[("set", &output_set(*set, names))]) },
     }
 }

@@ -54,14 +54,15 @@ pub fn read(text: &[u8]) -> Result<Shape, String> {
     }
 }
 
-struct Reader<'a> {
-    text: &'a [u8],
-    at: usize,
+/// What is left of a text to be read: after an error `at` is the place that it is about.
+pub struct Reader<'a> {
+    pub text: &'a [u8],
+    pub at: usize,
 }
 
 impl Reader<'_> {
     /// The fixed bytes of a word.
-    fn word(&mut self, word: &str) -> Result<(), String> {
+    pub fn word(&mut self, word: &str) -> Result<(), String> {
         for byte in word.bytes() {
             if self.text.get(self.at) != Some(&byte) {
                 return Err(format!("expected {}, found {}", wanted(word), self.found()));
@@ -84,7 +85,7 @@ impl Reader<'_> {
     }
 
     /// The digits at the present place.
-    fn digits(&mut self, what: &str) -> Result<Number, String> {
+    pub fn digits(&mut self, what: &str) -> Result<Number, String> {
         let place = self.at;
         let digits: String =
             self.text[place..].iter().take_while(|b| b.is_ascii_digit()).map(|b| char::from(*b)).collect();
@@ -194,7 +195,7 @@ fn wanted(word: &str) -> String {
     }
 }
 
-fn number(value: usize) -> String {
+pub fn number(value: usize) -> String {
     match value {
         usize::MAX => "a number with so many digits".to_string(),
         _ => value.to_string(),

@@ -3,7 +3,10 @@ use crate::answer;
 use crate::arguments::Arguments;
 use crate::diagnosis;
 use crate::failure::{Failure, Status};
-use crate::files::{self, Source};
+use crate::fields;
+use crate::files::{self, GameFile, Source};
+use crate::names::Names;
+use crate::report::{self, Report};
 use crate::sizes::PROGRAM_ROOM;
 use crate::standard;
 use crate::subcommand::Subcommand;
@@ -17,28 +20,41 @@ pub const SUBCOMMAND: Subcommand = Subcommand {
     name: "solve",
     form: "[FILE]",
     words: "print the winner and its table, the very bytes of the program solve",
-    options: &[],
+    options: &[("--json", 0)],
     help: HELP,
     run,
 };
 
 const HELP: &str = "\
-nanpuwiq solve [FILE]
+nanpuwiq solve [--json] [FILE]
 
 Reads a game and prints who wins and the winner's table, or the refusal: the very bytes of the program solve. Beside a refusal the words for it
 are on standard error. Without FILE it reads standard input. The tables have 32,768 entries at most, as those of the program.
+
+  --json            one JSON object, as nanpuwiq(5) tells
 ";
 
 fn run(arguments: Arguments) -> Result<Status, Failure> {
-    let Source { name, text } = files::read_text(arguments.file_if_any()?.unwrap_or(OsStr::new("-")))?;
+    let found = found(&arguments);
+    report::written(&arguments, found)
+}
+
+fn found(arguments: &Arguments) -> Result<Report, Failure> {
+    let file = arguments.file_if_any()?.unwrap_or(OsStr::new("-"));
+    let Source { name, text } = files::read_text(file)?;
     match solved(&text) {
         Ok((game, winner, table)) => {
-            standard::write(answer::print(&game, winner, &table).as_bytes())?;
-            Ok(Status::of(winner))
+            let mut fields = fields::of_game(&GameFile { name, game, names: Names::default() });
+            let side = if winner == Winner::System { "controller" } else { "panel" };
+            let lines = answer::lines(&game, winner, &table);
+            fields.extend([("winner", fields::winner(winner)), ("table", fields::table(side, table.len(), lines))]);
+            Ok(Report { text: answer::print(&game, winner, &table), fields, status: Status::of(winner) })
         }
         Err(error) => {
-            standard::write(answer::refused(error).as_bytes())?;
-            Err(Failure::Refused(diagnosis::of_text(&text, error).line(&name, &text)))
+            if !arguments.has("--json") {
+                standard::write(answer::refused(error).as_bytes())?;
+            }
+            Err(diagnosis::of_text(&text, error).fault(&name, &text).into())
         }
     }
 }

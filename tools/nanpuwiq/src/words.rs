@@ -17,3 +17,19 @@ pub fn grouped(number: usize) -> String {
     }
     text
 }
+
+/// "there are 3 inputs, numbered from 0 to 2"
+pub fn counted(count: usize, side: &str) -> String {
+    match count {
+        1 => format!("there is one {side}, number 0"),
+        _ => format!("there are {count} {side}s, numbered from 0 to {}", count - 1),
+    }
+}
+
+/// A number that was given, where it is one that is worth showing: a longer one than any count is not.
+pub fn shown(number: usize) -> String {
+    match number {
+        usize::MAX => "with so many digits".to_string(),
+        _ => number.to_string(),
+    }
+}
