@@ -425,13 +425,15 @@ def largest(check, browser, command):
     stepping = [(int(s == 0), sorted({s, min(s + 1, 127)})) for s in range(128)]
     sets = lambda: " ".join("(%s)" % " ".join(map(str, sorted(rng.sample(range(128), 6)))) for _ in range(4))
     lone = lambda: " ".join("(%d)" % rng.randrange(128) for _ in range(4))
+    wide = lambda: " ".join("(%s)" % " ".join(map(str, sorted(rng.sample(range(128), 127)))) for _ in range(4))
     games = [("mixed", game(full, full, [(sets(), sets()) for _ in range(8)])),
+             ("wide", game(full, full, [(wide(), wide()) for _ in range(8)])),
              ("apart", game(apart, full, [(lone(), sets()) for _ in range(8)])),
              ("stepping", game(stepping, full, [(sets(), sets()) for _ in range(8)]))]
     for name, text in games:
         path = command.folder / (name + ".game")
         path.write_bytes(text)
-        (command.folder / (name + ".names")).write_text("".join("(%s %d mode_of_the_%s_drive_%d)\n" % (side, s, side, s) for side in ("in", "out") for s in range(128)))
+        (command.folder / (name + ".names")).write_text("".join("(%s %d a_mode_of_the_%s_drive_it_%03d)\n" % (side, s, (side + "t")[:3], s) for side in ("in", "out") for s in range(128)))
         page = command.page(path)
         size = page.stat().st_size
         work, opened = min(browser.timed(page) for _ in range(3))

@@ -12,7 +12,7 @@ use crate::sizes;
 use crate::solve;
 use crate::standard;
 use crate::subcommand::Subcommand;
-use crate::words::{count, grouped};
+use crate::words::{count, grouped, LISTED_MOST};
 use nanpuwiq::{Error, Game, InState, OutState, Requirement, Set, Verdict, Winner};
 use std::fmt::Write;
 
@@ -139,9 +139,6 @@ fn summary(file: &GameFile, winner: Winner, entries: usize, map: &[Set], program
     };
     told
 }
-
-/// States that are listed at most, before the rest are counted.
-const LISTED_MOST: usize = 8;
 
 /// "pump or flush"
 fn any_of(states: Vec<String>) -> String {

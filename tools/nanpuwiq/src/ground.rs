@@ -3,6 +3,7 @@ use crate::graphs::{components, has, members, moves};
 use crate::names::Names;
 use crate::requirements::{guarantees, output_set};
 use crate::said::{self, Form};
+use crate::words::listed;
 use nanpuwiq::{Game, Graph, Ground, InState, OutState, Set};
 
 /// A ground's number, 1 to 8, in the order in which they are tried.
@@ -116,15 +117,4 @@ fn has_exit(graph: &Graph, states: Set) -> bool {
 fn staying(states: Vec<String>) -> String {
     let word = if states.len() == 1 { "in" } else { "among" };
     format!("{word} {}", listed(states))
-}
-
-/// States that are listed at most, before the rest are counted.
-const LISTED_MOST: usize = 8;
-
-/// "0 pump, 2 flush"; of many the first ones, "and 69 more".
-fn listed(states: Vec<String>) -> String {
-    match states.len().checked_sub(LISTED_MOST) {
-        Some(more @ 1..) => format!("{} and {more} more", states[..LISTED_MOST].join(", ")),
-        _ => states.join(", "),
-    }
 }

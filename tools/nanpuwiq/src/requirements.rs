@@ -2,7 +2,11 @@
 use crate::graphs::{has, members};
 use crate::names::Names;
 use crate::said;
-use nanpuwiq::{InSet, InState, OutSet, OutState, Position, Requirement};
+use crate::words::LISTED_MOST;
+use nanpuwiq::{InSet, InState, OutSet, OutState, Position, Requirement, Set};
+
+/// States of a set that a requirement's line names at most.
+const NAMED_MOST: usize = 24;
 
 /// What a round does to a requirement, and why.
 pub struct Judgement {
@@ -20,13 +24,46 @@ pub fn guarantees(q: &Requirement) -> &[OutSet] {
     &q.guarantees[..q.guaranteed.min(q.guarantees.len())]
 }
 
-/// An input set: "low", "low or high".
+/// An input set where it is told in passing: "low", "low or high"; of many states the first. The requirement's own line has all.
 pub fn input_set(set: InSet, names: &Names) -> String {
-    any_of(members(set.0).map(|s| names.input(InState(s))).collect())
+    some_of(inputs(set, names))
 }
 
 pub fn output_set(set: OutSet, names: &Names) -> String {
-    any_of(members(set.0).map(|s| names.output(OutState(s))).collect())
+    some_of(outputs(set, names))
+}
+
+fn inputs(set: InSet, names: &Names) -> Vec<String> {
+    members(set.0).map(|s| names.input(InState(s))).collect()
+}
+
+fn outputs(set: OutSet, names: &Names) -> Vec<String> {
+    members(set.0).map(|s| names.output(OutState(s))).collect()
+}
+
+/// A set of a requirement in full: its names; of more than a line holds the numbers, in ranges.
+fn whole(set: Set, names: Vec<String>) -> String {
+    match names.len() {
+        0..=NAMED_MOST => any_of(names),
+        _ => format!("one of {}", ranges(members(set))),
+    }
+}
+
+/// "0 to 5, 7, 9 to 127", of rising numbers.
+fn ranges(states: impl Iterator<Item = usize>) -> String {
+    let mut found: Vec<(usize, usize)> = Vec::new();
+    for state in states {
+        match found.last_mut() {
+            Some((_, last)) if *last + 1 == state => *last = state,
+            _ => found.push((state, state)),
+        }
+    }
+    let told = |(first, last): &(usize, usize)| match last - first {
+        0 => first.to_string(),
+        1 => format!("{first}, {last}"),
+        _ => format!("{first} to {last}"),
+    };
+    found.iter().map(told).collect::<Vec<_>>().join(", ")
 }
 
 fn any_of(states: Vec<String>) -> String {
@@ -37,10 +74,17 @@ fn any_of(states: Vec<String>) -> String {
     }
 }
 
+fn some_of(states: Vec<String>) -> String {
+    match states.len().checked_sub(LISTED_MOST) {
+        Some(more @ 1..) => format!("one of {} or {more} more", states[..LISTED_MOST].join(", ")),
+        _ => any_of(states),
+    }
+}
+
 /// "if flush recurs in the old drive, then flush recurs in the new drive"
 pub fn words(q: &Requirement, names: &Names) -> String {
-    let when = recur(assumptions(q).iter().map(|set| input_set(*set, names)).collect());
-    let then = recur(guarantees(q).iter().map(|set| output_set(*set, names)).collect());
+    let when = recur(assumptions(q).iter().map(|set| whole(set.0, inputs(*set, names))).collect());
+    let then = recur(guarantees(q).iter().map(|set| whole(set.0, outputs(*set, names))).collect());
     match (when, then) {
         (_, None) => "nothing is asked".to_string(),
         (None, Some(then)) => format!("always {then} in the new drive"),

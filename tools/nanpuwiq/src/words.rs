@@ -1,5 +1,8 @@
 //! Numbers for people.
 
+/// States that a sentence lists at most: a component of a station has 77.
+pub const LISTED_MOST: usize = 8;
+
 /// "1 entry", "2 entries", "32,768 entries".
 pub fn count(number: usize, one: &str, more: &str) -> String {
     format!("{} {}", grouped(number), if number == 1 { one } else { more })
@@ -31,5 +34,13 @@ pub fn shown(number: usize) -> String {
     match number {
         usize::MAX => "with so many digits".to_string(),
         _ => number.to_string(),
+    }
+}
+
+/// "0 pump, 2 flush"; of many the first ones, "and 69 more".
+pub fn listed(states: Vec<String>) -> String {
+    match states.len().checked_sub(LISTED_MOST) {
+        Some(more @ 1..) => format!("{} and {more} more", states[..LISTED_MOST].join(", ")),
+        _ => states.join(", "),
     }
 }

@@ -2,6 +2,7 @@
 use crate::graphs::{components, members, moves};
 use crate::names::Names;
 use crate::panel;
+use crate::words::listed;
 use nanpuwiq::{Error, Game, Ground, InState, OutState, Position, Set, Verdict, Winner};
 
 /// A game with its winner's table, and the won map.
@@ -112,7 +113,7 @@ impl Match {
 
     /// The inputs of a component: "0 pump, 1 flush".
     pub fn inputs_around(&self, state: InState) -> String {
-        self.inputs_of(state).join(", ")
+        listed(self.inputs_of(state))
     }
 
     /// The same with a word before it: "in 2 drain", "among 0 pump, 1 flush".
@@ -132,5 +133,5 @@ impl Match {
 
 fn staying(states: Vec<String>) -> String {
     let word = if states.len() == 1 { "in" } else { "among" };
-    format!("{word} {}", states.join(", "))
+    format!("{word} {}", listed(states))
 }
