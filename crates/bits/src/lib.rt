@@ -1,4 +1,6 @@
 // Sets of states in words: state s belongs when the bit worth 2 to the power s is set.
+#![tactic(auto)]
+
 ghost use Rattle.std.specs.Prelude.{◌≡◌, not, ◌&&◌, ◌||◌, ℕ, ◌≤◌, ◌<◌, ◌≢◌, eqb, ltb};
 ghost use Rattle.finite.specs.Bounded.{least, count as members};
 ghost use Rattle.bits.specs.Member.{has, within as all_below, subset, sets_meet as meet};

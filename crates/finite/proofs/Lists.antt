@@ -37,7 +37,7 @@ module _ {A : Type 0} where
         | inr n ↦ all_of_elim p l (and_right (p b) (all_of p l) h) a n
       ]
 
-  pub any_of_intro : (p : A → Bool) {l : List A} {a : A} → Memᴰ a l → p a ≡ true → any_of p l ≡ true
+  pub any_of_intro : (p : A → Bool) {a : A} {l : List A} → Memᴰ a l → p a ≡ true → any_of p l ≡ true
   unfolding any_of
   any_of_intro p (Memᴰ.head {xs = l} e) h = or_left (any_of p l) (sym (ap p e) ∙ h)
   any_of_intro p (Memᴰ.tail {x = b} m) h = or_right (p b) (any_of_intro p m h)
