@@ -10,6 +10,7 @@ clauses, the must-fail edits and the pages. A type and a module keep their spell
 """
 import collections
 import glob
+import os
 import re
 import sys
 
@@ -19,6 +20,7 @@ SIGNATURE = re.compile(
     r"^(\s*)((?:unfoldable |abbrev |pub |private )*)((?:record|data|ruleset|syntax) )?([^\s(){}.;,@\":=]+(?: [^\s(){}.;,@\":=]+)*?) "
     r"?((?:[({][^:]*:[^)}]*[)}] ?)*):(?= |$)(.*)"
 )
+FROM = re.compile(r"^\s*(?:ghost |pub |unfoldable )*use ([^\s{]+)\.\{([^}]*)\}", re.M)
 USE = re.compile(r"use Rattle\.(\w+)\.(specs|proofs)\.(\w+)\.\{([^}]*)\}")
 NO_NAMES = {"unfoldable", "abbrev", "pub", "private", "let", "in", "where", "λ", "use", "mod"}
 
@@ -81,6 +83,13 @@ def aside_in(path, text, names, aside):
     return here
 
 
+def of_the_kit(text, own):
+    """The names that the file imports from the kit: they keep their spelling there."""
+    paths = [(path.split("."), items) for path, items in FROM.findall(text)]
+    items = [items for path, items in paths if path[0] != "Rattle" or path[1] not in own]
+    return {i.strip().split(" as ")[0] for group in items for i in group.split(",")}
+
+
 def turned(text, table, here, aside, only_code=None):
     def one(m):
         word = m[0]
@@ -110,6 +119,7 @@ def main():
     lemmas = sorted(glob.glob("crates/*/specs/*.antt") + glob.glob("crates/*/proofs/*.antt"))
     names = declared(lemmas)
     table, aside = tables(names)
+    own = set(os.listdir("crates"))
     if sys.argv[1:] == ["--table"]:
         for old, new in sorted({**table, **aside}.items()):
             print(f"{old}\t{new}")
@@ -118,10 +128,12 @@ def main():
     files = glob.glob("crates/*/specs/**/*.antt", recursive=True) + glob.glob("crates/*/proofs/**/*.antt", recursive=True)
     for path in sorted(files + glob.glob("crates/*/src/**/*.rt", recursive=True) + glob.glob("crates/*/must-fail/*.edit")):
         old = read(path)
+        kept = of_the_kit(old, own)
+        mine = {o: n for o, n in table.items() if o not in kept}
         if path.endswith(".antt"):
-            new = antt(path, old, names, table, aside)
+            new = antt(path, old, names, mine, aside)
         else:
-            new = turned(old, table, aside_in(path, old, names, aside) if path.endswith(".rt") else set(), aside)
+            new = turned(old, mine, aside_in(path, old, names, aside) if path.endswith(".rt") else set(), aside)
         if new != old:
             with open(path, "w", encoding="utf-8", newline="") as f:
                 f.write(new)

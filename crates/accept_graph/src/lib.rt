@@ -1,4 +1,6 @@
 // The tests of acceptance on one graph.
+#![tactic(auto)]
+
 ghost use Rattle.std.specs.Prelude.{◌≡◌, ◌≤◌, min};
 ghost use Rattle.bits.specs.Member.{within};
 ghost use Rattle.sets.specs.Words.{capacity, bits_of, sets_in, set_count};

@@ -1,4 +1,6 @@
 // The tests of acceptance on one requirement.
+#![tactic(auto)]
+
 ghost use Rattle.std.specs.Prelude.{◌≡◌, ◌<◌};
 ghost use Rattle.finite.specs.Bounded.{all};
 ghost use Rattle.game.specs.Acceptance.{few_sets, in_set_fits, out_set_fits, in_use, requirement_fits};

@@ -1,4 +1,6 @@
 // Whether a game is accepted: a test for each refusal code, and the first that fails.
+#![tactic(auto)]
+
 ghost use Rattle.std.specs.Prelude.{◌≡◌, true, [], ◌∷◌, ◌≤◌};
 ghost use Rattle.sets.specs.Words.{capacity, set_count};
 ghost use Rattle.game.specs.Acceptance.{counts_fit, states_in_count, initials_exist, lengths_fit, sets_fit, first_failing};

@@ -1,5 +1,7 @@
 // What is reached, grown step by step: a position is added as soon as every next input has a reply into the goal that is kept, or into what is reached.
 // The inputs whose rows have grown are followed together, again and again. Three tables say where to look: a wrong entry would cost time, and no more.
+#![tactic(auto)]
+
 ghost use Rattle.std.specs.Prelude.{◌≡◌, true, ◌&&◌, ◌||◌, List, ℕ, ◌+◌, ◌≤◌, ◌<◌, get_or};
 ghost use Rattle.finite.specs.But.{ButFor};
 ghost use Rattle.bits.specs.Member.{has, sets_meet};

@@ -1,4 +1,6 @@
 // The winning region of the game with bars and one requirement, worked out in scratch: source document 002's fixpoint, told in crate barred.
+#![tactic(auto)]
+
 ghost use Rattle.std.specs.Prelude.{◌≤◌, ◌<◌};
 ghost use Rattle.barred_rows.specs.Areas.{barred_sets};
 ghost use Rattle.sets.specs.Words.{bits_of, sets_in, set_count};

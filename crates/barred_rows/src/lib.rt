@@ -1,4 +1,6 @@
 // Sets of positions in scratch: one set of outputs for each input, a row. Whole sets are copied, emptied, united and met, row by row.
+#![tactic(auto)]
+
 ghost use Rattle.std.specs.Prelude.{◌+◌, ◌≤◌};
 ghost use Rattle.sets.specs.Words.{sets_in, set_count};
 ghost use Rattle.barred_rows.specs.Areas.{barred_sets, Beside, Copied, Emptied, United, Met};

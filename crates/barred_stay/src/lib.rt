@@ -1,4 +1,6 @@
 // Where the controller can stay: the greatest set of positions X inside Z in which every next input has a reply into the target.
+#![tactic(auto)]
+
 ghost use Rattle.std.specs.Prelude.{◌≡◌, true, ◌≢◌, ℕ, ◌≤◌, ◌<◌, get_or};
 ghost use Rattle.bits.specs.Member.{has, sets_meet, pack};
 ghost use Rattle.sets.specs.Words.{capacity, bits_of, sets_in, set_count};

@@ -1,6 +1,8 @@
 // A game laid out in words, the board, which can be lent: a game goes by value, and there is no reference to a record. It is made once, where a call begins,
 // and what is below reads it where it stands. Each reader has its sort: no row of inputs can be taken for one of outputs.
 // Every word of it is a copy of one of the game's, and it has all of them but three, the sizes, which go by value (M-103, docs/DECISIONS.md).
+#![tactic(auto)]
+
 ghost use Rattle.std.specs.Prelude.{◌≡◌, ◌+◌, ◌*◌, ◌≤◌, ◌<◌, length, get_or};
 ghost use Rattle.sets.specs.Words.{capacity, row_words, bits_of, sets_in, set_count};
 ghost use Rattle.game.specs.Access.{no_input, no_output};

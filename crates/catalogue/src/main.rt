@@ -1,4 +1,6 @@
 // Reads names of game files, a name a line, and prints the catalogue's figures.
+#![tactic(auto)]
+
 ghost use Rattle.std.specs.Prelude.{ℕ, ◌≤◌, ◌<◌, List, length};
 ghost use Rattle.files.specs.Front.{Within};
 ghost use Rattle.catalogue_names.specs.Names.{names};

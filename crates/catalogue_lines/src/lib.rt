@@ -1,5 +1,7 @@
 // The print of a catalogue's figures. Each function writes a text at a place of the buffer and answers the place behind it. What lies past the
 // buffer's end is left out; that in the program nothing is, `Printed` shows (catalogue/specs).
+#![tactic(auto)]
+
 ghost use Rattle.std.specs.Prelude.{◌<◌, ◌≤◌, length};
 ghost use Rattle.text_put.specs.Put.{Puts, PutsWithin};
 ghost use Rattle.catalogue_lines.specs.Figures.{count_line, pair_text, number_line, number_lines, won_line, figures_print, figures_bytes};

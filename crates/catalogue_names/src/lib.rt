@@ -1,4 +1,6 @@
 // A list split into names, a name a line, and how it is kept.
+#![tactic(auto)]
+
 ghost use Rattle.std.specs.Prelude.{◌≡◌, ◌+◌, ◌≤◌, ◌<◌, length, drop, [], ◌∷◌};
 ghost use Rattle.catalogue_names.specs.Names.{names, front, has_zero, fit_name, NextName};
 ghost use Rattle.catalogue_names.specs.Keeping.{Keeps, nothing};

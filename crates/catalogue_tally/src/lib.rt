@@ -1,4 +1,6 @@
 // The figures of a catalogue, counted outcome by outcome.
+#![tactic(auto)]
+
 ghost use Rattle.std.specs.Prelude.{◌≡◌};
 ghost use Rattle.catalogue_tally.specs.declared.Outcome.TheVariants.{Refused};
 ghost use Rattle.catalogue_tally.specs.Figures.{empty_tally, added, Modest, Roomy};

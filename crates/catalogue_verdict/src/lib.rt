@@ -1,4 +1,6 @@
 // What one file of a catalogue comes to: the solve program's verdict, with the game's won positions and all its positions.
+#![tactic(auto)]
+
 ghost use Rattle.std.specs.Prelude.{◌≡◌, ◌≤◌, ◌*◌};
 ghost use Rattle.finite.specs.Bounded.{count};
 ghost use Rattle.bits.specs.Member.{has};

@@ -1,4 +1,6 @@
 // Executed cases of acceptance: each line is a case's name and the number it is given, 0 for accepted.
+#![tactic(auto)]
+
 use games::{
     assumption, guarantee, in_initial, in_row, lengths, out_initial, out_initial_high, out_row,
     out_row_high, plain, used,

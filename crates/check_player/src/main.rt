@@ -1,4 +1,6 @@
 // Executed cases of the player: each line is a case's name and the position (input, output, counter) or the refusal's code.
+#![tactic(auto)]
+
 ghost use Rattle.std.specs.Prelude.{◌≤◌, ◌<◌};
 
 use game::{InState, OutState};

@@ -1,5 +1,7 @@
 // Reads texts from standard input, each behind its length in five digits, and writes a line for each: same where the game that is read
 // is written back byte for byte, else the refusal.
+#![tactic(auto)]
+
 use libc::STDOUT_FILENO;
 use text::{Answer, WriteAnswer};
 

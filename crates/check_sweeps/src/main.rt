@@ -1,4 +1,6 @@
 // Prints how many sweeps the closure of some graphs takes, and holds every graph of up to 3 states to "in no graph more sweeps than states".
+#![tactic(auto)]
+
 ghost use Rattle.std.specs.Prelude.{◌≡◌, ◌≤◌, ◌<◌};
 ghost use Rattle.sets.specs.Words.{capacity};
 

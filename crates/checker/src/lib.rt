@@ -1,4 +1,6 @@
 // Whether a controller's table from anywhere wins, and what shows that it does not.
+#![tactic(auto)]
+
 ghost use Rattle.std.specs.Prelude.{◌≡◌, ◌≤◌, length};
 ghost use Rattle.game.specs.declared.Acceptance.TheVariants.{Accepted};
 ghost use Rattle.game.specs.Acceptance.{acceptance};

@@ -1,5 +1,7 @@
 // An order in which to try places: those of last components first, so that what a place reaches is its own component. It is advice: the checker's
 // answer is right in any order, and nothing is shown of this one.
+#![tactic(auto)]
+
 ghost use Rattle.std.specs.Prelude.{◌≡◌, true, ◌≤◌, ◌<◌, length};
 ghost use Rattle.checker_places.specs.Place.{most_places};
 ghost use Rattle.sets.specs.Words.{capacity, row_words, words_for};

@@ -1,4 +1,6 @@
 // For each requirement and each of its guarantees: the reachable places outside the guarantee are emptied by attempts, or one finds a round.
+#![tactic(auto)]
+
 ghost use Rattle.std.specs.Prelude.{◌≡◌, ◌/◌, ◌<◌, not, ◌&&◌, eqb};
 ghost use Rattle.bits.specs.Member.{has};
 ghost use Rattle.sets.specs.Words.{capacity, bits_of};

@@ -1,4 +1,6 @@
 // What a controller's table reaches: its starts, every place that turns lead to, and the first row that is none.
+#![tactic(auto)]
+
 ghost use Rattle.std.specs.Prelude.{◌≡◌, ◌<◌};
 ghost use Rattle.checker_search.specs.Turns.{Grid};
 ghost use Rattle.checker_reach.specs.Reach.{OpenFits, Opens, NoneAfter, ScanFits, Scanned, StemFits, Stem};

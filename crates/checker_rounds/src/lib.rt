@@ -1,4 +1,6 @@
 // Attempts at a round: one pivot and what it reaches inside a set of places show a round that visits every assumption, or places that lie on none.
+#![tactic(auto)]
+
 ghost use Rattle.std.specs.Prelude.{◌≡◌, ◌<◌};
 ghost use Rattle.checker_rounds.specs.Rounds.{Cut, CutFits, LegFits, Leg, LegsFit, Legs as LegsOf, AttemptFits, Attempted};
 

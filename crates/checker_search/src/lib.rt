@@ -1,4 +1,6 @@
 // Searches over places. A place's turns are told by the moves of its input and by `to`: the place that each row leads to.
+#![tactic(auto)]
+
 ghost use Rattle.std.specs.Prelude.{◌≡◌, ◌+◌, ◌-◌, ◌≤◌, ◌<◌, length};
 ghost use Rattle.checker_places.specs.Place.{most_places};
 ghost use Rattle.sets.specs.Words.{capacity, bits_of};

@@ -1,5 +1,7 @@
 // Whether inputs of one component have the same rows in a table of the full layout. An entry is compared with that of its component's smallest input.
 // Eight words hold the smallest inputs for a part of the inputs: the table is gone through once for each part, row after row.
+#![tactic(auto)]
+
 ghost use Rattle.std.specs.Prelude.{◌≡◌, ◌⊎◌, ℕ, ◌+◌, ◌*◌, ◌≤◌, ◌<◌, length, get_or};
 ghost use Rattle.bits.specs.Member.{pack};
 ghost use Rattle.sets.specs.Words.{capacity, bits_of};

@@ -1,4 +1,6 @@
 // A stored controller's table moved from one layout to the other, no scratch lent.
+#![tactic(auto)]
+
 ghost use Rattle.std.specs.Prelude.{◌≡◌, true, ◌++◌, ◌≤◌, length, drop};
 ghost use Rattle.game.specs.declared.Acceptance.TheVariants.{Accepted};
 ghost use Rattle.game.specs.Acceptance.{acceptance};

@@ -1,4 +1,6 @@
 // A controller's table copied from one layout to the other. `rows` is how many pairs of an output and a counter there are: one row number for each.
+#![tactic(auto)]
+
 ghost use Rattle.std.specs.Prelude.{◌+◌, ◌≤◌, length, ◌≡◌};
 ghost use Rattle.compact_rows.specs.Copying.{Started, GatherFits, Gathered, FullFits, GatheredRows, FullFilled};
 ghost use Rattle.compact_rows.specs.Copying.{RepresentFits, Represented, PickFits, Picked, PickRowsFits, PickedRows, CompactFits, CompactFilled};

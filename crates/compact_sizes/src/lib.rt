@@ -1,4 +1,6 @@
 // The length of the controller's table with its rows by component.
+#![tactic(auto)]
+
 ghost use Rattle.std.specs.Prelude.{◌≡◌};
 ghost use Rattle.game.specs.Acceptance.{acceptance};
 ghost use Rattle.game.specs.declared.Acceptance.TheVariants.{Accepted};

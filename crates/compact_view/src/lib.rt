@@ -1,5 +1,7 @@
 // The rows of a controller's table in the compact layout: a start for each input, the rank of each input's component, then rows by output, counter and
 // component. What a table lacks reads as none. The starts are where the full layout has them: `view::start` reads both.
+#![tactic(auto)]
+
 ghost use Rattle.std.specs.Prelude.{◌≡◌};
 ghost use Rattle.compact_view.specs.Rows.{Looked};
 

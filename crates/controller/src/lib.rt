@@ -1,5 +1,7 @@
 // The controller's table, filled in any order: every entry that is written is the right one. Functions that take one sort of states alone take plain
 // numbers and sets.
+#![tactic(auto)]
+
 ghost use Rattle.std.specs.Prelude.{◌≡◌, ◌≤◌, ◌<◌, length, drop, ◌++◌};
 ghost use Rattle.sets.specs.Words.{bits_of, sets_in};
 ghost use Rattle.scratch.specs.Stored.{Ready};

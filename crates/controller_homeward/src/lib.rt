@@ -1,4 +1,6 @@
 // Who has a home where, and the rows outside it: the way home.
+#![tactic(auto)]
+
 ghost use Rattle.std.specs.Prelude.{◌≡◌, ℕ, ◌+◌, ◌≤◌, ◌<◌, length, true, ◌&&◌};
 ghost use Rattle.sets.specs.Words.{capacity, bits_of, sets_in, set_count};
 ghost use Rattle.scratch.specs.Scratch.{scratch_sets};

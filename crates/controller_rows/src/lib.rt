@@ -1,4 +1,6 @@
 // Rows of the controller's table, written into the caller's buffer. Functions that take one sort of states alone take plain numbers and sets.
+#![tactic(auto)]
+
 use game::{InSet, OutSet, OutState};
 use table_counters::CounterSet;
 

@@ -1,4 +1,6 @@
 // The rows at a home: the tour past the guarantees.
+#![tactic(auto)]
+
 ghost use Rattle.std.specs.Prelude.{◌≤◌, ◌≢◌, ◌≡◌, length};
 ghost use Rattle.play.specs.Play.{separated_of};
 ghost use Rattle.game_sets.specs.Lists.{Lists};

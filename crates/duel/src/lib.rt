@@ -1,1 +1,3 @@
 // Both sides cannot win: the theorem is in proofs/Duel.antt. There is no code.
+
+#![tactic(auto)]

@@ -1,1 +1,3 @@
 // Plays that never end. Statements and laws.
+
+#![tactic(auto)]

@@ -1,4 +1,6 @@
 // The environment's table, filled from scratch that holds the winning region. Sorts of states are kept apart in every signature that has both.
+#![tactic(auto)]
+
 ghost use Rattle.std.specs.Prelude.{◌≡◌, false, ◌++◌, ◌+◌, ◌<◌, length, drop};
 ghost use Rattle.sets.specs.Words.{bits_of};
 ghost use Rattle.graphs.specs.Component.{number};

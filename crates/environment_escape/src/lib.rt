@@ -1,5 +1,7 @@
 // The rows of a nontrivial component with a way out to a position that is not won: at its gates, the states with a move there, the lowest such move; else
 // the way to a gate. The ways are searched once for outputs that follow one another and have the same gates.
+#![tactic(auto)]
+
 ghost use Rattle.std.specs.Prelude.{◌≡◌, true, ◌≤◌, ◌<◌, length};
 ghost use Rattle.bits.specs.Member.{pack, within};
 ghost use Rattle.sets.specs.Words.{capacity, bits_of, sets_in};

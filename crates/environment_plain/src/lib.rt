@@ -1,4 +1,6 @@
 // The start, and the rows that need no walk: those of won positions, of trivial components, and of outputs without a move.
+#![tactic(auto)]
+
 ghost use Rattle.std.specs.Prelude.{◌≡◌, true, false, ℕ, ◌<◌, ◌≤◌, length};
 ghost use Rattle.finite.specs.Bounded.{least};
 ghost use Rattle.bits.specs.Member.{has, pack, within, both};

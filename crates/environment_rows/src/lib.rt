@@ -1,4 +1,6 @@
 // What several parts of the environment's table share: its rows, and the inputs that are not won with an output.
+#![tactic(auto)]
+
 ghost use Rattle.std.specs.Prelude.{◌≡◌, true, ◌<◌, ◌≤◌};
 ghost use Rattle.bits.specs.Member.{pack, within};
 ghost use Rattle.sets.specs.Words.{capacity, bits_of, sets_in, set_count};

@@ -1,4 +1,6 @@
 // Tours of a nontrivial component past the assumptions, for the outputs with which it has no way out.
+#![tactic(auto)]
+
 ghost use Rattle.std.specs.Prelude.{◌≡◌, true, length};
 ghost use Rattle.bits.specs.Member.{has};
 ghost use Rattle.sets.specs.Words.{bits_of};

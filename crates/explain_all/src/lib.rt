@@ -1,4 +1,6 @@
 // What made each position won or lost: a room with an entry a position, from one working out of the region.
+#![tactic(auto)]
+
 ghost use Rattle.std.specs.Prelude.{◌≡◌, ◌≤◌, ◌<◌, length};
 ghost use Rattle.sets.specs.Words.{bits_of};
 ghost use Rattle.game.specs.declared.Acceptance.TheVariants.{Accepted};

@@ -1,4 +1,6 @@
 // The front of a file that is open, read in one go, and bytes written whole.
+#![tactic(auto)]
+
 ghost use Rattle.std.specs.Prelude.{◌≡◌};
 ghost use Rattle.files.specs.Front.{Within};
 

@@ -7,7 +7,7 @@ use native.Mathlib.Decide.{dec_lt}
 use native.Mathlib.Omega.{arith}
 use lib.Dec.{eqb, ltb, leb}
 use lib.ListN.{get_or}
-use borrow.Author.Tests.{leb-true, eqb-true, eqb-false, le-leb, lt-ltb, le-ltb, eq-eqb, ne_eqb, not_true}
+use borrow.Author.Tests.{leb-true, eqb-true, eqb-false, le-leb, lt-ltb, le-ltb, eq-eqb, ne_eqb, not-true}
 use Rattle.sets.specs.Words.{capacity, bits_of, sets_in}
 use Rattle.finite.specs.Bounded.{all}
 use Rattle.finite.proofs.Truth.{and_intro, and_left, and_right, or_left, or_right, and_both}
@@ -92,7 +92,7 @@ module _ (g : Graph) where
 
   initial_nonzero : has_initial g ≡ true → bits_of g.initial ≢ 0
   unfolding has_initial
-  initial_nonzero e = eqb-false (bits_of g.initial) 0 (not_true (eqb (bits_of g.initial) 0) e)
+  initial_nonzero e = eqb-false (bits_of g.initial) 0 (not-true (eqb (bits_of g.initial) 0) e)
 
   nonzero_initial : bits_of g.initial ≢ 0 → has_initial g ≡ true
   unfolding has_initial

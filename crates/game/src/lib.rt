@@ -1,4 +1,6 @@
 // The records of a game: two graphs and the requirements on them.
+#![tactic(auto)]
+
 ghost use Rattle.std.specs.Prelude.{◌≡◌, ◌<◌};
 ghost use Rattle.sets.specs.Words.{capacity};
 ghost use Rattle.game.specs.Access.{in_moves, out_moves, assumption_at, guarantee_at, in_initial, out_initial};

@@ -1,6 +1,8 @@
 // The sets of a game's requirements in one list, which can be lent: a game goes by value, and to read a requirement of it by its number would copy the rows
 // of its graphs too. The list is a copy of the game's arrays of sets, of all eight requirements in the game's order, and holds nothing else: so M-103 is kept,
 // which allows no array of over eight words but copies of the game's. It is the one copy that is made of them.
+#![tactic(auto)]
+
 ghost use Rattle.std.specs.Prelude.{◌≡◌, ◌<◌};
 ghost use Rattle.sets.specs.Words.{bits_of};
 ghost use Rattle.game_sets.specs.Lists.{in_set, out_set, Lists, Counts, SetsPut};

@@ -1,4 +1,6 @@
 // The reach of every state of a graph, by sweeps over all states.
+#![tactic(auto)]
+
 ghost use Rattle.std.specs.Prelude.{◌≡◌, List, ℕ, ◌≤◌};
 ghost use Rattle.sets.specs.Words.{capacity, low_states, bits_of, sets_in, set_count};
 ghost use Rattle.game.specs.declared.Graph.{Graph};

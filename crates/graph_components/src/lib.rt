@@ -1,4 +1,6 @@
 // Strongly connected components of a graph, in sets, from the rows of its closure.
+#![tactic(auto)]
+
 ghost use Rattle.std.specs.Prelude.{◌≡◌, not, ◌&&◌, ◌||◌, ℕ, ◌≤◌, ◌<◌};
 ghost use Rattle.bits.specs.Member.{has, pack, sets_meet};
 ghost use Rattle.sets.specs.Words.{capacity, bits_of, sets_in, set_count};

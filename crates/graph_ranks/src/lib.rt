@@ -1,4 +1,6 @@
 // The components of the input graph and their ranks, found with a few sets and no scratch: backward to a state, then forward from it.
+#![tactic(auto)]
+
 ghost use Rattle.std.specs.Prelude.{◌≡◌, true, List, ℕ, ◌+◌, ◌≤◌, ◌<◌, length};
 ghost use Rattle.bits.specs.Member.{has, pack};
 ghost use Rattle.sets.specs.Words.{capacity, bits_of, sets_in};

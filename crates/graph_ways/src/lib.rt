@@ -1,4 +1,6 @@
 // Steps of the search for shortest ways to a set of states, which goes backward from the set, round after round.
+#![tactic(auto)]
+
 ghost use Rattle.std.specs.Prelude.{◌≡◌, true, ◌<◌};
 ghost use Rattle.bits.specs.Member.{has, within};
 ghost use Rattle.sets.specs.Words.{capacity, low_states, bits_of, sets_in};

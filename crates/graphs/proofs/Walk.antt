@@ -12,7 +12,7 @@ use mathlib.Core.Bool.{Bool, true, false, ◌||◌, or_assoc}
 use mathlib.Core.List.Memᴰ
 use mathlib.Core.List.{List, [], ◌∷◌, map, Memᴰ}
 use mathlib.Core.Logic.{inl, inr}
-use native.Mathlib.Nat.{zero-add, suc_add}
+use native.Mathlib.Nat.{zero-add, suc-add}
 use Rattle.finite.specs.Lists.{any_of}
 use Rattle.finite.proofs.Lists.{any_of_intro}
 use Rattle.graphs.specs.Walk.{Walk, stay, step, passed}
@@ -91,7 +91,7 @@ module _ {A : Type 0} (f : A → A) where
   pub iterate_add : (m k : ℕ) (a : A) → iterate (m + k) a ≡ iterate k (iterate m a)
   unfolding iterate
   iterate_add zero k a = rw zero-add refl
-  iterate_add (suc m) k a = rw suc_add (iterate_add m k (f a))
+  iterate_add (suc m) k a = rw suc-add (iterate_add m k (f a))
 
 -- the walk along a trail, seen through g
 module _ {A B : Type 0} (S : B → B → Type 0) (f : A → A) (g : A → B) (h : (a : A) → S (g a) (g (f a))) where

@@ -1,4 +1,6 @@
 // The ground of a position, from scratch that holds the winning region.
+#![tactic(auto)]
+
 ghost use Rattle.std.specs.Prelude.{◌≡◌, true, false, ◌<◌};
 ghost use Rattle.finite.specs.Bounded.{any, least};
 ghost use Rattle.sets.specs.Words.{bits_of};

@@ -1,4 +1,6 @@
 // The winner's table as a part of its buffer.
+#![tactic(auto)]
+
 ghost use Rattle.std.specs.Prelude.{length};
 ghost use Rattle.solver.specs.Promise.{verdict_answer};
 ghost use Rattle.handover.specs.Handed.{Handed};

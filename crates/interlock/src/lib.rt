@@ -1,4 +1,6 @@
 // The game with bars, interlocks: some outputs are barred while the panel is at certain inputs. Which positions are won, and which side wins.
+#![tactic(auto)]
+
 ghost use Rattle.std.specs.Prelude.{◌≡◌, true, ◌≤◌, ◌<◌, length, get_or};
 ghost use Rattle.finite.specs.Bounded.{all};
 ghost use Rattle.sets.specs.Words.{capacity, sets_in, set_count, words_for};

@@ -1,4 +1,6 @@
 // The solver of the lecture room: the won map on the joined positions, from the last components of the joined graph backward.
+#![tactic(auto)]
+
 ghost use Rattle.std.specs.Prelude.{◌≡◌, false, ◌*◌, ◌+◌, ◌≤◌, ◌<◌, length};
 ghost use Rattle.finite.specs.But.{ButFor};
 ghost use Rattle.sets.specs.Words.{set_count};

@@ -1,4 +1,6 @@
 // What a joined position reaches: the positions that both graphs, moving at once, lead to from it. A set of joined positions is one word an input.
+#![tactic(auto)]
+
 ghost use Rattle.std.specs.Prelude.{◌≡◌, ◌≢◌, true, ℕ, ◌*◌, ◌≤◌, ◌<◌, length};
 ghost use Rattle.bits.specs.Member.{has};
 ghost use Rattle.graphs.specs.Graph.{edge};

@@ -1,4 +1,6 @@
 // One component of the joined graph: which of its positions are won.
+#![tactic(auto)]
+
 ghost use Rattle.std.specs.Prelude.{◌≡◌, true, ◌&&◌, ℕ, ◌≤◌, ◌<◌, length};
 ghost use Rattle.bits.specs.Member.{has};
 ghost use Rattle.theory.specs.Region.{replies};

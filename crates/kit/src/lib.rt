@@ -1,4 +1,6 @@
 // The kit's solver: whether the new drive can stand in for the old one, and the table of commands with which it does.
+#![tactic(auto)]
+
 ghost use Rattle.std.specs.Prelude.{◌≡◌, length};
 ghost use Rattle.game.specs.declared.Acceptance.TheVariants.{Accepted};
 ghost use Rattle.kit_drives.specs.Acceptance.{kit_acceptance};

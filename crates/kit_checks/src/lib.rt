@@ -1,4 +1,6 @@
 // Whether a kit is accepted: a test of its drives for each of 1, 17 and 18, then the numbers of its game.
+#![tactic(auto)]
+
 ghost use Rattle.std.specs.Prelude.{◌≡◌, ◌&&◌, ◌<◌, leb};
 ghost use Rattle.sets.specs.Words.{capacity};
 ghost use Rattle.finite.specs.Bounded.{all};

@@ -1,4 +1,6 @@
 // Drives as builders think of them: modes, and what each command does in each mode. A kit is an old drive, a new one, and the requirements on their modes.
+#![tactic(auto)]
+
 ghost use Rattle.std.specs.Prelude.{◌≡◌, ◌<◌, ◌≤◌};
 ghost use Rattle.bits.specs.Member.{pack};
 ghost use Rattle.sets.specs.Words.{capacity, bits_of};

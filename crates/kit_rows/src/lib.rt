@@ -1,6 +1,8 @@
 // The kit's table, written from the controller's. Both begin with a start for each old mode. Then the controller's has a row for each output, counter
 // and old mode. In place of its row number x the kit's has block number x: a row for each old command. Such a row says by a command what the
 // controller does when that old command is given: what the controller's row of the mode that it leads to says by a mode.
+#![tactic(auto)]
+
 ghost use Rattle.std.specs.Prelude.{◌≡◌, ◌++◌, ◌+◌, ◌<◌, ◌≤◌, length, drop};
 ghost use Rattle.sets.specs.Words.{capacity};
 ghost use Rattle.kit_rows.specs.Rows.{kit_length, kit_entries, KitReady};

@@ -1,4 +1,6 @@
 // The winning region as a map: one set of outputs for each input.
+#![tactic(auto)]
+
 ghost use Rattle.std.specs.Prelude.{◌≡◌, ◌≤◌, ◌<◌};
 ghost use Rattle.sets.specs.Words.{bits_of, sets_in, set_count};
 ghost use Rattle.game.specs.declared.Acceptance.TheVariants.{Accepted};

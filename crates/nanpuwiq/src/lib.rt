@@ -1,5 +1,7 @@
 // The public entries for callers in C and in Rust. Each is thin over the entry of the crate below it, and answers every input.
 // A code is document 01's number of a refusal, 0 for none.
+#![tactic(auto)]
+
 ghost use Rattle.std.specs.Prelude.{◌≡◌};
 ghost use Rattle.game.specs.Numbers.{first_of, game_tests};
 ghost use Rattle.player.specs.Player.{moved_of, beginning, stepping, Advanced};

@@ -1,4 +1,6 @@
 // The answers of the public entries as records for callers in other languages. A code is document 01's number of a refusal, 0 for none.
+#![tactic(auto)]
+
 ghost use Rattle.std.specs.Prelude.{◌≡◌};
 ghost use Rattle.player.specs.Player.{moved_of};
 ghost use Rattle.game.specs.Acceptance.{acceptance_number as acceptNumber};

@@ -1,4 +1,6 @@
 // The panel's move by its table: what an entry names, the tests of an output, and the position that a move and an output make.
+#![tactic(auto)]
+
 ghost use Rattle.std.specs.Prelude.{◌≡◌, ◌≤◌, ◌<◌};
 ghost use Rattle.sets.specs.Words.{capacity};
 ghost use Rattle.graphs.specs.Graph.{edge, begins};

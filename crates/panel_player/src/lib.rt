@@ -1,4 +1,6 @@
 // A panel's table played against, step by step: the panel's move is told before the output is picked.
+#![tactic(auto)]
+
 ghost use Rattle.std.specs.Prelude.{true, ◌≡◌};
 ghost use Rattle.game.specs.Acceptance.{acceptance};
 ghost use Rattle.game.specs.declared.Acceptance.TheVariants.{Accepted};

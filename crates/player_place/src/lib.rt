@@ -1,4 +1,6 @@
 // The player's position: whether a game has it, the tests of an input, and the position that a table's entry gives.
+#![tactic(auto)]
+
 ghost use Rattle.std.specs.Prelude.{◌≡◌, ◌&&◌, ◌≤◌, ◌<◌, ltb};
 ghost use Rattle.bits.specs.Member.{has};
 ghost use Rattle.sets.specs.Words.{capacity, bits_of};

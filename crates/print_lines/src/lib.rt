@@ -1,5 +1,7 @@
 // The lines of an answer: parts of the program `solve`. Each function writes a text at a place of the buffer and answers the place behind it. What
 // lies past the buffer's end is left out; that in the program nothing is, `Made` shows (solve/specs). 160 bytes hold every line.
+#![tactic(auto)]
+
 ghost use Rattle.std.specs.Prelude.{◌≡◌, ◌+◌, ◌<◌, ◌≤◌, ◌^◌, max, length};
 ghost use Rattle.text_shape.specs.Text.{word};
 ghost use Rattle.text_put.specs.Put.{Puts};

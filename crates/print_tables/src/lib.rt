@@ -1,5 +1,7 @@
 // The print of an answer, whole: parts of the program `solve`. The lines follow one another in the buffer from its front on; a public function answers
 // the print's length. What lies past the buffer's end is left out; that in the program nothing is, `Printed` shows (solve/specs).
+#![tactic(auto)]
+
 ghost use Rattle.std.specs.Prelude.{◌≡◌, ◌-◌, ◌≤◌, length};
 ghost use Rattle.text_put.specs.Put.{Puts};
 ghost use Rattle.print_tables.specs.Print.{start_lines, step_lines, in_range, controller_fits, environment_fits, controller_answer, environment_answer};

@@ -1,4 +1,6 @@
 // Panel recorder against drive recorder: whether the outputs of a run are those that a controller's table gives for its inputs.
+#![tactic(auto)]
+
 ghost use Rattle.std.specs.Prelude.{true, ◌≡◌, ◌≤◌, ◌<◌, length, get_or, drop};
 ghost use Rattle.game.specs.declared.Acceptance.TheVariants.{Accepted};
 ghost use Rattle.game.specs.Acceptance.{acceptance};

@@ -1,4 +1,6 @@
 // The winning region, worked out in scratch.
+#![tactic(auto)]
+
 ghost use Rattle.std.specs.Prelude.{◌≡◌, ◌≤◌, length};
 ghost use Rattle.game.specs.declared.Game.{Game};
 ghost use Rattle.sets.specs.Words.{bits_of};

@@ -1,4 +1,6 @@
 // Requirements that are due or served in a component, and the outputs whose components accept those of an input.
+#![tactic(auto)]
+
 ghost use Rattle.std.specs.Prelude.{◌≡◌, not, ◌&&◌, ◌||◌, ℕ, ◌+◌, ◌≤◌, ◌<◌, length};
 ghost use Rattle.finite.specs.Bounded.{all};
 ghost use Rattle.bits.specs.Member.{has};

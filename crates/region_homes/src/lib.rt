@@ -1,4 +1,6 @@
 // The region's rows of inputs in nontrivial components: their homes.
+#![tactic(auto)]
+
 ghost use Rattle.std.specs.Prelude.{◌≡◌, true, ℕ, ◌≤◌, ◌<◌};
 ghost use Rattle.bits.specs.Member.{has, pack};
 ghost use Rattle.sets.specs.Words.{capacity, bits_of, sets_in, set_count};

@@ -1,4 +1,6 @@
 // The region's rows of inputs in trivial components: the outputs with a reply to every next input.
+#![tactic(auto)]
+
 ghost use Rattle.std.specs.Prelude.{◌≡◌, true, List, ℕ, ◌≤◌, ◌<◌};
 ghost use Rattle.bits.specs.Member.{has, pack};
 ghost use Rattle.sets.specs.Words.{capacity, bits_of, sets_in, set_count};

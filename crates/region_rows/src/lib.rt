@@ -1,4 +1,6 @@
 // The region's rows, one component after the other, each after those that it reaches.
+#![tactic(auto)]
+
 ghost use Rattle.std.specs.Prelude.{◌≡◌, true, not, ◌&&◌, ◌≢◌, ℕ, ◌+◌, ◌≤◌, ◌<◌};
 ghost use Rattle.finite.specs.Bounded.{count as members};
 ghost use Rattle.bits.specs.Member.{has, pack};

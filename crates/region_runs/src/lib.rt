@@ -1,4 +1,6 @@
 // Inputs that follow one another and have the same row of the region: what the row alone decides is asked of the first of them.
+#![tactic(auto)]
+
 ghost use Rattle.std.specs.Prelude.{◌≡◌, true, ◌&&◌, not, ℕ, ◌+◌, ◌≤◌, ◌<◌, ltb};
 ghost use Rattle.bits.specs.Member.{has, pack, within};
 ghost use Rattle.sets.specs.Words.{capacity, bits_of, sets_in, set_count};

@@ -1,4 +1,6 @@
 // Which side wins, read from scratch that holds the winning region.
+#![tactic(auto)]
+
 ghost use Rattle.std.specs.Prelude.{◌≡◌, ◌<◌};
 ghost use Rattle.play.specs.Play.{separated_of};
 ghost use Rattle.theory.specs.Region.{opens as opens_at, verdict as verdictOf};

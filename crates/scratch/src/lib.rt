@@ -1,5 +1,7 @@
 // Scratch: its length, what the solver keeps in it, and how it is left. Where each set stands is known here alone: for n inputs first the inputs'
 // closure, then the rows of the winning region, then the outputs' closure.
+#![tactic(auto)]
+
 ghost use Rattle.std.specs.Prelude.{◌≡◌, List, ℕ, ◌+◌, ◌≤◌, ◌<◌, length as length_of, drop};
 ghost use Rattle.bits.specs.Member.{pack};
 ghost use Rattle.sets.specs.Words.{capacity, bits_of, sets_in, set_count};

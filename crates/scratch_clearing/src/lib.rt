@@ -1,4 +1,6 @@
 // How scratch is left: cleared from the front.
+#![tactic(auto)]
+
 ghost use Rattle.std.specs.Prelude.{◌≡◌, ◌≤◌, length};
 ghost use Rattle.scratch_clearing.specs.Clearing.{cleared};
 

@@ -1,4 +1,6 @@
 // The ranks of the inputs' components, written from the closure that stands in scratch. Of the game, which goes by value, only counts are read.
+#![tactic(auto)]
+
 ghost use Rattle.std.specs.Prelude.{◌≡◌, ◌+◌, ◌≤◌, ◌<◌, length};
 ghost use Rattle.bits.specs.Member.{pack};
 ghost use Rattle.sets.specs.Words.{capacity, bits_of};

@@ -1,4 +1,6 @@
 // Reads a game's text from standard input and prints the side that wins and its table, or the refusal.
+#![tactic(auto)]
+
 ghost use Rattle.std.specs.Prelude.{◌≡◌, ℕ, ◌≤◌, List, length};
 ghost use Rattle.game.specs.declared.Acceptance.TheVariants.{Accepted};
 ghost use Rattle.game.specs.Acceptance.{acceptance};

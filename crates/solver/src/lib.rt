@@ -1,4 +1,6 @@
 // The solver: the side that wins, and its table.
+#![tactic(auto)]
+
 ghost use Rattle.std.specs.Prelude.{◌≡◌};
 ghost use Rattle.game.specs.declared.Acceptance.TheVariants.{Accepted};
 ghost use Rattle.game.specs.Acceptance.{acceptance};

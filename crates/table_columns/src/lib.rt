@@ -1,4 +1,6 @@
 // What the fillings of both tables share: entries written for sets of counters and of columns. Nothing here knows of sides.
+#![tactic(auto)]
+
 ghost use Rattle.std.specs.Prelude.{ℕ, ◌+◌, ◌<◌, length};
 ghost use Rattle.sets.specs.Words.{bits_of};
 ghost use Rattle.table_columns.specs.Column.{ColumnRoom, Column, FrontFits, Front, Run, RowFits, Row, BlockFits, Block};

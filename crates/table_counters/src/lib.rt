@@ -1,4 +1,6 @@
 // Sets of counters of a table. They are never passed for sets of states.
+#![tactic(auto)]
+
 ghost use Rattle.std.specs.Prelude.{◌≡◌, not, ◌&&◌, ◌||◌, ◌≢◌, ℕ, ◌≤◌, ◌<◌, eqb, ltb};
 ghost use Rattle.finite.specs.Bounded.{least};
 ghost use Rattle.bits.specs.Member.{has, subset};

@@ -1,4 +1,6 @@
 // The entries of a table, 16 bits each. How an entry stands for an answer is known here alone.
+#![tactic(auto)]
+
 ghost use Rattle.std.specs.Prelude.{◌≡◌, ◌<◌};
 ghost use Rattle.sets.specs.Words.{capacity};
 ghost use Rattle.arena.specs.Table.{gives};

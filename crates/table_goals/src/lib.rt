@@ -1,4 +1,6 @@
 // The counters of a tour past sets, for both sides. Nothing here knows of sides.
+#![tactic(auto)]
+
 ghost use Rattle.std.specs.Prelude.{◌≡◌, ◌<◌};
 ghost use Rattle.bits.specs.Member.{pack};
 ghost use Rattle.sets.specs.Words.{bits_of};

@@ -1,5 +1,7 @@
 // Rows of a table in a buffer, for both sides: by own state, the state of the side that moves, by counter and by column, the last running fastest.
 // Nothing here knows of sides, but the two sorts of states are told apart: own states, and the others, which the columns stand for.
+#![tactic(auto)]
+
 ghost use Rattle.std.specs.Prelude.{◌<◌, length};
 ghost use Rattle.sets.specs.Words.{bits_of};
 ghost use Rattle.table_layout.specs.Rows.{LayoutFits, Entries, Wrote, WroteColumn};

@@ -1,6 +1,6 @@
 -- The sets that f takes of each of k requirements h 0, h 1, ..: one requirement more puts its sets at the end.
 use Prim.Native.Nat.{ℕ, zero, suc, ◌+◌, ◌-◌, ◌≤◌, ◌<◌}
-use native.Mathlib.Nat.{zero-add, add-zero, suc_add}
+use native.Mathlib.Nat.{zero-add, add-zero, suc-add}
 use mathlib.Core.Path.{◌≡◌, refl, sym, ◌∙◌, ap}
 use mathlib.Core.Bool.{Bool}
 use mathlib.Core.List.{List, ◌++◌, append_assoc, append-nil}
@@ -35,7 +35,7 @@ module _ (f : Requirement → List (ℕ → Bool)) (h : ℕ → Requirement) whe
   front_more n zero a d b = rw zero-add (b, refl)
   front_more n (suc e) a d b =
       let v = front_more n e a d b in
-      rw suc_add (
+      rw suc-add (
         omega (arith, v.0, length_more (e + n)),
         ap (λ (l : List (ℕ → Bool)). get_or l a d) (sets_more (e + n)) ∙ get_or-append (sets_of f (tabulate (e + n) h)) (f (h (e + n))) d a v.0 ∙ v.1,
       )

@@ -1,4 +1,6 @@
 // The sizes of an accepted game's tables, and the sets of all its requirements by number, in file order: one requirement after the other.
+#![tactic(auto)]
+
 ghost use Rattle.std.specs.Prelude.{◌≡◌, max, ◌≤◌, ◌<◌, length};
 ghost use Rattle.bits.specs.Member.{pack};
 ghost use Rattle.sets.specs.Words.{bits_of};

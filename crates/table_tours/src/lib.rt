@@ -1,4 +1,6 @@
 // Tours of a component past sets, for both sides. Nothing here knows of sides.
+#![tactic(auto)]
+
 ghost use Rattle.std.specs.Prelude.{◌≡◌, true, length};
 ghost use Rattle.bits.specs.Member.{has, within};
 ghost use Rattle.sets.specs.Words.{bits_of, sets_in};

@@ -1,5 +1,7 @@
 // Walks by the shortest way to a set of states, for both sides: a breadth-first search over sets that goes backward from the set and writes the rows
 // of a state in the round in which it finds the state's move. There is no list of moves. Nothing here knows of sides.
+#![tactic(auto)]
+
 ghost use Rattle.std.specs.Prelude.{◌≡◌, true, ◌≤◌, ◌<◌, length};
 ghost use Rattle.bits.specs.Member.{within};
 ghost use Rattle.sets.specs.Words.{capacity, bits_of, sets_in};

@@ -1,4 +1,6 @@
 // The text of a game, read and written.
+#![tactic(auto)]
+
 ghost use Rattle.std.specs.Prelude.{◌≡◌};
 ghost use Rattle.text.specs.Write.{Writes};
 ghost use Rattle.text.specs.Read.{Reads, text_refused as noGame, misshapen as no_shape, judged};

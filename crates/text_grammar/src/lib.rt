@@ -1,1 +1,3 @@
 // Formats of byte texts: definitions in specs/, laws in proofs/. No code.
+
+#![tactic(auto)]

@@ -1,4 +1,6 @@
 // Lines of a text, read from a place on.
+#![tactic(auto)]
+
 ghost use Rattle.std.specs.Prelude.{◌≡◌, [], ◌∷◌, ◌+◌, ◌<◌};
 ghost use Rattle.text_grammar.specs.Marks.{newline, close_bracket};
 ghost use Rattle.text_grammar.specs.Format.{run, chars};

@@ -1,4 +1,6 @@
 // Pieces of a text, read from a place on: what stands there and the place behind it, or the place of the fault.
+#![tactic(auto)]
+
 ghost use Rattle.std.specs.Prelude.{◌≡◌, ◌+◌, ◌<◌, ◌≤◌};
 ghost use Rattle.sets.specs.Words.{capacity, highest, bits_of};
 ghost use Rattle.text_grammar.specs.Marks.{close_bracket};

@@ -1,5 +1,7 @@
 // The text of a game, written piece by piece. Each function writes a text at a place of the buffer and answers the place behind it.
 // What lies past the buffer's end is left out, and the place stays there: so nothing is asked of a text's length.
+#![tactic(auto)]
+
 ghost use Rattle.std.specs.Prelude.{◌≡◌, [], ◌∷◌, ◌++◌, ◌+◌, ◌<◌, ◌≤◌, length};
 ghost use Rattle.sets.specs.Words.{capacity, bits_of};
 ghost use Rattle.text_grammar.specs.Marks.{newline, close_bracket, digit_zero};

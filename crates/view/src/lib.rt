@@ -1,4 +1,6 @@
 // The entries of a controller's table: a start for each input, then rows by output, counter and input. What a table lacks reads as none.
+#![tactic(auto)]
+
 ghost use Rattle.std.specs.Prelude.{◌≡◌, get_or};
 ghost use Rattle.theory.specs.Entries.{none_entry};
 ghost use Rattle.view.specs.Rows.{row_entry, in_range as is_row};

@@ -1,5 +1,5 @@
 -- `pick` meets its contract.
-use borrow.Author.Tests.{not_false}
+use borrow.Author.Tests.{not-false}
 use borrow.Author.Rules.{rules}
 use borrow.Author.Rules.{rules}
 use Rattle.checker_order.proofs.pick.Statement.{statement}
@@ -27,7 +27,7 @@ returns-2 : tie.Need-returns-2
 returns-2 c = search rules
 
 returns-3 : tie.Need-returns-3
-returns-3 c = c.before.holds.ensures (not_false _ c.if2.false)
+returns-3 c = c.before.holds.ensures (not-false _ c.if2.false)
 
 pub pick_spec : {M : Type 1} → statement M
 pick_spec =
