@@ -1,0 +1,39 @@
+-- `free`.
+use mathlib.Core.Path.{◌≡◌, refl, ◌∙◌}
+use native.Mathlib.Omega.{arith}
+use Rattle.sets.specs.Words.{sets_in}
+use Rattle.sets.proofs.Rows.{count_same, sets_long}
+use Rattle.barred_region.proofs.Keeping.{freed_none, freed_next}
+use Rattle.barred_region.proofs.free.Goals as goal
+
+pub below-outputs-requires : goal.below-outputs-requires
+below-outputs-requires c = c.requires.0.output.most
+
+pub loop-i-init : goal.loop-i-init
+loop-i-init c = (omega arith, refl, freed_none _ _ _)
+
+pub row-requires : goal.row-requires
+row-requires c =
+    omega (arith, c.requires.2)
+
+pub put-requires : goal.put-requires
+put-requires c =
+    omega (arith, c.requires.0.input.most, c.requires.1, count_same c.loop-i.s c.args.s.now c.loop-i.invariant.1)
+
+pub loop-i-preserved : goal.loop-i-preserved
+loop-i-preserved c =
+    (
+      omega arith,
+      c.put.auto.0 ∙ c.loop-i.invariant.1,
+      rw c.put.ensures (freed_next _ _ _ c.loop-i.i (sets_in c.loop-i.s) _ _ _ c.loop-i.invariant.2
+          (omega (arith, c.requires.0.input.most, c.requires.1, count_same c.loop-i.s c.args.s.now c.loop-i.invariant.1, sets_long c.loop-i.s))
+          c.below-outputs.ensures c.row.ensures c.difference.ensures),
+    )
+
+pub shape_of-s : goal.shape_of-s
+shape_of-s c = c.loop-i.invariant.1
+
+pub returns : goal.returns
+returns c =
+    let e : c.loop-i.i ≡ c.args.g.input.states = omega arith in
+    rw e at c.loop-i.invariant.2

@@ -1,0 +1,54 @@
+-- `pass`.
+use Prim.Native.Nat.{◌<◌}
+use mathlib.Core.Path.{◌≡◌, refl, ◌∙◌}
+use mathlib.Core.Logic.{⊎_elim}
+use native.Mathlib.Omega.{arith}
+use Rattle.sets.proofs.Rows.{count_same}
+use Rattle.game.specs.Access.{requirement_at}
+use Rattle.barred_region.proofs.Settling.{passed_within, passed_none, passed_less, passed_same}
+use Rattle.barred_region.proofs.pass.Goals as goal
+
+pub loop-j-init : goal.loop-j-init
+loop-j-init c = (omega arith, refl, passed_none _ _)
+
+pub offset_bounds-q-j : goal.offset_bounds-q-j
+offset_bounds-q-j c =
+    omega (arith, (c.requires.0.requirement 0 (omega arith)).few_guaranteed)
+
+pub bounds-q-j : goal.bounds-q-j
+bounds-q-j c =
+    omega (arith, (c.requires.0.requirement 0 (omega arith)).few_guaranteed)
+
+pub settle-requires : goal.settle-requires
+settle-requires c =
+    (c.requires.0, omega (arith, c.requires.1, count_same c.loop-j.s c.args.s.now c.loop-j.invariant.1), passed_within _ _ _ _ _ c.loop-j.invariant.2 c.requires.2)
+
+pub overflow_add-j : goal.overflow_add-j
+overflow_add-j c =
+    omega (arith, (c.requires.0.requirement 0 (omega arith)).few_guaranteed)
+
+pub loop-j-preserved : goal.loop-j-preserved
+loop-j-preserved c =
+    let more : c.loop-j.j < (requirement_at c.args.g 0).guaranteed = omega arith in
+    ⊎_elim
+    (λ w. (
+      omega arith,
+      c.settle.auto.1.0
+          ∙ c.loop-j.invariant.1,
+      rw w.1 (passed_less _ _ c.loop-j.j _ _ c.loop-j.invariant.2 _ _ c.settle.ensures more w.0.taken),
+    ))
+    (λ w. (
+      omega arith,
+      c.settle.auto.1.0
+          ∙ c.loop-j.invariant.1,
+      rw w.1 (passed_same _ _ c.loop-j.j _ _ c.loop-j.invariant.2 _ _ c.settle.ensures more w.0.left),
+    ))
+    c.if-settle.branch
+
+pub shape_of-s : goal.shape_of-s
+shape_of-s c = c.loop-j.invariant.1
+
+pub returns : goal.returns
+returns c =
+    let e : c.loop-j.j ≡ (requirement_at c.args.g 0).guaranteed = omega arith in
+    rw e at c.loop-j.invariant.2

@@ -1,0 +1,8 @@
+-- `guaranteed` reads the count.
+use borrow.Author.Rules.{rules}
+use Rattle.board.specs.Board.{requirement_on}
+use Rattle.board.proofs.guaranteed.Goals as goal
+
+pub returns : goal.returns
+unfolding requirement_on
+returns c = search rules

@@ -1,0 +1,13 @@
+-- `judge_name` meets its contract.
+use Rattle.catalogue.proofs.Names.{unfit_name, fit_none, fit_open}
+use Rattle.catalogue.proofs.judge_name.Goals as goal
+
+pub returns-then-not-fit_name : goal.returns-then-not-fit_name
+returns-then-not-fit_name c = unfit_name _ c.fit_name.ensures c.if-not-fit_name.true-raw
+
+pub returns-then-fd-lt0 : goal.returns-then-fd-lt0
+returns-then-fd-lt0 c = fit_none _ c.fit_name.ensures c.if-not-fit_name.false-raw
+
+pub returns : goal.returns
+returns c =
+    fit_open _ c.fit_name.ensures c.if-not-fit_name.false-raw c.judge_open-o.ensures

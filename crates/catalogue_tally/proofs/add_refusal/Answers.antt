@@ -1,0 +1,12 @@
+-- `add_refusal` meets its contract.
+use native.Mathlib.Omega.{arith}
+use mathlib.Core.Path.{refl}
+use Rattle.catalogue_tally.specs.Figures.{added}
+use Rattle.catalogue_tally.proofs.add_refusal.Goals as goal
+
+pub overflow_add-numbers : goal.overflow_add-numbers
+overflow_add-numbers c = omega (arith, c.requires.numbers c.args.n (omega (arith, c.ranges.n.fits)))
+
+pub returns : goal.returns
+unfolding added
+returns c = refl

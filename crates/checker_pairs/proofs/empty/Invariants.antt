@@ -1,0 +1,14 @@
+-- `empty` meets its contract.
+use Prim.Native.Nat.{◌+◌, ◌-◌, ◌≤◌}
+use Rattle.checker_pairs.proofs.Emptying.{Emptying}
+use Rattle.checker_search.specs.Turns.{marked}
+use Rattle.finite.specs.Bounded.{count}
+use Rattle.checker_pairs.proofs.empty.Given as goal
+
+abbrev pub invariant-loop-v : goal.invariant-loop-v
+invariant-loop-v l =
+    (l.k ≤ 4096) × Emptying l.inputs l.places l.moves l.to l.q l.initial.kept l.kept l.mark l.queue l.from l.way l.walk l.found l.v
+
+abbrev pub decreases-loop-v : goal.decreases-loop-v
+decreases-loop-v l =
+    count l.places (marked l.kept) + (l.places - l.v)

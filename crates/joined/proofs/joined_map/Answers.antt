@@ -1,0 +1,10 @@
+-- `joined_map`.
+use mathlib.Core.Path.{sym, ◌∙◌}
+use Rattle.joined.proofs.Made.{joined_faulty}
+use Rattle.joined.proofs.joined_map.Goals as goal
+
+pub map_accepted-requires : goal.map_accepted-requires
+map_accepted-requires c = sym c.accept-accepted.ensures.answer ∙ c.in-Accepted.is
+
+pub returns-in-Refused : goal.returns-in-Refused
+returns-in-Refused c = joined_faulty _ _ _ _ (sym c.accept-accepted.ensures.answer ∙ c.in-Refused.is)

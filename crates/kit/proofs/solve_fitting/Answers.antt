@@ -1,0 +1,59 @@
+-- `solve_fitting`: the solver's answer, and the kit's table where the system wins.
+use Rattle.kit.proofs.Handing.{game_accepted, front_in, front_long, scratch_ready, ready, done_system, done_environment, done_refused}
+use Rattle.kit.proofs.solve_fitting.Goals as goal
+
+pub controller_counters-requires : goal.controller_counters-requires
+controller_counters-requires c =
+    let p = c.requires in game_accepted _ _ p.accepted p.game
+
+pub slice_bounds-fill-end : goal.slice_bounds-fill-end
+slice_bounds-fill-end c =
+    front_in _ _ _ _ _ _ _ _ _ c.args.room.now c.requires c.solve_into-answer.ensures c.in-System.is
+
+pub slice_bounds-fill-end-in-System : goal.slice_bounds-fill-end-in-System
+slice_bounds-fill-end-in-System c =
+    front_long _ _ _ _ _ _ _ _ _ c.args.room.now c.requires c.solve_into-answer.ensures c.in-System.is
+
+pub fill-requires : goal.fill-requires
+fill-requires c =
+    let solved = c.solve_into-answer.ensures in (
+      ready _ _ _ _ _ _ _ _ _ c.args.room.now c.requires solved c.in-System.is _ c.controller_counters.ensures,
+      scratch_ready _ _ _ _ _ _ _ _ _ c.args.room.now c.requires solved c.in-System.is,
+    )
+
+pub returns-in-System : goal.returns-in-System
+returns-in-System c =
+    done_system _ _ _ _ _ _ _ _ _ _ c.requires c.solve_into-answer.ensures c.in-System.is c.fill.ensures.0
+    c.fill.ensures.1
+
+pub shape_of-scratch-in-Environment : goal.shape_of-scratch-in-Environment
+shape_of-scratch-in-Environment c =
+    c.solve_into-answer.auto.1.0
+
+pub shape_of-controller-in-Environment : goal.shape_of-controller-in-Environment
+shape_of-controller-in-Environment c =
+    c.solve_into-answer.auto.1.1.0
+
+pub shape_of-panel-in-Environment : goal.shape_of-panel-in-Environment
+shape_of-panel-in-Environment c =
+    c.solve_into-answer.auto.1.1.1.0
+
+pub returns-in-Environment : goal.returns-in-Environment
+returns-in-Environment c =
+    done_environment _ _ _ _ _ _ _ _ _ _ c.requires c.solve_into-answer.ensures c.in-Environment.is
+
+pub shape_of-scratch-in-Refused : goal.shape_of-scratch-in-Refused
+shape_of-scratch-in-Refused c =
+    c.solve_into-answer.auto.1.0
+
+pub shape_of-controller-in-Refused : goal.shape_of-controller-in-Refused
+shape_of-controller-in-Refused c =
+    c.solve_into-answer.auto.1.1.0
+
+pub shape_of-panel-in-Refused : goal.shape_of-panel-in-Refused
+shape_of-panel-in-Refused c =
+    c.solve_into-answer.auto.1.1.1.0
+
+pub returns-in-Refused : goal.returns-in-Refused
+returns-in-Refused c =
+    done_refused _ _ _ _ _ _ _ _ _ _ c.requires c.solve_into-answer.ensures c.in-Refused.is

@@ -1,0 +1,6 @@
+-- `nanpuwiq_accept` meets its contract.
+use mathlib.Core.Path.{◌∙◌}
+use Rattle.nanpuwiq.proofs.nanpuwiq_accept.Goals as goal
+
+pub returns : goal.returns
+returns c = c.accept_code.ensures ∙ c.accept.ensures.number

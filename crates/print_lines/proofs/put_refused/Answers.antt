@@ -1,0 +1,9 @@
+-- `put_refused` meets its contract.
+use Rattle.print_lines.proofs.Lines.{refused_pieces}
+use Rattle.text_put.proofs.Buffer.{puts_then, puts_as}
+use Rattle.print_lines.proofs.put_refused.Goals as goal
+
+pub returns : goal.returns
+returns c =
+    puts_as (refused_pieces _) (puts_then c.put_opening-a.ensures
+    (puts_then c.put_number_then-b.ensures c.put_byte.ensures))

@@ -1,0 +1,6 @@
+-- `state_at` reads one entry.
+use native.Mathlib.Omega.{arith}
+use Rattle.recorder.proofs.state_at.Goals as goal
+
+pub overflow_cast-result : goal.overflow_cast-result
+overflow_cast-result c = omega (arith, c.shared_slice_known-1.given c.args.n)

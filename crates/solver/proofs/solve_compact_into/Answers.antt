@@ -1,0 +1,34 @@
+-- `solve_compact_into`.
+use Rattle.solver.proofs.Compact.{solve_faulty}
+use mathlib.Core.Path.{refl, sym, ◌∙◌, ap}
+use Rattle.game.specs.declared.Game.{Game}
+use Rattle.board.proofs.Laying.{own_sizes}
+use Rattle.solver.proofs.solve_compact_into.Goals as goal
+
+pub lay-requires : goal.lay-requires
+lay-requires c = refl
+
+pub accept_lent-accepted-requires : goal.accept_lent-accepted-requires
+accept_lent-accepted-requires c =
+    let same = c.lay.ensures in (
+      c.in_rows.ensures.0 ∙ ap (λ (y : Game). y.input.moves) same,
+      c.out_rows.ensures.0 ∙ ap (λ (y : Game). y.output.moves) same,
+      c.in_rows.ensures.1,
+      c.out_rows.ensures.1,
+    )
+
+pub outline_of-given-requires : goal.outline_of-given-requires
+outline_of-given-requires c =
+    (sym c.accept_lent-accepted.ensures.answer ∙ c.in-Accepted.is, c.list_of-wanted.ensures.1)
+
+pub solve_accepted-requires : goal.solve_accepted-requires
+solve_accepted-requires c =
+    (
+      sym c.accept_lent-accepted.ensures.answer ∙ c.in-Accepted.is,
+      c.outline_of-given.ensures,
+      c.list_of-wanted.ensures.0,
+      own_sizes _ _ _ c.lay.ensures,
+    )
+
+pub returns-in-Refused : goal.returns-in-Refused
+returns-in-Refused c = solve_faulty _ _ _ _ _ (sym c.accept_lent-accepted.ensures.answer ∙ c.in-Refused.is)

@@ -1,0 +1,13 @@
+-- `settle_low` tries the lowest state that is left to try, until it is not low.
+use Rattle.finite.specs.Bounded.{count}
+use Rattle.bits.specs.Member.{has}
+use Rattle.sets.specs.Words.{capacity, bits_of, sets_in}
+use Rattle.table_walks.specs.Trying.{Trying}
+use Rattle.table_walks.proofs.settle_low.Given as goal
+
+abbrev pub invariant-loop-z : goal.invariant-loop-z
+invariant-loop-z l =
+    Trying (sets_in l.rows) l.z (bits_of l.inside) (bits_of l.left) (bits_of l.reached) l.w l.initial.room l.room (bits_of l.settled) (bits_of l.rest)
+
+abbrev pub decreases-loop-z : goal.decreases-loop-z
+decreases-loop-z l = count capacity (has (bits_of l.rest))

@@ -1,0 +1,12 @@
+-- `put_guarantees` meets its contract. The invariant: what is left, with what is done, makes the whole.
+use Rattle.text_put.proofs.Pieces.{out_word, sets_next, sets_end}
+use Rattle.text_put.proofs.put_guarantees.Goals as goal
+
+pub loop-j-preserved : goal.loop-j-preserved
+loop-j-preserved c =
+    let sets = c.args.q.guarantees in
+    sets_next c.loop-j.invariant _ c.loop-j-test.true (out_word sets c.loop-j.j) c.put_item-to.ensures
+
+pub returns : goal.returns
+returns c =
+    sets_end c.loop-j.invariant c.put_byte-to.ensures c.loop-j-test.false c.put_byte.ensures
