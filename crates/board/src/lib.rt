@@ -48,7 +48,7 @@ const ASSUMED: usize = 644;
 const GUARANTEED: usize = 652;
 
 // What goes by value: how many input states, output states and requirements there are.
-#[derive(Drop)]
+#[derive(Clone, Copy)]
 pub struct Sizes {
     pub inputs: usize,
     pub outputs: usize,

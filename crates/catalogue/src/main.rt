@@ -146,7 +146,7 @@ fn answer(
 }
 
 // Whether standard input had a next part, and what is kept with it.
-#[derive(Drop)]
+#[derive(Clone, Copy)]
 struct Turn {
     more: bool,
     kept: Kept,

@@ -70,7 +70,7 @@ pub fn fit_name(name: &[u8]) -> bool
 }
 
 // Where a list's buffer is kept to, and how many bytes of the name under way it keeps.
-#[derive(Drop)]
+#[derive(Clone, Copy)]
 pub struct Kept {
     pub len: usize,
     pub run: usize,

@@ -6,7 +6,7 @@ ghost use Rattle.catalogue_tally.specs.declared.Outcome.TheVariants.{Refused};
 ghost use Rattle.catalogue_tally.specs.Figures.{empty_tally, added, Modest, Roomy};
 
 // What one file comes to: the side that wins, with how many of the game's positions are won and how many there are, or a refusal's number.
-#[derive(Drop)]
+#[derive(Clone, Copy)]
 pub enum Outcome {
     System(usize, usize),
     Environment(usize, usize),
@@ -15,7 +15,7 @@ pub enum Outcome {
 
 // How many games the system wins, the environment wins, are refused; how many got each number; the won positions and all positions of
 // the games not refused.
-#[derive(Drop)]
+#[derive(Clone, Copy)]
 pub struct Tally {
     pub system: usize,
     pub environment: usize,

@@ -8,7 +8,7 @@ use game::Graph;
 use libc::STDOUT_FILENO;
 use sets::Set;
 
-#[derive(Drop)]
+#[derive(Clone, Copy)]
 enum Shape {
     // Each state moves to itself.
     Loops,

@@ -15,7 +15,7 @@ use game::{Acceptance, Game, InState};
 
 // A bad start has its input; a bad row the length of the walk and the next input; a bad round the length of the walk, where the closing round begins and
 // the requirement that it breaks. A refusal holds its code: 1 to 7, 19, 20 or 8.
-#[derive(Drop)]
+#[derive(Clone, Copy)]
 pub enum Checked {
     Accepted,
     BadStart(InState),

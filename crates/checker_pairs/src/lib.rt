@@ -12,7 +12,7 @@ use game::{Game, OutSet, Requirement};
 use sets::Set;
 
 // The length of a round that was found, 0 where there is none, and the requirement that it breaks.
-#[derive(Drop)]
+#[derive(Clone, Copy)]
 pub struct Verdict {
     pub round: usize,
     pub requirement: usize,

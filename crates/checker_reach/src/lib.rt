@@ -9,14 +9,14 @@ use checker_places::PLACES;
 use game::{Game, InState};
 
 // How many places are in the queue, and the first initial input whose start is none; the count of inputs where there is none.
-#[derive(Drop)]
+#[derive(Clone, Copy)]
 pub struct Opened {
     pub found: usize,
     pub bad: usize,
 }
 
 // The queue place and the next input of a row that is none; the length of the queue where there is none.
-#[derive(Drop)]
+#[derive(Clone, Copy)]
 pub struct Gap {
     pub at: usize,
     pub input: usize,

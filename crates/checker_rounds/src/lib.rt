@@ -8,7 +8,7 @@ use checker_places::{PLACES, WALK};
 use game::Requirement;
 
 // Where the legs end, how many places its search has in the queue, how long the walk is, and whether it lacks an assumption.
-#[derive(Drop)]
+#[derive(Clone, Copy)]
 pub struct Course {
     pub end: usize,
     pub found: usize,
@@ -17,7 +17,7 @@ pub struct Course {
 }
 
 // How many places the last search has in the queue, and the length of the round that was found, 0 where there is none.
-#[derive(Drop)]
+#[derive(Clone, Copy)]
 pub struct Tried {
     pub found: usize,
     pub round: usize,

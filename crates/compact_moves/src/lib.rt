@@ -13,14 +13,14 @@ ghost use Rattle.compact_moves.specs.Promise.{MovedOver, MovedBack, Counted};
 use game::{Acceptance, Game};
 
 // The answer to a move: how many entries were written.
-#[derive(Drop)]
+#[derive(Clone, Copy)]
 pub enum Move {
     Moved(usize),
     Refused(u8),
 }
 
 // The answer to a count of the components.
-#[derive(Drop)]
+#[derive(Clone, Copy)]
 pub enum Count {
     Components(usize),
     Refused(u8),

@@ -10,7 +10,7 @@ pub mod sorts; // the table engine's calls, with outputs and columns
 
 // The size of a table, with the set of its counters, and its rows: where they begin, and how many columns they have. Each of the leaders has a column
 // of its own, in order. Where rows are by input every input leads, where they are by component its smallest input.
-#[derive(Drop)]
+#[derive(Clone, Copy)]
 pub struct Size {
     pub inputs: usize,
     pub outputs: usize,
@@ -22,7 +22,7 @@ pub struct Size {
 }
 
 // A home: its number, the states of its component, and the inputs whose home is there.
-#[derive(Drop)]
+#[derive(Clone, Copy)]
 pub struct Home {
     pub state: OutState,
     pub component: OutSet,

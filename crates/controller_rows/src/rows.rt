@@ -7,7 +7,7 @@ use game::OutState;
 use table_layout::{Layout, Other, Own};
 
 // A pattern of entries: first + more × counter for each counter.
-#[derive(Drop)]
+#[derive(Clone, Copy)]
 pub struct Pattern {
     pub first: u16,
     pub more: u16,

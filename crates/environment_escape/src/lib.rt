@@ -15,21 +15,21 @@ use game::{Game, InSet, InState, OutSet, OutState};
 use table_layout::Layout;
 
 // Outputs with which a component has the same gates; their rows outside the gates are still to be written.
-#[derive(Drop)]
+#[derive(Clone, Copy)]
 struct Group {
     gates: InSet,
     outputs: OutSet,
 }
 
 // What one output comes to: whether its rows are left to a tour, and the outputs collected now.
-#[derive(Drop)]
+#[derive(Clone, Copy)]
 struct Turn {
     tours: bool,
     group: Group,
 }
 
 // A component: its states, the inputs that its moves out enter, and its number.
-#[derive(Drop)]
+#[derive(Clone, Copy)]
 struct Part {
     states: InSet,
     leaving: InSet,

@@ -9,7 +9,7 @@ pub const BYTES: usize = 65536;
 
 // What reading a file gave: its first bytes, how many they are, and whether it was read to its end or on to BYTES. The fields are private: `read`
 // alone makes a front, so whoever has one has what was read.
-#[derive(Drop)]
+#[derive(Clone, Copy)]
 pub struct Front {
     bytes: [u8; BYTES],
     len: usize,
@@ -17,7 +17,7 @@ pub struct Front {
 }
 
 // Whether bytes were written whole. Its field is private: `write` alone makes one, so whoever has one has called that.
-#[derive(Drop)]
+#[derive(Clone, Copy)]
 pub struct Written {
     whole: bool,
 }

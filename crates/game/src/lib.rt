@@ -9,27 +9,27 @@ use sets::Set;
 
 // The number of an input state. (SPEC 1.4)
 #[repr(C)]
-#[derive(Drop)]
+#[derive(Clone, Copy)]
 pub struct InState(pub usize);
 
 // The number of an output state. (SPEC 1.4)
 #[repr(C)]
-#[derive(Drop)]
+#[derive(Clone, Copy)]
 pub struct OutState(pub usize);
 
 // A set of input states. (SPEC 1.4)
 #[repr(C)]
-#[derive(Drop)]
+#[derive(Clone, Copy)]
 pub struct InSet(pub Set);
 
 // A set of output states. (SPEC 1.4)
 #[repr(C)]
-#[derive(Drop)]
+#[derive(Clone, Copy)]
 pub struct OutSet(pub Set);
 
 // Row s of `moves`, two words, low states first, is the set of the states that state s moves to. (SPEC 1.6)
 #[repr(C)]
-#[derive(Drop)]
+#[derive(Clone, Copy)]
 pub struct Graph {
     pub states: usize,
     pub initial: Set,
@@ -38,7 +38,7 @@ pub struct Graph {
 
 // If every assumption is visited, every guarantee is. Of the four places each, `assumed` and `guaranteed` are in use. (SPEC 1.6)
 #[repr(C)]
-#[derive(Drop)]
+#[derive(Clone, Copy)]
 pub struct Requirement {
     pub assumptions: [InSet; 4],
     pub assumed: usize,
@@ -48,7 +48,7 @@ pub struct Requirement {
 
 // Of the eight places for requirements k are in use. (SPEC 1.6)
 #[repr(C)]
-#[derive(Drop)]
+#[derive(Clone, Copy)]
 pub struct Game {
     pub input: Graph,
     pub output: Graph,
@@ -57,7 +57,7 @@ pub struct Game {
 }
 
 // A refusal holds its code, 1 to 7.
-#[derive(Drop)]
+#[derive(Clone, Copy)]
 pub enum Acceptance {
     Accepted,
     Refused(u8),

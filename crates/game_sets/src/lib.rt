@@ -13,7 +13,7 @@ use game::{Game, InSet, OutSet, Requirement};
 pub const WORDS: usize = 128;
 
 // The sets of all requirements, in use or not: eight for each, its input sets, then its output sets. And how many of the four of each side are in use.
-#[derive(Drop)]
+#[derive(Clone, Copy)]
 pub struct Listed {
     pub sets: [u64; WORDS],
     pub assumed: [usize; 8],

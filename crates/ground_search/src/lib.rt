@@ -17,7 +17,7 @@ ghost use Rattle.ground_search.specs.Told.{told};
 use game::{Game, InSet, InState, OutSet, OutState};
 
 // A ground and what it names, or the number of a refusal. Requirements are counted from 0, and output sets from 0 within their requirement.
-#[derive(Drop)]
+#[derive(Clone, Copy)]
 pub enum Explanation {
     InputStuck,
     ByReplies,

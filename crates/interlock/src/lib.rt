@@ -21,7 +21,7 @@ use game::{Acceptance, Game, InState};
 use map_marks::Mapped;
 
 // A refusal holds its code.
-#[derive(Drop)]
+#[derive(Clone, Copy)]
 pub enum Judged {
     System,
     Environment,

@@ -12,10 +12,10 @@ use game::{Game, InState, OutState};
 use sets::ROW_WORDS;
 
 // A set of inputs, and one of outputs, below 64: a word of scratch.
-#[derive(Drop)]
+#[derive(Clone, Copy)]
 pub struct InWord(pub u64);
 
-#[derive(Drop)]
+#[derive(Clone, Copy)]
 pub struct OutWord(pub u64);
 
 // How many words of scratch the map on joined positions takes.

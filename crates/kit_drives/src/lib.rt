@@ -14,7 +14,7 @@ pub const NEXT: usize = 2048;
 
 // Place 16 × mode + command of `next` is the mode that the command leads to, 255 where it is barred.
 #[repr(C)]
-#[derive(Drop)]
+#[derive(Clone, Copy)]
 pub struct Drive {
     pub modes: usize,
     pub initial: Set,
@@ -24,7 +24,7 @@ pub struct Drive {
 
 // The panel gives the old drive's commands. Of the eight places for requirements k are in use.
 #[repr(C)]
-#[derive(Drop)]
+#[derive(Clone, Copy)]
 pub struct Kit {
     pub old: Drive,
     pub new: Drive,

@@ -13,7 +13,7 @@ ghost use Rattle.scratch_clearing.specs.Clearing.{cleared};
 use kit_drives::Kit;
 
 // The new drive at one output: the mode that it is in, and how many commands it has.
-#[derive(Drop)]
+#[derive(Clone, Copy)]
 struct Origin {
     pub mode: usize,
     pub commands: usize,

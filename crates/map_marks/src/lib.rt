@@ -3,7 +3,7 @@
 #![tactic(auto)]
 
 // The answer of a call that writes a map.
-#[derive(Drop)]
+#[derive(Clone, Copy)]
 pub enum Mapped {
     Done,
     Refused(u8),

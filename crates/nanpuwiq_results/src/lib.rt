@@ -24,7 +24,7 @@ use text::{Answer, Reading, WriteAnswer};
 
 // The solver's answer: the code; whether the system wins; how many entries are filled. On a refusal the last two are false and 0.
 #[repr(C)]
-#[derive(Drop)]
+#[derive(Clone, Copy)]
 pub struct SolveResult {
     pub code: u8,
     pub system: bool,
@@ -34,7 +34,7 @@ pub struct SolveResult {
 // What made a position won or lost: the code; the ground's number, 1 to 8 in the order of document 02's request, 0 on a refusal; the output that the ground
 // names, the input, or the requirement with its output set. What it does not name is 0.
 #[repr(C)]
-#[derive(Drop)]
+#[derive(Clone, Copy)]
 pub struct ExplainResult {
     pub code: u8,
     pub ground: u8,
@@ -48,7 +48,7 @@ pub struct ExplainResult {
 // row's next input; how many entries of the room the walk has; where its closing round begins; the requirement that the round breaks. What an answer
 // does not name is 0.
 #[repr(C)]
-#[derive(Drop)]
+#[derive(Clone, Copy)]
 pub struct CheckResult {
     pub code: u8,
     pub finding: u8,
@@ -60,7 +60,7 @@ pub struct CheckResult {
 
 // The verdict with bars: the code; whether the system wins, false on a refusal.
 #[repr(C)]
-#[derive(Drop)]
+#[derive(Clone, Copy)]
 pub struct JudgeResult {
     pub code: u8,
     pub system: bool,
@@ -68,7 +68,7 @@ pub struct JudgeResult {
 
 // The answer to a move between the layouts: the code; how many entries are filled, 0 on a refusal.
 #[repr(C)]
-#[derive(Drop)]
+#[derive(Clone, Copy)]
 pub struct MoveResult {
     pub code: u8,
     pub entries: usize,
@@ -76,7 +76,7 @@ pub struct MoveResult {
 
 // How many components there are: the code; the count, 0 on a refusal.
 #[repr(C)]
-#[derive(Drop)]
+#[derive(Clone, Copy)]
 pub struct CountResult {
     pub code: u8,
     pub count: usize,
@@ -84,7 +84,7 @@ pub struct CountResult {
 
 // The reader's answer: the code; for code 11 the place; the game, which is the empty one on a refusal.
 #[repr(C)]
-#[derive(Drop)]
+#[derive(Clone, Copy)]
 pub struct ReadResult {
     pub code: u8,
     pub place: usize,
@@ -93,7 +93,7 @@ pub struct ReadResult {
 
 // The writer's answer: the code; how many bytes are filled, 0 on a refusal.
 #[repr(C)]
-#[derive(Drop)]
+#[derive(Clone, Copy)]
 pub struct WriteResult {
     pub code: u8,
     pub bytes: usize,
@@ -101,7 +101,7 @@ pub struct WriteResult {
 
 // The panel's move: the next input and the next counter, both 0 on a refusal, and the code.
 #[repr(C)]
-#[derive(Drop)]
+#[derive(Clone, Copy)]
 pub struct PanelMoved {
     pub input: InState,
     pub counter: usize,
@@ -110,7 +110,7 @@ pub struct PanelMoved {
 
 // The recorder's answer: the code; whether the recordings agree; whether one has ended before the other; the step. Beside a refusal the step is 0.
 #[repr(C)]
-#[derive(Drop)]
+#[derive(Clone, Copy)]
 pub struct CompareResult {
     pub code: u8,
     pub agree: bool,

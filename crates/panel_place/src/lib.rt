@@ -14,14 +14,14 @@ use game::{Game, InState, OutState};
 use player_place::{Played, Position};
 
 // The panel's move: the next input and the next counter.
-#[derive(Drop)]
+#[derive(Clone, Copy)]
 pub struct PanelMove {
     pub input: InState,
     pub counter: usize,
 }
 
 // A refusal holds its code: 1 to 7, 15 or 16.
-#[derive(Drop)]
+#[derive(Clone, Copy)]
 pub enum Picked {
     To(PanelMove),
     Refused(u8),

@@ -24,14 +24,14 @@ use player_place::{Played, Position};
 
 // A position, and a refusal's code or 0.
 #[repr(C)]
-#[derive(Drop)]
+#[derive(Clone, Copy)]
 pub struct Moved {
     pub at: Position,
     pub code: u8,
 }
 
 // How many input states and output states a game has, and how many counters its controller's table.
-#[derive(Drop)]
+#[derive(Clone, Copy)]
 pub struct Sizes {
     pub inputs: usize,
     pub outputs: usize,

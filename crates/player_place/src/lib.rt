@@ -17,7 +17,7 @@ use view::RowIndex;
 
 // Input, output and counter after the controller's answer. (SPEC 10.1)
 #[repr(C)]
-#[derive(Drop)]
+#[derive(Clone, Copy)]
 pub struct Position {
     pub input: InState,
     pub output: OutState,
@@ -25,7 +25,7 @@ pub struct Position {
 }
 
 // A refusal holds its code: 1 to 7, 14, 15 or 16.
-#[derive(Drop)]
+#[derive(Clone, Copy)]
 pub enum Played {
     At(Position),
     Refused(u8),

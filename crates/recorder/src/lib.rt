@@ -13,20 +13,20 @@ use player_place::{Played, Position};
 
 // The inputs of a run, recorded by the panel: a state number a byte.
 #[repr(C)]
-#[derive(Drop)]
+#[derive(Clone, Copy)]
 pub struct InRecording<'a> {
     pub states: &'a [u8],
 }
 
 // The outputs of a run, recorded by the drive.
 #[repr(C)]
-#[derive(Drop)]
+#[derive(Clone, Copy)]
 pub struct OutRecording<'a> {
     pub states: &'a [u8],
 }
 
 // The reply. Steps count from 0, the start. A fault holds its step and the player's number.
-#[derive(Drop)]
+#[derive(Clone, Copy)]
 pub enum Compared {
     Agree,
     Differ(usize),

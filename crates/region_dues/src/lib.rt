@@ -28,7 +28,7 @@ use game::{InSet, OutSet, OutState};
 // For each requirement the outputs whose component serves it. One set for each, so that an input's component is compared with all outputs at once.
 // No array may have over eight words (M-103), and eight sets have sixteen: those of the first four requirements, then of the others. Without the list,
 // each input would have all outputs' components searched anew for each requirement. They stand as words, so that they can be lent and changed in place.
-#[derive(Drop)]
+#[derive(Clone, Copy)]
 pub struct Servers {
     pub first: [u64; 8],
     pub second: [u64; 8],

@@ -55,7 +55,7 @@ fn stored_row(
 }
 
 // The way down from an input: where it has come, and the inputs that are left to look at.
-#[derive(Drop)]
+#[derive(Clone, Copy)]
 struct Descent {
     at: InState,
     rest: InSet,

@@ -23,7 +23,7 @@ use sets::Set;
 pub const MOST: usize = 768;
 
 // The states in nontrivial components of both graphs.
-#[derive(Drop)]
+#[derive(Clone, Copy)]
 pub struct Nontrivial {
     pub inputs: InSet,
     pub outputs: OutSet,
@@ -31,7 +31,7 @@ pub struct Nontrivial {
 
 // What is kept from one input to the next, where the outputs that are won with each are read: the homes of the last one in a nontrivial component, the
 // outputs that reach them, and the outputs that are won with the last input. The inputs of a component have the same homes, so these are looked for once.
-#[derive(Drop)]
+#[derive(Clone, Copy)]
 pub struct WonRow {
     pub homes: OutSet,
     pub reaching: OutSet,

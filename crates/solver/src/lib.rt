@@ -16,7 +16,7 @@ use table_sizes::Outline;
 mod by_component; // the controller's table with its rows by component
 
 // The answer of the solver: the side that wins, with how many entries its table has.
-#[derive(Drop)]
+#[derive(Clone, Copy)]
 pub enum Verdict {
     System(usize),
     Environment(usize),

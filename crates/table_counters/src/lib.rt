@@ -10,7 +10,7 @@ ghost use Rattle.table_counters.specs.Counters.{counter_capacity, Past};
 pub const CAPACITY: usize = 64;
 
 // Counter h belongs when the bit worth 2 to the power h is set.
-#[derive(Drop)]
+#[derive(Clone, Copy)]
 pub struct CounterSet(pub u64);
 
 pub fn empty() -> CounterSet

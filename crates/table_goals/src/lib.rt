@@ -11,7 +11,7 @@ use sets::Set;
 use table_counters::CounterSet;
 
 // Some sets of a tour, one after the other: the first of them is number `from` of all. Of the four places `count` are in use.
-#[derive(Drop)]
+#[derive(Clone, Copy)]
 pub struct GoalRange {
     pub sets: [Set; 4],
     pub count: usize,

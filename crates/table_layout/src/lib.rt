@@ -10,7 +10,7 @@ use sets::Set;
 use table_counters::CounterSet;
 
 // Where rows lie: they begin at `base`, one for each of `states` own states, `counters` counters and `width` columns.
-#[derive(Drop)]
+#[derive(Clone, Copy)]
 pub struct Layout {
     pub base: usize,
     pub states: usize,
@@ -20,17 +20,17 @@ pub struct Layout {
 
 // A state of the side whose table it is, and one of the other side, by its column: the number of the state, or, where several share a column, the rank of theirs.
 // A function that has both cannot take one for the other.
-#[derive(Drop)]
+#[derive(Clone, Copy)]
 pub struct Own(pub usize);
 
-#[derive(Drop)]
+#[derive(Clone, Copy)]
 pub struct Other(pub usize);
 
 // Sets of them.
-#[derive(Drop)]
+#[derive(Clone, Copy)]
 pub struct OwnSet(pub Set);
 
-#[derive(Drop)]
+#[derive(Clone, Copy)]
 pub struct OtherSet(pub Set);
 
 // first + more × h in the row of state a, counter h and column b, for each h of `which` and each b of `over`.

@@ -22,7 +22,7 @@ use table_goals::GoalRange;
 
 // How many sets each requirement of an accepted game has, and how many counters each of its tables: with the list of the sets (crate game_sets), what a writer
 // of a table reads of the game besides its counts and the rows of its graphs.
-#[derive(Drop)]
+#[derive(Clone, Copy)]
 pub struct Outline {
     pub assumed: [usize; 8],
     pub guaranteed: [usize; 8],

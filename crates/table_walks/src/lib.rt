@@ -17,7 +17,7 @@ use table_layout::{Layout, Other, OtherSet, Own, OwnSet};
 
 // What a state's move to p writes, for the columns of `over` and the counters of `which`: p with the counter `hit` where p is in the set `goal`, else with
 // the counter `miss`, and `more` × counter. So a counter stays where more is the step between counters and the others are 0.
-#[derive(Drop)]
+#[derive(Clone, Copy)]
 pub struct Stamp {
     pub over: OtherSet,
     pub which: CounterSet,
@@ -51,7 +51,7 @@ pub fn write_move(room: &mut [u16], z: Layout, s: Own, p: Own, w: Stamp)
 }
 
 // A part of a round: the states that settled in it, and those that are still to be tried.
-#[derive(Drop)]
+#[derive(Clone, Copy)]
 struct Tried {
     settled: Set,
     rest: Set,

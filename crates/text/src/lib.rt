@@ -11,7 +11,7 @@ use text_put::measure;
 use text_scan::whole;
 
 // The answer to a file. Misshapen is number 11, with its place; the others hold their number.
-#[derive(Drop)]
+#[derive(Clone, Copy)]
 pub enum Answer {
     Read,
     Misshapen(usize),
@@ -19,7 +19,7 @@ pub enum Answer {
 }
 
 // A file read: the answer, and the game, which is the empty one unless the answer is Read.
-#[derive(Drop)]
+#[derive(Clone, Copy)]
 pub struct Reading {
     pub game: Game,
     pub answer: Answer,
@@ -81,7 +81,7 @@ pub fn read(text: &[u8]) -> Reading
 }
 
 // The answer to writing: the text's length, or a refusal's number.
-#[derive(Drop)]
+#[derive(Clone, Copy)]
 pub enum WriteAnswer {
     Written(usize),
     Refused(u8),

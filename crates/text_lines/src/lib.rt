@@ -14,14 +14,14 @@ use text_pieces::{Number, SetScan, Step};
 use text_shape::words;
 
 // The counts of the header and the place behind it.
-#[derive(Drop)]
+#[derive(Clone, Copy)]
 pub enum Header {
     Counts(usize, usize, usize, usize),
     Fault(usize),
 }
 
 // A state's flag and moves, and the place behind its line.
-#[derive(Drop)]
+#[derive(Clone, Copy)]
 pub enum Row {
     Moves(usize, Set, usize),
     Fault(usize),

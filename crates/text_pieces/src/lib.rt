@@ -28,28 +28,28 @@ const ZERO: usize = b'0' as usize;
 const NINE: usize = b'9' as usize;
 
 // Fixed bytes.
-#[derive(Drop)]
+#[derive(Clone, Copy)]
 pub enum Step {
     At(usize),
     Fault(usize),
 }
 
 // A number: its value and the place behind it.
-#[derive(Drop)]
+#[derive(Clone, Copy)]
 pub enum Number {
     Value(usize, usize),
     Fault(usize),
 }
 
 // A set and the place behind it.
-#[derive(Drop)]
+#[derive(Clone, Copy)]
 pub enum SetScan {
     Members(Set, usize),
     Fault(usize),
 }
 
 // What follows a member of a set: the closing bracket, or a further member.
-#[derive(Drop)]
+#[derive(Clone, Copy)]
 pub enum Next {
     Closed(usize),
     Member(usize, usize),

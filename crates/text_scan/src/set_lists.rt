@@ -13,7 +13,7 @@ use sets::Set;
 use text_pieces::{SetScan, Step};
 
 // A list of sets and the place behind it; no sets where there is a fault.
-#[derive(Drop)]
+#[derive(Clone, Copy)]
 pub struct SetList {
     pub sets: [Set; 4],
     pub count: usize,
@@ -21,7 +21,7 @@ pub struct SetList {
 }
 
 // A requirement and the place behind its line; no sets where there is a fault.
-#[derive(Drop)]
+#[derive(Clone, Copy)]
 pub struct RequirementScan {
     pub requirement: Requirement,
     pub end: Step,

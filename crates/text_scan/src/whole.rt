@@ -15,21 +15,21 @@ use text_lines::{Header, Row};
 use text_pieces::Step;
 
 // A graph and the place behind its lines; a graph without states where there is a fault.
-#[derive(Drop)]
+#[derive(Clone, Copy)]
 pub struct GraphScan {
     pub graph: Graph,
     pub end: Step,
 }
 
 // The requirements and the place behind their lines; none where there is a fault.
-#[derive(Drop)]
+#[derive(Clone, Copy)]
 pub struct RequirementsScan {
     pub requirements: [Requirement; 8],
     pub end: Step,
 }
 
 // A game and the place behind its text; the empty game where there is a fault.
-#[derive(Drop)]
+#[derive(Clone, Copy)]
 pub struct GameScan {
     pub game: Game,
     pub end: Step,

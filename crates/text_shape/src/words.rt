@@ -4,7 +4,7 @@ ghost use Rattle.text_shape.specs.Text.{word};
 ghost use Rattle.text_shape.specs.Shape.{opening};
 
 // The letters of a word, filled up with blanks, and how many they are.
-#[derive(Drop)]
+#[derive(Clone, Copy)]
 struct Word {
     bytes: [u8; 11],
     length: usize,

@@ -25,7 +25,7 @@ pub fn start(rows: &[u16], i: InState) -> u16
 }
 
 // A row: the output and the counter before it, and the new input.
-#[derive(Drop)]
+#[derive(Clone, Copy)]
 pub struct RowIndex {
     pub output: OutState,
     pub counter: usize,
@@ -64,7 +64,7 @@ pub fn lookup(rows: &[u16], inputs: usize, counters: usize, at: RowIndex) -> u16
 }
 
 // A table's entries with its dimensions.
-#[derive(Drop)]
+#[derive(Clone, Copy)]
 pub struct Table<'a> {
     pub rows: &'a [u16],
     pub inputs: usize,
