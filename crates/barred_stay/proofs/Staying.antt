@@ -51,7 +51,7 @@ left_lowest n x h b f ne e =
 pub row_edge : (h : Record) → GraphFits h → (k t : ℕ) → k < h.states → has (get_or (sets_in h.moves) k 0) t ≡ edge (graph_of h) k t
 unfolding graph_of
 row_edge h F k t a =
-    same_test (has (get_or (sets_in h.moves) k 0) t) (edge (graph_of h) k t) (λ e. edge_intro (graph_of h) k t a (F.row-Below k t a e) e)
+    same_test (has (get_or (sets_in h.moves) k 0) t) (edge (graph_of h) k t) (λ e. edge_intro (graph_of h) k t a (F.row_below k t a e) e)
     (λ e. edge_moves (graph_of h) k t e)
 
 -- how many positions are staying

@@ -31,7 +31,7 @@ module _ (h : Record) (F : GraphFits h) where
   pub narrow : Narrow (sets_in h.moves)
   narrow t u b m =
       elim (dec_lt t h.states) [
-        | yes l ↦ omega (arith, F.row-Below t u l m, F.most)
+        | yes l ↦ omega (arith, F.row_below t u l m, F.most)
         | no l ↦ clash m (ap (λ (x : ℕ). has x u) (F.row_past t (omega arith) b) ∙ has_zero_lem u)
       ]
 

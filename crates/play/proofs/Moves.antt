@@ -19,7 +19,7 @@ module _ (h : Graph) (F : GraphFits h) where
   pub moved_edge : (k t : ℕ) → k < h.states → has (get_or (sets_in h.moves) k 0) t ≡ edge (graph_of h) k t
   unfolding graph_of
   moved_edge k t a =
-      same_test (has (get_or (sets_in h.moves) k 0) t) (edge (graph_of h) k t) (λ e. edge_intro (graph_of h) k t a (F.row-Below k t a e) e)
+      same_test (has (get_or (sets_in h.moves) k 0) t) (edge (graph_of h) k t) (λ e. edge_intro (graph_of h) k t a (F.row_below k t a e) e)
       (λ e. edge_moves (graph_of h) k t e)
 
   pub row_edge : (k t : ℕ) → k < h.states → has (bits_of (set_at h.moves k)) t ≡ edge (graph_of h) k t

@@ -59,7 +59,7 @@ graph_shaped g F A =
         initial = has_within (bits_of g.initial) g.states F.initial_below;
         rows = sets_all g.moves l;
         row = λ s. by_cases (ltb s g.states)
-            (λ b. has_within (get_or (sets_in g.moves) s 0) capacity (λ j h. let m = F.row-Below s j (ltb-true s g.states b) h in omega arith))
+            (λ b. has_within (get_or (sets_in g.moves) s 0) capacity (λ j h. let m = F.row_below s j (ltb-true s g.states b) h in omega arith))
             (λ b. ap (λ (x : ℕ). within x capacity) (past s (ltb-false s g.states b)) ∙ zero_within capacity);
         unused = past;
       };
