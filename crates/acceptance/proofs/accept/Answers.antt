@@ -8,7 +8,7 @@ use Rattle.acceptance.proofs.accept.Goals as goal
 pub accept_lent-requires : goal.accept_lent-requires
 accept_lent-requires c =
     let g = c.args.g in
-    let fields = c.well-formed.0.1.1 in (
+    let fields = c.well_formed.0.1.1 in (
       refl,
       refl,
       words_held _ _ (omega (arith, sym (length-map g.input.moves _) ∙ fields.0.1.1.1.1.0.1.0.1)),

@@ -42,7 +42,7 @@ loop-r-preserved c =
 pub returns : goal.returns
 returns c =
     let g = c.args.g in
-    let fields = c.well-formed.0.1.1 in
+    let fields = c.well_formed.0.1.1 in
     on_board g _ _ c.sizes_of.ensures (upto_all g c.loop-r.r _ (omega arith) (sym (length-map g.input.moves _) ∙ fields.0.1.1.1.1.0.1.0.1)
     (sym (length-map g.output.moves _) ∙ fields.1.0.1.1.1.1.0.1.0.1) (sym (length-map g.requirements _) ∙ fields.1.1.1.0.1.0.1)
     (c.loop-r.invariant.2 _ _ _ _

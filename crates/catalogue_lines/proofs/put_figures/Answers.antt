@@ -15,5 +15,5 @@ returns c =
     let won = c.put_won.ensures in
     record {
       puts = puts_then one (puts_then two (puts_then three (puts_then numbers.0 won)));
-      fits = figures_short _ (omega (arith, c.well-formed)) (omega (arith, c.well-formed)) (omega (arith, c.well-formed)) numbers.1 (omega (arith, c.well-formed)) (omega (arith, c.well-formed));
+      fits = figures_short _ (omega (arith, c.well_formed)) (omega (arith, c.well_formed)) (omega (arith, c.well_formed)) numbers.1 (omega (arith, c.well_formed)) (omega (arith, c.well_formed));
     }

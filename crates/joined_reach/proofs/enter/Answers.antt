@@ -9,7 +9,7 @@ pub input_moves-moves-requires : goal.input_moves-moves-requires
 input_moves-moves-requires c = (c.requires.0, c.requires.1, c.requires.3)
 
 pub loop-rest-init : goal.loop-rest-init
-loop-rest-init c = entering_start _ _ _ _ (omega (arith, c.input_moves-moves.type-inv))
+loop-rest-init c = entering_start _ _ _ _ (omega (arith, c.input_moves-moves.type_inv))
 
 pub grow-left-requires : goal.grow-left-requires
 grow-left-requires c =
@@ -29,7 +29,7 @@ loop-rest-preserved c =
     let below : c.lowest.result < 32 = let m = entering_member _ _ _ _ c.loop-rest.rest _ _ c.loop-rest.invariant c.loop-rest-test.true _ c.lowest.ensures in
     omega (arith, move_below c.args.g _ _ c.input_moves-moves.ensures _ m, c.requires.0.inputs) in
     entering_more _ _ _ _ c.loop-rest.rest _ _ c.loop-rest.invariant c.loop-rest-test.true _ c.lowest.ensures _ c.without_lowest-rest.ensures
-    (below) (omega (arith, c.without_lowest-rest.type-inv)) _ _ c.grow-left.ensures
+    (below) (omega (arith, c.without_lowest-rest.type_inv)) _ _ c.grow-left.ensures
 
 pub shape_of-s : goal.shape_of-s
 shape_of-s c = c.loop-rest.invariant.kept.long

@@ -22,7 +22,7 @@ loop-rest-smaller c =
 pub loop-rest-preserved : goal.loop-rest-preserved
 loop-rest-preserved c =
     next_more _ _ c.loop-rest.rest _ c.loop-rest.invariant c.loop-rest-test.true _ c.lowest.ensures _ c.without_lowest-rest.ensures
-    (omega (arith, c.without_lowest-rest.type-inv)) _ _ c.output_moves-moves.ensures c.union-y.ensures
+    (omega (arith, c.without_lowest-rest.type_inv)) _ _ c.output_moves-moves.ensures c.union-y.ensures
 
 pub returns : goal.returns
 returns c = next_end _ _ c.loop-rest.rest _ c.loop-rest.invariant c.loop-rest-test.false

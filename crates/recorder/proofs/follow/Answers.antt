@@ -29,7 +29,7 @@ returns-then-p-state_at c =
 
 pub overflow_add-n : goal.overflow_add-n
 overflow_add-n c =
-    let inputs-good = c.well-formed.1.1.1.1.1.0 in
+    let inputs-good = c.well_formed.1.1.1.1.1.0 in
     omega (arith, inputs-good)
 
 pub loop-n-preserved : goal.loop-n-preserved

@@ -28,5 +28,5 @@ returns-in-Refused c = writes_refused _ _ _ (sym c.accept-a.ensures.answer ∙ c
 pub returns-else-buffer-n : goal.returns-else-buffer-n
 returns-else-buffer-n c =
     let told : acceptance c.args.g ≡ Accepted = sym c.accept-a.ensures.answer ∙ c.in-Accepted.is in
-    writes_text _ _ (told) _ _ (game_arrays _ _ c.well-formed.0) c.game_length-n.ensures
+    writes_text _ _ (told) _ _ (game_arrays _ _ c.well_formed.0) c.game_length-n.ensures
     (omega (arith, c.if-buffer-n.false, c.game_length-n.ensures)) c.put_game.ensures.buffer

@@ -31,7 +31,7 @@ returns-then-byte_at-b c =
     (λ e. c.if-byte_at-b.true (c.byte_at.ensures ∙ e)))
 
 pub overflow_add-at : goal.overflow_add-at
-overflow_add-at c = omega (arith, byte_within _ _ _ (sym c.byte_at.ensures ∙ c.if-byte_at-b.false) (omega (arith, c.opening_byte-b.type-inv)))
+overflow_add-at c = omega (arith, byte_within _ _ _ (sym c.byte_at.ensures ∙ c.if-byte_at-b.false) (omega (arith, c.opening_byte-b.type_inv)))
 
 pub overflow_add-k : goal.overflow_add-k
 overflow_add-k c =

@@ -17,7 +17,7 @@ overflow_add-result c = omega (arith, byte_within _ _ _ (sym c.byte_at.ensures â
 
 pub returns-then-byte_at-eq-CLOSE : goal.returns-then-byte_at-eq-CLOSE
 returns-then-byte_at-eq-CLOSE c =
-    whole_members (set_is _ (omega (arith, c.empty.type-inv)))
+    whole_members (set_is _ (omega (arith, c.empty.type_inv)))
     (members_none _ _ _ (sym c.byte_at.ensures âˆ™ c.if-byte_at-eq-CLOSE.true) c.empty.ensures.1)
 
 pub overflow_add-v : goal.overflow_add-v

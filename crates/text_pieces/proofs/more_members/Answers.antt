@@ -59,7 +59,7 @@ loop-left-preserved c =
     let more =
     members_next _ _ _ _ _ _ c.loop-left.invariant.0 c.loop-left-test.true c.if-low-gt-HIGHEST.false _ _ _
     (sym c.in-Member.is ∙ c.next_member-n.ensures) c.insert-set.ensures in
-    (more.0, more.1, set_is _ (omega (arith, c.insert-set.type-inv)))
+    (more.0, more.1, set_is _ (omega (arith, c.insert-set.type_inv)))
 
 pub closed_set-requires-2 : goal.closed_set-requires-2
 closed_set-requires-2 c = tt

@@ -12,7 +12,7 @@ use Rattle.text_put.proofs.put_set.Goals as goal
 
 pub loop-rest-init : goal.loop-rest-init
 loop-rest-init c =
-    (remains_all _ _ _, set_small _ (omega (arith, c.well-formed), omega (arith, c.well-formed)))
+    (remains_all _ _ _, set_small _ (omega (arith, c.well_formed), omega (arith, c.well_formed)))
 
 pub without_lowest-rest-requires : goal.without_lowest-rest-requires
 without_lowest-rest-requires c =

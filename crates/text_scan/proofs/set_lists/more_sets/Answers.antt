@@ -14,7 +14,7 @@ empty-none-requires c = tt
 
 pub loop-count-init : goal.loop-count-init
 loop-count-init c =
-    (sets_first _ _ _ _ c.empty-none.ensures.1, omega arith, refl, first_whole _ _ (set_is _ (omega arith)) (set_is _ (omega (arith, c.empty-none.type-inv))))
+    (sets_first _ _ _ _ c.empty-none.ensures.1, omega arith, refl, first_whole _ _ (set_is _ (omega arith)) (set_is _ (omega (arith, c.empty-none.type_inv))))
 
 pub byte_at-b-requires : goal.byte_at-b-requires
 byte_at-b-requires c = tt

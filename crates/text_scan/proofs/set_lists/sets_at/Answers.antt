@@ -22,7 +22,7 @@ overflow_add-result c = omega (arith, byte_within _ _ _ (sym c.byte_at-2.ensures
 
 pub returns-then-byte_at-eq-CLOSE : goal.returns-then-byte_at-eq-CLOSE
 returns-then-byte_at-eq-CLOSE c =
-    list_got (empty_whole _ (set_is _ (omega (arith, c.empty-none.type-inv))))
+    list_got (empty_whole _ (set_is _ (omega (arith, c.empty-none.type_inv))))
     (list_empty _ _ (sym c.byte_at.ensures ∙ c.if-byte_at-ne-OPEN.false) (sym c.byte_at-2.ensures ∙ c.if-byte_at-eq-CLOSE.true) _
     c.empty-none.ensures.1)
 

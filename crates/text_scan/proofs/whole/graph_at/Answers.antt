@@ -16,7 +16,7 @@ loop-t-init c =
       states_begin _ _ _ _ _ _ c.empty-initial.ensures.1 none,
       c.requires.1,
       c.requires.0,
-      set_is _ (omega (arith, c.empty-initial.type-inv)),
+      set_is _ (omega (arith, c.empty-initial.type_inv)),
       ap words_of none ∙ sym words_none,
       refl,
     )
