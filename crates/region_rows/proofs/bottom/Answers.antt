@@ -1,4 +1,5 @@
 -- `bottom` goes down from the first input that is left.
+use mathlib.Core.Path.{refl}
 use Rattle.sets.proofs.Rows.{none, some}
 use Rattle.region_rows.proofs.Down.{first_below, descending_start, descending_end}
 use native.Mathlib.Omega.{arith}
@@ -20,7 +21,7 @@ pub descend-d-requires : goal.descend-d-requires
 descend-d-requires g c =
     let known = rw (← c.requires.0) at c.requires.1 in
     let p = known in
-    (p.0, p.1, p.2, c.loop-z.invariant, some _ c.is_empty.ensures c.if-is_empty.false)
+    (refl, (p.0, p.1, p.2, c.loop-z.invariant, some _ c.is_empty.ensures c.if-is_empty.false))
 
 pub loop-z-smaller : goal.loop-z-smaller
 loop-z-smaller g c =

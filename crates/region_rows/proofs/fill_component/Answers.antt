@@ -1,4 +1,5 @@
 -- `fill_component` works out the row of one input, which is that of its component.
+use mathlib.Core.Path.{refl}
 use Rattle.scratch.proofs.Areas.{in_transitive}
 use Rattle.region_rows.proofs.Order.{bottom_below, filling_ready, row_component, component_below, filling_falls, filling_next, kept_writes}
 use native.Mathlib.Omega.{arith}
@@ -8,7 +9,7 @@ pub bottom-i-requires : goal.bottom-i-requires
 bottom-i-requires g c =
     let known = rw (← c.requires.0) at c.requires.1 in
     let p = known in
-    (p.0.fits.input.most, p.0.laid, p.0.inside, p.2)
+    (refl, (p.0.fits.input.most, p.0.laid, p.0.inside, p.2))
 
 pub in_row-requires : goal.in_row-requires
 in_row-requires g c =
@@ -25,9 +26,11 @@ in_component-a-requires g c =
 pub stored_row-r-requires : goal.stored_row-r-requires
 stored_row-r-requires g c =
     let known = rw (← c.requires.0) at c.requires.1 in
-    let p = known in
-    let R = filling_ready p.0 c.bottom-i.ensures in
-    (R, p.1, row_component R _ c.in_component-a.ensures)
+    let p = known in (
+      refl,
+      let R = filling_ready p.0 c.bottom-i.ensures in
+          (R, p.1, row_component R _ c.in_component-a.ensures),
+    )
 
 pub put_rows-requires : goal.put_rows-requires
 put_rows-requires g c =

@@ -1,5 +1,5 @@
 -- `stored_row` works out homes, or replies.
-use mathlib.Core.Path.{sym, ◌∙◌}
+use mathlib.Core.Path.{refl, sym, ◌∙◌}
 use Rattle.region_dues.proofs.Meaning.{fits_few}
 use Rattle.region_rows.proofs.Order.{entered_below, among_below, row_homes, row_replies}
 use Rattle.region_rows.proofs.stored_row.Goals as goal
@@ -8,7 +8,7 @@ pub accepted-among-requires : goal.accepted-among-requires
 accepted-among-requires g c =
     let known = rw (← c.requires.0) at c.requires.1 in
     let p = known in
-    (fits_few _ p.0.fits, p.1.whole)
+    (refl, (fits_few _ p.0.fits, p.1.whole))
 
 pub home_row-requires : goal.home_row-requires
 home_row-requires g c =
