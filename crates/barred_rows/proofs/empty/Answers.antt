@@ -17,7 +17,7 @@ pub loop-i-preserved : goal.loop-i-preserved
 loop-i-preserved c =
     (
       omega arith,
-      c.put.auto.0 ∙ c.loop-i.invariant.1,
+      c.put.auto.l ∙ c.loop-i.invariant.1,
       rw c.put.ensures (emptied_next _ _ c.loop-i.i (sets_in c.loop-i.s) _ c.loop-i.invariant.2
           (omega (arith, c.requires.0, c.requires.1, count_same c.loop-i.s c.args.s.now c.loop-i.invariant.1, sets_long c.loop-i.s)) c.empty-none.ensures.1),
     )

@@ -5,7 +5,7 @@ use Rattle.board.proofs.Read.{room, assumption_at_lem}
 use Rattle.board.proofs.assumption.Goals as goal
 
 pub row-requires : goal.row-requires
-row-requires c = omega (arith, room c.args.b.now c.row-arg-1.given.0)
+row-requires c = omega (arith, room c.args.b.now c.row-arg-1.given)
 
 pub returns : goal.returns
 returns c = c.row.ensures ∙ assumption_at_lem _ _ _ c.requires.1

@@ -5,7 +5,7 @@ use Rattle.board.proofs.Read.{room, in_row_at}
 use Rattle.board.proofs.in_row.Goals as goal
 
 pub row-requires : goal.row-requires
-row-requires c = omega (arith, c.requires, room c.args.b.now c.row-arg-1.given.0)
+row-requires c = omega (arith, c.requires, room c.args.b.now c.row-arg-1.given)
 
 pub returns : goal.returns
 returns c = c.row.ensures ∙ in_row_at _ _ c.requires

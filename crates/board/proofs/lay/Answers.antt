@@ -43,7 +43,7 @@ pub returns : goal.returns
 returns c =
     let g = c.args.g in
     let fields = c.well_formed.0.1.1 in
-    on_board g _ _ c.sizes_of.ensures (upto_all g c.loop-r.r _ (omega arith) (sym (length-map g.input.moves _) ∙ fields.0.1.1.1.1.0.1.0.1)
-    (sym (length-map g.output.moves _) ∙ fields.1.0.1.1.1.1.0.1.0.1) (sym (length-map g.requirements _) ∙ fields.1.1.1.0.1.0.1)
+    on_board g _ _ c.sizes_of.ensures (upto_all g c.loop-r.r _ (omega arith) (fields.0.1.1.1.1.0.1.0.1)
+    (fields.1.0.1.1.1.1.0.1.0.1) (fields.1.1.1.0.1.0.1)
     (c.loop-r.invariant.2 _ _ _ _
     (upto_none _ _ _ _ _ _ _ _ _ _ c.requires c.put_rows.ensures c.put_rows-2.ensures c.put_set.ensures c.put_set-2.ensures)))

@@ -6,4 +6,4 @@ use Rattle.board.proofs.out_rows.Goals as goal
 
 pub returns : goal.returns
 unfolding out_rows
-returns c = (refl, rows_room _ (out_long c.args.b.now c.words-1.given.0))
+returns c = (refl, rows_room _ (out_long c.args.b.now c.words-1.given))

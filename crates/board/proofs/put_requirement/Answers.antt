@@ -24,4 +24,4 @@ pub returns : goal.returns
 returns c =
     let fields = c.well_formed.1.1.0.1.1 in
     requirement_put _ c.args.q _ _ c.requires.0 c.requires.1 c.loop-j.j (omega arith) c.loop-j.invariant.1
-    (sym (length-map c.args.q.assumptions _) ∙ fields.0.1.0.1) (sym (length-map c.args.q.guarantees _) ∙ fields.1.1.0.1.0.1)
+    (fields.0.1.0.1) (fields.1.1.0.1.0.1)

@@ -4,4 +4,4 @@ use Rattle.game_sets.proofs.Listing.{room}
 use Rattle.game_sets.proofs.guarantee.Goals as goal
 
 pub row-requires : goal.row-requires
-row-requires c = omega (arith, room c.args.l.now c.row-arg-1.given.0)
+row-requires c = omega (arith, room c.args.l.now c.row-arg-1.given)

@@ -13,8 +13,8 @@ accept_lent-requires c =
     let fields = c.well_formed.0.1.1 in (
       refl,
       refl,
-      words_held _ _ (omega (arith, sym (length-map g.input.moves _) ∙ fields.0.1.1.1.1.0.1.0.1)),
-      words_held _ _ (omega (arith, sym (length-map g.output.moves _) ∙ fields.1.0.1.1.1.1.0.1.0.1)),
+      words_held _ _ (omega (arith, fields.0.1.1.1.1.0.1.0.1)),
+      words_held _ _ (omega (arith, fields.1.0.1.1.1.1.0.1.0.1)),
     )
 
 pub controller_length-requires : goal.controller_length-requires
