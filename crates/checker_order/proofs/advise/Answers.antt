@@ -31,4 +31,4 @@ finish-n-requires c =
 
 pub loop-v-preserved : goal.loop-v-preserved
 loop-v-preserved c =
-    (omega arith, c.finish-n.ensures, c.finish-n.auto.stack.1.1.1.1.0 ∙ c.loop-v.invariant.2)
+    (omega arith, c.finish-n.ensures, c.finish-n.auto.unseen ∙ c.loop-v.invariant.2)
