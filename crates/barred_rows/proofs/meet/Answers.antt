@@ -12,9 +12,9 @@ pub loop-i-preserved : goal.loop-i-preserved
 loop-i-preserved c =
     elim c.if-not-is_empty.branch [
       | then-not-is_empty w ↦ rw (w.s-is, w.shrank-is) (merging_next and_same c.loop-i.invariant c.requires.3 (omega arith) c.row-old.ensures c.row.ensures c.difference-lost.ensures _ _
-    w.difference.ensures (is_some _ c.is_empty.ensures w.if-not-is_empty.true-raw) c.requires.2 w.put.kept.0 w.3.ensures)
-      | else-not-is_empty w ↦ rw (w.1, w.2) (merging_skip and_same c.loop-i.invariant c.requires.3 (omega arith) c.row-old.ensures c.row.ensures c.difference-lost.ensures
-    (is_none _ c.is_empty.ensures w.if-not-is_empty.false-raw))
+          w.difference.ensures (is_some _ c.is_empty.ensures w.if-not-is_empty.true-raw) c.requires.2 w.put.auto.l w.put.ensures)
+      | else-not-is_empty w ↦ rw (w.s-is, w.shrank-is) (merging_skip and_same c.loop-i.invariant c.requires.3 (omega arith) c.row-old.ensures c.row.ensures c.difference-lost.ensures
+          (is_none _ c.is_empty.ensures w.if-not-is_empty.false-raw))
     ]
 
 pub shape_of-s : goal.shape_of-s
