@@ -15,7 +15,7 @@ sweep-requires c =
     let a = c.args in
     let some = graph_given a.n a.moves.now in (
       omega arith,
-      omega (arith, count_same c.loop.rows a.rows.now (c.loop.invariant.1 ∙ c.start.auto.1.1.0)),
+      omega (arith, count_same c.loop.rows a.rows.now (c.loop.invariant.1 ∙ c.start.auto.rows)),
       omega (arith, (c.loop.invariant.2 some.0 some.1).few, some.1.states),
     )
 
@@ -29,11 +29,11 @@ loop-smaller c =
 pub loop-preserved : goal.loop-preserved
 loop-preserved c =
     let k = c.loop.invariant in
-    (omega arith, c.sweep.auto.0 ∙ k.1, λ h G. counted_next (k.2 h G) (ran_given G c.sweep.ensures) c.loop-test.true)
+    (omega arith, c.sweep.auto.rows ∙ k.1, λ h G. counted_next (k.2 h G) (ran_given G c.sweep.ensures) c.loop-test.true)
 
 pub shape_of-rows : goal.shape_of-rows
 shape_of-rows c =
-    c.sweep.auto.0 ∙ c.loop.invariant.1 ∙ c.start.auto.1.1.0
+    c.sweep.auto.rows ∙ c.loop.invariant.1 ∙ c.start.auto.rows
 
 pub returns : goal.returns
 returns c =

@@ -25,7 +25,7 @@ pub loop-s-preserved : goal.loop-s-preserved
 loop-s-preserved c =
     let l = c.args.rows.now in (
       omega arith,
-      c.put.auto.0 ∙ c.loop-s.invariant.1,
+      c.put.auto.l ∙ c.loop-s.invariant.1,
       λ h G. c.put.ensures ∙ rows_next _ _ _ c.loop-s.s (omega (arith, sets_long l)) (c.loop-s.invariant.2 h G)
           (first_word h c.loop-s.s _ _ _ (omega (arith, G.states)) (λ t. c.below-states.ensures t ∙ ap (ltb t) (sym G.states))
           (λ t. c.intersection.ensures t ∙ ap (λ (k : ℕ). has k t && has (bits_of c.below-states.result) t)

@@ -4,4 +4,4 @@ use native.Mathlib.Omega.{arith}
 use Rattle.scratch.proofs.put_region_row.Goals as goal
 
 pub returns : goal.returns
-returns c = row_put _ _ _ _ _ (omega arith) (omega arith) c.put.auto.0 c.put.ensures
+returns c = row_put _ _ _ _ _ (omega arith) (omega arith) c.put.auto.l c.put.ensures
