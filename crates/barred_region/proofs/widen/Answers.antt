@@ -32,7 +32,7 @@ widen_by-requires c =
 
 pub shape_of-s-then-widen_by : goal.shape_of-s-then-widen_by
 shape_of-s-then-widen_by c =
-    c.widen_by.auto.1.0 ∙ c.loop-j.invariant.1
+    c.widen_by.auto.s ∙ c.loop-j.invariant.1
 
 pub returns-then-widen_by : goal.returns-then-widen_by
 returns-then-widen_by c =
@@ -47,7 +47,7 @@ pub loop-j-preserved : goal.loop-j-preserved
 loop-j-preserved c =
     (
       omega (arith, c.loop-j.invariant.0),
-      c.widen_by.auto.1.0 ∙ c.loop-j.invariant.1,
+      c.widen_by.auto.s ∙ c.loop-j.invariant.1,
       widened_next _ c.requires.0 _ _ (c.loop-j.j - 1) c.loop-j.j (omega (arith, c.loop-j-test.true)) _ c.loop-j.invariant.2 _ _ _ c.widen_by.ensures
           c.waited-wait.ensures (omega (arith, assumed_length c.args.g, c.loop-j-test.true, c.loop-j.invariant.0)) c.if-widen_by.false,
     )
