@@ -113,7 +113,8 @@ fn solve(buffer: &mut [u8], g: Game) -> usize
     if refusal != 0 {
         return print_lines::put_refused(buffer, refusal);
     }
-    if system {
+    let system_wins = system;
+    if system_wins {
         return put_system(buffer, g, table);
     }
     put_panel(buffer, g, table)
