@@ -91,13 +91,13 @@ loop-i-preserved c =
         ranked_next _ _ _ _ _ k p.2 I.3 (first_rank _ _ _ k e _ I.2 v.if-j-i.true),
       )
       | else-j-i v ↦
-        let h = first_lower _ _ _ k e _ p.1 _ _ I.1 v.if-j-i.false in
-        rw (v.room-is, v.rank-is) (
-          omega (arith, k),
-          P,
-          count_skip _ _ _ I.2 (leads_not _ _ _ k e h),
-          ranked_next _ _ _ _ _ k p.2 I.3 (led_rank _ _ _ k e _ _ I.3 h),
-        )
+          let h = first_lower _ _ _ k e _ p.1 _ _ I.1 v.if-j-i.false in
+          rw (v.room-is, v.rank-is) (
+            omega (arith, k),
+            P,
+            count_skip _ _ _ I.2 (leads_not _ _ _ k e h),
+            ranked_next _ _ _ _ _ k p.2 I.3 (led_rank _ _ _ k e _ _ I.3 h),
+          )
     ]
 
 pub shape_of-room : goal.shape_of-room
