@@ -11,9 +11,9 @@ use Rattle.map_marks.specs.Marks.{map_row}
 use Rattle.map.proofs.fill_map.Given as goal
 
 abbrev pub invariant-loop-i : goal.invariant-loop-i
-invariant-loop-i l =
+invariant-loop-i g l =
     (l.i ≤ l.z.inputs) × (length l.map ≡ length l.initial.map) × (sets_in l.map ≡ tabulate l.i (map_row (game_on l.z l.b)) ++ drop l.i (sets_in l.initial.map)) × ((e : ℕ) → get_or l.map e 0 < 2 ^ 64)
     × WonKept (sets_in l.s) l.z.inputs l.z.outputs l.k
 
 abbrev pub decreases-loop-i : goal.decreases-loop-i
-decreases-loop-i l = l.z.inputs - l.i
+decreases-loop-i g l = l.z.inputs - l.i

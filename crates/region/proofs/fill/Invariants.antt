@@ -7,7 +7,7 @@ use Rattle.region_rows.specs.Fill.{Filling, PastKept}
 use Rattle.region.proofs.fill.Given as goal
 
 abbrev pub invariant-loop-z : goal.invariant-loop-z
-invariant-loop-z l = Filling (game_on l.z l.b) l.x l.s (bits_of l.left.0) × PastKept (game_on l.z l.b) l.initial.s l.s
+invariant-loop-z g l = Filling (game_on l.z l.b) l.x l.s (bits_of l.left.0) × PastKept (game_on l.z l.b) l.initial.s l.s
 
 abbrev pub decreases-loop-z : goal.decreases-loop-z
-decreases-loop-z l = count capacity (has (bits_of l.left.0))
+decreases-loop-z g l = count capacity (has (bits_of l.left.0))

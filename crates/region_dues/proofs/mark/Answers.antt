@@ -33,7 +33,7 @@ loop-q-preserved c =
       omega arith,
       marked_next _ _ _ _ c.loop-q.q _ _ _ _ _ room c.loop-q.invariant.1 c.row-x.ensures c.all_guaranteed.ensures c.union_if-y.ensures
           c.put.ensures,
-      c.put.auto.0 ∙ c.loop-q.invariant.2,
+      c.put.auto.l ∙ c.loop-q.invariant.2,
     )
 
 pub shape_of-t : goal.shape_of-t

@@ -18,11 +18,10 @@ pub row-requires : goal.row-requires
 row-requires c = omega (arith, c.requires.2)
 
 pub loop-q-preserved : goal.loop-q-preserved
-loop-q-preserved c =
-    (
-      omega arith,
-      narrowed_next _ _ _ _ _ c.loop-q.q _ _ _ _ c.all_assumed-due.ensures c.row.ensures c.loop-q.invariant.1 c.admitted-y.ensures,
-    )
+loop-q-preserved c = (
+  omega arith,
+  narrowed_next _ _ _ _ _ c.loop-q.q _ _ _ _ c.all_assumed-due.ensures c.row.ensures c.loop-q.invariant.1 c.admitted-y.ensures,
+)
 
 pub returns : goal.returns
 returns c = let l = c.loop-q in narrowed_end _ _ _ _ _ l.q _ _ (omega arith) (omega arith) l.invariant.1

@@ -9,35 +9,45 @@ use Rattle.region_dues.proofs.Meaning.{fits_few, sorted_start, sorted_below, sor
 use Rattle.region_dues.proofs.served.Goals as goal
 
 pub first_four-few-requires : goal.first_four-few-requires
-first_four-few-requires c = c.requires.0.few
+first_four-few-requires g c =
+    let known = rw (← c.requires.0) at c.requires.1 in
+    known.0.few
 
 pub overflow_sub-more : goal.overflow_sub-more
-overflow_sub-more c = c.first_four-few.ensures.within
+overflow_sub-more g c =
+    c.first_four-few.ensures.within
 
 pub below-rest-requires : goal.below-rest-requires
-below-rest-requires c = c.requires.0.output.most
+below-rest-requires g c =
+    let known = rw (← c.requires.0) at c.requires.1 in
+    known.0.output.most
 
 pub loop-z-init : goal.loop-z-init
-loop-z-init c = sorted_start _ c.requires.0 _ c.below-rest.ensures
+loop-z-init g c =
+    let known = rw (← c.requires.0) at c.requires.1 in
+    sorted_start _ known.0 _ c.below-rest.ensures
 
 pub out_row-requires : goal.out_row-requires
-out_row-requires c =
-    let below : c.lowest.result < c.args.z.outputs = let p = c.requires in
+out_row-requires g c =
+    let known = rw (← c.requires.0) at c.requires.1 in
+    let below : c.lowest.result < c.args.z.outputs = let p = known in
     let some = is_some _ c.is_empty.ensures c.loop-z-test.true-raw in
     sorted_below _ p.0 _ (area_closes p.1) _ _ _ c.loop-z.invariant some _ c.lowest.ensures in
-    omega (arith, below, c.requires.0.output.most)
+    omega (arith, below, known.0.output.most)
 
 pub out_component-c-requires : goal.out_component-c-requires
-out_component-c-requires c =
-    let below : c.lowest.result < c.args.z.outputs = let p = c.requires in
+out_component-c-requires g c =
+    let known = rw (← c.requires.0) at c.requires.1 in
+    let below : c.lowest.result < c.args.z.outputs = let p = known in
     let some = is_some _ c.is_empty.ensures c.loop-z-test.true-raw in
     sorted_below _ p.0 _ (area_closes p.1) _ _ _ c.loop-z.invariant some _ c.lowest.ensures in
-    let p = c.requires in
+    let p = known in
     (p.0.input.most, p.0.output.most, below, p.1.long, out_transitive p.1)
 
 pub mark-requires : goal.mark-requires
-mark-requires c =
-    let p = c.requires in
+mark-requires g c =
+    let known = rw (← c.requires.0) at c.requires.1 in
+    let p = known in
     let H = c.first_four-few.ensures in (
       omega (arith, H.most),
       few_sets_lem _ _ (fits_few _ p.0),
@@ -45,8 +55,9 @@ mark-requires c =
     )
 
 pub mark-requires-in-loop-z : goal.mark-requires-in-loop-z
-mark-requires-in-loop-z c =
-    let p = c.requires in
+mark-requires-in-loop-z g c =
+    let known = rw (← c.requires.0) at c.requires.1 in
+    let p = known in
     let H = c.first_four-few.ensures in (
       omega (arith, H.others),
       few_sets_lem _ _ (fits_few _ p.0),
@@ -54,15 +65,17 @@ mark-requires-in-loop-z c =
     )
 
 pub loop-z-smaller : goal.loop-z-smaller
-loop-z-smaller c =
-    let p = c.requires in
+loop-z-smaller g c =
+    let known = rw (← c.requires.0) at c.requires.1 in
+    let p = known in
     let some = is_some _ c.is_empty.ensures c.loop-z-test.true-raw in
     sorted_falls _ p.0 _ (area_closes p.1) _ _ _ c.loop-z.invariant some _ c.lowest.ensures _ c.out_component-c.ensures _ c.difference-rest.ensures
 
 pub loop-z-preserved : goal.loop-z-preserved
-loop-z-preserved c =
+loop-z-preserved g c =
+    let known = rw (← c.requires.0) at c.requires.1 in
     let M = c.mark-in-loop-z.ensures in
-    let p = c.requires in
+    let p = known in
     let some = is_some _ c.is_empty.ensures c.loop-z-test.true-raw in
     let S = c.loop-z.invariant in
     sorted_next _ p.0 _ (area_closes p.1) _ _ _ S some _ c.lowest.ensures _ c.out_component-c.ensures _ c.difference-rest.ensures _ _
@@ -70,5 +83,7 @@ loop-z-preserved c =
     (marked_both _ _ (fits_few _ p.0) c.first_four-few.ensures _ _ _ _ _ c.mark.ensures.0 M.0)
 
 pub returns : goal.returns
-returns c =
-    sorted_end _ c.requires.0 _ _ _ c.loop-z.invariant (is_none _ c.is_empty.ensures c.loop-z-test.false-raw)
+returns g c =
+    let known = rw (← c.requires.0) at c.requires.1 in
+    rw (← c.requires.0) (
+    sorted_end _ known.0 _ _ _ c.loop-z.invariant (is_none _ c.is_empty.ensures c.loop-z-test.false-raw))

@@ -7,7 +7,7 @@ use Rattle.region_dues.proofs.Meaning.{Sorted}
 use Rattle.region_dues.proofs.served.Given as goal
 
 abbrev pub invariant-loop-z : goal.invariant-loop-z
-invariant-loop-z l = Sorted (game_on l.z l.b) (bits_of l.rest) l.first l.second
+invariant-loop-z g l = Sorted (game_on l.z l.b) (bits_of l.rest) l.first l.second
 
 abbrev pub decreases-loop-z : goal.decreases-loop-z
-decreases-loop-z l = count capacity (has (bits_of l.rest))
+decreases-loop-z g l = count capacity (has (bits_of l.rest))
