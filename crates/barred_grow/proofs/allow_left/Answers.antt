@@ -19,7 +19,7 @@ overflow_add-j c =
 
 pub row-requires : goal.row-requires
 row-requires c =
-    omega (arith, c.requires.0, c.requires.2, lowest_low _ _ c.requires.0 c.loop-goal.invariant.2 (is_some _ c.is_empty.ensures c.loop-goal-test.true-raw) _ c.lowest-j.ensures, count_same c.allow-new.new.1.1.1.0 c.args.s.now (c.allow-new.auto.s ∙ c.loop-goal.invariant.0))
+    omega (arith, c.requires.0, c.requires.2, lowest_low _ _ c.requires.0 c.loop-goal.invariant.2 (is_some _ c.is_empty.ensures c.loop-goal-test.true-raw) _ c.lowest-j.ensures, count_same c.allow-new.new.s c.args.s.now (c.allow-new.auto.s ∙ c.loop-goal.invariant.0))
 
 pub without_lowest-rest-requires : goal.without_lowest-rest-requires
 without_lowest-rest-requires c =

@@ -7,7 +7,7 @@ use Rattle.barred_grow.proofs.follow.Goals as goal
 
 pub grow_rows-requires : goal.grow_rows-requires
 grow_rows-requires c =
-    (c.requires.0, omega (arith, c.requires.2, count_same c.allow_left-before.new.1.1.1.0 c.args.s.now c.allow_left-before.auto.s), c.requires.4)
+    (c.requires.0, omega (arith, c.requires.2, count_same c.allow_left-before.new.s c.args.s.now c.allow_left-before.auto.s), c.requires.4)
 
 pub shape_of-s : goal.shape_of-s
 shape_of-s c =

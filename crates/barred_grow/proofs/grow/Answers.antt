@@ -13,7 +13,7 @@ empty-requires c =
 
 pub empty-requires-2 : goal.empty-requires-2
 empty-requires-2 c =
-    (omega (arith, c.requires.1, count_same c.empty.new.0 c.args.s.now c.empty.auto.s), omega (arith, c.requires.0.input.most))
+    (omega (arith, c.requires.1, count_same c.empty.new.s c.args.s.now c.empty.auto.s), omega (arith, c.requires.0.input.most))
 
 pub below-requires : goal.below-requires
 below-requires c =
@@ -21,7 +21,7 @@ below-requires c =
 
 pub grow_rows-requires : goal.grow_rows-requires
 grow_rows-requires c =
-    (c.requires.0.input.most, omega (arith, c.requires.1, count_same c.empty-2.new.0 c.args.s.now (c.empty-2.auto.s ∙ c.empty.auto.s)), inside_moves _ c.requires.0 (bits_of c.args.goal.0))
+    (c.requires.0.input.most, omega (arith, c.requires.1, count_same c.empty-2.new.s c.args.s.now (c.empty-2.auto.s ∙ c.empty.auto.s)), inside_moves _ c.requires.0 (bits_of c.args.goal.0))
 
 pub loop-g-init : goal.loop-g-init
 loop-g-init c =

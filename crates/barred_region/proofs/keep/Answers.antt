@@ -11,11 +11,11 @@ prepare-requires c =
 
 pub free-requires : goal.free-requires
 free-requires c =
-    (c.requires.0, omega (arith, c.requires.1, count_same c.prepare.new.1.0 c.args.s.now c.prepare.auto.s), c.requires.2)
+    (c.requires.0, omega (arith, c.requires.1, count_same c.prepare.new.s c.args.s.now c.prepare.auto.s), c.requires.2)
 
 pub trim-requires : goal.trim-requires
 trim-requires c =
-    (c.requires.0, omega (arith, c.requires.1, count_same c.free.new.1.1.0 c.args.s.now (c.free.auto.s ∙ c.prepare.auto.s)), freed_within _ c.requires.0 _ _ _ c.free.ensures)
+    (c.requires.0, omega (arith, c.requires.1, count_same c.free.new.s c.args.s.now (c.free.auto.s ∙ c.prepare.auto.s)), freed_within _ c.requires.0 _ _ _ c.free.ensures)
 
 pub loop-g-init : goal.loop-g-init
 loop-g-init c =

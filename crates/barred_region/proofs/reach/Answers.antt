@@ -25,7 +25,7 @@ widen-requires c =
 
 pub grow-requires-in-loop-g : goal.grow-requires-in-loop-g
 grow-requires-in-loop-g c =
-    (c.requires.0, omega (arith, c.requires.1, count_same c.widen.new.1.0 c.args.s.now (c.widen.auto.s ∙ c.loop-g.invariant.0 ∙ c.grow.auto.s ∙ c.empty.auto.s)), widened_within _ c.requires.0 _ _ _ _ _ c.widen.ensures (reaching_within _ c.requires.0 _ _ (wider_within _ c.requires.0 _ _ _ (c.grow.ensures _) (emptied_within _ c.requires.0 _ _ c.empty.ensures c.requires.2)) _ c.loop-g.invariant.1))
+    (c.requires.0, omega (arith, c.requires.1, count_same c.widen.new.s c.args.s.now (c.widen.auto.s ∙ c.loop-g.invariant.0 ∙ c.grow.auto.s ∙ c.empty.auto.s)), widened_within _ c.requires.0 _ _ _ _ _ c.widen.ensures (reaching_within _ c.requires.0 _ _ (wider_within _ c.requires.0 _ _ _ (c.grow.ensures _) (emptied_within _ c.requires.0 _ _ c.empty.ensures c.requires.2)) _ c.loop-g.invariant.1))
 
 pub loop-g-smaller : goal.loop-g-smaller
 loop-g-smaller c =

@@ -9,7 +9,7 @@ use Rattle.barred_region.proofs.settle.Goals as goal
 pub meet-requires : goal.meet-requires
 meet-requires c =
     let most = c.requires.0.input.most in (
-      omega (arith, c.requires.1, count_same c.reach.new.1.0 c.args.s.now c.reach.auto.s),
+      omega (arith, c.requires.1, count_same c.reach.new.s c.args.s.now c.reach.auto.s),
       omega (arith, most),
       omega (arith, most),
       inr

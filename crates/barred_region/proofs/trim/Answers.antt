@@ -18,7 +18,7 @@ stay-requires c =
 pub copy-requires : goal.copy-requires
 copy-requires c =
     let most = c.requires.0.input.most in (
-      omega (arith, c.requires.1, count_same c.stay.new.1.0 c.args.s.now (c.stay.auto.s ∙ c.empty.auto.s)),
+      omega (arith, c.requires.1, count_same c.stay.new.s c.args.s.now (c.stay.auto.s ∙ c.empty.auto.s)),
       omega (arith, most),
       omega (arith, most),
       inr (omega (arith, most)),

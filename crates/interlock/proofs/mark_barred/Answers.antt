@@ -14,7 +14,7 @@ pub write_map-requires : goal.write_map-requires
 write_map-requires c =
     let F = accepted_fits _ c.requires.0 in
     let long = scratch_sets_lem c.args.scratch.now c.requires.2 in (
-      omega (arith, F.input.most, long, count_same c.keep.new.1.1.0 c.args.scratch.now c.keep.auto.s),
+      omega (arith, F.input.most, long, count_same c.keep.new.s c.args.scratch.now c.keep.auto.s),
       words_held
           c.args.map.now _ c.requires.3,
     )

@@ -22,7 +22,7 @@ pub loop-i-preserved : goal.loop-i-preserved
 loop-i-preserved c =
     (
       omega arith,
-      c.put.auto.s ∙ c.loop-i.invariant.1,
+      c.put.auto.l ∙ c.loop-i.invariant.1,
       rows_more _ _ _ c.loop-i.i c.loop-i.invariant.2 _ _ (omega (arith, c.requires.1, sets_long c.args.map.now)) c.row.ensures c.put.ensures,
       λ k. omega (arith, c.slice_known-in-loop-i-1.given k),
     )
