@@ -32,17 +32,17 @@ loop-j-preserved c =
     let more : c.loop-j.j < (requirement_at c.args.g 0).guaranteed = omega arith in
     elim c.if-settle.branch [
       | then-settle w ↦ (
-      omega arith,
-      c.settle.auto.s
-          ∙ c.loop-j.invariant.1,
-      rw w.1 (passed_less _ _ c.loop-j.j _ _ c.loop-j.invariant.2 _ _ c.settle.ensures more w.if-settle.true),
-    )
+        omega arith,
+        c.settle.auto.s
+            ∙ c.loop-j.invariant.1,
+        rw w.changed-is (passed_less _ _ c.loop-j.j _ _ c.loop-j.invariant.2 _ _ c.settle.ensures more w.if-settle.true),
+      )
       | else-settle w ↦ (
-      omega arith,
-      c.settle.auto.s
-          ∙ c.loop-j.invariant.1,
-      rw w.1 (passed_same _ _ c.loop-j.j _ _ c.loop-j.invariant.2 _ _ c.settle.ensures more w.if-settle.false),
-    )
+        omega arith,
+        c.settle.auto.s
+            ∙ c.loop-j.invariant.1,
+        rw w.changed-is (passed_same _ _ c.loop-j.j _ _ c.loop-j.invariant.2 _ _ c.settle.ensures more w.if-settle.false),
+      )
     ]
 
 pub shape_of-s : goal.shape_of-s

@@ -13,7 +13,7 @@ empty-requires c =
 
 pub grow-requires : goal.grow-requires
 grow-requires c =
-    (c.requires.0, omega (arith, c.requires.1, count_same c.empty.new.0 c.args.s.now c.empty.auto.s), (emptied_within _ c.requires.0 _ _ c.empty.ensures c.requires.2))
+    (c.requires.0, omega (arith, c.requires.1, count_same c.empty.new.s c.args.s.now c.empty.auto.s), (emptied_within _ c.requires.0 _ _ c.empty.ensures c.requires.2))
 
 pub loop-g-init : goal.loop-g-init
 loop-g-init c =

@@ -17,12 +17,11 @@ meet-requires c =
     )
 
 pub trim-requires : goal.trim-requires
-trim-requires c =
-    (
-      c.requires.0,
-      omega (arith, c.requires.1, count_same c.meet.new.0 c.args.s.now (c.meet.auto.s ∙ c.reach.auto.s)),
-      settled_within _ c.requires.0 _ _ _ _ _ c.reach.ensures c.meet.ensures c.requires.2,
-    )
+trim-requires c = (
+  c.requires.0,
+  omega (arith, c.requires.1, count_same c.meet.new.s c.args.s.now (c.meet.auto.s ∙ c.reach.auto.s)),
+  settled_within _ c.requires.0 _ _ _ _ _ c.reach.ensures c.meet.ensures c.requires.2,
+)
 
 pub returns-then-meet : goal.returns-then-meet
 returns-then-meet c =

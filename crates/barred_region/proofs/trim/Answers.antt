@@ -7,13 +7,12 @@ use Rattle.barred_region.proofs.Trimming.{emptied_within, trimmed}
 use Rattle.barred_region.proofs.trim.Goals as goal
 
 pub stay-requires : goal.stay-requires
-stay-requires c =
-    (
-      c.requires.0,
-      omega (arith, c.requires.1, count_same c.empty.new.0 c.args.s.now c.empty.auto.s),
-      emptied_within _ c.requires.0 _ _
-          c.empty.ensures c.requires.2,
-    )
+stay-requires c = (
+  c.requires.0,
+  omega (arith, c.requires.1, count_same c.empty.new.s c.args.s.now c.empty.auto.s),
+  emptied_within _ c.requires.0 _ _
+      c.empty.ensures c.requires.2,
+)
 
 pub copy-requires : goal.copy-requires
 copy-requires c =
