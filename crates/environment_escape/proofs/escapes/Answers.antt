@@ -18,7 +18,7 @@ pub leaving-requires : goal.leaving-requires
 leaving-requires c =
     let p = c.requires in
     let most = p.0.ready.fits.input.most in
-    (most, words_held _ _ (omega (arith, most, c.leaving-arg-1.given.0)))
+    (most, words_held _ _ (omega (arith, most, c.leaving-arg-1.given)))
 
 pub loop-o-init : goal.loop-o-init
 loop-o-init c = (

@@ -14,7 +14,7 @@ loop-i-init g c =
 pub map_row-k-requires : goal.map_row-k-requires
 map_row-k-requires g c =
     let known = rw (← c.requires.0) at c.requires.1 in
-    (known.0, omega arith, c.loop-i.invariant.4)
+    (refl, (known.0, omega arith, c.loop-i.invariant.4))
 
 pub put-requires : goal.put-requires
 put-requires g c =
@@ -23,10 +23,9 @@ put-requires g c =
 
 pub loop-i-preserved : goal.loop-i-preserved
 loop-i-preserved g c =
-    let known = rw (← c.requires.0) at c.requires.1 in
-    (
+    let known = rw (← c.requires.0) at c.requires.1 in (
       omega arith,
-      c.put.auto.0 ∙ c.loop-i.invariant.1,
+      c.put.auto.l ∙ c.loop-i.invariant.1,
       rows_more _ _ _ c.loop-i.i c.loop-i.invariant.2 _ _ (omega (arith, known.1, sets_long c.args.map.now)) c.map_row-k.ensures.1
           c.put.ensures,
       λ k. omega (arith, c.slice_known-in-loop-i-1.given k),

@@ -30,17 +30,21 @@ returns-then-not-fits c =
     map_short _ _ _ (sym c.accept_lent-accepted.ensures.answer ∙ c.in-Accepted.is) (sym c.fits.ensures ∙ not_true _ c.if-not-fits.true-raw)
 
 pub prepare-x-requires : goal.prepare-x-requires
-prepare-x-requires c =
-    let same = c.lay-z.ensures in (
-      fits_on same (accepted_fits _ (sym c.accept_lent-accepted.ensures.answer ∙ c.in-Accepted.is)),
-      scratch_on same (fits_scratch _ _ _ (sym c.fits.ensures ∙ not_false _ c.if-not-fits.false-raw)),
-    )
+prepare-x-requires c = (
+  refl,
+  let same = c.lay-z.ensures in (
+    fits_on same (accepted_fits _ (sym c.accept_lent-accepted.ensures.answer ∙ c.in-Accepted.is)),
+    scratch_on same (fits_scratch _ _ _ (sym c.fits.ensures ∙ not_false _ c.if-not-fits.false-raw)),
+  ),
+)
 
 pub fill_map-requires : goal.fill_map-requires
-fill_map-requires c =
-    let fits = sym c.fits.ensures ∙ not_false _ c.if-not-fits.false-raw in
-    let same = c.lay-z.ensures in
-    (c.prepare-x.ensures.ready, words_held _ _ (omega (arith, fits_room _ _ _ fits, ap (λ (y : Game). y.input.states) same)))
+fill_map-requires c = (
+  refl,
+  let fits = sym c.fits.ensures ∙ not_false _ c.if-not-fits.false-raw in
+      let same = c.lay-z.ensures in
+      (c.prepare-x.ensures.ready, words_held _ _ (omega (arith, fits_room _ _ _ fits, ap (λ (y : Game). y.input.states) same))),
+)
 
 pub length-requires : goal.length-requires
 length-requires c =

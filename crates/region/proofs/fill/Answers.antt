@@ -1,4 +1,5 @@
 -- `fill`. Invariant: the rows of the inputs that are not left stand.
+use mathlib.Core.Path.{refl}
 use Rattle.sets.proofs.Rows.{is_some, is_none}
 use Rattle.region_rows.proofs.Order.{kept_none, kept_more, filling_done}
 use Rattle.region.proofs.Parts.{filling_first}
@@ -18,7 +19,7 @@ pub fill_component-left-requires : goal.fill_component-left-requires
 fill_component-left-requires g c =
     let known = rw (← c.requires.0) at c.requires.1 in
     let p = known in
-    (c.loop-z.invariant.0, p.3, is_some _ c.is_empty.ensures c.loop-z-test.true-raw)
+    (refl, (c.loop-z.invariant.0, p.3, is_some _ c.is_empty.ensures c.loop-z-test.true-raw))
 
 pub loop-z-smaller : goal.loop-z-smaller
 loop-z-smaller g c =

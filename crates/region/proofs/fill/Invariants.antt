@@ -6,6 +6,9 @@ use Rattle.board.specs.Board.{game_on}
 use Rattle.region_rows.specs.Fill.{Filling, PastKept}
 use Rattle.region.proofs.fill.Given as goal
 
+abbrev pub ghost-fill_component : goal.ghost-fill_component
+ghost-fill_component g a = game_on a.z a.b.now
+
 abbrev pub invariant-loop-z : goal.invariant-loop-z
 invariant-loop-z g l = Filling (game_on l.z l.b) l.x l.s (bits_of l.left.0) × PastKept (game_on l.z l.b) l.initial.s l.s
 

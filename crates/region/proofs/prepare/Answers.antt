@@ -1,4 +1,5 @@
 -- `prepare` works out the closures, then the components, then the rows.
+use mathlib.Core.Path.{refl}
 use Rattle.region.proofs.Parts.{kept_words}
 use native.Mathlib.Omega.{arith}
 use Rattle.region.proofs.prepare.Goals as goal
@@ -7,14 +8,16 @@ pub served-requires : goal.served-requires
 served-requires g c =
     let known = rw (← c.requires.0) at c.requires.1 in
     let p = known in
-    (p.0, c.close.ensures.0)
+    (refl, (p.0, c.close.ensures.0))
 
 pub fill-requires : goal.fill-requires
 fill-requires g c =
     let known = rw (← c.requires.0) at c.requires.1 in
-    let p = known in
-    let L = c.close.ensures.0 in
-    (p.0, L, c.nontrivial_states-x.ensures, c.served.ensures)
+    let p = known in (
+      refl,
+      let L = c.close.ensures.0 in
+          (p.0, L, c.nontrivial_states-x.ensures, c.served.ensures),
+    )
 
 pub returns : goal.returns
 returns g c =
