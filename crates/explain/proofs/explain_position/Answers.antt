@@ -9,7 +9,8 @@ pub lay-z-requires : goal.lay-z-requires
 lay-z-requires c = refl
 
 pub prepare-x-requires : goal.prepare-x-requires
-prepare-x-requires c = search (rules, fits_on, scratch_on)
+prepare-x-requires c =
+    (refl, search (rules, fits_on, scratch_on))
 
 pub find-r-requires : goal.find-r-requires
 find-r-requires c =

@@ -32,12 +32,11 @@ bounds-grounds-p c = omega (arith, c.requires.2)
 
 pub loop-p-preserved : goal.loop-p-preserved
 unfolding position_entry
-loop-p-preserved c =
-    (
-      omega arith,
-      simp length-set c.loop-p.invariant.1,
-      rows_more _ _ _ c.loop-p.p c.loop-p.invariant.2 _ _ (omega (arith, c.requires.2)) c.position_entry-e.ensures refl,
-    )
+loop-p-preserved c = (
+  omega arith,
+  simp length-set c.loop-p.invariant.1,
+  rows_more _ _ _ c.loop-p.p c.loop-p.invariant.2 _ _ (omega (arith, c.requires.2)) c.position_entry-e.ensures refl,
+)
 
 pub shape_of-grounds : goal.shape_of-grounds
 shape_of-grounds c = c.loop-p.invariant.1

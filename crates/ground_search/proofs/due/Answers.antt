@@ -14,14 +14,14 @@ pub returns-then-not-meets : goal.returns-then-not-meets
 unfolding due_in in_meets in_meets_at
 returns-then-not-meets c =
     let a = c.args in
-    all_stop _ c.loop-j.j (in_meets_at (requirement_at a.t1 a.r) (bits_of a.a.0)) (omega arith) (failed c.meets.ensures c.if-not-meets.true-raw)
+    all_stop _ c.loop-j.j (in_meets_at (requirement_at a.g a.r) (bits_of a.a.0)) (omega arith) (failed c.meets.ensures c.if-not-meets.true-raw)
 
 pub loop-j-preserved : goal.loop-j-preserved
 unfolding due_in in_meets in_meets_at
 loop-j-preserved c =
     let a = c.args in
     let met = passed c.meets.ensures c.if-not-meets.false-raw in
-    (c.loop-j.invariant.0, omega arith, all_turn c.loop-j.j (in_meets_at (requirement_at a.t1 a.r) (bits_of a.a.0)) c.loop-j.invariant.2 met)
+    (c.loop-j.invariant.0, omega arith, all_turn c.loop-j.j (in_meets_at (requirement_at a.g a.r) (bits_of a.a.0)) c.loop-j.invariant.2 met)
 
 pub returns : goal.returns
 unfolding due_in in_meets in_meets_at
