@@ -77,11 +77,10 @@ loop-o-preserved c =
     )
 
 pub approach-requires : goal.approach-requires
-approach-requires c =
-    (
-      fits_same _ _ _ c.loop-o.invariant.1.grows.long (laid_fits _ _ _ _ c.requires.1 c.layout_of-z.ensures),
-      gated_within _ _ _ c.layout_of-z.ensures c.loop-o.invariant.3,
-    )
+approach-requires c = (
+  fits_same _ _ _ c.loop-o.invariant.1.grows.long (laid_fits _ _ _ _ c.requires.1 c.layout_of-z.ensures),
+  gated_within _ _ _ c.layout_of-z.ensures c.loop-o.invariant.3,
+)
 
 pub shape_of-room : goal.shape_of-room
 shape_of-room c =
