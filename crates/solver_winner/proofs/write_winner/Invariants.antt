@@ -2,5 +2,5 @@
 use Rattle.board.specs.Board.{game_on}
 use Rattle.solver_winner.proofs.write_winner.Given as goal
 
-abbrev pub ghost-prepare-x : goal.ghost-prepare-x
-ghost-prepare-x a = game_on a.z a.b.now
+abbrev pub ghost-prepare : goal.ghost-prepare
+ghost-prepare a = game_on a.z a.b.now
