@@ -13,7 +13,7 @@ use catalogue_tally::{Outcome, Tally};
 use files::{Front, STDERR_FILENO, STDOUT_FILENO, Written};
 use prints::ROOM;
 use std::fs::File;
-use std::rt::Stdin;
+use std::rt::{Stdin, Stdout};
 
 // How many bytes of a list and of a print there is place for.
 const LIST: usize = 262144;
@@ -52,13 +52,15 @@ fn tell_unread(read: bool) {
     }
 }
 
-// The same of the figures: they were not written whole.
-fn tell_unwritten(written: bool) {
+// The same of the figures: they were not written whole, though somebody may read them.
+fn tell_unwritten(output: &mut Stdout, written: bool) {
     if !written {
-        io::write_all(
-            STDERR_FILENO,
-            b"catalogue: standard output cannot be written\n",
-        );
+        if !files::is_unread(output) {
+            io::write_all(
+                STDERR_FILENO,
+                b"catalogue: standard output cannot be written\n",
+            );
+        }
     }
 }
 
@@ -263,5 +265,5 @@ fn main(rt: HostRuntime) {
     let k = fill_list(&mut input, &mut list);
     let n = put_answer(&rt, &mut buffer, &list, k, &mut controller, &mut panel);
     let w = print_front(&list, k, &buffer, n);
-    tell_unwritten(files::written_whole(w));
+    tell_unwritten(&mut rt.stdout(), files::written_whole(w));
 }

@@ -4,7 +4,7 @@
 ghost use Rattle.std.specs.Prelude.{◌≡◌, ◌≤◌, length};
 ghost use Rattle.files.specs.Front.{Within};
 
-use std::io::{IsTerminal, Read};
+use std::io::{ErrorKind, IsTerminal, Read, Write};
 
 // Where what is printed goes, and what is said beside it.
 pub const STDOUT_FILENO: i32 = 1;
@@ -99,6 +99,14 @@ pub fn written_whole(w: Written) -> bool
     ensures { result ≡ w.whole }
 {
     w.whole
+}
+
+// Whether nobody reads any more what goes to a pipe: one more byte is refused for that reason. Asked only after a write that failed.
+pub fn is_unread<W: Write>(out: &mut W) -> bool {
+    match out.write(b"\n") {
+        Ok(_) => false,
+        Err(e) => e.kind() == ErrorKind::BrokenPipe,
+    }
 }
 
 // Whether a person is typing.

@@ -15,16 +15,18 @@ ghost use Rattle.solve.specs.Printed.{print_bytes, Printed, Goes};
 use files::{Front, STDERR_FILENO, STDOUT_FILENO, Written};
 use game::Game;
 use prints::ROOM;
-use std::rt::Stdin;
+use std::rt::{Stdin, Stdout};
 use text::Answer;
 
 // How many bytes of a print there is place for.
 const PRINT: usize = 1048576;
 
-// Says on standard error that the print was not written whole. A program has no status to say so with.
-fn tell_unwritten(written: bool) {
+// Says on standard error that the print was not written whole, but not where nobody reads it any more. A program has no status to say so with.
+fn tell_unwritten(output: &mut Stdout, written: bool) {
     if !written {
-        io::write_all(STDERR_FILENO, b"solve: standard output cannot be written\n");
+        if !files::is_unread(output) {
+            io::write_all(STDERR_FILENO, b"solve: standard output cannot be written\n");
+        }
     }
 }
 
@@ -162,5 +164,5 @@ fn main(rt: HostRuntime) {
     let f = files::read(&mut input);
     tell_unread(files::read_whole(f));
     let w = show(f);
-    tell_unwritten(files::written_whole(w));
+    tell_unwritten(&mut rt.stdout(), files::written_whole(w));
 }

@@ -10,11 +10,10 @@ returns-then-refusal-ne0 c =
     c.requires c.if-refusal-ne0.true c.put_refused.ensures
 
 pub put_system-requires : goal.put_system-requires
-put_system-requires c =
-    (
-      c.requires,
-      part_short _ _ _ c.solve-table.ensures (omega (arith, c.empty_room-controller.ensures)) (omega (arith, c.empty_room-panel.ensures)),
-    )
+put_system-requires c = (
+  c.requires,
+  part_short _ _ _ c.solve-table.ensures (omega (arith, c.empty_room-controller.ensures)) (omega (arith, c.empty_room-panel.ensures)),
+)
 
 pub returns-then-system_wins : goal.returns-then-system_wins
 returns-then-system_wins c =
@@ -22,11 +21,10 @@ returns-then-system_wins c =
     c.requires c.if-refusal-ne0.false c.if-system_wins.true c.put_system.ensures
 
 pub put_panel-requires : goal.put_panel-requires
-put_panel-requires c =
-    (
-      c.requires,
-      part_short _ _ _ c.solve-table.ensures (omega (arith, c.empty_room-controller.ensures)) (omega (arith, c.empty_room-panel.ensures)),
-    )
+put_panel-requires c = (
+  c.requires,
+  part_short _ _ _ c.solve-table.ensures (omega (arith, c.empty_room-controller.ensures)) (omega (arith, c.empty_room-panel.ensures)),
+)
 
 pub returns : goal.returns
 returns c =
