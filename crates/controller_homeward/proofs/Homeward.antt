@@ -377,6 +377,7 @@ module _ (g : Game) (z : Size) (s : List ℕ) (inner : ℕ) (G : Given g z s inn
       inputs = λ j h. I.inputs j (and_left (has x j) (not (has group j)) (sym (d j) ∙ h));
       filled =
           filled_part (separated_of g) z
+          {P = λ o c j. (Away (separated_of g) w.state.0 o c j × (has x j ≡ false)) ⊎ (Away (separated_of g) w.state.0 o c j × (has group j ≡ true))}
           (λ o c j lo lc lj p.
           elim (decide (has x j)) [
             | inl a ↦ inr (p.0, taken j a p.1)

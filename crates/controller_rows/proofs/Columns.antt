@@ -114,13 +114,17 @@ module _ (z : Size) (e : z.width ≡ count z.inputs (leading z)) (x : ℕ) where
           here = ap (has x) (ap (input_of z) A.is ∙ column_input z e j l h) ∙ sym o
 
           new : (y : Bool) → ((false && y) || (ok && true)) ≡ (true && ok)
-          new y = elim ok [ true ↦ refl | false ↦ refl ]
+          new y = elim ok as (λ k. ((false && y) || (k && true)) ≡ (true && k)) [ true ↦ refl | false ↦ refl ]
 
           old : (y : Bool) → ((true && y) || (ok && false)) ≡ (true && y)
-          old y = elim ok [ true ↦ elim y [ true ↦ refl | false ↦ refl ] | false ↦ elim y [ true ↦ refl | false ↦ refl ] ]
+          old y =
+              elim ok as (λ k. ((true && y) || (k && false)) ≡ (true && y)) [
+                | true ↦ elim y as (λ u. ((true && u) || (true && false)) ≡ (true && u)) [ true ↦ refl | false ↦ refl ]
+                | false ↦ elim y as (λ u. ((true && u) || (false && false)) ≡ (true && u)) [ true ↦ refl | false ↦ refl ]
+              ]
 
           past : (y : Bool) → ((false && y) || (ok && false)) ≡ (false && y)
-          past y = elim ok [ true ↦ refl | false ↦ refl ]
+          past y = elim ok as (λ k. ((false && y) || (k && false)) ≡ (false && y)) [ true ↦ refl | false ↦ refl ]
 
           apart : (k : ℕ) → Dec (k ≡ b) → (k ≡ b → ⊥) → eqb k b ≡ false
           apart k d n = elim (decide (eqb k b)) [ inl t ↦ absurd (n (eqb-true k b t)) | inr t ↦ t ]

@@ -29,27 +29,25 @@ out_component-component-requires c =
     (t.inputs, t.outputs, c.requires.1, scratch_long c.requires.0, rw (Z.inputs, Z.outputs) (out_transitive c.requires.0.ready.laid))
 
 pub approach-requires : goal.approach-requires
-approach-requires c =
-    (
-      c.requires.0,
-      home_given c.args.g c.args.z c.args.s.now (bits_of c.args.c.0) c.requires.0 c.args.d.0 c.requires.1 c.inputs_with_home-inputs.result
-          c.inputs_with_home-inputs.ensures _ (some _ c.is_empty.ensures c.if-is_empty.false) c.out_component-component.ensures,
-      c.requires.2,
-      c.requires.4,
-      c.requires.6,
-    )
+approach-requires c = (
+  c.requires.0,
+  home_given c.args.g c.args.z c.args.s.now (bits_of c.args.c.0) c.requires.0 c.args.d.0 c.requires.1 c.inputs_with_home-inputs.result
+      c.inputs_with_home-inputs.ensures _ (some _ c.is_empty.ensures c.if-is_empty.false) c.out_component-component.ensures,
+  c.requires.2,
+  c.requires.4,
+  c.requires.6,
+)
 
 pub tour-requires : goal.tour-requires
-tour-requires c =
-    (
-      c.requires.0.sized,
-      home_given c.args.g c.args.z c.args.s.now (bits_of c.args.c.0) c.requires.0 c.args.d.0 c.requires.1
-          c.inputs_with_home-inputs.result c.inputs_with_home-inputs.ensures _ (some _ c.is_empty.ensures c.if-is_empty.false) c.out_component-component.ensures,
-      omega (arith, c.requires.2, c.approach.ensures.long),
-      c.requires.3,
-      c.requires.4,
-      c.requires.5,
-    )
+tour-requires c = (
+  c.requires.0.sized,
+  home_given c.args.g c.args.z c.args.s.now (bits_of c.args.c.0) c.requires.0 c.args.d.0 c.requires.1
+      c.inputs_with_home-inputs.result c.inputs_with_home-inputs.ensures _ (some _ c.is_empty.ensures c.if-is_empty.false) c.out_component-component.ensures,
+  omega (arith, c.requires.2, c.approach.ensures.long),
+  c.requires.3,
+  c.requires.4,
+  c.requires.5,
+)
 
 pub returns : goal.returns
 returns c =

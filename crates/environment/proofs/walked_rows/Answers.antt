@@ -15,13 +15,12 @@ component_rows-ahead-requires c =
     (p.0, roomy_more _ p.1 c.loop-i.invariant.1, c.loop-i-test.true, p.2, p.3, p.4, p.5, c.loop-i.invariant.2)
 
 pub loop-i-preserved : goal.loop-i-preserved
-loop-i-preserved c =
-    (
-      omega arith,
-      filled_join _ c.loop-i.invariant.1 c.component_rows-ahead.ensures.0
-          (λ a h b' x y z p. below_next (number _ a) c.loop-i.i p.0 (λ q. (q, p.1)) (λ q. (q, p.1))),
-      c.component_rows-ahead.ensures.1,
-    )
+loop-i-preserved c = (
+  omega arith,
+  filled_join _ c.loop-i.invariant.1 c.component_rows-ahead.ensures.0
+      (λ a h b' x y z p. below_next (number _ a) c.loop-i.i p.0 (λ q. (q, p.1)) (λ q. (q, p.1))),
+  c.component_rows-ahead.ensures.1,
+)
 
 pub shape_of-room : goal.shape_of-room
 shape_of-room c = c.loop-i.invariant.1.grows.long

@@ -12,7 +12,7 @@ use Rattle.environment.proofs.walked_rows.Given as goal
 
 abbrev pub invariant-loop-i : goal.invariant-loop-i
 invariant-loop-i l =
-    (l.i ≤ l.n) × EnvironmentFilled l.g (λ a h b. (number (graph_of l.g.input) a < l.i) × (plain l.g a l.b ≡ false)) l.initial.room l.room × Ahead l.g l.i (bits_of l.ahead.0)
+    (l.i ≤ l.n) × EnvironmentFilled l.g (λ a h b. (number (graph_of l.g.input) a < l.i) × (plain l.g a b ≡ false)) l.initial.room l.room × Ahead l.g l.i (bits_of l.ahead.0)
 
 abbrev pub decreases-loop-i : goal.decreases-loop-i
 decreases-loop-i l = l.n - l.i

@@ -18,7 +18,7 @@ pub leaving-requires : goal.leaving-requires
 leaving-requires c =
     let p = c.requires in
     let most = p.0.ready.fits.input.most in
-    (most, words_held _ _ (omega (arith, most, c.leaving-arg-1.given.0)))
+    (most, words_held _ _ (omega (arith, most, c.leaving-arg-1.given)))
 
 pub loop-o-init : goal.loop-o-init
 loop-o-init c = (
@@ -56,7 +56,6 @@ overflow_add-o c =
     omega (arith, c.loop-o-test.true, c.requires.0.ready.fits.output.most)
 
 pub loop-o-preserved : goal.loop-o-preserved
-unfolding pressed
 loop-o-preserved c =
     let pressed : let a = c.args in EscapeFits c.layout_of-z.result (sets_in a.ins.now) a.s.now (bits_of a.inner.0) (bits_of a.c.0) (bits_of c.leaving.result) a.first.0 c.loop-o.o (bits_of c.row_of.result) (length c.loop-o.room) = record {
       game = c.args.g;
@@ -77,11 +76,10 @@ loop-o-preserved c =
     )
 
 pub approach-requires : goal.approach-requires
-approach-requires c =
-    (
-      fits_same _ _ _ c.loop-o.invariant.1.grows.long (laid_fits _ _ _ _ c.requires.1 c.layout_of-z.ensures),
-      gated_within _ _ _ c.layout_of-z.ensures c.loop-o.invariant.3,
-    )
+approach-requires c = (
+  fits_same _ _ _ c.loop-o.invariant.1.grows.long (laid_fits _ _ _ _ c.requires.1 c.layout_of-z.ensures),
+  gated_within _ _ _ c.layout_of-z.ensures c.loop-o.invariant.3,
+)
 
 pub shape_of-room : goal.shape_of-room
 shape_of-room c =

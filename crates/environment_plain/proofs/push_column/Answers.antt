@@ -35,7 +35,7 @@ pub push_rows-requires : goal.push_rows-requires
 push_rows-requires c =
     let p = c.requires in
     let moves = c.row_of.ensures.1 ∙ ap (λ (l : List ℕ). get_or (sets_in l) c.args.o.0 0) p.5 in
-    (p.1, pushes_of _ _ _ p.0 _ _ p.2 p.3 _ l.lost.ensures moves c.refused-y.ensures, p.4)
+    (p.1, pushes_of _ _ _ p.0 _ _ p.2 p.3 _ c.lost-which.ensures moves c.refused-y.ensures, p.4)
 
 pub returns : goal.returns
 returns c =

@@ -22,12 +22,11 @@ insert_if-x-requires c =
     omega (arith, c.requires.0.inputs, c.loop-j-test.true)
 
 pub loop-j-preserved : goal.loop-j-preserved
-loop-j-preserved c =
-    (
-      omega arith,
-      collect_next _ c.loop-j.j (bits_of c.loop-j.x) (bits_of c.insert_if-x.result) _
-          c.loop-j.invariant.1 (refused_at_lem _ _ _ _ _ _ c.some_won.ensures) c.insert_if-x.ensures,
-    )
+loop-j-preserved c = (
+  omega arith,
+  collect_next _ c.loop-j.j (bits_of c.loop-j.x) (bits_of c.insert_if-x.result) _
+      c.loop-j.invariant.1 (refused_at_lem _ _ _ _ _ _ c.some_won.ensures) c.insert_if-x.ensures,
+)
 
 pub returns : goal.returns
 returns c = collect_end _ c.loop-j.j _ _ (omega arith) (omega arith) c.loop-j.invariant.1

@@ -1,4 +1,5 @@
 -- `put_rank` writes the lowest place that is left, until none is.
+use Prim.Native.Nat.{◌+◌}
 use Rattle.finite.specs.Bounded.{count}
 use Rattle.bits.specs.Member.{has}
 use Rattle.sets.specs.Words.{capacity, bits_of}

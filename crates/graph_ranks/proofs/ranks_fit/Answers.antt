@@ -1,11 +1,11 @@
 -- `ranks_fit` reads the next rank for the members of each component that it meets.
-use mathlib.Core.Logic.{⊎_elim}
 use native.Mathlib.Omega.{arith}
 use Rattle.game.proofs.Laws.{accepted_fits}
 use Rattle.graph_ranks.proofs.Ranks.{reading_start}
 use Rattle.graph_ranks.proofs.Walk.{walked_start, walked_small, walked_rank, walked_next, walked_skip, around_ready, members_fit}
 use Rattle.graph_ranks.proofs.Walk.{read_next, read_skip, read_end, read_fails}
 use Rattle.graph_ranks.proofs.ranks_fit.Goals as goal
+use Rattle.graph_ranks.proofs.ranks_fit.Goals.{then-member+else-not-ranked, else-member}
 
 pub crossed-places-requires : goal.crossed-places-requires
 crossed-places-requires c = (accepted_fits _ c.requires.0).input.most
@@ -50,13 +50,13 @@ loop-j-preserved c =
     let k = c.loop-j-test.true in
     let e = c.member.ensures in
     let table = c.args.table.now in
-    ⊎_elim
-    (λ w. rw (w.7, w.8) (
-      walked_next v.0 k e w.0.taken w.3.ensures _ w.6.ensures,
-      read_next v.0 k e w.0.taken w.3.ensures table v.1 w.4.ensures w.5.left,
-    ))
-    (λ w. rw (w.1, w.2) (walked_skip v.0 k e w.0.left, read_skip v.0 k e w.0.left table v.1))
-    c.if-member.branch
+    elim c.if-member.branch [
+      | then-member+else-not-ranked w ↦ rw (w.left-is, w.rank-is) (
+        walked_next v.0 k e w.if-member.true w.around-c.ensures _ w.difference-left.ensures,
+        read_next v.0 k e w.if-member.true w.around-c.ensures table v.1 w.ranked.ensures w.if-not-ranked.false-raw,
+      )
+      | else-member w ↦ rw (w.left-is, w.rank-is) (walked_skip v.0 k e w.if-member.false, read_skip v.0 k e w.if-member.false table v.1)
+    ]
 
 pub returns : goal.returns
 returns c = read_end _ c.loop-j.j _ c.loop-j-test.false c.loop-j.invariant.1

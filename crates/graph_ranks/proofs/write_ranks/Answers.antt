@@ -1,11 +1,11 @@
 -- `write_ranks` writes the next rank for the members of each component that it meets.
-use mathlib.Core.Logic.{⊎_elim}
 use native.Mathlib.Omega.{arith}
 use Rattle.game.proofs.Laws.{accepted_fits}
 use Rattle.graph_ranks.proofs.Ranks.{ranking_start}
 use Rattle.graph_ranks.proofs.Walk.{walked_start, walked_small, walked_rank, walked_next, walked_skip, around_ready, members_fit}
 use Rattle.graph_ranks.proofs.Walk.{written_next, written_skip, written_end}
 use Rattle.graph_ranks.proofs.write_ranks.Goals as goal
+use Rattle.graph_ranks.proofs.write_ranks.Goals.{then-member, else-member}
 
 pub crossed-places-requires : goal.crossed-places-requires
 crossed-places-requires c = (accepted_fits _ c.requires.0).input.most
@@ -45,13 +45,13 @@ loop-j-preserved c =
     let v = c.loop-j.invariant in
     let k = c.loop-j-test.true in
     let e = c.member.ensures in
-    ⊎_elim
-    (λ w. rw (w.9, w.10, w.11) (
-      walked_next v.0 k e w.0.taken w.3.ensures _ w.8.ensures,
-      written_next v.0 k e w.0.taken w.3.ensures v.1 w.5.ensures,
-    ))
-    (λ w. rw (w.1, w.2, w.3) (walked_skip v.0 k e w.0.left, written_skip v.0 k e w.0.left v.1))
-    c.if-member.branch
+    elim c.if-member.branch [
+      | then-member w ↦ rw (w.room-is, w.left-is, w.rank-is) (
+        walked_next v.0 k e w.if-member.true w.around-c.ensures _ w.difference-left.ensures,
+        written_next v.0 k e w.if-member.true w.around-c.ensures v.1 w.put_rank.ensures,
+      )
+      | else-member w ↦ rw (w.room-is, w.left-is, w.rank-is) (walked_skip v.0 k e w.if-member.false, written_skip v.0 k e w.if-member.false v.1)
+    ]
 
 pub shape_of-room : goal.shape_of-room
 shape_of-room c = c.loop-j.invariant.1.long

@@ -28,15 +28,15 @@ returns-in-System c =
 
 pub shape_of-scratch-in-Environment : goal.shape_of-scratch-in-Environment
 shape_of-scratch-in-Environment c =
-    c.solve_into-answer.auto.1.0
+    c.solve_into-answer.auto.scratch
 
 pub shape_of-controller-in-Environment : goal.shape_of-controller-in-Environment
 shape_of-controller-in-Environment c =
-    c.solve_into-answer.auto.1.1.0
+    c.solve_into-answer.auto.controller
 
 pub shape_of-panel-in-Environment : goal.shape_of-panel-in-Environment
 shape_of-panel-in-Environment c =
-    c.solve_into-answer.auto.1.1.1.0
+    c.solve_into-answer.auto.panel
 
 pub returns-in-Environment : goal.returns-in-Environment
 returns-in-Environment c =
@@ -44,15 +44,15 @@ returns-in-Environment c =
 
 pub shape_of-scratch-in-Refused : goal.shape_of-scratch-in-Refused
 shape_of-scratch-in-Refused c =
-    c.solve_into-answer.auto.1.0
+    c.solve_into-answer.auto.scratch
 
 pub shape_of-controller-in-Refused : goal.shape_of-controller-in-Refused
 shape_of-controller-in-Refused c =
-    c.solve_into-answer.auto.1.1.0
+    c.solve_into-answer.auto.controller
 
 pub shape_of-panel-in-Refused : goal.shape_of-panel-in-Refused
 shape_of-panel-in-Refused c =
-    c.solve_into-answer.auto.1.1.1.0
+    c.solve_into-answer.auto.panel
 
 pub returns-in-Refused : goal.returns-in-Refused
 returns-in-Refused c =

@@ -4,15 +4,15 @@ use Rattle.nanpuwiq.proofs.nanpuwiq_solve.Goals as goal
 
 pub shape_of-scratch : goal.shape_of-scratch
 shape_of-scratch c =
-    c.solve_into.auto.1.0
+    c.solve_into.auto.scratch
 
 pub shape_of-controller : goal.shape_of-controller
 shape_of-controller c =
-    c.solve_into.auto.1.1.0
+    c.solve_into.auto.controller
 
 pub shape_of-panel : goal.shape_of-panel
 shape_of-panel c =
-    c.solve_into.auto.1.1.1.0
+    c.solve_into.auto.panel
 
 pub returns : goal.returns
 returns c =

@@ -22,12 +22,11 @@ pub overflow_add-j : goal.overflow_add-j
 overflow_add-j c = omega (arith, c.requires.places)
 
 pub loop-j-preserved : goal.loop-j-preserved
-loop-j-preserved c =
-    (
-      omega arith,
-      met_next _ _ _ c.loop-j.j _ _ _ c.loop-j-test.true c.loop-j.invariant.1 c.meets.ensures
-          c.insert_if-m.ensures,
-    )
+loop-j-preserved c = (
+  omega arith,
+  met_next _ _ _ c.loop-j.j _ _ _ c.loop-j-test.true c.loop-j.invariant.1 c.meets.ensures
+      c.insert_if-m.ensures,
+)
 
 pub returns : goal.returns
 returns c = met_end _ _ _ c.loop-j.j _ _ (omega arith) (omega arith) c.loop-j.invariant.1

@@ -14,13 +14,12 @@ overflow_add-n c =
 
 pub loop-r-preserved : goal.loop-r-preserved
 unfolding guarantee_side
-loop-r-preserved c =
-    (
-      omega arith,
-      c.loop-r.invariant.1,
-      omega (arith, guaranteed_few _ c.requires c.loop-r.r c.loop-r-test.true),
-      below_more guarantee_side guarantees_listed _ c.loop-r.r c.loop-r.n c.loop-r.invariant.3,
-    )
+loop-r-preserved c = (
+  omega arith,
+  c.loop-r.invariant.1,
+  omega (arith, guaranteed_few _ c.requires c.loop-r.r c.loop-r-test.true),
+  below_more guarantee_side guarantees_listed _ c.loop-r.r c.loop-r.n c.loop-r.invariant.3,
+)
 
 pub returns : goal.returns
 unfolding guarantee_side all_sets guarantees

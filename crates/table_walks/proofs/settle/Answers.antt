@@ -1,7 +1,7 @@
 -- `settle` tries the lowest state that is left to try, until none is. Invariant: what the low states left holds of the states that are left.
 use Prim.Native.Nat.{◌<◌}
 use mathlib.Core.Path.{ap}
-use mathlib.Core.Logic.{⊎_elim, ◌≢◌}
+use mathlib.Core.Logic.{◌≢◌}
 use native.Mathlib.Omega.{arith}
 use Rattle.sets.specs.Words.{capacity, bits_of}
 use Rattle.sets.proofs.Rows.{is_none, is_some}
@@ -9,6 +9,7 @@ use Rattle.table_layout.proofs.Places.{fits_same}
 use Rattle.table_walks.proofs.Trying.{try_small, try_in, try_below, trying_falls, trying_hit, trying_miss, trying_end}
 use Rattle.table_walks.proofs.Stamping.{settling_small}
 use Rattle.table_walks.proofs.settle.Goals as goal
+use Rattle.table_walks.proofs.settle.Goals.{then-not-is_empty, else-not-is_empty}
 
 pub loop-z-init : goal.loop-z-init
 loop-z-init c = λ x h. h
@@ -60,12 +61,12 @@ loop-z-preserved c =
     let more = some_left in
     let chosen = c.choices-moves.ensures in
     let tested = c.is_empty-in-loop-z.ensures in
-    ⊎_elim
-    (λ v x h. trying_hit _ _ _ _ _ _ (c.loop-z.invariant x h) more c.lowest-t.ensures _ c.without_lowest-rest.ensures chosen
-    (is_some _ tested v.0.taken) v.2.ensures v.6.ensures v.3.ensures v.7 (ap bits_of v.8))
-    (λ v x h. trying_miss _ _ _ _ _ _ (c.loop-z.invariant x h) more c.lowest-t.ensures _ c.without_lowest-rest.ensures chosen
-    (is_none _ tested v.0.left) v.1 (ap bits_of v.2))
-    c.if-not-is_empty.branch
+    elim c.if-not-is_empty.branch [
+      | then-not-is_empty v ↦ λ x h. trying_hit _ _ _ _ _ _ (c.loop-z.invariant x h) more c.lowest-t.ensures _ c.without_lowest-rest.ensures chosen
+          (is_some _ tested v.if-not-is_empty.true-raw) v.prefer.ensures v.insert-settled.ensures v.write_move.ensures v.room-is (ap bits_of v.settled-is)
+      | else-not-is_empty v ↦ λ x h. trying_miss _ _ _ _ _ _ (c.loop-z.invariant x h) more c.lowest-t.ensures _ c.without_lowest-rest.ensures chosen
+          (is_none _ tested v.if-not-is_empty.false-raw) v.room-is (ap bits_of v.settled-is)
+    ]
 
 pub shape_of-room : goal.shape_of-room
 shape_of-room c =

@@ -1,7 +1,7 @@
 -- `settle_low` tries the lowest state that is left to try, until it is not low.
 use Prim.Native.Nat.{◌<◌}
 use mathlib.Core.Path.{sym, ◌∙◌, ap}
-use mathlib.Core.Logic.{⊎_elim, ◌≢◌}
+use mathlib.Core.Logic.{◌≢◌}
 use native.Mathlib.Omega.{arith}
 use borrow.Author.Tests.{ltb-true}
 use Rattle.finite.specs.Bounded.{least}
@@ -13,6 +13,7 @@ use Rattle.table_layout.proofs.Places.{fits_same}
 use Rattle.table_walks.proofs.Trying.{trying_start, trying_passed, try_small, try_in, try_below, trying_falls, trying_hit, trying_miss}
 use Rattle.table_walks.proofs.Stamping.{settling_small}
 use Rattle.table_walks.proofs.settle_low.Goals as goal
+use Rattle.table_walks.proofs.settle_low.Goals.{then-not-is_empty, else-not-is_empty}
 
 pub below-requires : goal.below-requires
 below-requires c = omega (arith, c.requires.0.states)
@@ -84,12 +85,12 @@ loop-z-preserved c =
     let chosen = c.choices-open.ensures in
     let tested = c.is_empty.ensures in
     trying_passed _ _ _ _ _ _ _
-    (⊎_elim
-    (λ v. trying_hit _ _ _ _ _ _ c.loop-z.invariant more c.lowest_low-s.ensures _ c.without_lowest_low.ensures chosen
-    (is_some _ tested v.0.taken) v.2.ensures v.6.ensures v.3.ensures v.7 (ap bits_of v.8))
-    (λ v. trying_miss _ _ _ _ _ _ c.loop-z.invariant more c.lowest_low-s.ensures _ c.without_lowest_low.ensures chosen
-    (is_none _ tested v.0.left) v.1 (ap bits_of v.2))
-    c.if-not-is_empty.branch)
+    (elim c.if-not-is_empty.branch [
+      | then-not-is_empty v ↦ trying_hit _ _ _ _ _ _ c.loop-z.invariant more c.lowest_low-s.ensures _ c.without_lowest_low.ensures chosen
+          (is_some _ tested v.if-not-is_empty.true-raw) v.prefer.ensures v.insert-settled.ensures v.write_move.ensures v.room-is (ap bits_of v.settled-is)
+      | else-not-is_empty v ↦ trying_miss _ _ _ _ _ _ c.loop-z.invariant more c.lowest_low-s.ensures _ c.without_lowest_low.ensures chosen
+          (is_none _ tested v.if-not-is_empty.false-raw) v.room-is (ap bits_of v.settled-is)
+    ])
     c.pass_over-rest-in-loop-z.ensures c.intersection-near.ensures c.requires.2
 
 pub shape_of-room : goal.shape_of-room

@@ -2,7 +2,6 @@
 use Prim.Native.Nat.{ℕ, ◌<◌}
 use mathlib.Core.Path.{◌≡◌, sym, ◌∙◌}
 use mathlib.Core.List.{List}
-use mathlib.Core.Logic.{⊎_elim}
 use native.Mathlib.Omega.{arith}
 use Rattle.bits.specs.Member.{has}
 use Rattle.sets.specs.Words.{bits_of, sets_in}
@@ -15,6 +14,7 @@ use Rattle.controller_rows.proofs.Each.{each_end}
 use Rattle.controller_rows.proofs.Columns.{column_none, column_hit, column_miss, column_below}
 use Rattle.controller_rows.proofs.Writes.{table_long, width_few, long_plain, plain_none, plain_led, plain_other, settled_told}
 use Rattle.controller_opening.proofs.unsettled.plain.Goals as goal
+use Rattle.controller_opening.proofs.unsettled.plain.Goals.{then-member, else-member}
 
 -- x tells of each input whether one of its homes is in reach, k being the inputs in nontrivial components
 abbrev Told : List ℕ → Size → ℕ → ℕ → ℕ → Type 0
@@ -63,14 +63,14 @@ pub loop-j-preserved : goal.loop-j-preserved
 loop-j-preserved c =
     let i = c.loop-j.invariant in (
       omega arith,
-      ⊎_elim
-          (λ w. column_hit _ c.loop-j.j (sym c.member.ensures ∙ w.0.taken) ∙ omega (arith, i.1, w.6))
-          (λ w. column_miss _ c.loop-j.j (sym c.member.ensures ∙ w.0.left) ∙ i.1 ∙ sym w.2)
-          c.if-member.branch,
-      λ k t. ⊎_elim
-          (λ w. rw w.5 (plain_led (w.2.ensures.0 k (t c.loop-j.j c.loop-j-test.true)) (i.2 k t) (sym c.member.ensures ∙ w.0.taken) i.1))
-          (λ w. rw w.1 (plain_other (i.2 k t) (sym c.member.ensures ∙ w.0.left)))
-          c.if-member.branch,
+      elim c.if-member.branch [
+        | then-member w ↦ column_hit _ c.loop-j.j (sym c.member.ensures ∙ w.if-member.true) ∙ omega (arith, i.1, w.b-is)
+        | else-member w ↦ column_miss _ c.loop-j.j (sym c.member.ensures ∙ w.if-member.false) ∙ i.1 ∙ sym w.b-is
+      ],
+      λ k t. elim c.if-member.branch [
+        | then-member w ↦ rw w.room-is (plain_led (w.plain_row.ensures.0 k (t c.loop-j.j c.loop-j-test.true)) (i.2 k t) (sym c.member.ensures ∙ w.if-member.true) i.1)
+        | else-member w ↦ rw w.room-is (plain_other (i.2 k t) (sym c.member.ensures ∙ w.if-member.false))
+      ],
     )
 
 pub shape_of-room : goal.shape_of-room

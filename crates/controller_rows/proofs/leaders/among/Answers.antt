@@ -1,7 +1,6 @@
 -- `among` goes through the inputs, with the column of the next leader.
 use Prim.Native.Nat.{ℕ}
 use mathlib.Core.Path.{sym, ◌∙◌, ap}
-use mathlib.Core.Logic.{⊎_elim}
 use native.Mathlib.Omega.{arith}
 use Rattle.finite.proofs.Bounded.{count_le}
 use Rattle.bits.specs.Member.{has}
@@ -9,6 +8,7 @@ use Rattle.bits.proofs.Membership.{has_zero_lem}
 use Rattle.controller_rows.specs.Writes.{leading}
 use Rattle.controller_rows.proofs.Columns.{among_none, among_fits, among_hit, among_miss, among_end}
 use Rattle.controller_rows.proofs.leaders.among.Goals as goal
+use Rattle.controller_rows.proofs.leaders.among.Goals.{then-member, else-member}
 
 pub loop-j-init : goal.loop-j-init
 loop-j-init c = among_none _ c.requires.1 _ (λ k. ap (λ (x : ℕ). has x k) c.empty-r.ensures.1 ∙ has_zero_lem k)
@@ -40,11 +40,11 @@ overflow_add-b c =
 pub loop-j-preserved : goal.loop-j-preserved
 loop-j-preserved c =
     let p = c.requires in
-    ⊎_elim
-    (λ w. rw (w.3, w.4)
-    (among_hit _ p.1 _ _ _ _ c.loop-j.invariant c.loop-j-test.true (sym c.member.ensures ∙ w.0.taken) _ w.1.ensures w.2.ensures))
-    (λ w. rw (w.1, w.2) (among_miss _ p.1 _ _ _ _ c.loop-j.invariant c.loop-j-test.true (sym c.member.ensures ∙ w.0.left)))
-    c.if-member.branch
+    elim c.if-member.branch [
+      | then-member w ↦ rw (w.r-is, w.b-is)
+          (among_hit _ p.1 _ _ _ _ c.loop-j.invariant c.loop-j-test.true (sym c.member.ensures ∙ w.if-member.true) _ w.member-then-member.ensures w.insert_if-r.ensures)
+      | else-member w ↦ rw (w.r-is, w.b-is) (among_miss _ p.1 _ _ _ _ c.loop-j.invariant c.loop-j-test.true (sym c.member.ensures ∙ w.if-member.false))
+    ]
 
 pub returns : goal.returns
 returns c =

@@ -1,0 +1,6 @@
+-- `write_winner`: the region is worked out for the game that the board stands for.
+use Rattle.board.specs.Board.{game_on}
+use Rattle.solver_winner.proofs.write_winner.Given as goal
+
+abbrev pub ghost-prepare : goal.ghost-prepare
+ghost-prepare a = game_on a.z a.b.now
