@@ -17,7 +17,7 @@ pub prepare-x-requires : goal.prepare-x-requires
 prepare-x-requires c =
     let same : let a = c.args in game_on c.sizes_of.result a.b.now ≡ a.g = on_board _ _ _ c.sizes_of.ensures c.requires.6 in
     let p = c.requires in
-    (refl, ((fits_on (same) (accepted_fits _ p.0), scratch_on (same) (omega (arith, p.1))), tt))
+    (refl, (fits_on (same) (accepted_fits _ p.0), scratch_on (same) (omega (arith, p.1))))
 
 pub system_wins-requires : goal.system_wins-requires
 system_wins-requires c =
