@@ -54,7 +54,6 @@ all: prove command
 prove:
 	$(NEED_RT)
 	RT=$(RT) tools/prove solve catalogue nanpuwiq
-	$(RT) staticlib nanpuwiq
 
 command:
 	NANPUWIQ_LIB=$(abspath $(TARGET)/staticlib) $(CARGO) build --quiet --release --offline --manifest-path tools/nanpuwiq/Cargo.toml
@@ -66,7 +65,6 @@ $(PROGRAMS) &:
 $(LIBRARY):
 	$(NEED_RT)
 	RT=$(RT) tools/prove nanpuwiq
-	$(RT) staticlib nanpuwiq
 
 $(COMMAND): $(LIBRARY)
 	$(MAKE) command

@@ -1,4 +1,4 @@
-/* The public entries of Nanpuwiq for C, in the static library libnanpuwiq.a (`rt staticlib nanpuwiq`), x86-64 Linux.
+/* The public entries of Nanpuwiq for C, in the static library libnanpuwiq.a (`tools/prove nanpuwiq`), x86-64 Linux.
  *
  * Numbers. A code is 0, or the number of a refusal: nanpuwiq_words.h has the list of them with a sentence each, nanpuwiq_words(code) gives the sentence.
  * Each call tries its tests in an order, and the first that fails gives the number. For a game that order is 1 to 7, then 8, 9, 10 or 13, so the lowest number

@@ -1,4 +1,4 @@
-/* Every entry called from C, with the example game and with a kit of two pump drives and recordings of both. From the root, after `rt staticlib nanpuwiq`:
+/* Every entry called from C, with the example game and with a kit of two pump drives and recordings of both. From the root, after `tools/prove nanpuwiq`:
  *     gcc -Wall -Wextra -Werror -O2 -Iinclude tests/c_calls.c target/staticlib/libnanpuwiq.a -o target/c_calls && target/c_calls
  * Prints 'N passed, M failed'; exits 1 on a failure. */
 #include "nanpuwiq.h"

@@ -1,16 +1,16 @@
 #!/usr/bin/env python3
-"""Which crates an entry's code comes from, read from the MIR.
+"""Which crates an entry's code comes from.
 
-    tests/calls.py DIR
+    tests/calls.py MIR
 
-DIR is a repository whose crates are proved. The solver of the lecture room "never uses components of the single graphs" (document 02, M-108): of the
-functions that `joined::joined_map` calls, directly or not, none is of a crate that works out closures, components, ranks or ways of one graph, nor of one
-that holds them in scratch. The test is tried itself: the solver's own map must be found to call such crates."""
+MIR is the folder where tools/prove lays out the code that the crates were lowered to (tests/mir.py). The solver of the lecture room "never uses components of
+the single graphs" (document 02, M-108): of the functions that `joined::joined_map` calls, directly or not, none is of a crate that works out closures,
+components, ranks or ways of one graph, nor of one that holds them in scratch. The test is tried itself: the solver's own map must be found to call such
+crates."""
 
-import subprocess
 import sys
 
-from arrays import Function, items, parsed
+import mir
 
 # The crates with code for the closure and the components of one graph, and those that keep or read what these find.
 SINGLE = ("graph_", "region", "scratch", "ground_")
@@ -18,16 +18,9 @@ SINGLE = ("graph_", "region", "scratch", "ground_")
 CLEARING = "scratch_clearing"
 
 
-def called(directory, crate, entry):
+def called(program, entry):
     """The crates of the functions that the entry calls."""
-    text = subprocess.run(["rt", "mir", crate], cwd=directory, check=True, stdout=subprocess.PIPE, text=True).stdout
-    functions = {f.name: f for f in map(Function, items(parsed(text[text.index("program ("):])[1]))}
-    left, seen = [entry], {entry}
-    while left:
-        for name in functions[left.pop()].calls - seen:
-            seen.add(name)
-            left.append(name)
-    return {name.split("::")[0] for name in seen}
+    return {f.name.split("::")[0] for f in mir.reached(program, entry)}
 
 
 def of_single_graphs(crates):
@@ -35,10 +28,11 @@ def of_single_graphs(crates):
 
 
 def main():
-    joined = called(sys.argv[1], "joined", "joined::joined_map")
+    program = {f.name: f for text in mir.texts(sys.argv[1]).values() for f in mir.functions(text)}
+    joined = called(program, "joined::joined_map")
     found = of_single_graphs(joined)
     print(f"calls: joined::joined_map has code of {', '.join(sorted(joined))}; of components of single graphs: {', '.join(found) or 'none'}")
-    own = of_single_graphs(called(sys.argv[1], "map", "map::won_map"))
+    own = of_single_graphs(called(program, "map::won_map"))
     if not own:
         print("calls: the test finds no component in map::won_map either")
     return bool(found) or not own

@@ -218,7 +218,7 @@ def library_missing(check, where):
     """The Rust crate says which command makes the library that it misses."""
     build = ["cargo", "build", "--quiet", "--offline", "--manifest-path", ROOT / "bindings/rust/Cargo.toml", "--target-dir", where / "cargo"]
     got = run(*build, env=dict(os.environ, NANPUWIQ_LIB=str(where / "nowhere")))
-    check.holds("no library", got.returncode != 0 and "nowhere/libnanpuwiq.a is missing. `rt staticlib nanpuwiq`" in got.stderr, got.stderr)
+    check.holds("no library", got.returncode != 0 and "nowhere/libnanpuwiq.a is missing. `tools/prove nanpuwiq`" in got.stderr, got.stderr)
 
 
 def toolchain_missing(check):

@@ -1,5 +1,5 @@
 //! The solver's time on a row of games, each beside the time of a plain loop that writes as many entries. From the root:
-//!     rt staticlib nanpuwiq && cargo run --release --offline --manifest-path bench/Cargo.toml
+//!     tools/prove nanpuwiq && cargo run --release --offline --manifest-path bench/Cargo.toml
 //! Times are the best of many runs, in microseconds. The buffers are made once, before the runs, and are not cleared between them.
 //! `bench NAME` runs the games whose name begins with NAME; `bench NAME N` only solves them N times each, for a profiler.
 mod apart;

@@ -1,4 +1,4 @@
-// Links libnanpuwiq.a, which `rt staticlib nanpuwiq` writes. NANPUWIQ_LIB names another folder that has it.
+// Links libnanpuwiq.a, which `tools/prove nanpuwiq` lays out. NANPUWIQ_LIB names another folder that has it.
 // The words for the numbers of refusals come from the list that the C header includes, so that there is one list of them.
 use std::env;
 use std::fs;
@@ -21,7 +21,7 @@ fn link(here: &Path) {
     println!("cargo:rerun-if-changed={}", library.display());
     if !library.is_file() {
         stop(&format!(
-            "{} is missing. `rt staticlib nanpuwiq`, at the root of the repository, makes it; \
+            "{} is missing. `tools/prove nanpuwiq`, at the root of the repository, makes it; \
              or set NANPUWIQ_LIB to a folder that has libnanpuwiq.a.",
             library.display()
         ));

@@ -1,5 +1,5 @@
 //! The catalogue program's time on 1,000 files of mixed sizes, beside that of reading them and of solving them in one process. From the root:
-//!     rt check catalogue && rt staticlib nanpuwiq
+//!     tools/prove catalogue nanpuwiq
 //!     cargo run --release --offline --manifest-path bench/Cargo.toml --bin catalogue -- target/bin/catalogue
 //! Times are the best of a few runs, in milliseconds.
 #[allow(dead_code)]

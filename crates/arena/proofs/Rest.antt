@@ -17,7 +17,7 @@ use Rattle.finite.specs.Lists.{all_of}
 use Rattle.finite.proofs.Truth.{clash, and_intro, and_left, and_right}
 use Rattle.finite.proofs.Pigeonhole.{pigeonhole}
 use Rattle.graphs.specs.Graph.{Graph, edge, begins}
-use Rattle.graphs.specs.Walk.{Walk, stay, step}
+use Rattle.graphs.specs.Walk.{Walk, stay}
 use Rattle.graphs.proofs.Walk.{keep, extend}
 use Rattle.arena.specs.Arena.{Arena, arena_of}
 use Rattle.arena.specs.Table.{gives, Some, ControllerTable}

@@ -10,9 +10,10 @@ ghost use Rattle.catalogue.specs.Catalogue.{FromFront, FromOpen, ForName, Catalo
 
 use catalogue_names::Kept;
 use catalogue_tally::{Outcome, Tally};
-use files::{Front, Written};
-use libc::{STDERR_FILENO, STDIN_FILENO, STDOUT_FILENO};
+use files::{Front, STDERR_FILENO, STDOUT_FILENO, Written};
 use prints::ROOM;
+use std::fs::File;
+use std::rt::{Stdin, Stdout};
 
 // How many bytes of a list and of a print there is place for.
 const LIST: usize = 262144;
@@ -35,8 +36,8 @@ fn empty_list() -> [u8; LIST] {
 }
 
 // Says on standard error what is waited for, where a person is to type it.
-fn tell_waiting() {
-    if files::typed(STDIN_FILENO) {
+fn tell_waiting(input: &Stdin) {
+    if files::typed(input) {
         io::write_all(
             STDERR_FILENO,
             b"catalogue: waiting for names of game files on standard input, one a line (Ctrl-D ends them)\n",
@@ -51,13 +52,15 @@ fn tell_unread(read: bool) {
     }
 }
 
-// The same of the figures: they were not written whole.
-fn tell_unwritten(written: bool) {
+// The same of the figures: they were not written whole, though somebody may read them.
+fn tell_unwritten(output: &mut Stdout, written: bool) {
     if !written {
-        io::write_all(
-            STDERR_FILENO,
-            b"catalogue: standard output cannot be written\n",
-        );
+        if !files::is_unread(output) {
+            io::write_all(
+                STDERR_FILENO,
+                b"catalogue: standard output cannot be written\n",
+            );
+        }
     }
 }
 
@@ -75,27 +78,37 @@ fn judge_front(f: Front, controller: &mut [u16; ROOM], panel: &mut [u16; ROOM]) 
 }
 
 // What an open file comes to.
-fn judge_open(fd: i32, controller: &mut [u16; ROOM], panel: &mut [u16; ROOM]) -> Outcome
+fn judge_open(file: &mut File, controller: &mut [u16; ROOM], panel: &mut [u16; ROOM]) -> Outcome
     ensures { FromOpen result × Modest result }
 {
-    let f = files::read(fd);
+    let f = files::read(file);
     judge_front(f, controller, panel)
 }
 
+// Opens the file of a name. A name that is no UTF-8 opens none: a path is text.
+fn open(rt: &HostRuntime, name: &[u8]) -> Option<File> {
+    match str::from_utf8(name) {
+        Ok(path) => File::open(rt, path).ok(),
+        Err(_) => None,
+    }
+}
+
 // What the file of a name comes to.
-fn judge_name(name: &[u8], controller: &mut [u16; ROOM], panel: &mut [u16; ROOM]) -> Outcome
+fn judge_name(
+    rt: &HostRuntime,
+    name: &[u8],
+    controller: &mut [u16; ROOM],
+    panel: &mut [u16; ROOM],
+) -> Outcome
     ensures { ForName name.now result × Modest result }
 {
     if !catalogue_names::fit_name(name) {
         return Outcome::Refused(26);
     }
-    let fd = os::open_read(name);
-    if fd < 0 {
-        return Outcome::Refused(26);
+    match open(rt, name) {
+        None => Outcome::Refused(26),
+        Some(mut file) => judge_open(&mut file, controller, panel),
     }
-    let o = judge_open(fd, controller, panel);
-    libc::close(fd);
-    o
 }
 
 // A line on standard error for each hundred names.
@@ -109,17 +122,22 @@ fn tell(terminal: bool, k: usize) {
 }
 
 // The figures of a list of few enough names.
-fn tally_names(list: &[u8], controller: &mut [u16; ROOM], panel: &mut [u16; ROOM]) -> Tally
+fn tally_names(
+    rt: &HostRuntime,
+    list: &[u8],
+    controller: &mut [u16; ROOM],
+    panel: &mut [u16; ROOM],
+) -> Tally
     requires { length (names list.now) ≤ 1000 }
     ensures { Catalogued list.now result }
 {
-    let terminal = libc::isatty(STDERR_FILENO) == 1;
+    let terminal = files::typed(&rt.stderr());
     let mut t = catalogue_tally::empty();
     let mut k: usize = 0;
     let mut at: usize = 0;
     while at < list.len() {
         let end = catalogue_names::name_end(list, at);
-        let o = judge_name(&list[at..end], controller, panel);
+        let o = judge_name(rt, &list[at..end], controller, panel);
         t = catalogue_tally::add(t, o);
         at = catalogue_names::next_name(list, at);
         k += 1;
@@ -130,6 +148,7 @@ fn tally_names(list: &[u8], controller: &mut [u16; ROOM], panel: &mut [u16; ROOM
 
 // The print for a list.
 fn answer(
+    rt: &HostRuntime,
     buffer: &mut [u8],
     list: &[u8],
     controller: &mut [u16; ROOM],
@@ -141,7 +160,7 @@ fn answer(
     if 1000 < catalogue_names::count_names(list) {
         return print_lines::put_refused(buffer, 27);
     }
-    let t = tally_names(list, controller, panel);
+    let t = tally_names(rt, list, controller, panel);
     catalogue_lines::put_figures(buffer, t)
 }
 
@@ -153,13 +172,13 @@ struct Turn {
 }
 
 // Reads the next part of standard input and keeps it. A part that is not full is the last: standard input has ended there, or cannot be read.
-fn keep_some(list: &mut [u8], k: Kept) -> Turn
+fn keep_some(input: &mut Stdin, list: &mut [u8], k: Kept) -> Turn
     ensures { MoreKept list.old k result.kept list.new }
 {
     let mut part = io::large_buffer();
-    let n = io::read_full(STDIN_FILENO, &mut part);
+    let n = files::fill(input, &mut part);
     let kept = catalogue_names::keep(list, k, &part[..n]);
-    tell_unread(files::ended(STDIN_FILENO, n));
+    tell_unread(files::ended(input, n));
     Turn {
         more: n == files::BYTES,
         kept: kept,
@@ -167,13 +186,13 @@ fn keep_some(list: &mut [u8], k: Kept) -> Turn
 }
 
 // Reads standard input to its end, or 2^48 bytes of it.
-fn read_list(list: &mut [u8]) -> Kept
+fn read_list(input: &mut Stdin, list: &mut [u8]) -> Kept
     ensures { InputKept list.new result }
 {
     let mut kept = catalogue_names::nothing_kept();
     let mut turns: u64 = 4294967296;
     while turns > 0 {
-        let t = keep_some(list, kept);
+        let t = keep_some(input, list, kept);
         kept = t.kept;
         if !t.more {
             break;
@@ -184,14 +203,15 @@ fn read_list(list: &mut [u8]) -> Kept
 }
 
 // The same of an array.
-fn fill_list(list: &mut [u8; LIST]) -> Kept
+fn fill_list(input: &mut Stdin, list: &mut [u8; LIST]) -> Kept
     ensures { InputKept list.new result }
 {
-    read_list(list)
+    read_list(input, list)
 }
 
 // The print for standard input, from what is kept of it.
 fn answer_kept(
+    rt: &HostRuntime,
     buffer: &mut [u8],
     list: &[u8],
     k: Kept,
@@ -202,11 +222,12 @@ fn answer_kept(
     ensures { KeptPrinted list.now k buffer.old result buffer.new }
 {
     let n = k.len;
-    answer(buffer, &list[..n], controller, panel)
+    answer(rt, buffer, &list[..n], controller, panel)
 }
 
 // The same, in the program's buffers.
 fn put_answer(
+    rt: &HostRuntime,
     buffer: &mut [u8; PRINT],
     list: &[u8; LIST],
     k: Kept,
@@ -216,7 +237,7 @@ fn put_answer(
     requires { InputKept list.now k }
     ensures { KeptPrinted list.now k buffer.old result buffer.new }
 {
-    answer_kept(buffer, list, k, controller, panel)
+    answer_kept(rt, buffer, list, k, controller, panel)
 }
 
 // Writes the print for standard input to standard output. This is the one function that does: the list is passed for what is asked alone.
@@ -234,14 +255,15 @@ fn print_front(list: &[u8; LIST], k: Kept, buffer: &[u8; PRINT], n: usize) -> Wr
     print(STDOUT_FILENO, list, k, &text[..n])
 }
 
-fn main() {
+fn main(rt: HostRuntime) {
     let mut list = empty_list();
     let mut controller = empty_room();
     let mut panel = empty_room();
     let mut buffer = empty_print();
-    tell_waiting();
-    let k = fill_list(&mut list);
-    let n = put_answer(&mut buffer, &list, k, &mut controller, &mut panel);
+    let mut input = rt.stdin();
+    tell_waiting(&input);
+    let k = fill_list(&mut input, &mut list);
+    let n = put_answer(&rt, &mut buffer, &list, k, &mut controller, &mut panel);
     let w = print_front(&list, k, &buffer, n);
-    tell_unwritten(files::written_whole(w));
+    tell_unwritten(&mut rt.stdout(), files::written_whole(w));
 }

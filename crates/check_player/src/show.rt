@@ -1,6 +1,8 @@
 // The line of a case: its name, and the position or the refusal's code.
-use libc::STDOUT_FILENO;
 use player_place::{Played, Position};
+
+// Where the lines go.
+const STDOUT_FILENO: i32 = 1;
 
 fn number(n: usize) {
     io::write_all(STDOUT_FILENO, b" ");

@@ -5,8 +5,10 @@ ghost use Rattle.std.specs.Prelude.{◌≡◌, ◌≤◌, ◌<◌};
 ghost use Rattle.sets.specs.Words.{capacity};
 
 use game::Graph;
-use libc::STDOUT_FILENO;
 use sets::Set;
+
+// Where the lines go.
+const STDOUT_FILENO: i32 = 1;
 
 #[derive(Clone, Copy)]
 enum Shape {

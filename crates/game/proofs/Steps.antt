@@ -16,27 +16,7 @@ use Rattle.game.specs.declared.Game.{Game}
 use Rattle.game.specs.declared.Acceptance.{Acceptance}
 use Rattle.game.specs.declared.Acceptance.TheVariants.{Accepted, Refused}
 use Rattle.game.specs.Access.{no_input, no_output, requirement_at}
-use Rattle.game.specs.Acceptance.{
-  limit,
-  count_fits,
-  row_fits,
-  states_fit,
-  has_initial,
-  few_sets,
-  in_set_fits,
-  out_set_fits,
-  in_use,
-  requirement_fits,
-  few_sets_at,
-  requirement_fits_at,
-  counts_fit,
-  states_in_count,
-  initials_exist,
-  lengths_fit,
-  sets_fit,
-  tests,
-  first_failing,
-}
+use Rattle.game.specs.Acceptance.{limit, count_fits, row_fits, states_fit, has_initial, few_sets, in_set_fits, out_set_fits, in_use, requirement_fits, few_sets_at, requirement_fits_at, counts_fit, states_in_count, initials_exist, lengths_fit, sets_fit, first_failing}
 
 -- ---- a graph
 

@@ -58,20 +58,20 @@ solve_result (verdict·.Refused n) = record { code = n; system = false; entries 
 
 -- the grounds are numbered as M-109 lists them; what a ground does not name is 0
 abbrev pub names_nothing : ℕ → ℕ → ExplainResult
-names_nothing c x = record { code = c; ground = x; output = record { 0 = 0 }; input = record { 0 = 0 }; requirement = 0; set = 0 }
+names_nothing c x = record { code = c; number = x; output = record { 0 = 0 }; input = record { 0 = 0 }; requirement = 0; set = 0 }
 
 abbrev pub names_input : ℕ → InState → ExplainResult
-names_input x j = record { code = 0; ground = x; output = record { 0 = 0 }; input = j; requirement = 0; set = 0 }
+names_input x j = record { code = 0; number = x; output = record { 0 = 0 }; input = j; requirement = 0; set = 0 }
 
 -- SPEC 17.1
 unfoldable pub explain_result : Explanation → ExplainResult
 explain_result explanation·.InputStuck = names_nothing 0 1
 explain_result explanation·.ByReplies = names_nothing 0 2
-explain_result (explanation·.AtHome d) = record { code = 0; ground = 3; output = d; input = record { 0 = 0 }; requirement = 0; set = 0 }
+explain_result (explanation·.AtHome d) = record { code = 0; number = 3; output = d; input = record { 0 = 0 }; requirement = 0; set = 0 }
 explain_result explanation·.OutputStuck = names_nothing 0 4
 explain_result (explanation·.Unanswered j) = names_input 5 j
 explain_result (explanation·.ByWayOut j) = names_input 6 j
-explain_result (explanation·.Unserved k n) = record { code = 0; ground = 7; output = record { 0 = 0 }; input = record { 0 = 0 }; requirement = k; set = n }
+explain_result (explanation·.Unserved k n) = record { code = 0; number = 7; output = record { 0 = 0 }; input = record { 0 = 0 }; requirement = k; set = n }
 explain_result explanation·.PushedOn = names_nothing 0 8
 explain_result (explanation·.Refused n) = names_nothing n 0
 

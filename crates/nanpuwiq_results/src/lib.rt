@@ -37,7 +37,7 @@ pub struct SolveResult {
 #[derive(Clone, Copy)]
 pub struct ExplainResult {
     pub code: u8,
-    pub ground: u8,
+    pub number: u8,
     pub output: OutState,
     pub input: InState,
     pub requirement: usize,
@@ -176,12 +176,12 @@ pub fn solve_result(v: Verdict) -> SolveResult
 }
 
 // A ground that names nothing, or the code of a refusal.
-fn names_nothing(code: u8, ground: u8) -> ExplainResult
-    ensures { result ≡ names_nothing code ground }
+fn names_nothing(code: u8, number: u8) -> ExplainResult
+    ensures { result ≡ names_nothing code number }
 {
     ExplainResult {
         code,
-        ground,
+        number,
         output: OutState(0),
         input: InState(0),
         requirement: 0,
@@ -190,12 +190,12 @@ fn names_nothing(code: u8, ground: u8) -> ExplainResult
 }
 
 // A ground that names an input.
-fn names_input(ground: u8, input: InState) -> ExplainResult
-    ensures { result ≡ names_input ground input }
+fn names_input(number: u8, input: InState) -> ExplainResult
+    ensures { result ≡ names_input number input }
 {
     ExplainResult {
         code: 0,
-        ground,
+        number,
         output: OutState(0),
         input,
         requirement: 0,
@@ -211,7 +211,7 @@ pub fn explain_result(a: Explanation) -> ExplainResult
         Explanation::ByReplies => names_nothing(0, 2),
         Explanation::AtHome(d) => ExplainResult {
             code: 0,
-            ground: 3,
+            number: 3,
             output: d,
             input: InState(0),
             requirement: 0,
@@ -222,7 +222,7 @@ pub fn explain_result(a: Explanation) -> ExplainResult
         Explanation::ByWayOut(j) => names_input(6, j),
         Explanation::Unserved(k, n) => ExplainResult {
             code: 0,
-            ground: 7,
+            number: 7,
             output: OutState(0),
             input: InState(0),
             requirement: k,

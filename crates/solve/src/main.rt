@@ -12,19 +12,21 @@ ghost use Rattle.text_put.specs.Put.{PutsWithin};
 ghost use Rattle.files.specs.Front.{front_of, Within};
 ghost use Rattle.solve.specs.Printed.{print_bytes, Printed, Goes};
 
-use files::{Front, Written};
+use files::{Front, STDERR_FILENO, STDOUT_FILENO, Written};
 use game::Game;
-use libc::{STDERR_FILENO, STDIN_FILENO, STDOUT_FILENO};
 use prints::ROOM;
+use std::rt::{Stdin, Stdout};
 use text::Answer;
 
 // How many bytes of a print there is place for.
 const PRINT: usize = 1048576;
 
-// Says on standard error that the print was not written whole. A program has no status to say so with.
-fn tell_unwritten(written: bool) {
+// Says on standard error that the print was not written whole, but not where nobody reads it any more. A program has no status to say so with.
+fn tell_unwritten(output: &mut Stdout, written: bool) {
     if !written {
-        io::write_all(STDERR_FILENO, b"solve: standard output cannot be written\n");
+        if !files::is_unread(output) {
+            io::write_all(STDERR_FILENO, b"solve: standard output cannot be written\n");
+        }
     }
 }
 
@@ -36,8 +38,8 @@ fn tell_unread(read: bool) {
 }
 
 // Says on standard error what is waited for, where a person is to type it.
-fn tell_waiting() {
-    if files::typed(STDIN_FILENO) {
+fn tell_waiting(input: &Stdin) {
+    if files::typed(input) {
         io::write_all(
             STDERR_FILENO,
             b"solve: waiting for a game's text on standard input (Ctrl-D ends it)\n",
@@ -113,7 +115,8 @@ fn solve(buffer: &mut [u8], g: Game) -> usize
     if refusal != 0 {
         return print_lines::put_refused(buffer, refusal);
     }
-    if system {
+    let system_wins = system;
+    if system_wins {
         return put_system(buffer, g, table);
     }
     put_panel(buffer, g, table)
@@ -155,10 +158,11 @@ fn show(f: Front) -> Written
     print_front(f, &buffer, n)
 }
 
-fn main() {
-    tell_waiting();
-    let f = files::read(STDIN_FILENO);
+fn main(rt: HostRuntime) {
+    let mut input = rt.stdin();
+    tell_waiting(&input);
+    let f = files::read(&mut input);
     tell_unread(files::read_whole(f));
     let w = show(f);
-    tell_unwritten(files::written_whole(w));
+    tell_unwritten(&mut rt.stdout(), files::written_whole(w));
 }

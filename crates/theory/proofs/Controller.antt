@@ -12,13 +12,13 @@ use lib.ListN.{length}
 use Rattle.finite.specs.Lists.{all_of}
 use Rattle.finite.proofs.Truth.{clash, true_of, false_of, implies_elim}
 use Rattle.finite.proofs.Lists.{all_of_intro, all_of_elim}
-use Rattle.graphs.specs.Walk.{Walk, step}
+use Rattle.graphs.specs.Walk.{Walk}
 use Rattle.graphs.specs.Graph.{Graph, edge}
 use Rattle.graphs.specs.Closure.{reaches}
 use Rattle.graphs.specs.Component.{joined, nontrivial, meets_at}
 use Rattle.graphs.specs.Way.{approach, toward}
 use Rattle.graphs.proofs.Graph.{edge_to}
-use Rattle.graphs.proofs.Closure.{Path, reaches_trans}
+use Rattle.graphs.proofs.Closure.{reaches_trans}
 use Rattle.graphs.proofs.Component.{joined_back, joined_sym, joined_trans, nontrivial_same, meets_at_intro}
 use Rattle.graphs.proofs.Way.{Leads, toward_falls}
 use Rattle.arena.specs.Arena.{Requirement, Separated, arena_of}

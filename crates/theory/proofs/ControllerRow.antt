@@ -14,7 +14,7 @@ use Rattle.graphs.specs.Closure.{reaches}
 use Rattle.graphs.specs.Component.{joined, nontrivial}
 use Rattle.graphs.specs.Way.{near, approach, toward}
 use Rattle.graphs.proofs.Graph.{edge_from, edge_to}
-use Rattle.graphs.proofs.Closure.{Path, reaches_to, reaches_edge, reaches_trans, reaches_path}
+use Rattle.graphs.proofs.Closure.{reaches_to, reaches_edge, reaches_trans, reaches_path}
 use Rattle.graphs.proofs.Component.{joined_self, joined_back, joined_sym, nontrivial_same}
 use Rattle.graphs.proofs.Way.{Leads, near_zero, near_cases, near_some, toward_move, toward_near}
 use Rattle.arena.specs.Arena.{Separated}

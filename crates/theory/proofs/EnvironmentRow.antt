@@ -9,7 +9,7 @@ use mathlib.Core.Logic.{inl, inr}
 use Rattle.finite.specs.Bounded.{any, least}
 use Rattle.finite.proofs.Truth.{decide, clash, true_of, false_of, and_intro, and_left, and_right, or_cases, not_true, same_test}
 use Rattle.finite.proofs.Bounded.{any_intro, any_elim, any_false, any_same, least_below, least_member, least_found, least_same}
-use Rattle.graphs.specs.Graph.{Graph, edge, stuck}
+use Rattle.graphs.specs.Graph.{edge, stuck}
 use Rattle.graphs.specs.Component.{joined, number, nontrivial}
 use Rattle.graphs.specs.Way.{toward}
 use Rattle.graphs.proofs.Graph.{edge_to, stuck_none}

@@ -9,7 +9,7 @@ use Rattle.finite.proofs.Truth.{decide, clash, false_of, and_intro, and_left, an
 use Rattle.finite.proofs.Bounded.{all_intro, all_elim, all_same, all_false, any_intro, any_elim, any_same}
 use Rattle.finite.proofs.Lists.{all_of_same}
 use Rattle.bits.proofs.Membership.{has_zero_lem}
-use Rattle.graphs.specs.Graph.{Graph, edge, begins, stuck}
+use Rattle.graphs.specs.Graph.{edge, begins, stuck}
 use Rattle.graphs.specs.Rows.{rel}
 use Rattle.graphs.specs.Closure.{reaches}
 use Rattle.graphs.specs.Component.{joined, nontrivial, leaves, meets_at, rank}

@@ -14,7 +14,7 @@ overflow_add-j-4 c =
 
 pub put-requires-2 : goal.put-requires-2
 put-requires-2 c =
-    omega (arith, c.requires.0, c.requires.2, c.requires.3, count_same c.put.new.0 c.args.s.now c.put.auto.0)
+    omega (arith, c.requires.0, c.requires.2, c.requires.3, count_same c.put.new.l c.args.s.now c.put.auto.l)
 
 pub returns : goal.returns
 returns c =

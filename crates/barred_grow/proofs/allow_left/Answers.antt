@@ -19,7 +19,7 @@ overflow_add-j c =
 
 pub row-requires : goal.row-requires
 row-requires c =
-    omega (arith, c.requires.0, c.requires.2, lowest_low _ _ c.requires.0 c.loop-goal.invariant.2 (is_some _ c.is_empty.ensures c.loop-goal-test.true-raw) _ c.lowest-j.ensures, count_same c.allow-new.new.1.1.1.0 c.args.s.now (c.allow-new.auto.1.1.1.0 ∙ c.loop-goal.invariant.0))
+    omega (arith, c.requires.0, c.requires.2, lowest_low _ _ c.requires.0 c.loop-goal.invariant.2 (is_some _ c.is_empty.ensures c.loop-goal-test.true-raw) _ c.lowest-j.ensures, count_same c.allow-new.new.s c.args.s.now (c.allow-new.auto.s ∙ c.loop-goal.invariant.0))
 
 pub without_lowest-rest-requires : goal.without_lowest-rest-requires
 without_lowest-rest-requires c =
@@ -31,7 +31,7 @@ loop-goal-smaller c =
 
 pub loop-goal-preserved : goal.loop-goal-preserved
 loop-goal-preserved c =
-    (c.allow-new.auto.1.1.1.0 ∙ c.loop-goal.invariant.0, λ ins x. grown_then _ _ _ _ c.requires.0 (c.loop-goal.invariant.1 ins x) (c.allow-new.ensures ins x), rest_low _ _ c.requires.0 c.loop-goal.invariant.2 (is_some _ c.is_empty.ensures c.loop-goal-test.true-raw) _ c.lowest-j.ensures _ c.without_lowest-rest.ensures)
+    (c.allow-new.auto.s ∙ c.loop-goal.invariant.0, λ ins x. grown_then _ _ _ _ c.requires.0 (c.loop-goal.invariant.1 ins x) (c.allow-new.ensures ins x), rest_low _ _ c.requires.0 c.loop-goal.invariant.2 (is_some _ c.is_empty.ensures c.loop-goal-test.true-raw) _ c.lowest-j.ensures _ c.without_lowest-rest.ensures)
 
 pub shape_of-s : goal.shape_of-s
 shape_of-s c =

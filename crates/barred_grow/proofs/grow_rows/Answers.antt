@@ -23,7 +23,7 @@ loop-rest-smaller c =
 
 pub loop-rest-preserved : goal.loop-rest-preserved
 loop-rest-preserved c =
-    (c.grow_row-more.auto.1.1.0 ∙ c.loop-rest.invariant.0, λ outs v. grown_then _ _ _ _ c.requires.0 (c.loop-rest.invariant.1 outs v) (c.grow_row-more.ensures outs v), rest_low _ _ c.requires.0 c.loop-rest.invariant.2 (is_some _ c.is_empty.ensures c.loop-rest-test.true-raw) _ c.lowest.ensures _ c.without_lowest-rest.ensures)
+    (c.grow_row-more.auto.s ∙ c.loop-rest.invariant.0, λ outs v. grown_then _ _ _ _ c.requires.0 (c.loop-rest.invariant.1 outs v) (c.grow_row-more.ensures outs v), rest_low _ _ c.requires.0 c.loop-rest.invariant.2 (is_some _ c.is_empty.ensures c.loop-rest-test.true-raw) _ c.lowest.ensures _ c.without_lowest-rest.ensures)
 
 pub shape_of-s : goal.shape_of-s
 shape_of-s c =

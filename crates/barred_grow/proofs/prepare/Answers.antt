@@ -12,11 +12,11 @@ turn-requires c =
 
 pub turn-requires-2 : goal.turn-requires-2
 turn-requires-2 c =
-    (c.requires.0.output.most, omega arith, omega (arith, c.requires.1, count_same c.turn.new.1.1.0 c.args.s.now c.turn.auto.1.1.0))
+    (c.requires.0.output.most, omega arith, omega (arith, c.requires.1, count_same c.turn.new.s c.args.s.now c.turn.auto.s))
 
 pub shape_of-s : goal.shape_of-s
 shape_of-s c =
-    c.turn-2.auto.1.1.0 ∙ c.turn.auto.1.1.0
+    c.turn-2.auto.s ∙ c.turn.auto.s
 
 pub returns : goal.returns
 returns c =

@@ -37,7 +37,7 @@ loop-rest-smaller c =
 
 pub loop-rest-preserved : goal.loop-rest-preserved
 loop-rest-preserved c =
-    (c.put.auto.0 ∙ c.loop-rest.invariant.0, rw c.put.ensures (turned_next _ _ c.lowest-t.result _ _ _ (lowest_low _ _ c.requires.0 c.loop-rest.invariant.2 (is_some _ c.is_empty.ensures c.loop-rest-test.true-raw) _ c.lowest-t.ensures) c.loop-rest.invariant.1), rest_low _ _ c.requires.0 c.loop-rest.invariant.2 (is_some _ c.is_empty.ensures c.loop-rest-test.true-raw) _ c.lowest-t.ensures _ c.without_lowest-rest.ensures)
+    (c.put.auto.l ∙ c.loop-rest.invariant.0, rw c.put.ensures (turned_next _ _ c.lowest-t.result _ _ _ (lowest_low _ _ c.requires.0 c.loop-rest.invariant.2 (is_some _ c.is_empty.ensures c.loop-rest-test.true-raw) _ c.lowest-t.ensures) c.loop-rest.invariant.1), rest_low _ _ c.requires.0 c.loop-rest.invariant.2 (is_some _ c.is_empty.ensures c.loop-rest-test.true-raw) _ c.lowest-t.ensures _ c.without_lowest-rest.ensures)
 
 pub shape_of-s : goal.shape_of-s
 shape_of-s c =

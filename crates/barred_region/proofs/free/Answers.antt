@@ -21,14 +21,13 @@ put-requires c =
     omega (arith, c.requires.0.input.most, c.requires.1, count_same c.loop-i.s c.args.s.now c.loop-i.invariant.1)
 
 pub loop-i-preserved : goal.loop-i-preserved
-loop-i-preserved c =
-    (
-      omega arith,
-      c.put.auto.0 ∙ c.loop-i.invariant.1,
-      rw c.put.ensures (freed_next _ _ _ c.loop-i.i (sets_in c.loop-i.s) _ _ _ c.loop-i.invariant.2
-          (omega (arith, c.requires.0.input.most, c.requires.1, count_same c.loop-i.s c.args.s.now c.loop-i.invariant.1, sets_long c.loop-i.s))
-          c.below-outputs.ensures c.row.ensures c.difference.ensures),
-    )
+loop-i-preserved c = (
+  omega arith,
+  c.put.auto.l ∙ c.loop-i.invariant.1,
+  rw c.put.ensures (freed_next _ _ _ c.loop-i.i (sets_in c.loop-i.s) _ _ _ c.loop-i.invariant.2
+      (omega (arith, c.requires.0.input.most, c.requires.1, count_same c.loop-i.s c.args.s.now c.loop-i.invariant.1, sets_long c.loop-i.s))
+      c.below-outputs.ensures c.row.ensures c.difference.ensures),
+)
 
 pub shape_of-s : goal.shape_of-s
 shape_of-s c = c.loop-i.invariant.1

@@ -11,11 +11,11 @@ prepare-requires c =
 
 pub free-requires : goal.free-requires
 free-requires c =
-    (c.requires.0, omega (arith, c.requires.1, count_same c.prepare.new.1.0 c.args.s.now c.prepare.auto.1.0), c.requires.2)
+    (c.requires.0, omega (arith, c.requires.1, count_same c.prepare.new.s c.args.s.now c.prepare.auto.s), c.requires.2)
 
 pub trim-requires : goal.trim-requires
 trim-requires c =
-    (c.requires.0, omega (arith, c.requires.1, count_same c.free.new.1.1.0 c.args.s.now (c.free.auto.1.1.0 ∙ c.prepare.auto.1.0)), freed_within _ c.requires.0 _ _ _ c.free.ensures)
+    (c.requires.0, omega (arith, c.requires.1, count_same c.free.new.s c.args.s.now (c.free.auto.s ∙ c.prepare.auto.s)), freed_within _ c.requires.0 _ _ _ c.free.ensures)
 
 pub loop-g-init : goal.loop-g-init
 loop-g-init c =
@@ -23,7 +23,7 @@ loop-g-init c =
 
 pub pass-requires : goal.pass-requires
 pass-requires c =
-    (c.requires.0, omega (arith, c.requires.1, count_same c.loop-g.s c.args.s.now (c.loop-g.invariant.0 ∙ c.trim.auto.1.0 ∙ c.free.auto.1.1.0 ∙ c.prepare.auto.1.0)), keeping_within _ c.requires.0 _ _ _ c.loop-g.invariant.1)
+    (c.requires.0, omega (arith, c.requires.1, count_same c.loop-g.s c.args.s.now (c.loop-g.invariant.0 ∙ c.trim.auto.s ∙ c.free.auto.s ∙ c.prepare.auto.s)), keeping_within _ c.requires.0 _ _ _ c.loop-g.invariant.1)
 
 pub loop-g-smaller : goal.loop-g-smaller
 loop-g-smaller c =
@@ -31,11 +31,11 @@ loop-g-smaller c =
 
 pub loop-g-preserved : goal.loop-g-preserved
 loop-g-preserved c =
-    (c.pass.auto.1.0 ∙ c.loop-g.invariant.0, keeping_next _ c.requires.0 _ _ _ c.loop-g.invariant.1 _ _ c.pass.ensures)
+    (c.pass.auto.s ∙ c.loop-g.invariant.0, keeping_next _ c.requires.0 _ _ _ c.loop-g.invariant.1 _ _ c.pass.ensures)
 
 pub shape_of-s : goal.shape_of-s
 shape_of-s c =
-    c.pass.auto.1.0 ∙ c.loop-g.invariant.0 ∙ c.trim.auto.1.0 ∙ c.free.auto.1.1.0 ∙ c.prepare.auto.1.0
+    c.pass.auto.s ∙ c.loop-g.invariant.0 ∙ c.trim.auto.s ∙ c.free.auto.s ∙ c.prepare.auto.s
 
 pub returns : goal.returns
 returns c =

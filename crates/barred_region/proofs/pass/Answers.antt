@@ -1,12 +1,12 @@
 -- `pass`.
 use Prim.Native.Nat.{◌<◌}
 use mathlib.Core.Path.{◌≡◌, refl, ◌∙◌}
-use mathlib.Core.Logic.{⊎_elim}
 use native.Mathlib.Omega.{arith}
 use Rattle.sets.proofs.Rows.{count_same}
 use Rattle.game.specs.Access.{requirement_at}
 use Rattle.barred_region.proofs.Settling.{passed_within, passed_none, passed_less, passed_same}
 use Rattle.barred_region.proofs.pass.Goals as goal
+use Rattle.barred_region.proofs.pass.Goals.{then-settle, else-settle}
 
 pub loop-j-init : goal.loop-j-init
 loop-j-init c = (omega arith, refl, passed_none _ _)
@@ -30,20 +30,20 @@ overflow_add-j c =
 pub loop-j-preserved : goal.loop-j-preserved
 loop-j-preserved c =
     let more : c.loop-j.j < (requirement_at c.args.g 0).guaranteed = omega arith in
-    ⊎_elim
-    (λ w. (
-      omega arith,
-      c.settle.auto.1.0
-          ∙ c.loop-j.invariant.1,
-      rw w.1 (passed_less _ _ c.loop-j.j _ _ c.loop-j.invariant.2 _ _ c.settle.ensures more w.0.taken),
-    ))
-    (λ w. (
-      omega arith,
-      c.settle.auto.1.0
-          ∙ c.loop-j.invariant.1,
-      rw w.1 (passed_same _ _ c.loop-j.j _ _ c.loop-j.invariant.2 _ _ c.settle.ensures more w.0.left),
-    ))
-    c.if-settle.branch
+    elim c.if-settle.branch [
+      | then-settle w ↦ (
+        omega arith,
+        c.settle.auto.s
+            ∙ c.loop-j.invariant.1,
+        rw w.changed-is (passed_less _ _ c.loop-j.j _ _ c.loop-j.invariant.2 _ _ c.settle.ensures more w.if-settle.true),
+      )
+      | else-settle w ↦ (
+        omega arith,
+        c.settle.auto.s
+            ∙ c.loop-j.invariant.1,
+        rw w.changed-is (passed_same _ _ c.loop-j.j _ _ c.loop-j.invariant.2 _ _ c.settle.ensures more w.if-settle.false),
+      )
+    ]
 
 pub shape_of-s : goal.shape_of-s
 shape_of-s c = c.loop-j.invariant.1

@@ -13,7 +13,7 @@ empty-requires c =
 
 pub grow-requires : goal.grow-requires
 grow-requires c =
-    (c.requires.0, omega (arith, c.requires.1, count_same c.empty.new.0 c.args.s.now c.empty.auto.0), (emptied_within _ c.requires.0 _ _ c.empty.ensures c.requires.2))
+    (c.requires.0, omega (arith, c.requires.1, count_same c.empty.new.s c.args.s.now c.empty.auto.s), (emptied_within _ c.requires.0 _ _ c.empty.ensures c.requires.2))
 
 pub loop-g-init : goal.loop-g-init
 loop-g-init c =
@@ -21,11 +21,11 @@ loop-g-init c =
 
 pub widen-requires : goal.widen-requires
 widen-requires c =
-    (c.requires.0, omega (arith, c.requires.1, count_same c.loop-g.s c.args.s.now (c.loop-g.invariant.0 ∙ c.grow.auto.1.0 ∙ c.empty.auto.0)), (reaching_within _ c.requires.0 _ _ (wider_within _ c.requires.0 _ _ _ (c.grow.ensures _) (emptied_within _ c.requires.0 _ _ c.empty.ensures c.requires.2)) _ c.loop-g.invariant.1))
+    (c.requires.0, omega (arith, c.requires.1, count_same c.loop-g.s c.args.s.now (c.loop-g.invariant.0 ∙ c.grow.auto.s ∙ c.empty.auto.s)), (reaching_within _ c.requires.0 _ _ (wider_within _ c.requires.0 _ _ _ (c.grow.ensures _) (emptied_within _ c.requires.0 _ _ c.empty.ensures c.requires.2)) _ c.loop-g.invariant.1))
 
 pub grow-requires-in-loop-g : goal.grow-requires-in-loop-g
 grow-requires-in-loop-g c =
-    (c.requires.0, omega (arith, c.requires.1, count_same c.widen.new.1.0 c.args.s.now (c.widen.auto.1.0 ∙ c.loop-g.invariant.0 ∙ c.grow.auto.1.0 ∙ c.empty.auto.0)), widened_within _ c.requires.0 _ _ _ _ _ c.widen.ensures (reaching_within _ c.requires.0 _ _ (wider_within _ c.requires.0 _ _ _ (c.grow.ensures _) (emptied_within _ c.requires.0 _ _ c.empty.ensures c.requires.2)) _ c.loop-g.invariant.1))
+    (c.requires.0, omega (arith, c.requires.1, count_same c.widen.new.s c.args.s.now (c.widen.auto.s ∙ c.loop-g.invariant.0 ∙ c.grow.auto.s ∙ c.empty.auto.s)), widened_within _ c.requires.0 _ _ _ _ _ c.widen.ensures (reaching_within _ c.requires.0 _ _ (wider_within _ c.requires.0 _ _ _ (c.grow.ensures _) (emptied_within _ c.requires.0 _ _ c.empty.ensures c.requires.2)) _ c.loop-g.invariant.1))
 
 pub loop-g-smaller : goal.loop-g-smaller
 loop-g-smaller c =
@@ -33,11 +33,11 @@ loop-g-smaller c =
 
 pub loop-g-preserved : goal.loop-g-preserved
 loop-g-preserved c =
-    (c.grow-in-loop-g.auto.1.0 ∙ c.widen.auto.1.0 ∙ c.loop-g.invariant.0, reaching_next _ c.requires.0 _ _ _ c.loop-g.invariant.1 _ _ (widened_grown _ c.requires.0 _ _ _ _ _ _ c.widen.ensures c.loop-g-test.true (c.grow-in-loop-g.ensures _)))
+    (c.grow-in-loop-g.auto.s ∙ c.widen.auto.s ∙ c.loop-g.invariant.0, reaching_next _ c.requires.0 _ _ _ c.loop-g.invariant.1 _ _ (widened_grown _ c.requires.0 _ _ _ _ _ _ c.widen.ensures c.loop-g-test.true (c.grow-in-loop-g.ensures _)))
 
 pub shape_of-s : goal.shape_of-s
 shape_of-s c =
-    c.widen.auto.1.0 ∙ c.loop-g.invariant.0 ∙ c.grow.auto.1.0 ∙ c.empty.auto.0
+    c.widen.auto.s ∙ c.loop-g.invariant.0 ∙ c.grow.auto.s ∙ c.empty.auto.s
 
 pub returns : goal.returns
 returns c =

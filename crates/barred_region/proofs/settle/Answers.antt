@@ -9,7 +9,7 @@ use Rattle.barred_region.proofs.settle.Goals as goal
 pub meet-requires : goal.meet-requires
 meet-requires c =
     let most = c.requires.0.input.most in (
-      omega (arith, c.requires.1, count_same c.reach.new.1.0 c.args.s.now c.reach.auto.1.0),
+      omega (arith, c.requires.1, count_same c.reach.new.s c.args.s.now c.reach.auto.s),
       omega (arith, most),
       omega (arith, most),
       inr
@@ -17,12 +17,11 @@ meet-requires c =
     )
 
 pub trim-requires : goal.trim-requires
-trim-requires c =
-    (
-      c.requires.0,
-      omega (arith, c.requires.1, count_same c.meet.new.0 c.args.s.now (c.meet.auto.0 ∙ c.reach.auto.1.0)),
-      settled_within _ c.requires.0 _ _ _ _ _ c.reach.ensures c.meet.ensures c.requires.2,
-    )
+trim-requires c = (
+  c.requires.0,
+  omega (arith, c.requires.1, count_same c.meet.new.s c.args.s.now (c.meet.auto.s ∙ c.reach.auto.s)),
+  settled_within _ c.requires.0 _ _ _ _ _ c.reach.ensures c.meet.ensures c.requires.2,
+)
 
 pub returns-then-meet : goal.returns-then-meet
 returns-then-meet c =

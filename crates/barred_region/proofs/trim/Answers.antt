@@ -7,18 +7,17 @@ use Rattle.barred_region.proofs.Trimming.{emptied_within, trimmed}
 use Rattle.barred_region.proofs.trim.Goals as goal
 
 pub stay-requires : goal.stay-requires
-stay-requires c =
-    (
-      c.requires.0,
-      omega (arith, c.requires.1, count_same c.empty.new.0 c.args.s.now c.empty.auto.0),
-      emptied_within _ c.requires.0 _ _
-          c.empty.ensures c.requires.2,
-    )
+stay-requires c = (
+  c.requires.0,
+  omega (arith, c.requires.1, count_same c.empty.new.s c.args.s.now c.empty.auto.s),
+  emptied_within _ c.requires.0 _ _
+      c.empty.ensures c.requires.2,
+)
 
 pub copy-requires : goal.copy-requires
 copy-requires c =
     let most = c.requires.0.input.most in (
-      omega (arith, c.requires.1, count_same c.stay.new.1.0 c.args.s.now (c.stay.auto.1.0 ∙ c.empty.auto.0)),
+      omega (arith, c.requires.1, count_same c.stay.new.s c.args.s.now (c.stay.auto.s ∙ c.empty.auto.s)),
       omega (arith, most),
       omega (arith, most),
       inr (omega (arith, most)),

@@ -23,16 +23,15 @@ waited-wait-requires c =
     (c.requires.0, omega (arith, c.loop-j-test.true, c.loop-j.invariant.0))
 
 pub widen_by-requires : goal.widen_by-requires
-widen_by-requires c =
-    (
-      c.requires.0,
-      omega (arith, c.requires.1, count_same c.loop-j.s c.args.s.now c.loop-j.invariant.1),
-      widened_within _ c.requires.0 _ _ _ _ _ c.loop-j.invariant.2 c.requires.2,
-    )
+widen_by-requires c = (
+  c.requires.0,
+  omega (arith, c.requires.1, count_same c.loop-j.s c.args.s.now c.loop-j.invariant.1),
+  widened_within _ c.requires.0 _ _ _ _ _ c.loop-j.invariant.2 c.requires.2,
+)
 
 pub shape_of-s-then-widen_by : goal.shape_of-s-then-widen_by
 shape_of-s-then-widen_by c =
-    c.widen_by.auto.1.0 ∙ c.loop-j.invariant.1
+    c.widen_by.auto.s ∙ c.loop-j.invariant.1
 
 pub returns-then-widen_by : goal.returns-then-widen_by
 returns-then-widen_by c =
@@ -44,13 +43,12 @@ loop-j-smaller c =
     omega (arith, c.loop-j-test.true)
 
 pub loop-j-preserved : goal.loop-j-preserved
-loop-j-preserved c =
-    (
-      omega (arith, c.loop-j.invariant.0),
-      c.widen_by.auto.1.0 ∙ c.loop-j.invariant.1,
-      widened_next _ c.requires.0 _ _ (c.loop-j.j - 1) c.loop-j.j (omega (arith, c.loop-j-test.true)) _ c.loop-j.invariant.2 _ _ _ c.widen_by.ensures
-          c.waited-wait.ensures (omega (arith, assumed_length c.args.g, c.loop-j-test.true, c.loop-j.invariant.0)) c.if-widen_by.false,
-    )
+loop-j-preserved c = (
+  omega (arith, c.loop-j.invariant.0),
+  c.widen_by.auto.s ∙ c.loop-j.invariant.1,
+  widened_next _ c.requires.0 _ _ (c.loop-j.j - 1) c.loop-j.j (omega (arith, c.loop-j-test.true)) _ c.loop-j.invariant.2 _ _ _ c.widen_by.ensures
+      c.waited-wait.ensures (omega (arith, assumed_length c.args.g, c.loop-j-test.true, c.loop-j.invariant.0)) c.if-widen_by.false,
+)
 
 pub shape_of-s : goal.shape_of-s
 shape_of-s c = c.loop-j.invariant.1

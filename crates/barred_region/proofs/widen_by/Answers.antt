@@ -8,7 +8,7 @@ use Rattle.barred_region.proofs.widen_by.Goals as goal
 pub unite-requires : goal.unite-requires
 unite-requires c =
     let most = c.requires.0.input.most in (
-      omega (arith, c.requires.1, count_same c.stay.new.1.0 c.args.s.now c.stay.auto.1.0),
+      omega (arith, c.requires.1, count_same c.stay.new.s c.args.s.now c.stay.auto.s),
       omega (arith, most),
       omega (arith, most),
       inr

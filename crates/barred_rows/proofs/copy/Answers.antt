@@ -18,13 +18,12 @@ put-requires c =
     omega (arith, c.requires.0, c.requires.2, count_same c.loop-i.s c.args.s.now c.loop-i.invariant.1)
 
 pub loop-i-preserved : goal.loop-i-preserved
-loop-i-preserved c =
-    (
-      omega arith,
-      c.put.auto.l ∙ c.loop-i.invariant.1,
-      rw c.put.ensures (copied_next c.args.n _ _ _ c.loop-i.i (sets_in c.loop-i.s) _ c.requires.3 (omega arith) c.loop-i.invariant.2
-          (omega (arith, c.requires.0, c.requires.2, count_same c.loop-i.s c.args.s.now c.loop-i.invariant.1, sets_long c.loop-i.s)) c.row.ensures),
-    )
+loop-i-preserved c = (
+  omega arith,
+  c.put.auto.l ∙ c.loop-i.invariant.1,
+  rw c.put.ensures (copied_next c.args.n _ _ _ c.loop-i.i (sets_in c.loop-i.s) _ c.requires.3 (omega arith) c.loop-i.invariant.2
+      (omega (arith, c.requires.0, c.requires.2, count_same c.loop-i.s c.args.s.now c.loop-i.invariant.1, sets_long c.loop-i.s)) c.row.ensures),
+)
 
 pub shape_of-s : goal.shape_of-s
 shape_of-s c = c.loop-i.invariant.1

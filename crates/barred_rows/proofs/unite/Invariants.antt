@@ -1,4 +1,5 @@
 -- `unite`.
+use mathlib.Core.Bool.{◌||◌}
 use Prim.Native.Nat.{◌-◌}
 use Rattle.barred_rows.proofs.Merging.{Merging, gained}
 use Rattle.barred_rows.proofs.unite.Given as goal

@@ -24,7 +24,7 @@ follow-left-requires c =
     let T = c.loop-g.invariant.1 in (
       F.input.most,
       F.output.most,
-      omega (arith, c.requires.1, count_same c.loop-g.s c.args.s.now (c.loop-g.invariant.0 ∙ c.copy.auto.0)),
+      omega (arith, c.requires.1, count_same c.loop-g.s c.args.s.now (c.loop-g.invariant.0 ∙ c.copy.auto.s)),
       is_some _ c.is_empty.ensures c.loop-g-test.true-raw,
       T.inputs,
     )
@@ -36,15 +36,14 @@ loop-g-smaller c =
     (copied_within _ F _ _ c.copy.ensures c.requires.2)
 
 pub loop-g-preserved : goal.loop-g-preserved
-loop-g-preserved c =
-    (
-      c.follow-left.auto.1.1.1.1.0 ∙ c.loop-g.invariant.0,
-      staying_next _ c.requires.0 _ _ _ _ _ c.loop-g.invariant.1 _ _ c.follow-left.ensures (is_some _ c.is_empty.ensures c.loop-g-test.true-raw),
-    )
+loop-g-preserved c = (
+  c.follow-left.auto.s ∙ c.loop-g.invariant.0,
+  staying_next _ c.requires.0 _ _ _ _ _ c.loop-g.invariant.1 _ _ c.follow-left.ensures (is_some _ c.is_empty.ensures c.loop-g-test.true-raw),
+)
 
 pub shape_of-s : goal.shape_of-s
 shape_of-s c =
-    c.loop-g.invariant.0 ∙ c.copy.auto.0
+    c.loop-g.invariant.0 ∙ c.copy.auto.s
 
 pub returns : goal.returns
 returns c =

@@ -1,6 +1,4 @@
 -- `count`: the set digits are the members.
-use Rattle.std.proofs.Common.{arith}
-use lib.Count.{ones-le}
 use Rattle.bits.proofs.Compare.{count_word}
 use Rattle.bits.proofs.count.Goals as goal
 

@@ -21,23 +21,21 @@ put_set-requires-2 c =
     (omega arith, c.put_set.ensures.long ∙ c.put_rows-2.ensures.long ∙ c.put_rows.ensures.long ∙ c.requires)
 
 pub loop-r-init : goal.loop-r-init
-loop-r-init c =
-    (
-      omega arith,
-      c.put_set-2.ensures.long ∙ c.put_set.ensures.long ∙ c.put_rows-2.ensures.long ∙ c.put_rows.ensures.long ∙ c.requires,
-      λ ins outs x y U. U,
-    )
+loop-r-init c = (
+  omega arith,
+  c.put_set-2.ensures.long ∙ c.put_set.ensures.long ∙ c.put_rows-2.ensures.long ∙ c.put_rows.ensures.long ∙ c.requires,
+  λ ins outs x y U. U,
+)
 
 pub put_requirement-requires : goal.put_requirement-requires
 put_requirement-requires c = (omega arith, c.loop-r.invariant.1)
 
 pub loop-r-preserved : goal.loop-r-preserved
-loop-r-preserved c =
-    (
-      omega arith,
-      c.put_requirement.ensures.long ∙ c.loop-r.invariant.1,
-      λ ins outs x y U. upto_next ins outs x y _ c.loop-r.r _ _ (omega arith) (c.loop-r.invariant.2 ins outs x y U) c.put_requirement.ensures,
-    )
+loop-r-preserved c = (
+  omega arith,
+  c.put_requirement.ensures.long ∙ c.loop-r.invariant.1,
+  λ ins outs x y U. upto_next ins outs x y _ c.loop-r.r _ _ (omega arith) (c.loop-r.invariant.2 ins outs x y U) c.put_requirement.ensures,
+)
 
 pub returns : goal.returns
 returns c =

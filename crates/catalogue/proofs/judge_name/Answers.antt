@@ -5,9 +5,9 @@ use Rattle.catalogue.proofs.judge_name.Goals as goal
 pub returns-then-not-fit_name : goal.returns-then-not-fit_name
 returns-then-not-fit_name c = unfit_name _ c.fit_name.ensures c.if-not-fit_name.true-raw
 
-pub returns-then-fd-lt0 : goal.returns-then-fd-lt0
-returns-then-fd-lt0 c = fit_none _ c.fit_name.ensures c.if-not-fit_name.false-raw
+pub returns-in-None : goal.returns-in-None
+returns-in-None c = fit_none _ c.fit_name.ensures c.if-not-fit_name.false-raw
 
-pub returns : goal.returns
-returns c =
-    fit_open _ c.fit_name.ensures c.if-not-fit_name.false-raw c.judge_open-o.ensures
+pub returns-in-Some : goal.returns-in-Some
+returns-in-Some c =
+    fit_open _ c.fit_name.ensures c.if-not-fit_name.false-raw c.judge_open.ensures

@@ -9,12 +9,11 @@ pub loop-k-init : goal.loop-k-init
 loop-k-init c = (remains_all _ _ _, omega arith)
 
 pub loop-k-preserved : goal.loop-k-preserved
-loop-k-preserved c =
-    (
-      bytes_step c.args.text.now c.loop-k.k _ c.loop-k.invariant.0 c.loop-k-test.true refl
-          c.put_byte-to.ensures,
-      omega arith,
-    )
+loop-k-preserved c = (
+  bytes_step c.args.text.now c.loop-k.k _ c.loop-k.invariant.0 c.loop-k-test.true refl
+      c.put_byte-to.ensures,
+  omega arith,
+)
 
 pub shape_of-buffer : goal.shape_of-buffer
 shape_of-buffer c = puts_length (bytes_end c.args.text.now c.loop-k.k c.loop-k.invariant.0 c.loop-k-test.false)

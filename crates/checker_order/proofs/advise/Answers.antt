@@ -15,7 +15,7 @@ gather-requires c =
     (P.0, P.1, P.2, omega arith)
 
 pub loop-v-init : goal.loop-v-init
-loop-v-init c = (omega arith, omega arith, c.gather.auto.1.1.1.0)
+loop-v-init c = (omega arith, omega arith, c.gather.auto.unseen)
 
 pub loop-v-preserved-then-kept-v-ne1 : goal.loop-v-preserved-then-kept-v-ne1
 loop-v-preserved-then-kept-v-ne1 c = (omega arith, c.loop-v.invariant.1, c.loop-v.invariant.2)
@@ -31,4 +31,4 @@ finish-n-requires c =
 
 pub loop-v-preserved : goal.loop-v-preserved
 loop-v-preserved c =
-    (omega arith, c.finish-n.ensures, c.finish-n.auto.1.1.1.1.1.0 ∙ c.loop-v.invariant.2)
+    (omega arith, c.finish-n.ensures, c.finish-n.auto.unseen ∙ c.loop-v.invariant.2)

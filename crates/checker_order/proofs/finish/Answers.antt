@@ -16,7 +16,7 @@ loop-steps-init c = (c.push-top.ensures, omega arith, omega arith, refl)
 
 pub shape_of-unseen-then-top-eq0 : goal.shape_of-unseen-then-top-eq0
 shape_of-unseen-then-top-eq0 c =
-    c.loop-steps.invariant.3 ∙ c.push-top.auto.1.1.0
+    c.loop-steps.invariant.3 ∙ c.push-top.auto.unseen
 
 pub append-count-requires : goal.append-count-requires
 append-count-requires c = (omega arith, omega arith)
@@ -27,7 +27,7 @@ loop-steps-preserved-then-r-places c =
 
 pub source-i-requires : goal.source-i-requires
 source-i-requires c =
-    (c.requires.0, c.requires.1, omega arith, omega (arith, c.loop-steps.invariant.3, c.push-top.auto.1.1.0, c.requires.3))
+    (c.requires.0, c.requires.1, omega arith, omega (arith, c.loop-steps.invariant.3, c.push-top.auto.unseen, c.requires.3))
 
 pub loop-steps-preserved-then-i-inputs : goal.loop-steps-preserved-then-i-inputs
 loop-steps-preserved-then-i-inputs c =
@@ -43,12 +43,12 @@ overflow_add-r c =
 
 pub push-top-requires-in-loop-steps : goal.push-top-requires-in-loop-steps
 push-top-requires-in-loop-steps c =
-    (c.requires.0, c.requires.1, omega (arith, c.loop-steps.invariant.3, c.push-top.auto.1.1.0, c.requires.3), omega arith)
+    (c.requires.0, c.requires.1, omega (arith, c.loop-steps.invariant.3, c.push-top.auto.unseen, c.requires.3), omega arith)
 
 pub loop-steps-preserved : goal.loop-steps-preserved
 loop-steps-preserved c =
-    (c.push-top-in-loop-steps.ensures, omega arith, omega arith, c.push-top-in-loop-steps.auto.1.1.0 ∙ c.loop-steps.invariant.3)
+    (c.push-top-in-loop-steps.ensures, omega arith, omega arith, c.push-top-in-loop-steps.auto.unseen ∙ c.loop-steps.invariant.3)
 
 pub shape_of-unseen : goal.shape_of-unseen
 shape_of-unseen c =
-    c.loop-steps.invariant.3 ∙ c.push-top.auto.1.1.0
+    c.loop-steps.invariant.3 ∙ c.push-top.auto.unseen

@@ -12,7 +12,7 @@ add-requires c =
 
 pub loop-c-preserved : goal.loop-c-preserved
 loop-c-preserved c =
-    (omega arith, c.add.auto.1.1.0 ∙ c.loop-c.invariant.1)
+    (omega arith, c.add.auto.unseen ∙ c.loop-c.invariant.1)
 
 pub shape_of-unseen : goal.shape_of-unseen
 shape_of-unseen c = c.loop-c.invariant.1

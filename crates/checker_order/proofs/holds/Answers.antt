@@ -1,6 +1,7 @@
 -- `holds` meets its contract.
 use native.Mathlib.Omega.{arith}
 use Prim.Native.Nat.{ℕ}
+use mathlib.Core.Path.{◌≡◌}
 use borrow.Author.Tests.{eqb-true}
 use Rattle.checker_order.proofs.holds.Goals as goal
 

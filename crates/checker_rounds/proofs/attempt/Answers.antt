@@ -87,15 +87,14 @@ loop-mark-smaller c =
     c.loop-mark-test.true c.if-mark-pivot-eq1.false
 
 pub loop-mark-preserved : goal.loop-mark-preserved
-loop-mark-preserved c =
-    (
-      c.loop-mark.invariant.0,
-      pivot_next _ _ _ _ _ _ _ _ _ _ _ _ _
-          (fits_same c.loop-mark.invariant.0
-          c.requires) _ _ _ _ _ _ _
-          c.loop-mark.invariant.1 _ _ _ _ _ _
-          c.legs-l.ensures c.if-l.false,
-    )
+loop-mark-preserved c = (
+  c.loop-mark.invariant.0,
+  pivot_next _ _ _ _ _ _ _ _ _ _ _ _ _
+      (fits_same c.loop-mark.invariant.0
+      c.requires) _ _ _ _ _ _ _
+      c.loop-mark.invariant.1 _ _ _ _ _ _
+      c.legs-l.ensures c.if-l.false,
+)
 
 pub cut-requires-2 : goal.cut-requires-2
 cut-requires-2 c =

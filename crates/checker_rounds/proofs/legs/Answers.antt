@@ -28,7 +28,11 @@ leg-length-requires c =
     going_leg c.requires c.loop-j.invariant c.loop-j-test.true refl c.first_in-k.ensures c.if-k-found.false
 
 pub offset_bounds-queue-k : goal.offset_bounds-queue-k
-offset_bounds-queue-k c = omega (arith, element-copy-out-wide c)
+offset_bounds-queue-k c =
+    omega (
+      arith,
+      (going_leg c.requires c.loop-j.invariant c.loop-j-test.true refl c.first_in-k.ensures c.if-k-found.false).place,
+    )
 
 pub bounds-queue-k : goal.bounds-queue-k
 bounds-queue-k c =

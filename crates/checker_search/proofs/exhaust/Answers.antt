@@ -23,18 +23,17 @@ overflow_add-a c =
     )
 
 pub spread-found-requires : goal.spread-found-requires
-spread-found-requires c =
-    (
-      c.requires.0,
-      exhausting_fits _ _ _ _ _ _ _ _ _ _ _ _ _ _
-          c.loop-a.invariant c.loop-a-test.true,
-      omega (
-        arith,
-        c.wide-c.ensures,
-        c.loop-a.invariant.grown.queued.below _
-            c.loop-a-test.true,
-      ),
-    )
+spread-found-requires c = (
+  c.requires.0,
+  exhausting_fits _ _ _ _ _ _ _ _ _ _ _ _ _ _
+      c.loop-a.invariant c.loop-a-test.true,
+  omega (
+    arith,
+    c.wide-c.ensures,
+    c.loop-a.invariant.grown.queued.below _
+        c.loop-a-test.true,
+  ),
+)
 
 pub overflow_add-a-in-loop-a : goal.overflow_add-a-in-loop-a
 overflow_add-a-in-loop-a c =

@@ -20,12 +20,11 @@ returns-then-member c =
     c.if-member.true
 
 pub loop-k-preserved : goal.loop-k-preserved
-loop-k-preserved c =
-    (
-      omega arith,
-      first_in_on _ c.args.queue.now 0 _ _ _
-          c.loop-k.invariant.1 c.wide.ensures.0 c.member.ensures c.if-member.false,
-    )
+loop-k-preserved c = (
+  omega arith,
+  first_in_on _ c.args.queue.now 0 _ _ _
+      c.loop-k.invariant.1 c.wide.ensures.0 c.member.ensures c.if-member.false,
+)
 
 pub returns : goal.returns
 returns c = first_in_none _ _ _ _ (λ k b. c.loop-k.invariant.1 k (omega (arith, b, c.loop-k-test.false)))

@@ -6,13 +6,12 @@ pub unmark-requires : goal.unmark-requires
 unmark-requires c = c.requires.2
 
 pub spread-first-requires : goal.spread-first-requires
-spread-first-requires c =
-    (
-      c.requires.0,
-      reach_fits _ _ _ _ _ c.requires.0.places c.requires.1
-          c.unmark.ensures,
-      c.requires.3,
-    )
+spread-first-requires c = (
+  c.requires.0,
+  reach_fits _ _ _ _ _ c.requires.0.places c.requires.1
+      c.unmark.ensures,
+  c.requires.3,
+)
 
 pub exhaust-requires : goal.exhaust-requires
 exhaust-requires c =

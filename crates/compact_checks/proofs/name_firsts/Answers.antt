@@ -1,12 +1,12 @@
 -- `name_firsts` names each input that is the smallest of its component for the inputs of that component.
 use Prim.Native.Nat.{◌<◌}
 use mathlib.Core.Path.{refl, sym, ◌∙◌}
-use mathlib.Core.Logic.{⊎_elim}
 use native.Mathlib.Omega.{arith}
 use Rattle.game.proofs.Laws.{accepted_fits}
 use Rattle.graph_ranks.proofs.Walk.{moves_narrow}
 use Rattle.compact_checks.proofs.Game.{firsts_none, firsts_leader, firsts_other, firsts_end}
 use Rattle.compact_checks.proofs.name_firsts.Goals as goal
+use Rattle.compact_checks.proofs.name_firsts.Goals.{then-member, else-member}
 
 pub crossings-places-requires : goal.crossings-places-requires
 crossings-places-requires c = c.requires.0
@@ -44,11 +44,11 @@ loop-j-preserved c =
     let k : l.j < c.args.g.input.states = omega (arith, b, l.invariant.1) in (
       omega (arith, b),
       l.invariant.1,
-      ⊎_elim
-          (λ w. rw w.6 (firsts_leader _ _ _ c.requires.3 l.j k c.requires.1 (sym c.member.ensures ∙ w.0.taken)
-          (w.3.ensures c.args.g c.requires.0 refl refl) l.invariant.2 w.5.ensures))
-          (λ w. rw w.1 (firsts_other _ _ _ c.requires.3 l.j k c.requires.1 (sym c.member.ensures ∙ w.0.left) l.invariant.2))
-          c.if-member.branch,
+      elim c.if-member.branch [
+        | then-member w ↦ rw w.6 (firsts_leader _ _ _ c.requires.3 l.j k c.requires.1 (sym c.member.ensures ∙ w.if-member.true)
+            (w.3.ensures c.args.g c.requires.0 refl refl) l.invariant.2 w.5.ensures)
+        | else-member w ↦ rw w.1 (firsts_other _ _ _ c.requires.3 l.j k c.requires.1 (sym c.member.ensures ∙ w.if-member.false) l.invariant.2)
+      ],
     )
 
 pub returns : goal.returns

@@ -32,11 +32,10 @@ pub loop-x-smaller : goal.loop-x-smaller
 loop-x-smaller c = omega (arith, c.loop-x-test.true)
 
 pub loop-x-preserved : goal.loop-x-preserved
-loop-x-preserved c =
-    (
-      omega (arith, c.loop-x-test.true),
-      part_turn _ _ _ _ _ c.loop-x.x (passed c.row_fits.ensures c.if-not-row_fits.false-raw) c.loop-x.invariant.1,
-    )
+loop-x-preserved c = (
+  omega (arith, c.loop-x-test.true),
+  part_turn _ _ _ _ _ c.loop-x.x (passed c.row_fits.ensures c.if-not-row_fits.false-raw) c.loop-x.invariant.1,
+)
 
 pub returns : goal.returns
 returns c = part_end _ _ _ _ _ _ _ c.loop-x.invariant.0 c.loop-x-test.false c.loop-x.invariant.1

@@ -1,4 +1,5 @@
 -- `parts_fit` goes through the parts of the inputs.
+use Prim.Native.Nat.{◌*◌}
 use mathlib.Core.Path.{refl, ap}
 use mathlib.Core.Logic.{⊎_elim, inl, inr}
 use native.Mathlib.Omega.{arith}

@@ -1,9 +1,9 @@
 -- `row_fits` goes through the inputs.
 use mathlib.Core.Path.{◌∙◌}
-use mathlib.Core.Logic.{⊎_elim}
 use native.Mathlib.Omega.{arith}
 use Rattle.compact_checks.proofs.Parts.{row_start, row_same, row_other, row_end}
 use Rattle.compact_checks.proofs.row_fits.Goals as goal
+use Rattle.compact_checks.proofs.row_fits.Goals.{then-table-row, else-table-row}
 
 pub loop-k-init : goal.loop-k-init
 loop-k-init c = (omega arith, row_start _ _ _ _)
@@ -48,10 +48,10 @@ pub loop-k-preserved : goal.loop-k-preserved
 loop-k-preserved c =
     let l = c.loop-k in (
       omega (arith, c.loop-k-test.true),
-      ⊎_elim
-          (λ t. t.1 ∙ row_other _ _ _ _ l.k c.wide-s.ensures t.0.taken)
-          (λ t. t.1 ∙ row_same _ _ _ _ l.k c.wide-s.ensures t.0.left l.invariant.1)
-          c.if-table-row.branch,
+      elim c.if-table-row.branch [
+        | then-table-row t ↦ t.1 ∙ row_other _ _ _ _ l.k c.wide-s.ensures t.if-table-row.true
+        | else-table-row t ↦ t.1 ∙ row_same _ _ _ _ l.k c.wide-s.ensures t.if-table-row.false l.invariant.1
+      ],
     )
 
 pub returns : goal.returns

@@ -25,14 +25,13 @@ returns-then-room-n c =
     (omega (arith, c.if-room-n.true, controller_long _ c.controller_length-n.ensures))
 
 pub write_full-requires : goal.write_full-requires
-write_full-requires c =
-    (
-      c.requires,
-      c.component_count-components.ensures,
-      c.if-table-compact_length.false ∙ c.compact_length.ensures,
-      passed c.ranks_fit.ensures c.if-not-ranks_fit.false-raw,
-      omega (arith, c.if-room-n.false, controller_long _ c.controller_length-n.ensures),
-    )
+write_full-requires c = (
+  c.requires,
+  c.component_count-components.ensures,
+  c.if-table-compact_length.false ∙ c.compact_length.ensures,
+  passed c.ranks_fit.ensures c.if-not-ranks_fit.false-raw,
+  omega (arith, c.if-room-n.false, controller_long _ c.controller_length-n.ensures),
+)
 
 pub returns : goal.returns
 returns c =

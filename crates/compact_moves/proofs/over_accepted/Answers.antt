@@ -33,14 +33,13 @@ returns-then-room-n c =
     (passed c.rows_fit.ensures c.if-not-rows_fit.false-raw) (omega (arith, c.if-room-n.true, c.compact_length-n.ensures))
 
 pub write_compact-requires : goal.write_compact-requires
-write_compact-requires c =
-    (
-      c.requires,
-      c.components-components.ensures,
-      c.if-table-controller_length.false ∙ controller_long _ c.controller_length.ensures,
-      passed c.rows_fit.ensures c.if-not-rows_fit.false-raw,
-      omega (arith, c.if-room-n.false, c.compact_length-n.ensures),
-    )
+write_compact-requires c = (
+  c.requires,
+  c.components-components.ensures,
+  c.if-table-controller_length.false ∙ controller_long _ c.controller_length.ensures,
+  passed c.rows_fit.ensures c.if-not-rows_fit.false-raw,
+  omega (arith, c.if-room-n.false, c.compact_length-n.ensures),
+)
 
 pub returns : goal.returns
 returns c =

@@ -1,4 +1,5 @@
 -- `write_full`.
+use Prim.Native.Nat.{◌*◌}
 use mathlib.Core.Path.{ap}
 use native.Mathlib.Omega.{arith}
 use Rattle.table_sizes.proofs.Lengths.{controller_rows}

@@ -48,12 +48,11 @@ pub loop-j-smaller : goal.loop-j-smaller
 loop-j-smaller c = omega (arith, c.loop-j-test.true)
 
 pub loop-j-preserved : goal.loop-j-preserved
-loop-j-preserved c =
-    (
-      omega (arith, c.loop-j-test.true),
-      gathered_next _ _ _ _ c.loop-j.j c.loop-j-test.true (omega (arith, c.requires.room, c.loop-j.invariant.1.long))
-          c.wide-c.ensures refl c.loop-j.invariant.1,
-    )
+loop-j-preserved c = (
+  omega (arith, c.loop-j-test.true),
+  gathered_next _ _ _ _ c.loop-j.j c.loop-j-test.true (omega (arith, c.requires.room, c.loop-j.invariant.1.long))
+      c.wide-c.ensures refl c.loop-j.invariant.1,
+)
 
 pub shape_of-room : goal.shape_of-room
 shape_of-room c = c.loop-j.invariant.1.long

@@ -39,11 +39,10 @@ pub loop-x-smaller : goal.loop-x-smaller
 loop-x-smaller c = omega (arith, c.loop-x-test.true)
 
 pub loop-x-preserved : goal.loop-x-preserved
-loop-x-preserved c =
-    (
-      omega (arith, c.loop-x-test.true),
-      gathered_rows_next _ _ _ _ c.loop-x.x c.loop-x-test.true c.loop-x.invariant.1 c.gather.ensures,
-    )
+loop-x-preserved c = (
+  omega (arith, c.loop-x-test.true),
+  gathered_rows_next _ _ _ _ c.loop-x.x c.loop-x-test.true c.loop-x.invariant.1 c.gather.ensures,
+)
 
 pub shape_of-room : goal.shape_of-room
 shape_of-room c = c.loop-x.invariant.1.long

@@ -51,11 +51,10 @@ pub loop-c-smaller : goal.loop-c-smaller
 loop-c-smaller c = omega (arith, c.loop-c-test.true)
 
 pub loop-c-preserved : goal.loop-c-preserved
-loop-c-preserved c =
-    (
-      omega (arith, c.loop-c-test.true),
-      picked_next _ _ _ _ _ _ c.requires c.loop-c-test.true c.loop-c.invariant.1 c.wide-j.ensures refl,
-    )
+loop-c-preserved c = (
+  omega (arith, c.loop-c-test.true),
+  picked_next _ _ _ _ _ _ c.requires c.loop-c-test.true c.loop-c.invariant.1 c.wide-j.ensures refl,
+)
 
 pub shape_of-room : goal.shape_of-room
 shape_of-room c = c.loop-c.invariant.1.long

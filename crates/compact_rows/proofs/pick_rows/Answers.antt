@@ -48,8 +48,7 @@ loop-x-smaller c = omega (arith, c.loop-x-test.true)
 
 pub loop-x-preserved : goal.loop-x-preserved
 loop-x-preserved c =
-    let l = c.loop-x in
-    (
+    let l = c.loop-x in (
       omega (arith, l.invariant.0),
       picked_rows_next _ _ _ _ l.x c.requires c.loop-x-test.true l.invariant.0 l.invariant.1 c.pick.ensures,
     )

@@ -41,11 +41,10 @@ pub loop-j-smaller : goal.loop-j-smaller
 loop-j-smaller c = omega (arith, c.loop-j-test.true)
 
 pub loop-j-preserved : goal.loop-j-preserved
-loop-j-preserved c =
-    (
-      omega (arith, c.loop-j-test.true),
-      represented_next _ _ _ _ c.requires c.loop-j-test.true c.loop-j.invariant.1 c.wide-c.ensures refl,
-    )
+loop-j-preserved c = (
+  omega (arith, c.loop-j-test.true),
+  represented_next _ _ _ _ c.requires c.loop-j-test.true c.loop-j.invariant.1 c.wide-c.ensures refl,
+)
 
 pub shape_of-room : goal.shape_of-room
 shape_of-room c = c.loop-j.invariant.1.long

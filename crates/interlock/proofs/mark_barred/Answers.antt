@@ -14,7 +14,7 @@ pub write_map-requires : goal.write_map-requires
 write_map-requires c =
     let F = accepted_fits _ c.requires.0 in
     let long = scratch_sets_lem c.args.scratch.now c.requires.2 in (
-      omega (arith, F.input.most, long, count_same c.keep.new.1.1.0 c.args.scratch.now c.keep.auto.1.1.0),
+      omega (arith, F.input.most, long, count_same c.keep.new.s c.args.scratch.now c.keep.auto.s),
       words_held
           c.args.map.now _ c.requires.3,
     )
@@ -22,7 +22,7 @@ write_map-requires c =
 pub returns : goal.returns
 returns c =
     let F = accepted_fits _ c.requires.0 in (
-      kept_rest _ _ _ _ (omega (arith, F.input.most)) c.keep.ensures.apart c.keep.auto.1.1.0 (λ i. omega (arith, c.slice_known-1.given i))
+      kept_rest _ _ _ _ (omega (arith, F.input.most)) c.keep.ensures.apart c.keep.auto.s (λ i. omega (arith, c.slice_known-1.given i))
           (λ i. omega (arith, c.slice_known-3-1.given i)) c.clear.ensures,
       barred_filled _ _ _ _ _ c.requires.4 c.keep.ensures.row c.write_map.ensures,
     )

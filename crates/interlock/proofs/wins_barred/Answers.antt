@@ -16,12 +16,12 @@ pub all_open-r-requires : goal.all_open-r-requires
 all_open-r-requires c =
     let F = accepted_fits _ c.requires.0 in
     let long = scratch_sets_lem c.args.scratch.now c.requires.2 in
-    (F.input.most, omega (arith, F.input.most, long, count_same c.keep.new.1.1.0 c.args.scratch.now c.keep.auto.1.1.0))
+    (F.input.most, omega (arith, F.input.most, long, count_same c.keep.new.s c.args.scratch.now c.keep.auto.s))
 
 pub returns : goal.returns
 returns c =
     let F = accepted_fits _ c.requires.0 in (
-      c.all_open-r.ensures ∙ opens_region _ F c.args.bars.now (sets_in c.keep.new.1.1.0) c.keep.ensures.row,
-      kept_rest _ _ _ _ (omega (arith, F.input.most)) c.keep.ensures.apart c.keep.auto.1.1.0 (λ i. omega (arith, c.slice_known-1.given i))
+      c.all_open-r.ensures ∙ opens_region _ F c.args.bars.now (sets_in c.keep.new.s) c.keep.ensures.row,
+      kept_rest _ _ _ _ (omega (arith, F.input.most)) c.keep.ensures.apart c.keep.auto.s (λ i. omega (arith, c.slice_known-1.given i))
           (λ i. omega (arith, c.slice_known-2-1.given i)) c.clear.ensures,
     )

@@ -13,16 +13,15 @@ pub prepare-x-requires : goal.prepare-x-requires
 prepare-x-requires c =
     let p = c.requires in
     let F = accepted_fits _ p.0 in
-    (fits_on c.lay-z.ensures F, scratch_on c.lay-z.ensures (omega (arith, p.1, F.input.most, F.output.most)))
+    (refl, (fits_on c.lay-z.ensures F, scratch_on c.lay-z.ensures (omega (arith, p.1, F.input.most, F.output.most))))
 
 pub system_wins-r-requires : goal.system_wins-r-requires
 system_wins-r-requires c =
     (prepared_on c.lay-z.ensures c.prepare-x.ensures).ready
 
 pub returns : goal.returns
-returns c =
-    (
-      c.system_wins-r.ensures,
-      prepared_rest _ (accepted_fits _ c.requires.0) _ _ _ (prepared_on c.lay-z.ensures c.prepare-x.ensures).kept.rest
-          c.clear.ensures,
-    )
+returns c = (
+  c.system_wins-r.ensures,
+  prepared_rest _ (accepted_fits _ c.requires.0) _ _ _ (prepared_on c.lay-z.ensures c.prepare-x.ensures).kept.rest
+      c.clear.ensures,
+)

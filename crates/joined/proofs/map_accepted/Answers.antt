@@ -21,12 +21,11 @@ returns-then-map-words c =
     joined_map_short _ _ _ c.requires (small_counts _ (omega arith) (omega arith)) (omega (arith, c.words.ensures, c.if-map-words.true))
 
 pub make_map-requires : goal.make_map-requires
-make_map-requires c =
-    (
-      record { fits = accepted_fits _ c.requires; inputs = omega arith; outputs = omega arith },
-      omega arith,
-      words_held c.args.map.now c.args.g.input.states (omega (arith, c.words.ensures, c.if-map-words.false)),
-    )
+make_map-requires c = (
+  record { fits = accepted_fits _ c.requires; inputs = omega arith; outputs = omega arith },
+  omega arith,
+  words_held c.args.map.now c.args.g.input.states (omega (arith, c.words.ensures, c.if-map-words.false)),
+)
 
 pub returns : goal.returns
 returns c =

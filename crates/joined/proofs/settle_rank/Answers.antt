@@ -1,11 +1,11 @@
 -- `settle_rank`.
 use Prim.Native.Nat.{◌*◌}
 use mathlib.Core.Path.{◌≡◌}
-use mathlib.Core.Logic.{⊎_elim}
 use native.Mathlib.Omega.{arith}
 use Rattle.joined_reach.proofs.Counting.{few_positions, parts}
 use Rattle.joined.proofs.Ranks.{passed_start, passed_rank, passed_more, passed_other}
 use Rattle.joined.proofs.settle_rank.Goals as goal
+use Rattle.joined.proofs.settle_rank.Goals.{then-s-c, else-s-c}
 
 pub overflow_mul-positions : goal.overflow_mul-positions
 overflow_mul-positions c = omega (arith, few_positions _ c.requires.0)
@@ -36,9 +36,10 @@ loop-c-preserved c =
     let t = c.loop-c-test.true in (
       omega arith,
       c.loop-c.invariant.1,
-      ⊎_elim (λ w. rw w.5 (passed_more _ _ _ c.loop-c.c _ c.loop-c.invariant.2 t _ w.2.ensures))
-          (λ w. rw w.1 (passed_other _ _ _ c.loop-c.c _ c.loop-c.invariant.2 t w.0.left))
-          c.if-s-c.branch,
+      elim c.if-s-c.branch [
+        | then-s-c w ↦ rw w.s-is (passed_more _ _ _ c.loop-c.c _ c.loop-c.invariant.2 t _ w.settle_position.ensures)
+        | else-s-c w ↦ rw w.s-is (passed_other _ _ _ c.loop-c.c _ c.loop-c.invariant.2 t w.if-s-c.false)
+      ],
     )
 
 pub shape_of-s : goal.shape_of-s

@@ -14,14 +14,13 @@ put-requires c =
     omega (arith, c.requires.3, count_same c.loop-i.map c.args.map.now c.loop-i.invariant.1)
 
 pub loop-i-preserved : goal.loop-i-preserved
-loop-i-preserved c =
-    (
-      omega arith,
-      c.put.auto.0 ∙ c.loop-i.invariant.1,
-      rows_more _ _ _ c.loop-i.i c.loop-i.invariant.2 _ _ (omega (arith, c.requires.3, sets_long c.args.map.now))
-          (c.of_word.ensures ∙ c.requires.2.rows c.loop-i.i (omega arith)) c.put.ensures,
-      λ k. omega (arith, c.slice_known-in-loop-i-1.given k),
-    )
+loop-i-preserved c = (
+  omega arith,
+  c.put.auto.l ∙ c.loop-i.invariant.1,
+  rows_more _ _ _ c.loop-i.i c.loop-i.invariant.2 _ _ (omega (arith, c.requires.3, sets_long c.args.map.now))
+      (c.of_word.ensures ∙ c.requires.2.rows c.loop-i.i (omega arith)) c.put.ensures,
+  λ k. omega (arith, c.slice_known-in-loop-i-1.given k),
+)
 
 pub shape_of-map : goal.shape_of-map
 shape_of-map c = c.loop-i.invariant.1

@@ -12,11 +12,10 @@ pub insert_if-c-requires : goal.insert_if-c-requires
 insert_if-c-requires c = omega (arith, c.requires.0.inputs)
 
 pub loop-i-preserved : goal.loop-i-preserved
-loop-i-preserved c =
-    (
-      omega arith,
-      collect_next _ c.loop-i.i _ _ _ c.loop-i.invariant.1 (inhabited _ _ c.requires.2 c.loop-i.i (omega arith)) c.insert_if-c.ensures,
-    )
+loop-i-preserved c = (
+  omega arith,
+  collect_next _ c.loop-i.i _ _ _ c.loop-i.invariant.1 (inhabited _ _ c.requires.2 c.loop-i.i (omega arith)) c.insert_if-c.ensures,
+)
 
 pub returns : goal.returns
 returns c =

@@ -25,7 +25,7 @@ pub returns-then-not-meets : goal.returns-then-not-meets
 unfolding served_on served_at
 returns-then-not-meets c =
     let a = c.args in
-    all_stop _ c.loop-j.j (served_at (get_or a.t1.requirements a.r no_requirement) (bits_of a.y.0)) (omega arith) (failed c.meets.ensures
+    all_stop _ c.loop-j.j (served_at (get_or a.g.requirements a.r no_requirement) (bits_of a.y.0)) (omega arith) (failed c.meets.ensures
     c.if-not-meets.true-raw)
 
 pub overflow_add-j : goal.overflow_add-j
@@ -38,7 +38,7 @@ unfolding served_at
 loop-j-preserved c =
     let a = c.args in (
       omega arith,
-      all_turn c.loop-j.j (served_at (get_or a.t1.requirements a.r no_requirement) (bits_of a.y.0)) c.loop-j.invariant.1 (passed
+      all_turn c.loop-j.j (served_at (get_or a.g.requirements a.r no_requirement) (bits_of a.y.0)) c.loop-j.invariant.1 (passed
           c.meets.ensures c.if-not-meets.false-raw),
     )
 

@@ -23,7 +23,7 @@ loop-waiting-init c =
 
 pub follow-waiting-requires : goal.follow-waiting-requires
 follow-waiting-requires c =
-    let kept : ButFor 0 64 c.args.s.now (set c.clear.new.0 (0 + c.args.i.0) c.insert.result) = rw zero-add (begun_kept _ _ _ _ _ c.requires.1 c.requires.0 c.requires.3 c.clear.ensures) in
+    let kept : ButFor 0 64 c.args.s.now (set c.clear.new.s (0 + c.args.i.0) c.insert.result) = rw zero-add (begun_kept _ _ _ _ _ c.requires.1 c.requires.0 c.requires.3 c.clear.ensures) in
     let waits = closed_waiting _ _ _ _ _ _ c.loop-waiting.invariant in
     (c.requires.0, omega (arith, c.loop-waiting.invariant.kept.long, (kept).long), c.loop-waiting-test.true, waits, c.requires.4, c.requires.5)
 
@@ -33,7 +33,7 @@ loop-waiting-smaller c =
     omega (
       arith,
       closed_falls _ _ _ _ c.loop-waiting.waiting.0 _ c.loop-waiting.invariant _ _ e.ensures c.requires.0 c.loop-waiting-test.true,
-      followed_most c.args.g e.new.1.1.1.0,
+      followed_most c.args.g e.new.s,
     )
 
 pub loop-waiting-preserved : goal.loop-waiting-preserved
@@ -42,10 +42,10 @@ loop-waiting-preserved c =
 
 pub shape_of-s : goal.shape_of-s
 shape_of-s c =
-    let kept : ButFor 0 64 c.args.s.now (set c.clear.new.0 (0 + c.args.i.0) c.insert.result) = rw zero-add (begun_kept _ _ _ _ _ c.requires.1 c.requires.0 c.requires.3 c.clear.ensures) in
+    let kept : ButFor 0 64 c.args.s.now (set c.clear.new.s (0 + c.args.i.0) c.insert.result) = rw zero-add (begun_kept _ _ _ _ _ c.requires.1 c.requires.0 c.requires.3 c.clear.ensures) in
     c.loop-waiting.invariant.kept.long ∙ (kept).long
 
 pub returns : goal.returns
 returns c =
-    let kept : ButFor 0 64 c.args.s.now (set c.clear.new.0 (0 + c.args.i.0) c.insert.result) = rw zero-add (begun_kept _ _ _ _ _ c.requires.1 c.requires.0 c.requires.3 c.clear.ensures) in
+    let kept : ButFor 0 64 c.args.s.now (set c.clear.new.s (0 + c.args.i.0) c.insert.result) = rw zero-add (begun_kept _ _ _ _ _ c.requires.1 c.requires.0 c.requires.3 c.clear.ensures) in
     closed_end _ _ _ _ _ _ c.loop-waiting.invariant (kept) c.loop-waiting-test.false

@@ -19,12 +19,11 @@ count_found-requires c =
     (c.requires.0, omega (arith, c.close.ensures.kept.long, c.loop-c.invariant.2.kept.long), c.close.ensures.within)
 
 pub loop-c-preserved : goal.loop-c-preserved
-loop-c-preserved c =
-    (
-      omega arith,
-      c.loop-c.invariant.1,
-      ranking_more _ c.requires.0 _ _ c.loop-c.c c.loop-c.invariant.2 (omega arith) c.requires.1 _ c.close.ensures _ c.count_found.ensures,
-    )
+loop-c-preserved c = (
+  omega arith,
+  c.loop-c.invariant.1,
+  ranking_more _ c.requires.0 _ _ c.loop-c.c c.loop-c.invariant.2 (omega arith) c.requires.1 _ c.close.ensures _ c.count_found.ensures,
+)
 
 pub shape_of-s : goal.shape_of-s
 shape_of-s c = c.loop-c.invariant.2.kept.long

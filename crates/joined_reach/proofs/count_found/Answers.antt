@@ -18,8 +18,7 @@ overflow_add-n c =
 
 pub loop-i-preserved : goal.loop-i-preserved
 loop-i-preserved c =
-    let most : c.count-n.result ≤ 64 = omega (arith, c.count-n.ensures, count_le 64 (has (get_or c.args.s.now (0 + c.loop-i.i) 0))) in
-    (
+    let most : c.count-n.result ≤ 64 = omega (arith, c.count-n.ensures, count_le 64 (has (get_or c.args.s.now (0 + c.loop-i.i) 0))) in (
       omega arith,
       omega (arith, most),
       counted_more _ c.requires.0 _ c.requires.2 _ _ _ (omega arith) (simp zero-add at c.count-n.ensures) c.loop-i.invariant.2,

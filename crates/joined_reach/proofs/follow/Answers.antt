@@ -40,8 +40,7 @@ bounds-s-r-2 c =
 
 pub next_outputs-y-requires : goal.next_outputs-y-requires
 next_outputs-y-requires c =
-    let small : c.args.waiting.0 < 2 ^ 64 = search rules in
-    (
+    let small : c.args.waiting.0 < 2 ^ 64 = search rules in (
       c.requires.0,
       follow_within _ c.requires.0 _ _ c.requires.3 (small) c.requires.2 _ c.lowest-r.ensures c.requires.1 _ (simp zero-add at
           c.difference-new.ensures),

@@ -23,9 +23,8 @@ shape_of-s c =
     c.add_forced.ensures.swept.kept.long ∙ c.loop-g.invariant.0.kept.long
 
 pub returns : goal.returns
-returns c =
-    (
-      swept_then _ c.requires.0 c.loop-g.invariant.0 c.add_forced.ensures.swept,
-      c.add_forced.ensures.growing,
-      c.add_forced.ensures.ended c.loop-g-test.false,
-    )
+returns c = (
+  swept_then _ c.requires.0 c.loop-g.invariant.0 c.add_forced.ensures.swept,
+  c.add_forced.ensures.growing,
+  c.add_forced.ensures.ended c.loop-g-test.false,
+)

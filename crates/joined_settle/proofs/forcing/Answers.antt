@@ -7,15 +7,14 @@ pub loop-rest-init : goal.loop-rest-init
 loop-rest-init c = whole_start 64 _ _ _ (omega (arith, c.requires.0.outputs)) c.requires.3
 
 pub forces-requires : goal.forces-requires
-forces-requires c =
-    (
-      c.requires.0,
-      c.requires.1,
-      collected_below 64 _ _ _ c.loop-rest.rest _ c.loop-rest.invariant c.loop-rest-test.true _ c.lowest-o.ensures,
-      c.requires.2,
-      c.requires.4,
-      c.requires.5,
-    )
+forces-requires c = (
+  c.requires.0,
+  c.requires.1,
+  collected_below 64 _ _ _ c.loop-rest.rest _ c.loop-rest.invariant c.loop-rest-test.true _ c.lowest-o.ensures,
+  c.requires.2,
+  c.requires.4,
+  c.requires.5,
+)
 
 pub insert_if-c-requires : goal.insert_if-c-requires
 insert_if-c-requires c =

@@ -23,9 +23,8 @@ shape_of-s c =
     c.drop_unsafe.ensures.swept.kept.long ∙ c.loop-g.invariant.0.kept.long
 
 pub returns : goal.returns
-returns c =
-    (
-      swept_then _ c.requires.0 c.loop-g.invariant.0 c.drop_unsafe.ensures.swept,
-      c.drop_unsafe.ensures.shrinking,
-      c.drop_unsafe.ensures.ended c.loop-g-test.false,
-    )
+returns c = (
+  swept_then _ c.requires.0 c.loop-g.invariant.0 c.drop_unsafe.ensures.swept,
+  c.drop_unsafe.ensures.shrinking,
+  c.drop_unsafe.ensures.ended c.loop-g-test.false,
+)

@@ -55,22 +55,6 @@ solve_fitting-requires c =
       room = omega (arith, c.if-room-t.false, c.table_length-t.ensures);
     }
 
-pub shape_of-scratch : goal.shape_of-scratch
-shape_of-scratch c =
-    c.solve_fitting.auto.1.1.1.0
-
-pub shape_of-controller : goal.shape_of-controller
-shape_of-controller c =
-    c.solve_fitting.auto.1.1.1.1.0
-
-pub shape_of-panel : goal.shape_of-panel
-shape_of-panel c =
-    c.solve_fitting.auto.1.1.1.1.1.0
-
-pub shape_of-room : goal.shape_of-room
-shape_of-room c =
-    c.solve_fitting.auto.1.1.1.1.1.1.0
-
 pub returns : goal.returns
 returns c =
     c.solve_fitting.ensures

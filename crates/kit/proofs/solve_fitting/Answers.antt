@@ -26,33 +26,9 @@ returns-in-System c =
     done_system _ _ _ _ _ _ _ _ _ _ c.requires c.solve_into-answer.ensures c.in-System.is c.fill.ensures.0
     c.fill.ensures.1
 
-pub shape_of-scratch-in-Environment : goal.shape_of-scratch-in-Environment
-shape_of-scratch-in-Environment c =
-    c.solve_into-answer.auto.1.0
-
-pub shape_of-controller-in-Environment : goal.shape_of-controller-in-Environment
-shape_of-controller-in-Environment c =
-    c.solve_into-answer.auto.1.1.0
-
-pub shape_of-panel-in-Environment : goal.shape_of-panel-in-Environment
-shape_of-panel-in-Environment c =
-    c.solve_into-answer.auto.1.1.1.0
-
 pub returns-in-Environment : goal.returns-in-Environment
 returns-in-Environment c =
     done_environment _ _ _ _ _ _ _ _ _ _ c.requires c.solve_into-answer.ensures c.in-Environment.is
-
-pub shape_of-scratch-in-Refused : goal.shape_of-scratch-in-Refused
-shape_of-scratch-in-Refused c =
-    c.solve_into-answer.auto.1.0
-
-pub shape_of-controller-in-Refused : goal.shape_of-controller-in-Refused
-shape_of-controller-in-Refused c =
-    c.solve_into-answer.auto.1.1.0
-
-pub shape_of-panel-in-Refused : goal.shape_of-panel-in-Refused
-shape_of-panel-in-Refused c =
-    c.solve_into-answer.auto.1.1.1.0
 
 pub returns-in-Refused : goal.returns-in-Refused
 returns-in-Refused c =

@@ -10,22 +10,6 @@ solve_accepted-requires c =
 pub returns-in-Refused : goal.returns-in-Refused
 returns-in-Refused c = kit_faulty _ _ _ _ _ _ (sym c.accept_kit-accepted.ensures.answer ∙ c.in-Refused.is)
 
-pub shape_of-scratch : goal.shape_of-scratch
-shape_of-scratch c =
-    c.solve_accepted.auto.1.0
-
-pub shape_of-controller : goal.shape_of-controller
-shape_of-controller c =
-    c.solve_accepted.auto.1.1.0
-
-pub shape_of-panel : goal.shape_of-panel
-shape_of-panel c =
-    c.solve_accepted.auto.1.1.1.0
-
-pub shape_of-room : goal.shape_of-room
-shape_of-room c =
-    c.solve_accepted.auto.1.1.1.1.0
-
 pub returns-in-Accepted : goal.returns-in-Accepted
 returns-in-Accepted c =
     c.solve_accepted.ensures

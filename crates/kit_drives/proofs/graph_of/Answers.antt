@@ -19,8 +19,7 @@ put_of-requires c = (c.loop-m-test.true, c.loop-m.invariant.1)
 pub loop-m-preserved : goal.loop-m-preserved
 loop-m-preserved c =
     let put = c.put_of in
-    let from = c.moves_from-x in
-    (
+    let from = c.moves_from-x in (
       omega arith,
       put.ensures.1 ∙ c.loop-m.invariant.1,
       graph_next _ _ _ _ _ c.loop-m.m _ c.loop-m-test.true c.loop-m.invariant.2 from.ensures put.ensures.0,

@@ -16,14 +16,13 @@ pub insert-x-requires : goal.insert-x-requires
 insert-x-requires c = omega (arith, c.if-t-modes.true, c.requires.0)
 
 pub loop-u-preserved : goal.loop-u-preserved
-loop-u-preserved c =
-    (
-      omega arith,
-      elim c.if-t-modes.branch [
-        | then-t-modes w ↦ ap bits_of w.x-is ∙ made_in _ _ _ c.loop-u.u _ _ _ c.loop-u.invariant.1 c.next_mode-t.ensures w.if-t-modes.true w.insert-x.ensures
-        | else-t-modes w ↦ ap bits_of w.x-is ∙ made_past _ _ _ c.loop-u.u _ _ c.loop-u.invariant.1 c.next_mode-t.ensures w.if-t-modes.false
-      ],
-    )
+loop-u-preserved c = (
+  omega arith,
+  elim c.if-t-modes.branch [
+    | then-t-modes w ↦ ap bits_of w.x-is ∙ made_in _ _ _ c.loop-u.u _ _ _ c.loop-u.invariant.1 c.next_mode-t.ensures w.if-t-modes.true w.insert-x.ensures
+    | else-t-modes w ↦ ap bits_of w.x-is ∙ made_past _ _ _ c.loop-u.u _ _ c.loop-u.invariant.1 c.next_mode-t.ensures w.if-t-modes.false
+  ],
+)
 
 pub returns : goal.returns
 returns c = made_all _ _ _ c.loop-u.u _ _ (omega arith) (omega arith) c.loop-u.invariant.1

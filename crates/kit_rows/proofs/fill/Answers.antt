@@ -15,13 +15,12 @@ loop-o-init c =
     (omega arith, outputs_none _ c.args.controller.now _ _ c.requires.0 _, lent_none _ _)
 
 pub output_rows-requires : goal.output_rows-requires
-output_rows-requires c =
-    (
-      ready_long _ c.args.controller.now _ _ c.requires.0 _
-          (outputs_long _ c.args.controller.now _ _ c.requires.0 c.loop-o.invariant.1 ∙ c.starts.ensures.long),
-      c.loop-o-test.true,
-      omega (arith, c.requires.1, c.loop-o.invariant.2.long),
-    )
+output_rows-requires c = (
+  ready_long _ c.args.controller.now _ _ c.requires.0 _
+      (outputs_long _ c.args.controller.now _ _ c.requires.0 c.loop-o.invariant.1 ∙ c.starts.ensures.long),
+  c.loop-o-test.true,
+  omega (arith, c.requires.1, c.loop-o.invariant.2.long),
+)
 
 pub overflow_add-o : goal.overflow_add-o
 overflow_add-o c = omega (arith, c.loop-o-test.true)
@@ -30,12 +29,11 @@ pub loop-o-smaller : goal.loop-o-smaller
 loop-o-smaller c = omega (arith, c.loop-o-test.true)
 
 pub loop-o-preserved : goal.loop-o-preserved
-loop-o-preserved c =
-    (
-      omega (arith, c.loop-o-test.true),
-      outputs_next _ c.args.controller.now _ _ c.requires.0 _ c.loop-o.inv.1 c.output_rows.ensures.0 refl,
-      lent_more c.loop-o.inv.2 c.output_rows.ensures.1,
-    )
+loop-o-preserved c = (
+  omega (arith, c.loop-o-test.true),
+  outputs_next _ c.args.controller.now _ _ c.requires.0 _ c.loop-o.invariant.1 c.output_rows.ensures.0 refl,
+  lent_more c.loop-o.invariant.2 c.output_rows.ensures.1,
+)
 
 pub clear-requires : goal.clear-requires
 clear-requires c =
@@ -43,15 +41,14 @@ clear-requires c =
 
 pub shape_of-scratch : goal.shape_of-scratch
 shape_of-scratch c =
-    cleared_length _ _ _ (omega (arith, c.requires.1, c.loop-o.inv.2.long)) c.clear.ensures ∙ c.loop-o.inv.2.long
+    cleared_length _ _ _ (omega (arith, c.requires.1, c.loop-o.invariant.2.long)) c.clear.ensures ∙ c.loop-o.invariant.2.long
 
 pub shape_of-room : goal.shape_of-room
 shape_of-room c =
-    outputs_long _ c.args.controller.now _ _ c.requires.0 c.loop-o.inv.1 ∙ c.starts.ensures.long
+    outputs_long _ c.args.controller.now _ _ c.requires.0 c.loop-o.invariant.1 ∙ c.starts.ensures.long
 
 pub returns : goal.returns
-returns c =
-    (
-      outputs_all _ c.args.controller.now _ _ c.requires.0 _ refl c.loop-o.inv.0 c.loop-o-test.false c.starts.ensures refl c.loop-o.inv.1,
-      c.clear.ensures ∙ cleared_same _ _ _ c.loop-o.inv.2.rest,
-    )
+returns c = (
+  outputs_all _ c.args.controller.now _ _ c.requires.0 _ refl c.loop-o.invariant.0 c.loop-o-test.false c.starts.ensures refl c.loop-o.invariant.1,
+  c.clear.ensures ∙ cleared_same _ _ _ c.loop-o.invariant.2.rest,
+)

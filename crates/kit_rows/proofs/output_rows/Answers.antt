@@ -31,13 +31,12 @@ overflow_add-old c =
     omega (arith, first)
 
 pub translate-requires : goal.translate-requires
-translate-requires c =
-    (
-      c.requires.0.new.commands,
-      omega (arith, c.requires.1, c.requires.0.new.modes),
-      rows_below _ c.args.controller.now _ _ c.requires.0 _ c.requires.1 _ c.loop-c-test.true,
-      omega (arith, c.requires.2, c.loop-c.invariant.2.long),
-    )
+translate-requires c = (
+  c.requires.0.new.commands,
+  omega (arith, c.requires.1, c.requires.0.new.modes),
+  rows_below _ c.args.controller.now _ _ c.requires.0 _ c.requires.1 _ c.loop-c-test.true,
+  omega (arith, c.requires.2, c.loop-c.invariant.2.long),
+)
 
 pub counter_rows-requires : goal.counter_rows-requires
 counter_rows-requires c =
@@ -51,13 +50,12 @@ pub loop-c-smaller : goal.loop-c-smaller
 loop-c-smaller c = omega (arith, c.loop-c-test.true)
 
 pub loop-c-preserved : goal.loop-c-preserved
-loop-c-preserved c =
-    (
-      omega (arith, c.loop-c-test.true),
-      rounds_next _ _ _ _ _ c.loop-c.c c.requires.0.named c.loop-c-test.true c.loop-c.inv.1 c.translate.ensures
-          c.counter_rows.ensures refl,
-      lent_said c.loop-c.inv.2 c.translate.ensures,
-    )
+loop-c-preserved c = (
+  omega (arith, c.loop-c-test.true),
+  rounds_next _ _ _ _ _ c.loop-c.c c.requires.0.named c.loop-c-test.true c.loop-c.invariant.1 c.translate.ensures
+      c.counter_rows.ensures refl,
+  lent_said c.loop-c.invariant.2 c.translate.ensures,
+)
 
 pub shape_of-kept : goal.shape_of-kept
 shape_of-kept c = c.loop-c.invariant.2.long
@@ -66,9 +64,8 @@ pub shape_of-room : goal.shape_of-room
 shape_of-room c = c.loop-c.invariant.1.long
 
 pub returns : goal.returns
-returns c =
-    (
-      outputs_one _ c.args.controller.now _ _ c.requires.0 _ c.requires.1
-          (rounds_end _ _ _ _ _ c.loop-c.c c.loop-c.invariant.0 c.loop-c-test.false c.loop-c.invariant.1),
-      c.loop-c.invariant.2,
-    )
+returns c = (
+  outputs_one _ c.args.controller.now _ _ c.requires.0 _ c.requires.1
+      (rounds_end _ _ _ _ _ c.loop-c.c c.loop-c.invariant.0 c.loop-c-test.false c.loop-c.invariant.1),
+  c.loop-c.invariant.2,
+)

@@ -28,17 +28,17 @@ translated-requires c = let p = c.requires in (p.0, p.1)
 
 pub offset_bounds-kept-j : goal.offset_bounds-kept-j
 offset_bounds-kept-j c =
-    let kept-place : c.loop-j.j < length c.loop-j.auto = omega (arith, c.requires.3, c.loop-j.invariant.1.long, c.loop-j-test.true) in
+    let kept-place : c.loop-j.j < length c.loop-j.kept = omega (arith, c.requires.3, c.loop-j.invariant.1.long, c.loop-j-test.true) in
     omega (arith, kept-place)
 
 pub bounds-kept-j : goal.bounds-kept-j
 bounds-kept-j c =
-    let kept-place : c.loop-j.j < length c.loop-j.auto = omega (arith, c.requires.3, c.loop-j.invariant.1.long, c.loop-j-test.true) in
+    let kept-place : c.loop-j.j < length c.loop-j.kept = omega (arith, c.requires.3, c.loop-j.invariant.1.long, c.loop-j-test.true) in
     kept-place
 
 pub loop-j-preserved : goal.loop-j-preserved
 loop-j-preserved c =
-    let kept-place : c.loop-j.j < length c.loop-j.auto = omega (arith, c.requires.3, c.loop-j.invariant.1.long, c.loop-j-test.true) in
+    let kept-place : c.loop-j.j < length c.loop-j.kept = omega (arith, c.requires.3, c.loop-j.invariant.1.long, c.loop-j-test.true) in
     (omega arith, said_next _ _ _ c.loop-j.j (kept-place) c.translated.ensures (omega arith) c.loop-j.invariant.1)
 
 pub shape_of-kept : goal.shape_of-kept

@@ -2,8 +2,5 @@
 use Rattle.nanpuwiq.proofs.Laws.{judge_called}
 use Rattle.nanpuwiq.proofs.nanpuwiq_barred_verdict.Goals as goal
 
-pub shape_of-scratch : goal.shape_of-scratch
-shape_of-scratch c = c.barred_verdict.auto.1.1.0
-
 pub returns : goal.returns
 returns c = judge_called c.barred_verdict.ensures c.judge_result.ensures

@@ -1,9 +1,6 @@
 -- `nanpuwiq_check` meets its contract.
 use Rattle.nanpuwiq.proofs.nanpuwiq_check.Goals as goal
 
-pub shape_of-room : goal.shape_of-room
-shape_of-room c = c.check.ensures.long
-
 pub returns : goal.returns
 returns c =
     record { found = c.check.result; checks = c.check.ensures; answer = c.check_result.ensures }

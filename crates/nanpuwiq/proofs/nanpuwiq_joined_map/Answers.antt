@@ -2,11 +2,5 @@
 use Rattle.nanpuwiq.proofs.Laws.{joined_called}
 use Rattle.nanpuwiq.proofs.nanpuwiq_joined_map.Goals as goal
 
-pub shape_of-scratch : goal.shape_of-scratch
-shape_of-scratch c = c.joined_map.auto.1.0
-
-pub shape_of-map : goal.shape_of-map
-shape_of-map c = c.joined_map.auto.1.1.0
-
 pub returns : goal.returns
 returns c = joined_called c.joined_map.ensures c.map_code.ensures

@@ -7,9 +7,8 @@ pub returns-then-table-controller_length : goal.returns-then-table-controller_le
 returns-then-table-controller_length c = stepped_length _ _ _ _ (fits_not _ _ _ c.controller_length.ensures c.if-table-controller_length.true)
 
 pub step_lent-requires : goal.step_lent-requires
-step_lent-requires c =
-    (
-      c.requires,
-      record { sizes = c.sizes_of.ensures; inputs = refl; outputs = refl },
-      fits _ _ _ c.controller_length.ensures c.if-table-controller_length.false,
-    )
+step_lent-requires c = (
+  c.requires,
+  record { sizes = c.sizes_of.ensures; inputs = refl; outputs = refl },
+  fits _ _ _ c.controller_length.ensures c.if-table-controller_length.false,
+)

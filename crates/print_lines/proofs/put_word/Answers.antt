@@ -23,15 +23,14 @@ pub loop-k-smaller : goal.loop-k-smaller
 loop-k-smaller c = omega (arith, c.loop-k-test.true)
 
 pub loop-k-preserved : goal.loop-k-preserved
-loop-k-preserved c =
-    (
-      bytes_step (word c.args.w) c.loop-k.k _ c.loop-k.invariant.0 (omega (arith, c.loop-k.invariant, c.loop-k-test.true))
-          c.letter-b.ensures c.put_byte-to.ensures,
-      omega
-          (arith, c.loop-k.invariant, c.loop-k-test.true),
-      c.loop-k.invariant.2,
-      c.loop-k.invariant.3,
-    )
+loop-k-preserved c = (
+  bytes_step (word c.args.w) c.loop-k.k _ c.loop-k.invariant.0 (omega (arith, c.loop-k.invariant, c.loop-k-test.true))
+      c.letter-b.ensures c.put_byte-to.ensures,
+  omega
+      (arith, c.loop-k.invariant, c.loop-k-test.true),
+  c.loop-k.invariant.2,
+  c.loop-k.invariant.3,
+)
 
 pub shape_of-buffer : goal.shape_of-buffer
 shape_of-buffer c =

@@ -12,7 +12,8 @@ put_starts-b-requires c =
     omega (arith, controller_entries_lem _ _ _ _ (passed c.controller_fits.ensures c.if-not-controller_fits.false-raw))
 
 pub put_steps-requires : goal.put_steps-requires
-put_steps-requires c = put-starts-requires c.before.before.before.before c.lifetimes
+put_steps-requires c =
+    omega (arith, controller_entries_lem _ _ _ _ (passed c.controller_fits.ensures c.if-not-controller_fits.false-raw))
 
 pub returns : goal.returns
 returns c =

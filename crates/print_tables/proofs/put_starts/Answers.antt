@@ -21,12 +21,11 @@ pub loop-i-smaller : goal.loop-i-smaller
 loop-i-smaller c = omega (arith, c.loop-i-test.true)
 
 pub loop-i-preserved : goal.loop-i-preserved
-loop-i-preserved c =
-    (
-      starts_on _ _ (omega arith) c.loop-i.invariant.0 c.put_start-to.ensures,
-      omega arith,
-      c.loop-i.invariant.2,
-    )
+loop-i-preserved c = (
+  starts_on _ _ (omega arith) c.loop-i.invariant.0 c.put_start-to.ensures,
+  omega arith,
+  c.loop-i.invariant.2,
+)
 
 pub shape_of-buffer : goal.shape_of-buffer
 shape_of-buffer c = puts_length c.loop-i.invariant.0

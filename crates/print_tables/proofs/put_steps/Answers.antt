@@ -28,13 +28,12 @@ pub loop-k-smaller : goal.loop-k-smaller
 loop-k-smaller c = omega (arith, c.loop-k-test.true)
 
 pub loop-k-preserved : goal.loop-k-preserved
-loop-k-preserved c =
-    (
-      steps_on _ _ _ _ _ (omega arith) c.loop-k.invariant.0 c.put_step-to.ensures,
-      omega arith,
-      refl,
-      c.loop-k.invariant.3,
-    )
+loop-k-preserved c = (
+  steps_on _ _ _ _ _ (omega arith) c.loop-k.invariant.0 c.put_step-to.ensures,
+  omega arith,
+  refl,
+  c.loop-k.invariant.3,
+)
 
 pub shape_of-buffer : goal.shape_of-buffer
 shape_of-buffer c = puts_length c.loop-k.invariant.0

@@ -31,12 +31,11 @@ sizes_of-requires c =
     sym c.accept_lent.ensures.answer ∙ c.in-Accepted.is
 
 pub follow-requires : goal.follow-requires
-follow-requires c =
-    (
-      sym c.accept_lent.ensures.answer ∙ c.in-Accepted.is,
-      record { sizes = c.sizes_of.ensures; inputs = refl; outputs = refl },
-      fits _ _ _ c.controller_length.ensures c.if-table-controller_length.false,
-    )
+follow-requires c = (
+  sym c.accept_lent.ensures.answer ∙ c.in-Accepted.is,
+  record { sizes = c.sizes_of.ensures; inputs = refl; outputs = refl },
+  fits _ _ _ c.controller_length.ensures c.if-table-controller_length.false,
+)
 
 pub returns-in-Refused : goal.returns-in-Refused
 returns-in-Refused c = compares _ _ _ _ (compared_faulty _ _ _ _ _ (sym c.accept_lent.ensures.answer ∙ c.in-Refused.is))

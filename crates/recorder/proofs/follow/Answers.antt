@@ -33,15 +33,14 @@ overflow_add-n c =
     omega (arith, inputs-good)
 
 pub loop-n-preserved : goal.loop-n-preserved
-loop-n-preserved c =
-    (
-      omega arith,
-      omega arith,
-      c.loop-n.invariant.2 ∙ step_same _ _ _ _ c.loop-n.n _ c.loop-n-test.true _ c.state_at.ensures
-          _ c.answer_at-answer.ensures _ c.in-At.is c.if-n-outputs.false _
-          c.state_at-in-At.ensures
-          c.if-p-state_at.false,
-    )
+loop-n-preserved c = (
+  omega arith,
+  omega arith,
+  c.loop-n.invariant.2 ∙ step_same _ _ _ _ c.loop-n.n _ c.loop-n-test.true _ c.state_at.ensures
+      _ c.answer_at-answer.ensures _ c.in-At.is c.if-n-outputs.false _
+      c.state_at-in-At.ensures
+      c.if-p-state_at.false,
+)
 
 pub returns : goal.returns
 returns c = at_end_lem _ _ _ _ c.loop-n.n _ c.loop-n-test.false c.at_end.ensures ∙ sym c.loop-n.invariant.2

@@ -10,25 +10,23 @@ returns-then-refusal-ne0 c =
     c.requires c.if-refusal-ne0.true c.put_refused.ensures
 
 pub put_system-requires : goal.put_system-requires
-put_system-requires c =
-    (
-      c.requires,
-      part_short _ _ _ c.solve-table.ensures (omega (arith, c.empty_room-controller.ensures)) (omega (arith, c.empty_room-panel.ensures)),
-    )
+put_system-requires c = (
+  c.requires,
+  part_short _ _ _ c.solve-table.ensures (omega (arith, c.empty_room-controller.ensures)) (omega (arith, c.empty_room-panel.ensures)),
+)
 
-pub returns-then-system : goal.returns-then-system
-returns-then-system c =
+pub returns-then-system_wins : goal.returns-then-system_wins
+returns-then-system_wins c =
     prints_system (omega arith) (sym c.empty_room-controller.ensures) (sym c.empty_room-panel.ensures) c.solve-table.ensures
-    c.requires c.if-refusal-ne0.false c.if-system.true c.put_system.ensures
+    c.requires c.if-refusal-ne0.false c.if-system_wins.true c.put_system.ensures
 
 pub put_panel-requires : goal.put_panel-requires
-put_panel-requires c =
-    (
-      c.requires,
-      part_short _ _ _ c.solve-table.ensures (omega (arith, c.empty_room-controller.ensures)) (omega (arith, c.empty_room-panel.ensures)),
-    )
+put_panel-requires c = (
+  c.requires,
+  part_short _ _ _ c.solve-table.ensures (omega (arith, c.empty_room-controller.ensures)) (omega (arith, c.empty_room-panel.ensures)),
+)
 
 pub returns : goal.returns
 returns c =
     prints_environment (omega arith) (sym c.empty_room-controller.ensures) (sym c.empty_room-panel.ensures) c.solve-table.ensures
-    c.requires c.if-refusal-ne0.false c.if-system.false c.put_panel.ensures
+    c.requires c.if-refusal-ne0.false c.if-system_wins.false c.put_panel.ensures

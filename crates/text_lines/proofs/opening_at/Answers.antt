@@ -41,15 +41,14 @@ pub loop-k-smaller : goal.loop-k-smaller
 loop-k-smaller c = omega (arith, c.loop-k-test.true)
 
 pub loop-k-preserved : goal.loop-k-preserved
-loop-k-preserved c =
-    (
-      chars_turn _ (opening c.args.w) c.loop-k.k _ _ _ c.loop-k.invariant.0
-          (omega (arith, c.loop-k.invariant, c.loop-k-test.true)) c.opening_byte-b.ensures
-          (sym c.byte_at.ensures ∙ c.if-byte_at-b.false),
-      omega (arith, c.loop-k.invariant, c.loop-k-test.true),
-      c.loop-k.invariant.2,
-      c.loop-k.invariant.3,
-    )
+loop-k-preserved c = (
+  chars_turn _ (opening c.args.w) c.loop-k.k _ _ _ c.loop-k.invariant.0
+      (omega (arith, c.loop-k.invariant, c.loop-k-test.true)) c.opening_byte-b.ensures
+      (sym c.byte_at.ensures ∙ c.if-byte_at-b.false),
+  omega (arith, c.loop-k.invariant, c.loop-k-test.true),
+  c.loop-k.invariant.2,
+  c.loop-k.invariant.3,
+)
 
 pub returns : goal.returns
 returns c =

@@ -30,13 +30,12 @@ overflow_add-at c =
     )
 
 pub loop-left-preserved : goal.loop-left-preserved
-loop-left-preserved c =
-    (
-      digits_go _ _ _ _ _ _ _ _ c.loop-left.invariant.0 c.loop-left-test.true c.byte_at-b.ensures
-          (sym c.extends.ensures ∙ c.if-extends.true),
-      omega
-          (arith, extended_small _ _ _ _ (sym c.extends.ensures ∙ c.if-extends.true), c.requires),
-    )
+loop-left-preserved c = (
+  digits_go _ _ _ _ _ _ _ _ c.loop-left.invariant.0 c.loop-left-test.true c.byte_at-b.ensures
+      (sym c.extends.ensures ∙ c.if-extends.true),
+  omega
+      (arith, extended_small _ _ _ _ (sym c.extends.ensures ∙ c.if-extends.true), c.requires),
+)
 
 pub number_end-requires : goal.number_end-requires
 number_end-requires c = tt

@@ -1,6 +1,9 @@
 -- `put_guarantees` meets its contract. The invariant: what is left, with what is done, makes the whole.
-use Rattle.text_put.proofs.Pieces.{out_word, sets_next, sets_end}
+use Rattle.text_put.proofs.Pieces.{out_word, sets_begin, sets_next, sets_end}
 use Rattle.text_put.proofs.put_guarantees.Goals as goal
+
+pub loop-j-init : goal.loop-j-init
+loop-j-init c = sets_begin
 
 pub loop-j-preserved : goal.loop-j-preserved
 loop-j-preserved c =

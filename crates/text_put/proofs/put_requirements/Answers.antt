@@ -26,14 +26,13 @@ pub loop-r-smaller : goal.loop-r-smaller
 loop-r-smaller c = omega (arith, c.loop-r-test.true)
 
 pub loop-r-preserved : goal.loop-r-preserved
-loop-r-preserved c =
-    (
-      remains_step _ _ c.loop-r.invariant.0 (requirements_take _ _ c.args.g.requirements _ c.loop-r-test.true
-          (requirement_past c.args.g.requirements c.loop-r.r)) c.put_requirement-to.ensures,
-      c.loop-r.invariant.1,
-      refl,
-      c.loop-r.invariant.3,
-    )
+loop-r-preserved c = (
+  remains_step _ _ c.loop-r.invariant.0 (requirements_take _ _ c.args.g.requirements _ c.loop-r-test.true
+      (requirement_past c.args.g.requirements c.loop-r.r)) c.put_requirement-to.ensures,
+  c.loop-r.invariant.1,
+  refl,
+  c.loop-r.invariant.3,
+)
 
 pub shape_of-buffer : goal.shape_of-buffer
 shape_of-buffer c = puts_length (remains_none (remains_as c.loop-r.invariant.0 (requirements_last _ _ _ c.loop-r-test.false)))

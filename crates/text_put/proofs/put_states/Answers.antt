@@ -26,16 +26,15 @@ loop-s-smaller c =
     omega (arith, c.loop-s-test.true)
 
 pub loop-s-preserved : goal.loop-s-preserved
-loop-s-preserved c =
-    (
-      remains_step _ _ c.loop-s.invariant.0
-          (states_take _ _ _ c.args.h _ _ c.loop-s-test.true c.flag-f.ensures c.row_of-x.ensures.1)
-          c.put_state-to.ensures,
-      c.loop-s.invariant.1,
-      c.loop-s.invariant.2,
-      refl,
-      refl,
-    )
+loop-s-preserved c = (
+  remains_step _ _ c.loop-s.invariant.0
+      (states_take _ _ _ c.args.h _ _ c.loop-s-test.true c.flag-f.ensures c.row_of-x.ensures.1)
+      c.put_state-to.ensures,
+  c.loop-s.invariant.1,
+  c.loop-s.invariant.2,
+  refl,
+  refl,
+)
 
 pub shape_of-buffer : goal.shape_of-buffer
 shape_of-buffer c = puts_length (remains_none (remains_as c.loop-s.invariant.0 (states_last _ _ _ _ c.loop-s-test.false)))

@@ -11,12 +11,11 @@ graph_at-x-requires c =
     (omega arith, (header_range _ _ _ _ _ _ (counts_header _ (sym c.in-Counts.is ∙ c.header_at-h.ensures))).0)
 
 pub outputs_at-requires : goal.outputs_at-requires
-outputs_at-requires c =
-    (
-      (header_range _ _ _ _ _ _ (counts_header _ (sym c.in-Counts.is ∙ c.header_at-h.ensures))).1,
-      (header_range _ _ _ _ _ _
-          (counts_header _ (sym c.in-Counts.is ∙ c.header_at-h.ensures))).2,
-    )
+outputs_at-requires c = (
+  (header_range _ _ _ _ _ _ (counts_header _ (sym c.in-Counts.is ∙ c.header_at-h.ensures))).1,
+  (header_range _ _ _ _ _ _
+      (counts_header _ (sym c.in-Counts.is ∙ c.header_at-h.ensures))).2,
+)
 
 pub returns-in-Fault : goal.returns-in-Fault
 returns-in-Fault c =

@@ -38,13 +38,12 @@ pub loop-t-smaller : goal.loop-t-smaller
 loop-t-smaller c = omega (arith, c.loop-t-test.true)
 
 pub loop-t-preserved : goal.loop-t-preserved
-loop-t-preserved c =
-    (
-      requirements_turn _ _ _ _ _ _ c.loop-t.invariant.0 c.loop-t-test.true _ _
-          (got_requirement _ c.requirement_at-q.result _ c.requirement_at-q.ensures
-          c.in-At.is),
-      c.loop-t.invariant.1,
-    )
+loop-t-preserved c = (
+  requirements_turn _ _ _ _ _ _ c.loop-t.invariant.0 c.loop-t-test.true _ _
+      (got_requirement _ c.requirement_at-q.result _ c.requirement_at-q.ensures
+      c.in-At.is),
+  c.loop-t.invariant.1,
+)
 
 pub returns : goal.returns
 returns c = requirements_got (requirements_end _ _ _ _ _ _ c.loop-t.invariant.0 c.loop-t-test.false)

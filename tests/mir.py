@@ -1,0 +1,54 @@
+"""The code that the crates were lowered to, before a compiler has it: what a library's rlib holds in toolchain/mir.json, laid out by tools/prove.
+
+A file has each function of its crate: the types of its locals, the shapes of the named types, and its body, terms one after the other. A term is a word, or
+one word with what belongs to it, as {"Assign": [PLACE, VALUE]}. A place is a local with steps to a part of it or to what it points to."""
+
+import json
+import pathlib
+
+
+def texts(folder):
+    """The text of each crate's file, by the crate's name."""
+    return {path.stem: path.read_text() for path in sorted(pathlib.Path(folder).glob("*.json"))}
+
+
+def terms(value):
+    """Every term within a value, as (word, what belongs to it)."""
+    if isinstance(value, dict):
+        for word, inner in value.items():
+            yield word, inner
+            yield from terms(inner)
+    elif isinstance(value, list):
+        for inner in value:
+            yield from terms(inner)
+
+
+class Function:
+    def __init__(self, name, said):
+        self.name, self.body = name, said["body"]
+        self.types = [local["ty"] for local in said["locals"]]
+        self.shapes = {named["name"]: named["shape"] for named in said["types"]}
+        self.calls, self.other = set(), []
+        for word, inner in terms(self.body):
+            if word == "Fn":
+                self.calls.add(inner[0])
+            elif word in ("CallV", "Fork") or word == "Call" and "Fn" not in inner[0]:
+                self.other.append(word)
+
+
+def functions(text):
+    return [Function(name, said) for name, said in json.loads(text)]
+
+
+def reached(program, entry):
+    """The functions that the entry calls, directly or not, and itself. One that is not there, or a call of what no name tells, is an error: nothing is passed
+    over in silence."""
+    left, seen = [entry], {entry}
+    while left:
+        f = program[left.pop()]
+        if f.other:
+            raise ValueError(f"{f.name} calls what no name tells: {f.other[0]}")
+        for name in f.calls - seen:
+            seen.add(name)
+            left.append(name)
+    return [program[name] for name in sorted(seen)]
