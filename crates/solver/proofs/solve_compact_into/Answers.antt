@@ -22,13 +22,12 @@ outline_of-given-requires c =
     (sym c.accept_lent-accepted.ensures.answer ∙ c.in-Accepted.is, c.list_of-wanted.ensures.1)
 
 pub solve_accepted-requires : goal.solve_accepted-requires
-solve_accepted-requires c =
-    (
-      sym c.accept_lent-accepted.ensures.answer ∙ c.in-Accepted.is,
-      c.outline_of-given.ensures,
-      c.list_of-wanted.ensures.0,
-      own_sizes _ _ _ c.lay.ensures,
-    )
+solve_accepted-requires c = (
+  sym c.accept_lent-accepted.ensures.answer ∙ c.in-Accepted.is,
+  c.outline_of-given.ensures,
+  c.list_of-wanted.ensures.0,
+  own_sizes _ _ _ c.lay.ensures,
+)
 
 pub returns-in-Refused : goal.returns-in-Refused
 returns-in-Refused c = solve_faulty _ _ _ _ _ (sym c.accept_lent-accepted.ensures.answer ∙ c.in-Refused.is)

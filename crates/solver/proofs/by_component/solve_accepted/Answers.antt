@@ -31,8 +31,8 @@ pub write_winner-c-requires : goal.write_winner-c-requires
 write_winner-c-requires c =
     let q = c.requires in (
       q.0,
-      omega (arith, c.length.ensures, c.if-scratch-length.left),
-      ltb-false _ _ (sym c.is_short.ensures ∙ c.if-is_short.left),
+      omega (arith, c.length.ensures, c.if-scratch-length.false),
+      ltb-false _ _ (sym c.is_short.ensures ∙ c.if-is_short.false),
       omega (arith, c.environment_length_of-e.ensures),
       q.1,
       q.2,
@@ -41,10 +41,10 @@ write_winner-c-requires c =
 
 pub returns-then-c-eq0 : goal.returns-then-c-eq0
 returns-then-c-eq0 c =
-    written_environment _ _ _ _ _ _ _ c.write_winner-c.ensures c.requires.0 (omega (arith, c.length.ensures, c.if-scratch-length.left))
-    (ltb-false _ _ (sym c.is_short.ensures ∙ c.if-is_short.left)) _ c.environment_length_of-e.ensures (omega arith) c.if-c-eq0.true
+    written_environment _ _ _ _ _ _ _ c.write_winner-c.ensures c.requires.0 (omega (arith, c.length.ensures, c.if-scratch-length.false))
+    (ltb-false _ _ (sym c.is_short.ensures ∙ c.if-is_short.false)) _ c.environment_length_of-e.ensures (omega arith) c.if-c-eq0.true
 
 pub returns : goal.returns
 returns c =
-    written_system _ _ _ _ _ _ _ c.write_winner-c.ensures c.requires.0 (omega (arith, c.length.ensures, c.if-scratch-length.left))
-    (ltb-false _ _ (sym c.is_short.ensures ∙ c.if-is_short.left)) _ c.environment_length_of-e.ensures (omega arith) c.if-c-eq0.false
+    written_system _ _ _ _ _ _ _ c.write_winner-c.ensures c.requires.0 (omega (arith, c.length.ensures, c.if-scratch-length.false))
+    (ltb-false _ _ (sym c.is_short.ensures ∙ c.if-is_short.false)) _ c.environment_length_of-e.ensures (omega arith) c.if-c-eq0.false
