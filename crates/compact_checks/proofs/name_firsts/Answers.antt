@@ -45,9 +45,9 @@ loop-j-preserved c =
       omega (arith, b),
       l.invariant.1,
       elim c.if-member.branch [
-        | then-member w ↦ rw w.6 (firsts_leader _ _ _ c.requires.3 l.j k c.requires.1 (sym c.member.ensures ∙ w.if-member.true)
-            (w.3.ensures c.args.g c.requires.0 refl refl) l.invariant.2 w.5.ensures)
-        | else-member w ↦ rw w.1 (firsts_other _ _ _ c.requires.3 l.j k c.requires.1 (sym c.member.ensures ∙ w.if-member.false) l.invariant.2)
+        | then-member w ↦ rw w.firsts-is (firsts_leader _ _ _ c.requires.3 l.j k c.requires.1 (sym c.member.ensures ∙ w.if-member.true)
+            (w.component-c.ensures c.args.g c.requires.0 refl refl) l.invariant.2 w.mark.ensures)
+        | else-member w ↦ rw w.firsts-is (firsts_other _ _ _ c.requires.3 l.j k c.requires.1 (sym c.member.ensures ∙ w.if-member.false) l.invariant.2)
       ],
     )
 

@@ -49,8 +49,8 @@ loop-k-preserved c =
     let l = c.loop-k in (
       omega (arith, c.loop-k-test.true),
       elim c.if-table-row.branch [
-        | then-table-row t ↦ t.1 ∙ row_other _ _ _ _ l.k c.wide-s.ensures t.if-table-row.true
-        | else-table-row t ↦ t.1 ∙ row_same _ _ _ _ l.k c.wide-s.ensures t.if-table-row.false l.invariant.1
+        | then-table-row t ↦ t.same-is ∙ row_other _ _ _ _ l.k c.wide-s.ensures t.if-table-row.true
+        | else-table-row t ↦ t.same-is ∙ row_same _ _ _ _ l.k c.wide-s.ensures t.if-table-row.false l.invariant.1
       ],
     )
 
