@@ -221,24 +221,28 @@ class Test:
 
     def written(self, f, large, boards):
         """The locals of `large` that are written otherwise than whole, from a place or by a call, and how. Boards may be made of zeros, and laid."""
-        # pointers into such a local, and those made from them
-        into, before = {}, None
+        # pointers into such a local, and those made from them; each address that a pointer is given is judged
+        into, judged, before = {}, set(), None
         while before != len(into):
             before = len(into)
             for place, value in f.assigned:
                 if place["steps"] or isinstance(value, str):
                     continue
                 (kind, inner), = value.items()
-                pointer = place["local"]
-                if pointer in into or not is_pointer(f.types[pointer]):
+                pointer, targets = place["local"], []
+                if not is_pointer(f.types[pointer]):
                     continue
                 if kind == "AddrOf" and inner["local"] in large and not any("Deref" in step for step in inner["steps"]):
-                    into[pointer] = inner["local"]
+                    targets = [inner["local"]]
                 elif kind in ("Op2", "Opd", "AddrOf"):
-                    sources = [part["local"] for part in places(inner) if part["local"] in into and (kind != "Opd" or not part["steps"])]
-                    into.update((pointer, into[source]) for source in sources)
-                if pointer in into and is_mut(f.types[pointer]) and not (into[pointer] in boards and self.lent(f, pointer)):
-                    yield into[pointer], "a `&mut` to it is made"
+                    targets = [into[part["local"]] for part in places(inner) if part["local"] in into and (kind != "Opd" or not part["steps"])]
+                for target in targets:
+                    into.setdefault(pointer, target)
+                    if (pointer, target) in judged:
+                        continue
+                    judged.add((pointer, target))
+                    if is_mut(f.types[pointer]) and not (target in boards and self.lent(f, pointer)):
+                        yield target, "a `&mut` to it is made"
         for place, value in f.assigned:
             local, kind = place["local"], value if isinstance(value, str) else next(iter(value))
             if local in large and place["steps"]:

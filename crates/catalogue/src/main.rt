@@ -240,7 +240,8 @@ fn put_answer(
     answer_kept(rt, buffer, list, k, controller, panel)
 }
 
-// Writes the print for standard input to standard output. This is the one function that does: the list is passed for what is asked alone.
+// Writes the print for standard input to standard output. This is the one function that does, but for the byte by which
+// `files::is_unread` asks after a failure: the list is passed for what is asked alone.
 fn print(fd: i32, list: &[u8; LIST], k: Kept, text: &[u8]) -> Written
     requires { Goes fd list.now k text.now }
 {

@@ -47,7 +47,8 @@ fn tell_waiting(input: &Stdin) {
     }
 }
 
-// Writes the print of the file that was read to standard output. This is the one function that does: the front is passed for what is asked alone.
+// Writes the print of the file that was read to standard output. This is the one function that does, but for the byte by which
+// `files::is_unread` asks after a failure: the front is passed for what is asked alone.
 fn print(fd: i32, f: Front, text: &[u8]) -> Written
     requires { Goes fd f text.now }
 {
