@@ -116,6 +116,7 @@ def told(program, where, **how):
     yield "a list that ends", said("< /dev/null") == (NONE, b"")
     yield "a full output", said("> /dev/full") == (b"", UNWRITTEN)
     yield "a closed output", said(">&-") == (b"", UNWRITTEN)
+    yield "an output nobody reads", said("| true") == (b"", b"")
     yield "a list that is typed", typed(program, b"example\n", cwd=where, **how) == (figures, WAITING)
 
 

@@ -1,7 +1,9 @@
-"""The code that the crates were lowered to, before a compiler has it: what a library's rlib holds in toolchain/mir.json, laid out by tools/prove.
+"""The code that the crates were lowered to, before a compiler has it: what a library's rlib holds in
+toolchain/mir.json, laid out by tools/prove.
 
-A file has each function of its crate: the types of its locals, the shapes of the named types, and its body, terms one after the other. A term is a word, or
-one word with what belongs to it, as {"Assign": [PLACE, VALUE]}. A place is a local with steps to a part of it or to what it points to."""
+A file has each function of its crate: the types of its locals, the shapes of the named types, and its body, terms one
+after the other. A term is a word, or one word with what belongs to it, as {"Assign": [PLACE, VALUE]}. A place is a local
+with steps to a part of it or to what it points to."""
 
 import json
 import pathlib

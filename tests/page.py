@@ -100,7 +100,7 @@ class Browser:
         return work
 
     def slowness(self):
-        """How many times as long as on the machine of the limits a fixed piece of work takes here, 1 at least."""
+        """How many times as long as the limits are for a fixed piece of work takes here, 1 at least."""
         return max(1, min(self.work(lambda: self.run(YARDSTICK)) for _ in range(5)) / YARDSTICK_MS)
 
     def timed(self, page):
@@ -422,7 +422,8 @@ for (let n = 0; n < 3000; n++) box.append(document.createElement("span"), String
 document.body.append(box);
 box.getBoundingClientRect();
 box.remove();"""
-# what it took on the machine on which the limits were set
+# What the limits are for. It was not measured where they were set, but reckoned: there the slowest page took 91 ms of
+# work; a machine on which it takes 227 to 241 takes 75 to 110 for this. It is a little lower than these make it.
 YARDSTICK_MS = 25
 
 CLICKS = """
@@ -453,7 +454,7 @@ def largest(check, browser, command):
              ("apart", game(apart, full, [(lone(), sets()) for _ in range(8)])),
              ("stepping", game(stepping, full, [(sets(), sets()) for _ in range(8)]))]
     slowness = browser.slowness()
-    print("this machine takes %.1f times as long as that of the limits" % slowness)
+    print("a fixed piece of work takes %.1f times as long as the limits are for" % slowness)
     for name, text in games:
         path = command.folder / (name + ".game")
         path.write_bytes(text)

@@ -1,11 +1,12 @@
 #!/usr/bin/env python3
-"""Spells the repository's own definitions, fields and lemmas in snake case, as today's Rattle asks: `noneEntry` becomes `none_entry`, `has-at`
-becomes `has_at`. Run once, at the top, after the kit's port.py.
+"""Spells the repository's own definitions, fields and lemmas in snake case, as today's Rattle asks: `noneEntry` becomes
+`none_entry`, `has-at` becomes `has_at`. Run once, at the top, after the kit's port.py.
 
 usage: tools/respell.py [--table]
 
-Every name that a file of specs/ or a file of lemmas declares, and that has a capital inside or a dash, gets its new spelling in the proofs, the
-clauses, the must-fail edits and the pages. A type and a module keep their spelling. A lemma that would have a definition's name gets `_lem`.
+Every name that a file of specs/ or a file of lemmas declares, and that has a capital inside or a dash, gets its new
+spelling in the proofs, the clauses, the must-fail edits and the pages. A type and a module keep their spelling. A lemma
+that would have a definition's name gets `_lem`.
 --table prints the old and the new names and writes nothing.
 """
 import collections
