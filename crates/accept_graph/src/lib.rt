@@ -43,10 +43,8 @@ fn joined_past(moves: &[u64], n: usize) -> Set
     ensures { Past (sets_in moves.now) n capacity (bits_of result) }
 {
     let mut x = sets::empty();
-    let mut s = n;
-    while s < sets::CAPACITY {
+    for s in n..sets::CAPACITY {
         x = sets::union(x, sets::row(moves, s));
-        s += 1;
     }
     x
 }
@@ -74,12 +72,10 @@ pub fn states_fit(g: Graph, moves: &[u64]) -> bool
         return false;
     }
     let m = first_rows(g.states);
-    let mut s = 0;
-    while s < m {
+    for s in 0..m {
         if !row_fits(sets::row(moves, s), g.states, s) {
             return false;
         }
-        s += 1;
     }
     true
 }

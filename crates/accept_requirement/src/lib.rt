@@ -27,12 +27,10 @@ pub fn in_set_fits(q: Requirement, n: usize, j: usize) -> bool
 pub fn in_sets_fit(q: Requirement, n: usize) -> bool
     ensures { result ≡ all 4 (in_set_fits q n) }
 {
-    let mut j = 0;
-    while j < 4 {
+    for j in 0..4 {
         if !in_set_fits(q, n, j) {
             return false;
         }
-        j += 1;
     }
     true
 }
@@ -48,12 +46,10 @@ pub fn out_set_fits(q: Requirement, n: usize, j: usize) -> bool
 pub fn out_sets_fit(q: Requirement, n: usize) -> bool
     ensures { result ≡ all 4 (out_set_fits q n) }
 {
-    let mut j = 0;
-    while j < 4 {
+    for j in 0..4 {
         if !out_set_fits(q, n, j) {
             return false;
         }
-        j += 1;
     }
     true
 }

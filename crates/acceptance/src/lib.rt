@@ -4,9 +4,10 @@
 ghost use Rattle.std.specs.Prelude.{◌≡◌, true, [], ◌∷◌, ◌≤◌};
 ghost use Rattle.sets.specs.Words.{capacity, set_count};
 ghost use Rattle.game.specs.Acceptance.{counts_fit, states_in_count, initials_exist, lengths_fit, sets_fit, first_failing};
+ghost use Rattle.game.specs.declared.Refusal.TheVariants.{CountOutOfRange, StatePastCount, NoInitialState, TooManyRequirements, TooManySets, BadSet};
 ghost use Rattle.game.specs.Numbers.{Accepts};
 
-use game::{Acceptance, Game};
+use game::{Acceptance, Game, Refusal};
 
 fn counts_fit(g: Game) -> bool
     ensures { result ≡ counts_fit g }
@@ -39,12 +40,10 @@ fn initials_exist(g: Game) -> bool
 fn lengths_fit(g: Game) -> bool
     ensures { result ≡ lengths_fit g }
 {
-    let mut p = 0;
-    while p < 8 {
+    for p in 0..8 {
         if !accept_requirement::few_sets(g.requirements[p]) {
             return false;
         }
-        p += 1;
     }
     true
 }
@@ -52,12 +51,10 @@ fn lengths_fit(g: Game) -> bool
 fn sets_fit(g: Game) -> bool
     ensures { result ≡ sets_fit g }
 {
-    let mut r = 0;
-    while r < 8 {
+    for r in 0..8 {
         if !accept_requirement::requirement_fits(g, r, g.requirements[r]) {
             return false;
         }
-        r += 1;
     }
     true
 }
@@ -71,27 +68,28 @@ fn first_failing(
     lengths: bool,
     sets: bool,
 ) -> Acceptance
-    ensures { result ≡ first_failing 1 (counts ∷ states ∷ initials ∷ true ∷ few ∷ lengths ∷ sets ∷ []) }
+    ensures { result ≡ first_failing ((CountOutOfRange, counts) ∷ (StatePastCount, states) ∷ (NoInitialState, initials)
+        ∷ (TooManyRequirements, few) ∷ (TooManySets, lengths) ∷ (BadSet, sets) ∷ []) }
 {
     if !counts {
-        return Acceptance::Refused(1);
+        return Err(Refusal::CountOutOfRange);
     }
     if !states {
-        return Acceptance::Refused(2);
+        return Err(Refusal::StatePastCount);
     }
     if !initials {
-        return Acceptance::Refused(3);
+        return Err(Refusal::NoInitialState);
     }
     if !few {
-        return Acceptance::Refused(5);
+        return Err(Refusal::TooManyRequirements);
     }
     if !lengths {
-        return Acceptance::Refused(6);
+        return Err(Refusal::TooManySets);
     }
     if !sets {
-        return Acceptance::Refused(7);
+        return Err(Refusal::BadSet);
     }
-    Acceptance::Accepted
+    Ok(())
 }
 
 // Whether the game is accepted; else the lowest code whose condition holds. Every test is safe on every record. The rows of both graphs are lent besides

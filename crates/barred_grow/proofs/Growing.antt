@@ -5,7 +5,7 @@
 --   closed_reach               : what can be reached holds all that joins it
 --   grown_inputs, grown_within, grown_wider    : what has grown
 use Prim.Native.Nat.{ℕ, ◌+◌, ◌*◌, ◌/◌, ◌%◌, ◌<◌}
-use mathlib.Core.Path.{◌≡◌, refl, sym, ◌∙◌, ap}
+use mathlib.Core.Path.{◌≡◌, sym, ◌∙◌, ap}
 use mathlib.Core.Bool.{Bool, true, false, ◌&&◌, ◌||◌, not}
 use mathlib.Core.List.{List}
 use mathlib.Core.Logic.{◌⊎◌, inl, inr, ◌≢◌}
@@ -32,7 +32,7 @@ use Rattle.theory.specs.Tour.{goal_at}
 use Rattle.theory.proofs.Region.{answers_intro, replies_intro}
 use Rattle.barred.specs.Arena.{Pairs}
 use Rattle.barred.specs.Region.{assumed, nothing, barred_target, stay_step, reach}
-use Rattle.barred.proofs.Rounds.{Sub, sub_intro, sub_elim, sub_refl, replies_mono, target_goal, target_near, target_mono, stay_greatest, reach_widens, nothing_in}
+use Rattle.barred.proofs.Rounds.{sub_intro, sub_elim, sub_refl, replies_mono, target_goal, target_near, target_mono, stay_greatest, reach_widens, nothing_in}
 use Rattle.barred.proofs.Sets.{assumed_some}
 use Rattle.game.specs.declared.Game.{Game}
 use Rattle.game.specs.Fits.{Fits}

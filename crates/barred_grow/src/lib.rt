@@ -21,12 +21,9 @@ fn turn_row(s: &mut [u64], n: usize, at: usize, state: usize, row: Set)
     requires { (n ≤ capacity) × (state < capacity) × (at + capacity ≤ barred_sets) × (barred_sets ≤ set_count s.old) }
     ensures { ButFor at (at + n) (sets_in s.old) (sets_in s.new) }
 {
-    let mut rest = sets::intersection(row, sets::below(n));
-    while !sets::is_empty(rest) {
-        let t = sets::lowest(rest);
+    for t in sets::intersection(row, sets::below(n)) {
         let old = sets::row(s, at + t);
         sets::put(s, at + t, sets::insert(old, state));
-        rest = sets::without_lowest(rest);
     }
 }
 
@@ -36,10 +33,8 @@ fn turn(moves: &[u64; ROW_WORDS], n: usize, s: &mut [u64], at: usize)
     ensures { ButFor at (at + n) (sets_in s.old) (sets_in s.new) }
 {
     barred_rows::empty(s, n, at);
-    let mut i: usize = 0;
-    while i < n {
+    for i in 0..n {
         turn_row(s, n, at, i, sets::row_of(moves, i));
-        i += 1;
     }
 }
 
@@ -59,10 +54,8 @@ fn moving(s: &[u64], m: usize, x: Set) -> Set
     requires { (m ≤ capacity) × (barred_sets ≤ set_count s.now) }
 {
     let mut c = sets::empty();
-    let mut rest = sets::intersection(x, sets::below(m));
-    while !sets::is_empty(rest) {
-        c = sets::union(c, sets::row(s, BEFORE_OUTPUT + sets::lowest(rest)));
-        rest = sets::without_lowest(rest);
+    for t in sets::intersection(x, sets::below(m)) {
+        c = sets::union(c, sets::row(s, BEFORE_OUTPUT + t));
     }
     c
 }
@@ -73,11 +66,8 @@ fn answering(moves: &[u64; ROW_WORDS], m: usize, x: Set, among: Set) -> Set
     ensures { (o : ℕ) → has (bits_of result) o ≡ true → sets_meet capacity (get_or (sets_in moves.now) o 0) (bits_of x) ≡ true }
 {
     let mut c = sets::empty();
-    let mut rest = sets::intersection(among, sets::below(m));
-    while !sets::is_empty(rest) {
-        let o = sets::lowest(rest);
+    for o in sets::intersection(among, sets::below(m)) {
         c = sets::insert_if(c, o, sets::meets(sets::row_of(moves, o), x));
-        rest = sets::without_lowest(rest);
     }
     c
 }
@@ -98,13 +88,11 @@ fn joining(ins: &[u64; ROW_WORDS], n: usize, s: &[u64], i: usize) -> Set
     ensures { Joins (sets_in ins.now) i (bits_of result) (sets_in s.now) }
 {
     let mut x = sets::difference(sets::row(s, i), sets::row(s, REACHED + i));
-    let mut rest = sets::row_of(ins, i);
-    while !sets::is_empty(rest) {
+    for t in sets::row_of(ins, i) {
         if sets::is_empty(x) {
             return x;
         }
-        x = sets::intersection(x, sets::row(s, STAYING + sets::lowest(rest)));
-        rest = sets::without_lowest(rest);
+        x = sets::intersection(x, sets::row(s, STAYING + t));
     }
     x
 }
@@ -130,10 +118,8 @@ fn grow_rows(ins: &[u64; ROW_WORDS], n: usize, s: &mut [u64], x: InSet) -> InSet
         (sets_in s.old) (sets_in s.new) }
 {
     let mut more = InSet(sets::empty());
-    let mut rest = sets::intersection(x.0, sets::below(n));
-    while !sets::is_empty(rest) {
-        more = grow_row(ins, n, s, sets::lowest(rest), more);
-        rest = sets::without_lowest(rest);
+    for t in sets::intersection(x.0, sets::below(n)) {
+        more = grow_row(ins, n, s, t, more);
     }
     more
 }
@@ -168,12 +154,9 @@ fn allow_left(
         (sets_in s.old) (sets_in s.new) }
 {
     let mut before = sets::empty();
-    let mut rest = left.0;
-    while !sets::is_empty(rest) {
-        let j = sets::lowest(rest);
+    for j in left.0 {
         let new = allow(outs, n, m, s, j, goal);
         before = sets::union_if(before, sets::row(s, BEFORE_INPUT + j), !sets::is_empty(new));
-        rest = sets::without_lowest(rest);
     }
     InSet(before)
 }

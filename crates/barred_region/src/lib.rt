@@ -40,9 +40,7 @@ fn widen(g: Game, s: &mut [u64], goal: OutSet) -> bool
     ensures { Widened g (bits_of goal.0) 0 (sets_in s.old) (sets_in s.new) result }
 {
     let q = g.requirements[0];
-    let mut j: usize = q.assumed + 1;
-    while j > 0 {
-        j -= 1;
+    for j in (0..q.assumed + 1).rev() {
         let wait = waited(g, j);
         if widen_by(g, s, goal, wait) {
             return true;
@@ -95,12 +93,10 @@ fn pass(g: Game, s: &mut [u64]) -> bool
 {
     let q = g.requirements[0];
     let mut changed = false;
-    let mut j: usize = 0;
-    while j < q.guaranteed {
+    for j in 0..q.guaranteed {
         if settle(g, s, q.guarantees[j]) {
             changed = true;
         }
-        j += 1;
     }
     changed
 }
@@ -111,10 +107,8 @@ fn free(g: Game, bars: &[u64], s: &mut [u64])
     ensures { Freed g g.input.states (sets_in bars.now) (sets_in s.old) (sets_in s.new) }
 {
     let outputs = sets::below(g.output.states);
-    let mut i: usize = 0;
-    while i < g.input.states {
+    for i in 0..g.input.states {
         sets::put(s, i, sets::difference(outputs, sets::row(bars, i)));
-        i += 1;
     }
 }
 

@@ -25,10 +25,8 @@ pub fn copy(s: &mut [u64], n: usize, from: usize, to: usize)
     requires { (barred_sets ≤ set_count s.old) × (from + n ≤ barred_sets) × (to + n ≤ barred_sets) × Beside from to n }
     ensures { Copied n from to (sets_in s.old) (sets_in s.new) }
 {
-    let mut i: usize = 0;
-    while i < n {
+    for i in 0..n {
         sets::put(s, to + i, sets::row(s, from + i));
-        i += 1;
     }
 }
 
@@ -38,10 +36,8 @@ pub fn empty(s: &mut [u64], n: usize, at: usize)
     ensures { Emptied n at (sets_in s.old) (sets_in s.new) }
 {
     let none = sets::empty();
-    let mut i: usize = 0;
-    while i < n {
+    for i in 0..n {
         sets::put(s, at + i, none);
-        i += 1;
     }
 }
 
@@ -51,15 +47,13 @@ pub fn unite(s: &mut [u64], n: usize, from: usize, to: usize) -> bool
     ensures { United n from to (sets_in s.old) (sets_in s.new) result }
 {
     let mut grew = false;
-    let mut i: usize = 0;
-    while i < n {
+    for i in 0..n {
         let old = sets::row(s, to + i);
         let more = sets::difference(sets::row(s, from + i), old);
         if !sets::is_empty(more) {
             sets::put(s, to + i, sets::union(old, more));
             grew = true;
         }
-        i += 1;
     }
     grew
 }
@@ -70,15 +64,13 @@ pub fn meet(s: &mut [u64], n: usize, from: usize, to: usize) -> bool
     ensures { Met n from to (sets_in s.old) (sets_in s.new) result }
 {
     let mut shrank = false;
-    let mut i: usize = 0;
-    while i < n {
+    for i in 0..n {
         let old = sets::row(s, to + i);
         let lost = sets::difference(old, sets::row(s, from + i));
         if !sets::is_empty(lost) {
             sets::put(s, to + i, sets::difference(old, lost));
             shrank = true;
         }
-        i += 1;
     }
     shrank
 }

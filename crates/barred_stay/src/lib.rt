@@ -33,10 +33,8 @@ fn answering(moves: &[u64; ROW_WORDS], m: usize, x: OutSet) -> OutSet
     ensures { bits_of result.0 ≡ pack m (λ o. sets_meet capacity (get_or (sets_in moves.now) o 0) (bits_of x.0)) }
 {
     let mut c = sets::empty();
-    let mut o: usize = 0;
-    while o < m {
+    for o in 0..m {
         c = sets::insert_if(c, o, sets::meets(sets::row_of(moves, o), x.0));
-        o += 1;
     }
     OutSet(c)
 }
@@ -76,12 +74,10 @@ fn shrink(
 {
     let next = j.0;
     let mut more = left;
-    let mut i: usize = 0;
-    while i < n {
+    for i in 0..n {
         if sets::member(sets::row_of(moves, i), next) {
             more = shrink_row(s, InState(i), allowed, wait, more);
         }
-        i += 1;
     }
     more
 }

@@ -124,10 +124,8 @@ fn put_rows(b: &mut [u64; WORDS], at: usize, l: &[u64; sets::ROW_WORDS])
     requires { (at + row_words ≤ board_words) × (length b.old ≡ board_words) }
     ensures { RowsPut at l.now b.old b.new }
 {
-    let mut i: usize = 0;
-    while i < sets::ROW_WORDS {
+    for i in 0..sets::ROW_WORDS {
         b[at + i] = l[i];
-        i += 1;
     }
 }
 
@@ -145,13 +143,11 @@ fn put_requirement(b: &mut [u64; WORDS], r: usize, q: Requirement)
     requires { (r < 8) × (length b.old ≡ board_words) }
     ensures { RequirementPut r q b.old b.new }
 {
-    let mut j: usize = 0;
-    while j < 4 {
+    for j in 0..4 {
         let x = q.assumptions[j];
         let y = q.guarantees[j];
         put_set(b, ASSUMPTIONS + SETS * r + j, x.0);
         put_set(b, GUARANTEES + SETS * r + j, y.0);
-        j += 1;
     }
     b[ASSUMED + r] = q.assumed as u64;
     b[GUARANTEED + r] = q.guaranteed as u64;
@@ -182,11 +178,9 @@ pub fn lay(g: Game, b: &mut [u64; WORDS]) -> Sizes
     put_rows(b, sets::ROW_WORDS, &outs);
     put_set(b, IN_INITIAL, first);
     put_set(b, OUT_INITIAL, second);
-    let mut r: usize = 0;
-    while r < 8 {
+    for r in 0..8 {
         let q = requirements[r];
         put_requirement(b, r, q);
-        r += 1;
     }
     sizes_of(g)
 }

@@ -2,12 +2,11 @@
 use Prim.Native.Nat.{ℕ, ◌+◌, ◌-◌, ◌≤◌, ◌<◌}
 use native.Mathlib.Omega.{arith}
 use native.Mathlib.Decide.{dec_le}
-use mathlib.Core.Bool.{Bool, true, false, not}
+use mathlib.Core.Bool.{Bool, true, false}
 use mathlib.Core.List.{List, [], ◌∷◌, ◌++◌, append_assoc, append-nil}
 use mathlib.Core.Logic.{inl, inr}
 use mathlib.Core.Path.{◌≡◌, refl, sym, ◌∙◌, ap, subst}
 use lib.IntN.{ℤ, pos}
-use Rattle.finite.proofs.Truth.{not_true, not_false}
 use Rattle.files.specs.declared.Front.{Front}
 use Rattle.files.specs.Front.{front_of}
 use lib.ListN.{length, take, drop, length-append, length-drop, length-map}
@@ -27,51 +26,53 @@ use Rattle.catalogue_names.specs.Keeping.{cut, Held}
 use Rattle.catalogue_names.specs.Keeping.{nothing as nothing-kept}
 use Rattle.catalogue_names.proofs.Keeping.{held_nothing, held_more, held_within}
 use Rattle.catalogue_names.proofs.Cut.{short, kept_names, fit_cut}
-use Rattle.catalogue_tally.specs.declared.Outcome.{Outcome}
-use Rattle.catalogue_tally.specs.declared.Outcome.TheVariants.{Refused}
+use Rattle.catalogue_tally.specs.Outcome.{Outcome}
 use Rattle.catalogue_tally.specs.declared.Tally.{Tally}
 use Rattle.catalogue_tally.specs.Figures.{Tallied, Within, Roomy, Modest, added, empty_tally, won_of, positions_of}
 use Rattle.catalogue_tally.proofs.Counting.{tallied_add, tallied_roomy, tallied_nothing, within_add, within_nothing}
 use Rattle.catalogue_verdict.specs.Judged.{Judged}
 use Rattle.catalogue_lines.specs.Figures.{figures_print, figures_bytes}
 use Rattle.catalogue.specs.Catalogue.{FromFront, FromOpen, FromFile, ForName, Each, Catalogued, PrintOf, Printed, MoreKept, InputKept, KeptPrinted, Goes}
+use Rattle.std.specs.declared.result.Result.TheVariants.{Err}
+use Rattle.game.specs.declared.Refusal.TheVariants.{Unread}
 
 -- the refusal 26
-modest_26 : Modest (Refused 26)
+
+modest_26 : Modest (Err Unread)
 unfolding won_of positions_of
 modest_26 = record { won = omega arith; positions = omega arith }
 
-no_file : FromFile (Refused 26) × Modest (Refused 26)
+no_file : FromFile (Err Unread) × Modest (Err Unread)
 unfolding FromFile
 no_file = (inl refl, modest_26)
 
 -- the file that was read
 module _ (f : Front) where
-  pub not_whole : {b : Bool} → b ≡ f.whole → not b ≡ true → FromFront f (Refused 26) × Modest (Refused 26)
+  pub not_whole : {b : Bool} → b ≡ f.whole → b ≡ false → FromFront f (Err Unread) × Modest (Err Unread)
   unfolding FromFront
-  not_whole e h = (rw (sym e ∙ not_true _ h, FromFront) refl, modest_26)
+  not_whole e h = (rw (sym e ∙ h, FromFront) refl, modest_26)
 
-  pub from_front : {b : Bool} {s : List ℕ} {o : Outcome} → b ≡ f.whole → not b ≡ false → s ≡ front_of f → Judged s o × Modest o → FromFront f o × Modest o
+  pub from_front : {b : Bool} {s : List ℕ} {o : Outcome} → b ≡ f.whole → b ≡ true → s ≡ front_of f → Judged s o × Modest o → FromFront f o × Modest o
   unfolding FromFront
-  from_front {o = o} e h q J = (rw (sym e ∙ not_false _ h, FromFront) (subst (λ (x : List ℕ). Judged x o) q J.0), J.1)
+  from_front {o = o} e h q J = (rw (sym e ∙ h, FromFront) (subst (λ (x : List ℕ). Judged x o) q J.0), J.1)
 
   pub from_open : {o : Outcome} → FromFront f o × Modest o → FromOpen o × Modest o
   unfolding FromOpen
   from_open F = ((f, F.0), F.1)
 
 module _ (n : List ℕ) where
-  pub unfit_name : {b : Bool} → b ≡ fit_name n → not b ≡ true → ForName n (Refused 26) × Modest (Refused 26)
+  pub unfit_name : {b : Bool} → b ≡ fit_name n → b ≡ false → ForName n (Err Unread) × Modest (Err Unread)
   unfolding ForName
-  unfit_name e h = (rw (sym e ∙ not_true _ h, ForName) refl, modest_26)
+  unfit_name e h = (rw (sym e ∙ h, ForName) refl, modest_26)
 
-  fit_file : {b : Bool} {o : Outcome} → b ≡ fit_name n → not b ≡ false → FromFile o × Modest o → ForName n o × Modest o
+  fit_file : {b : Bool} {o : Outcome} → b ≡ fit_name n → b ≡ true → FromFile o × Modest o → ForName n o × Modest o
   unfolding ForName
-  fit_file e h F = (rw (sym e ∙ not_false _ h, ForName) F.0, F.1)
+  fit_file e h F = (rw (sym e ∙ h, ForName) F.0, F.1)
 
-  pub fit_none : {b : Bool} → b ≡ fit_name n → not b ≡ false → ForName n (Refused 26) × Modest (Refused 26)
+  pub fit_none : {b : Bool} → b ≡ fit_name n → b ≡ true → ForName n (Err Unread) × Modest (Err Unread)
   fit_none e h = fit_file e h no_file
 
-  pub fit_open : {b : Bool} {o : Outcome} → b ≡ fit_name n → not b ≡ false → FromOpen o × Modest o → ForName n o × Modest o
+  pub fit_open : {b : Bool} {o : Outcome} → b ≡ fit_name n → b ≡ true → FromOpen o × Modest o → ForName n o × Modest o
   unfolding FromFile
   fit_open e h F = fit_file e h (inr F.0, F.1)
 

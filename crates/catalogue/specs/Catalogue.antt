@@ -20,27 +20,29 @@ use Rattle.print_lines.specs.Line.{refused_line}
 use Rattle.catalogue_names.specs.declared.Kept.{Kept}
 use Rattle.catalogue_names.specs.Names.{names, fit_name, most}
 use Rattle.catalogue_names.specs.Keeping.{Keeps, Held}
-use Rattle.catalogue_tally.specs.declared.Outcome.{Outcome}
-use Rattle.catalogue_tally.specs.declared.Outcome.TheVariants.{Refused}
+use Rattle.catalogue_tally.specs.Outcome.{Outcome}
 use Rattle.catalogue_tally.specs.declared.Tally.{Tally}
 use Rattle.catalogue_tally.specs.Figures.{Tallied}
 use Rattle.catalogue_verdict.specs.Judged.{Judged}
 use Rattle.catalogue_lines.specs.Figures.{figures_print}
+use Rattle.std.specs.declared.result.Result.TheVariants.{Err}
+use Rattle.game.specs.declared.Refusal.TheVariants.{Unread}
 
 -- "26 a file that can't be opened or read"; which bytes a file has no contract can say
+
 unfoldable pub FromFront : Front → Outcome → Type 0
-FromFront f o = elim f.whole [ true ↦ Judged (front_of f) o | false ↦ o ≡ Refused 26 ]
+FromFront f o = elim f.whole [ true ↦ Judged (front_of f) o | false ↦ o ≡ Err Unread ]
 
 unfoldable pub FromOpen : Outcome → Type 0
 FromOpen o = (f : Front) × FromFront f o
 
 -- SPEC 16.2
 unfoldable pub FromFile : Outcome → Type 0
-FromFile o = (o ≡ Refused 26) ⊎ FromOpen o
+FromFile o = (o ≡ Err Unread) ⊎ FromOpen o
 
 -- "or a name over 255 bytes or with a byte 0, tried first for each file" (SPEC 16.2)
 unfoldable pub ForName : List ℕ → Outcome → Type 0
-ForName n o = elim (fit_name n) [ true ↦ FromFile o | false ↦ o ≡ Refused 26 ]
+ForName n o = elim (fit_name n) [ true ↦ FromFile o | false ↦ o ≡ Err Unread ]
 
 -- SPEC 16.1
 unfoldable pub Each : List (List ℕ) → List Outcome → Type 0

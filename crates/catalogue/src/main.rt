@@ -9,8 +9,9 @@ ghost use Rattle.catalogue_lines.specs.Figures.{figures_bytes};
 ghost use Rattle.catalogue.specs.Catalogue.{FromFront, FromOpen, ForName, Catalogued, Printed, MoreKept, InputKept, KeptPrinted, Goes};
 
 use catalogue_names::Kept;
-use catalogue_tally::{Outcome, Tally};
+use catalogue_tally::{Counted, Tally};
 use files::{Front, STDERR_FILENO, STDOUT_FILENO, Written};
+use game::Refusal;
 use prints::ROOM;
 use std::fs::File;
 use std::rt::{Stdin, Stdout};
@@ -65,12 +66,16 @@ fn tell_unwritten(output: &mut Stdout, written: bool) {
 }
 
 // What the file that was read comes to.
-fn judge_front(f: Front, controller: &mut [u16; ROOM], panel: &mut [u16; ROOM]) -> Outcome
+fn judge_front(
+    f: Front,
+    controller: &mut [u16; ROOM],
+    panel: &mut [u16; ROOM],
+) -> Result<Counted, Refusal>
     requires { Within f }
     ensures { FromFront f result × Modest result }
 {
     if !files::read_whole(f) {
-        return Outcome::Refused(26);
+        return Err(Refusal::Unread);
     }
     let file = files::bytes(f);
     let n = files::len(f);
@@ -78,7 +83,11 @@ fn judge_front(f: Front, controller: &mut [u16; ROOM], panel: &mut [u16; ROOM]) 
 }
 
 // What an open file comes to.
-fn judge_open(file: &mut File, controller: &mut [u16; ROOM], panel: &mut [u16; ROOM]) -> Outcome
+fn judge_open(
+    file: &mut File,
+    controller: &mut [u16; ROOM],
+    panel: &mut [u16; ROOM],
+) -> Result<Counted, Refusal>
     ensures { FromOpen result × Modest result }
 {
     let f = files::read(file);
@@ -99,14 +108,14 @@ fn judge_name(
     name: &[u8],
     controller: &mut [u16; ROOM],
     panel: &mut [u16; ROOM],
-) -> Outcome
+) -> Result<Counted, Refusal>
     ensures { ForName name.now result × Modest result }
 {
     if !catalogue_names::fit_name(name) {
-        return Outcome::Refused(26);
+        return Err(Refusal::Unread);
     }
     match open(rt, name) {
-        None => Outcome::Refused(26),
+        None => Err(Refusal::Unread),
         Some(mut file) => judge_open(&mut file, controller, panel),
     }
 }
@@ -158,7 +167,7 @@ fn answer(
     ensures { Printed list.now buffer.old result buffer.new }
 {
     if 1000 < catalogue_names::count_names(list) {
-        return print_lines::put_refused(buffer, 27);
+        return print_lines::put_refused(buffer, u8::from(Refusal::TooManyNames));
     }
     let t = tally_names(rt, list, controller, panel);
     catalogue_lines::put_figures(buffer, t)

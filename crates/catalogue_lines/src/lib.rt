@@ -13,11 +13,9 @@ fn put_text(buffer: &mut [u8], at: usize, text: &[u8]) -> usize
     ensures { Puts buffer.old at text.now result buffer.new }
 {
     let mut to = at;
-    let mut k: usize = 0;
-    while k < text.len() {
+    for k in 0..text.len() {
         let b = text[k];
         to = text_put::put_byte(buffer, to, b);
-        k += 1;
     }
     to
 }
@@ -66,11 +64,9 @@ fn put_numbers(buffer: &mut [u8], at: usize, numbers: &[usize; 256]) -> usize
         × (length (number_lines 256 0 numbers.now) ≤ 15360) }
 {
     let mut to = at;
-    let mut r: usize = 0;
-    while r < 256 {
+    for r in 0..256 {
         let n = numbers[r];
         to = put_number_line(buffer, to, r, n);
-        r += 1;
     }
     to
 }

@@ -10,14 +10,12 @@ pub fn name_end(list: &[u8], at: usize) -> usize
     requires { at ≤ length list.now }
     ensures { result ≡ at + length (front (drop at list.now)) }
 {
-    let mut i = at;
-    while i < list.len() {
+    for i in at..list.len() {
         if list[i] == b'\n' {
-            break;
+            return i;
         }
-        i += 1;
     }
-    i
+    list.len()
 }
 
 // Where the name after the one that begins at place `at` begins, or the list's end.
@@ -49,12 +47,10 @@ pub fn count_names(list: &[u8]) -> usize
 fn has_zero(name: &[u8]) -> bool
     ensures { result ≡ has_zero name.now }
 {
-    let mut i: usize = 0;
-    while i < name.len() {
-        if name[i] == 0 {
+    for b in name {
+        if *b == 0 {
             return true;
         }
-        i += 1;
     }
     false
 }
@@ -89,14 +85,14 @@ fn keep_byte(list: &mut [u8], k: Kept, b: u8) -> Kept
 {
     if b == b'\n' {
         let len = text_put::put_byte(list, k.len, b);
-        return Kept { len: len, run: 0 };
+        return Kept { len, run: 0 };
     }
     if 256 <= k.run {
         return k;
     }
     let len = text_put::put_byte(list, k.len, b);
     Kept {
-        len: len,
+        len,
         run: k.run + 1,
     }
 }
@@ -106,11 +102,8 @@ pub fn keep(list: &mut [u8], k: Kept, part: &[u8]) -> Kept
     ensures { Keeps list.old k part.now result list.new }
 {
     let mut kept = k;
-    let mut i: usize = 0;
-    while i < part.len() {
-        let b = part[i];
-        kept = keep_byte(list, kept, b);
-        i += 1;
+    for b in part {
+        kept = keep_byte(list, kept, *b);
     }
     kept
 }

@@ -12,8 +12,8 @@ use borrow.Author.Tests.{eqb-true, eqb-false}
 use Rattle.finite.proofs.Truth.{decide}
 use Rattle.finite.proofs.Lists.{all_default}
 use Rattle.finite.specs.Bounded.{one}
-use Rattle.catalogue_tally.specs.declared.Outcome.{Outcome}
-use Rattle.catalogue_tally.specs.declared.Outcome.TheVariants.{System, Environment, Refused}
+use Rattle.catalogue_tally.specs.Outcome.{Outcome}
+use Rattle.catalogue_tally.specs.declared.Counted.TheVariants.{System, Environment}
 use Rattle.catalogue_tally.specs.declared.Tally.{Tally}
 use Rattle.catalogue_tally.specs.Figures.{
   is_system,
@@ -31,14 +31,18 @@ use Rattle.catalogue_tally.specs.Figures.{
   Roomy,
   Within,
 }
+use Rattle.game.specs.declared.Refusal.{Refusal}
+use Rattle.game.specs.Refusals.{number}
+use Rattle.std.specs.declared.result.Result.TheVariants.{Ok, Err}
 
 -- of one outcome
+
 module _ {o : Outcome} {w p : ℕ} where
-  pub modest_system : o ≡ System w p → Modest o → (w ≤ 16384) × (p ≤ 16384)
+  pub modest_system : o ≡ Ok (System w p) → Modest o → (w ≤ 16384) × (p ≤ 16384)
   unfolding won_of positions_of
   modest_system e m = (omega (arith, ap won_of e, m.won), omega (arith, ap positions_of e, m.positions))
 
-  pub modest_environment : o ≡ Environment w p → Modest o → (w ≤ 16384) × (p ≤ 16384)
+  pub modest_environment : o ≡ Ok (Environment w p) → Modest o → (w ≤ 16384) × (p ≤ 16384)
   unfolding won_of positions_of
   modest_environment e m = (omega (arith, ap won_of e, m.won), omega (arith, ap positions_of e, m.positions))
 
@@ -80,10 +84,10 @@ number_added l n r h = elim (decide (eqb n r)) [ inl e ↦ same e | inr e ↦ ot
     other e = get_or-set_other l n r (get_or l n 0 + 1) 0 (λ q. eqb-false n r e (sym q)) ∙ sym (ap (λ (b : Bool). get_or l r 0 + one b) e ∙ omega arith)
 
 module _ {os : List Outcome} {t : Tally} (T : Tallied os t) where
-  tallied_system : (w p : ℕ) → Tallied (os ++ System w p ∷ []) (added t (System w p))
+  tallied_system : (w p : ℕ) → Tallied (os ++ Ok (System w p) ∷ []) (added t (Ok (System w p)))
   unfolding added is_system is_environment is_refused has_number won_of positions_of one
   tallied_system w p =
-      let o = System w p in
+      let o : Outcome = Ok (System w p) in
       record {
         system = omega (arith, T.system, many_snoc is_system os o);
         environment = omega (arith, T.environment, many_snoc is_environment os o);
@@ -95,10 +99,10 @@ module _ {os : List Outcome} {t : Tally} (T : Tallied os t) where
         positions = omega (arith, T.positions, sum_snoc positions_of os o);
       }
 
-  tallied_environment : (w p : ℕ) → Tallied (os ++ Environment w p ∷ []) (added t (Environment w p))
+  tallied_environment : (w p : ℕ) → Tallied (os ++ Ok (Environment w p) ∷ []) (added t (Ok (Environment w p)))
   unfolding added is_system is_environment is_refused has_number won_of positions_of one
   tallied_environment w p =
-      let o = Environment w p in
+      let o : Outcome = Ok (Environment w p) in
       record {
         system = omega (arith, T.system, many_snoc is_system os o);
         environment = omega (arith, T.environment, many_snoc is_environment os o);
@@ -110,18 +114,18 @@ module _ {os : List Outcome} {t : Tally} (T : Tallied os t) where
         positions = omega (arith, T.positions, sum_snoc positions_of os o);
       }
 
-  tallied_refused : (n : ℕ) → Tallied (os ++ Refused n ∷ []) (added t (Refused n))
+  tallied_refused : (e : Refusal) → Tallied (os ++ Err e ∷ []) (added t (Err e))
   unfolding added is_system is_environment is_refused has_number won_of positions_of one
-  tallied_refused n =
-      let o = Refused n in
+  tallied_refused e =
+      let o : Outcome = Err e in
       record {
         system = omega (arith, T.system, many_snoc is_system os o);
         environment = omega (arith, T.environment, many_snoc is_environment os o);
         refused = omega (arith, T.refused, many_snoc is_refused os o);
         games = omega (arith, T.games, length_snoc os o);
-        counts = length-set t.numbers n (get_or t.numbers n 0 + 1) ∙ T.counts;
+        counts = length-set t.numbers (number e) (get_or t.numbers (number e) 0 + 1) ∙ T.counts;
         numbers = λ r h.
-            number_added t.numbers n r (omega (arith, T.counts)) ∙ ap (λ (k : ℕ). k + one (eqb n r)) (T.numbers r h)
+            number_added t.numbers (number e) r (omega (arith, T.counts)) ∙ ap (λ (k : ℕ). k + one (eqb (number e) r)) (T.numbers r h)
             ∙ sym (many_snoc (has_number r) os o);
         won = omega (arith, T.won, sum_snoc won_of os o);
         positions = omega (arith, T.positions, sum_snoc positions_of os o);
@@ -129,9 +133,9 @@ module _ {os : List Outcome} {t : Tally} (T : Tallied os t) where
 
   -- the outcomes counted are one more
   pub tallied_add : (o : Outcome) → Tallied (os ++ o ∷ []) (added t o)
-  tallied_add (System w p) = tallied_system w p
-  tallied_add (Environment w p) = tallied_environment w p
-  tallied_add (Refused n) = tallied_refused n
+  tallied_add (Ok (System w p)) = tallied_system w p
+  tallied_add (Ok (Environment w p)) = tallied_environment w p
+  tallied_add (Err e) = tallied_refused e
 
   -- a thousand outcomes leave room in each word
   pub tallied_roomy : length os ≤ 1000 → Within os t → Roomy t
@@ -147,20 +151,20 @@ module _ {os : List Outcome} {t : Tally} (T : Tallied os t) where
 
 pub within_add : {os : List Outcome} {t : Tally} (o : Outcome) → Within os t → Modest o → Within (os ++ o ∷ []) (added t o)
 unfolding added won_of positions_of
-within_add {os} (System w p) W M = record {
-  won = omega (arith, W.won, M.won, length_snoc os (System w p));
+within_add {os} (Ok (System w p)) W M = record {
+  won = omega (arith, W.won, M.won, length_snoc os (Ok (System w p)));
   positions = omega
-      (arith, W.positions, M.positions, length_snoc os (System w p));
+      (arith, W.positions, M.positions, length_snoc os (Ok (System w p)));
 }
-within_add {os} (Environment w p) W M = record {
-  won = omega (arith, W.won, M.won, length_snoc os (Environment w p));
+within_add {os} (Ok (Environment w p)) W M = record {
+  won = omega (arith, W.won, M.won, length_snoc os (Ok (Environment w p)));
   positions = omega
-      (arith, W.positions, M.positions, length_snoc os (Environment w p));
+      (arith, W.positions, M.positions, length_snoc os (Ok (Environment w p)));
 }
-within_add {os} (Refused n) W M = record {
-  won = omega (arith, W.won, length_snoc os (Refused n));
+within_add {os} (Err n) W M = record {
+  won = omega (arith, W.won, length_snoc os (Err n));
   positions = omega
-      (arith, W.positions, length_snoc os (Refused n));
+      (arith, W.positions, length_snoc os (Err n));
 }
 
 pub tallied_nothing : Tallied [] empty_tally

@@ -1,7 +1,7 @@
 -- The figures of a catalogue, from the outcomes of its files.
 --
 --   is_system o, is_environment o, is_refused o   == the system wins, the environment wins, the file is refused
---   has_number n o      == the file is refused with the number n
+--   has_number n o      == the file is refused, and the refusal's number is n
 --   won_of o            == the won positions of a game that is not refused
 --   positions_of o      == its positions
 --   how_many p os       == how many of the outcomes os have p
@@ -14,39 +14,41 @@
 --   Roomy t            == t counts far fewer games and positions than its words hold
 use Rattle.std.specs.Prelude.{ℕ, ◌+◌, ◌*◌, ◌≤◌, ◌<◌, Bool, true, false, List, [], ◌∷◌, ◌≡◌, eqb, length, get_or, set, replicate}
 use Rattle.finite.specs.Bounded.{one}
-use Rattle.catalogue_tally.specs.declared.Outcome.{Outcome}
-use Rattle.catalogue_tally.specs.declared.Outcome.TheVariants.{System, Environment, Refused}
+use Rattle.game.specs.Refusals.{number}
+use Rattle.catalogue_tally.specs.Outcome.{Outcome}
+use Rattle.catalogue_tally.specs.declared.Counted.TheVariants.{System, Environment}
 use Rattle.catalogue_tally.specs.declared.Tally.{Tally}
+use Rattle.std.specs.declared.result.Result.TheVariants.{Ok, Err}
 
 unfoldable pub is_system : Outcome → Bool
-is_system (System w p) = true
-is_system (Environment w p) = false
-is_system (Refused n) = false
+is_system (Ok (System w p)) = true
+is_system (Ok (Environment w p)) = false
+is_system (Err r) = false
 
 unfoldable pub is_environment : Outcome → Bool
-is_environment (System w p) = false
-is_environment (Environment w p) = true
-is_environment (Refused n) = false
+is_environment (Ok (System w p)) = false
+is_environment (Ok (Environment w p)) = true
+is_environment (Err r) = false
 
 unfoldable pub is_refused : Outcome → Bool
-is_refused (System w p) = false
-is_refused (Environment w p) = false
-is_refused (Refused n) = true
+is_refused (Ok (System w p)) = false
+is_refused (Ok (Environment w p)) = false
+is_refused (Err r) = true
 
 unfoldable pub has_number : ℕ → Outcome → Bool
-has_number r (System w p) = false
-has_number r (Environment w p) = false
-has_number r (Refused n) = eqb n r
+has_number n (Ok (System w p)) = false
+has_number n (Ok (Environment w p)) = false
+has_number n (Err r) = eqb (number r) n
 
 unfoldable pub won_of : Outcome → ℕ
-won_of (System w p) = w
-won_of (Environment w p) = w
-won_of (Refused n) = 0
+won_of (Ok (System w p)) = w
+won_of (Ok (Environment w p)) = w
+won_of (Err r) = 0
 
 unfoldable pub positions_of : Outcome → ℕ
-positions_of (System w p) = p
-positions_of (Environment w p) = p
-positions_of (Refused n) = 0
+positions_of (Ok (System w p)) = p
+positions_of (Ok (Environment w p)) = p
+positions_of (Err r) = 0
 
 unfoldable pub sum_of : (Outcome → ℕ) → List Outcome → ℕ
 sum_of f [] = 0
@@ -71,16 +73,16 @@ unfoldable pub empty_tally : Tally
 empty_tally = record { system = 0; environment = 0; refused = 0; numbers = replicate 256 0; won = 0; positions = 0 }
 
 unfoldable pub added : Tally → Outcome → Tally
-added t (System w p) =
+added t (Ok (System w p)) =
     record { system = t.system + 1; environment = t.environment; refused = t.refused; numbers = t.numbers; won = t.won + w; positions = t.positions + p }
-added t (Environment w p) =
+added t (Ok (Environment w p)) =
     record { system = t.system; environment = t.environment + 1; refused = t.refused; numbers = t.numbers; won = t.won + w; positions = t.positions + p }
-added t (Refused n) =
+added t (Err r) =
     record {
       system = t.system;
       environment = t.environment;
       refused = t.refused + 1;
-      numbers = set t.numbers n (get_or t.numbers n 0 + 1);
+      numbers = set t.numbers (number r) (get_or t.numbers (number r) 0 + 1);
       won = t.won;
       positions = t.positions;
     }

@@ -1,2 +1,3 @@
 -- The figures of a catalogue.
+pub mod Outcome
 pub mod Figures

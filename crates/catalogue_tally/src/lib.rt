@@ -2,15 +2,16 @@
 #![tactic(auto)]
 
 ghost use Rattle.std.specs.Prelude.{◌≡◌};
-ghost use Rattle.catalogue_tally.specs.declared.Outcome.TheVariants.{Refused};
+ghost use Rattle.std.specs.declared.result.Result.TheVariants.{Err};
 ghost use Rattle.catalogue_tally.specs.Figures.{empty_tally, added, Modest, Roomy};
 
-// What one file comes to: the side that wins, with how many of the game's positions are won and how many there are, or a refusal's number.
+use game::Refusal;
+
+// What a game comes to: the side that wins, with how many of its positions are won and how many there are.
 #[derive(Clone, Copy)]
-pub enum Outcome {
+pub enum Counted {
     System(usize, usize),
     Environment(usize, usize),
-    Refused(u8),
 }
 
 // How many games the system wins, the environment wins, are refused; how many got each number; the won positions and all positions of
@@ -40,12 +41,12 @@ pub fn empty() -> Tally
 }
 
 // A refusal more.
-fn add_refusal(t: Tally, n: u8) -> Tally
+fn add_refusal(t: Tally, r: Refusal) -> Tally
     requires { Roomy t }
-    ensures { result ≡ added t (Refused n) }
+    ensures { result ≡ added t (Err r) }
 {
     let mut numbers = t.numbers;
-    let i = n as usize;
+    let i = u8::from(r) as usize;
     numbers[i] = numbers[i] + 1;
     Tally {
         system: t.system,
@@ -58,12 +59,12 @@ fn add_refusal(t: Tally, n: u8) -> Tally
 }
 
 // An outcome more.
-pub fn add(t: Tally, o: Outcome) -> Tally
+pub fn add(t: Tally, o: Result<Counted, Refusal>) -> Tally
     requires { Roomy t × Modest o }
     ensures { result ≡ added t o }
 {
     match o {
-        Outcome::System(w, p) => {
+        Ok(Counted::System(w, p)) => {
             let numbers = t.numbers;
             Tally {
                 system: t.system + 1,
@@ -74,7 +75,7 @@ pub fn add(t: Tally, o: Outcome) -> Tally
                 positions: t.positions + p,
             }
         }
-        Outcome::Environment(w, p) => {
+        Ok(Counted::Environment(w, p)) => {
             let numbers = t.numbers;
             Tally {
                 system: t.system,
@@ -85,6 +86,6 @@ pub fn add(t: Tally, o: Outcome) -> Tally
                 positions: t.positions + p,
             }
         }
-        Outcome::Refused(n) => add_refusal(t, n),
+        Err(r) => add_refusal(t, r),
     }
 }

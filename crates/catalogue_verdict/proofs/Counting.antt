@@ -16,27 +16,27 @@ use Rattle.sets.proofs.Rows.{words_held}
 use borrow.Author.Tests.{le-leb}
 use Rattle.finite.proofs.Truth.{and_intro}
 use Rattle.game.specs.declared.Game.{Game}
-use Rattle.game.specs.declared.Acceptance.TheVariants.{Accepted}
-use Rattle.game.specs.Acceptance.{acceptance}
+use Rattle.game.specs.Acceptance.{accepted, acceptance}
 use Rattle.table_sizes.proofs.Lengths.{inputs_most, outputs_most}
-use Rattle.map_marks.specs.declared.Mapped.{Mapped}
-use Rattle.map_marks.specs.declared.Mapped.TheVariants.{Done}
+use Rattle.map_marks.specs.Mapped.{made, Mapped}
 use Rattle.map.specs.Map.{map_fits, map_room, map_answer, MapMade}
 use Rattle.scratch.specs.Scratch.{scratch_length, most_scratch}
-use Rattle.solver.specs.declared.Verdict.{Verdict}
-use Rattle.solver.specs.declared.Verdict.TheVariants.{System, Environment, Refused as NotSolved}
+use Rattle.solver.specs.Verdict.{Verdict}
+use Rattle.solver.specs.declared.Winner.TheVariants.{System, Environment}
 use Rattle.solver.specs.Promise.{verdict_answer, Solved}
 use Rattle.solver.proofs.Verdicts.{more_scratch}
-use Rattle.text.specs.declared.Answer.{Answer}
-use Rattle.text.specs.declared.Answer.TheVariants.{Read, Misshapen, Refused as NotRead}
-use Rattle.text.specs.declared.Reading.{Reading}
+use Rattle.text.specs.declared.Unread.TheVariants.{Misshapen, Refused}
 use Rattle.text.specs.Read.{Reads}
-use Rattle.catalogue_tally.specs.declared.Outcome.{Outcome}
-use Rattle.catalogue_tally.specs.declared.Outcome.TheVariants.{System as SystemGame, Environment as EnvironmentGame, Refused as NoGame}
+use Rattle.catalogue_tally.specs.Outcome.{Outcome}
+use Rattle.catalogue_tally.specs.declared.Counted.TheVariants.{System as SystemGame, Environment as EnvironmentGame}
 use Rattle.catalogue_tally.specs.Figures.{won_of, positions_of, Modest}
 use Rattle.catalogue_verdict.specs.Judged.{positions, marks, Census, Comes, Answers, Judged}
+use Rattle.std.specs.declared.result.Result.TheVariants.{Ok, Err}
+use Rattle.game.specs.declared.Refusal.{Refusal}
+use Rattle.game.specs.declared.Refusal.TheVariants.{NoGame}
 
 -- a state more
+
 module _ (p : ℕ → Bool) (s : ℕ) where
   pub count_start : 0 ≡ count 0 p
   unfolding count
@@ -64,11 +64,11 @@ module _ (l : List ℕ) (m : ℕ) where
   unfolding marks
   marks_next i e q = omega (arith, ap (λ (j : ℕ). marks l m j) (add-one i))
 
-pub map_long : (g : Game) (m : List ℕ) → acceptance g ≡ Accepted → length m ≡ row_words → g.input.states ≤ set_count m
+pub map_long : (g : Game) (m : List ℕ) → acceptance g ≡ accepted → length m ≡ row_words → g.input.states ≤ set_count m
 map_long g m a q = words_held m g.input.states (omega (arith, q, inputs_most g a))
 
 -- the map is made, so what it marks is what is won
-module _ {g : Game} {s s' m m' : List ℕ} {r : Mapped} (a : acceptance g ≡ Accepted) (M : MapMade g s s' m m' r) (p : length s ≡ most_scratch)
+module _ {g : Game} {s s' m m' : List ℕ} {r : Mapped} (a : acceptance g ≡ accepted) (M : MapMade g s s' m m' r) (p : length s ≡ most_scratch)
     (q : length m ≡ row_words) where
   map_fits_lem : map_fits g most_scratch row_words ≡ true
   unfolding map_fits
@@ -76,7 +76,7 @@ module _ {g : Game} {s s' m m' : List ℕ} {r : Mapped} (a : acceptance g ≡ Ac
       and_intro (le-leb (scratch_length g) most_scratch (most_scratch_lem g a))
       (le-leb (words_for g.input.states) row_words (omega (arith, inputs_most g a)))
 
-  map_done : r ≡ Done
+  map_done : r ≡ made
   unfolding map_answer map_room
   map_done = M.answer ∙ (λ i. map_answer g (p i) (q i)) ∙ rw (a, map_answer) (rw (map_fits_lem, map_room) refl)
 
@@ -84,7 +84,7 @@ module _ {g : Game} {s s' m m' : List ℕ} {r : Mapped} (a : acceptance g ≡ Ac
   map_census e = record { map = sets_in m'; won = M.won map_done; sum = e }
 
 -- the solver's answer for the rooms of the solve program
-module _ {g : Game} {s s' c c' e e' : List ℕ} {v : Verdict} (a : acceptance g ≡ Accepted) (S : Solved g s s' c c' e e' v) (p : length s ≡ most_scratch)
+module _ {g : Game} {s s' c c' e e' : List ℕ} {v : Verdict} (a : acceptance g ≡ accepted) (S : Solved g s s' c c' e e' v) (p : length s ≡ most_scratch)
     (q : length c ≡ room_entries) (h : length e ≡ room_entries) where
   answered : v ≡ verdict_answer g (scratch_length g) room_entries room_entries
   answered = S.answer ∙ (λ i. verdict_answer g (p i) (q i) (h i)) ∙ more_scratch g most_scratch room_entries room_entries (most_scratch_lem g a)
@@ -92,42 +92,37 @@ module _ {g : Game} {s s' c c' e e' : List ℕ} {v : Verdict} (a : acceptance g 
   comes_as : (o : Outcome) (u : Verdict) → v ≡ u → Comes g u o → Comes g (verdict_answer g (scratch_length g) room_entries room_entries) o
   comes_as o u k C = subst (λ (x : Verdict). Comes g x o) (sym k ∙ answered) C
 
-  pub comes_refused : {n : ℕ} → v ≡ NotSolved n → Comes g (verdict_answer g (scratch_length g) room_entries room_entries) (NoGame n) × Modest (NoGame n)
+  pub comes_refused : {n : Refusal} → v ≡ Err n → Comes g (verdict_answer g (scratch_length g) room_entries room_entries) (Err n) × Modest (Err n)
   unfolding Comes won_of positions_of
-  comes_refused {n} k = (comes_as _ (NotSolved n) k refl, record { won = omega arith; positions = omega arith })
+  comes_refused {n} k = (comes_as _ (Err n) k refl, record { won = omega arith; positions = omega arith })
 
   module _ {w : ℕ} (C : Census g w) (b : w ≤ 16384) where
-    pub comes_system : {n : ℕ} → v ≡ System n
-        → Comes g (verdict_answer g (scratch_length g) room_entries room_entries) (SystemGame w (g.input.states * g.output.states))
-        × Modest (SystemGame w (g.input.states * g.output.states))
+    pub comes_system : {n : ℕ} → v ≡ Ok (System n)
+        → Comes g (verdict_answer g (scratch_length g) room_entries room_entries) (Ok (SystemGame w (g.input.states * g.output.states)))
+        × Modest (Ok (SystemGame w (g.input.states * g.output.states)))
     unfolding Comes won_of positions_of positions
     comes_system {n} k =
-        (comes_as _ (System n) k (w, C, refl), record { won = b; positions = mul-le-mul (inputs_most g a) (outputs_most g a) })
+        (comes_as _ (Ok (System n)) k (w, C, refl), record { won = b; positions = mul-le-mul (inputs_most g a) (outputs_most g a) })
 
-    pub comes_environment : {n : ℕ} → v ≡ Environment n
-        → Comes g (verdict_answer g (scratch_length g) room_entries room_entries) (EnvironmentGame w (g.input.states * g.output.states))
-        × Modest (EnvironmentGame w (g.input.states * g.output.states))
+    pub comes_environment : {n : ℕ} → v ≡ Ok (Environment n)
+        → Comes g (verdict_answer g (scratch_length g) room_entries room_entries) (Ok (EnvironmentGame w (g.input.states * g.output.states)))
+        × Modest (Ok (EnvironmentGame w (g.input.states * g.output.states)))
     unfolding Comes won_of positions_of positions
     comes_environment {n} k =
-        (comes_as _ (Environment n) k (w, C, refl), record { won = b; positions = mul-le-mul (inputs_most g a) (outputs_most g a) })
+        (comes_as _ (Ok (Environment n)) k (w, C, refl), record { won = b; positions = mul-le-mul (inputs_most g a) (outputs_most g a) })
 
 -- the answer to a file
-module _ {s : List ℕ} {x : Reading} (R : Reads s x) where
-  pub judged_game : {o : Outcome} → x.answer ≡ Read
-      → Comes x.game (verdict_answer x.game (scratch_length x.game) room_entries room_entries) o → Judged s o
+module _ {s : List ℕ} where
+  pub judged_game : {g : Game} {o : Outcome} → Reads s (Ok g) → Comes g (verdict_answer g (scratch_length g) room_entries room_entries) o → Judged s o
   unfolding Answers
-  judged_game {o} h C = record { reading = x; reads = R; answers = subst (λ (a : Answer). Answers x.game a o) (sym h) C }
+  judged_game {g} R C = record { reading = Ok g; reads = R; answers = C }
 
-  pub judged_misshapen : {p : ℕ} → x.answer ≡ Misshapen p → Judged s (NoGame 11) × Modest (NoGame 11)
+  pub judged_misshapen : {p : ℕ} → Reads s (Err (Misshapen p)) → Judged s (Err NoGame) × Modest (Err NoGame)
   unfolding Answers won_of positions_of
-  judged_misshapen h = (
-    record { reading = x; reads = R; answers = subst (λ (a : Answer). Answers x.game a (NoGame 11)) (sym h) refl },
-    record { won = omega arith; positions = omega arith },
-  )
+  judged_misshapen {p} R =
+      (record { reading = Err (Misshapen p); reads = R; answers = refl }, record { won = omega arith; positions = omega arith })
 
-  pub judged_refused : {n : ℕ} → x.answer ≡ NotRead n → Judged s (NoGame n) × Modest (NoGame n)
+  pub judged_refused : {r : Refusal} → Reads s (Err (Refused r)) → Judged s (Err r) × Modest (Err r)
   unfolding Answers won_of positions_of
-  judged_refused {n} h = (
-    record { reading = x; reads = R; answers = subst (λ (a : Answer). Answers x.game a (NoGame n)) (sym h) refl },
-    record { won = omega arith; positions = omega arith },
-  )
+  judged_refused {r} R =
+      (record { reading = Err (Refused r); reads = R; answers = refl }, record { won = omega arith; positions = omega arith })

@@ -5,20 +5,19 @@ ghost use Rattle.std.specs.Prelude.{◌≡◌, ◌≤◌, ◌*◌};
 ghost use Rattle.finite.specs.Bounded.{count};
 ghost use Rattle.bits.specs.Member.{has};
 ghost use Rattle.sets.specs.Words.{capacity, bits_of, sets_in, set_count};
-ghost use Rattle.game.specs.declared.Acceptance.TheVariants.{Accepted};
-ghost use Rattle.game.specs.Acceptance.{acceptance};
+ghost use Rattle.game.specs.Acceptance.{acceptance, accepted};
 ghost use Rattle.scratch.specs.Scratch.{scratch_length};
 ghost use Rattle.solver.specs.Promise.{verdict_answer};
 ghost use Rattle.prints.specs.Prints.{room_entries};
 ghost use Rattle.catalogue_tally.specs.Figures.{Modest};
 ghost use Rattle.catalogue_verdict.specs.Judged.{marks, Census, Comes, Judged};
 
-use catalogue_tally::Outcome;
-use game::Game;
+use catalogue_tally::Counted;
+use game::{Game, Refusal};
 use prints::ROOM;
 use sets::Set;
-use solver::Verdict;
-use text::Answer;
+use solver::Winner;
+use text::Unread;
 
 // How many of the first m states a set has.
 fn row_count(x: Set, m: usize) -> usize
@@ -44,58 +43,50 @@ fn map_count(map: &[u64], n: usize, m: usize) -> usize
     ensures { (result ≡ marks (sets_in map.now) m n) × (result ≤ 16384) }
 {
     let mut c: usize = 0;
-    let mut i: usize = 0;
-    while i < n {
+    for i in 0..n {
         let x = sets::row(map, i);
         c += row_count(x, m);
-        i += 1;
     }
     c
 }
 
 // How many positions of an accepted game are won.
 fn won_count(g: Game) -> usize
-    requires { acceptance g ≡ Accepted }
+    requires { acceptance g ≡ accepted }
     ensures { Census g result × (result ≤ 16384) }
 {
     let mut scratch = [0u64; scratch::MOST];
     let mut map = [0u64; sets::ROW_WORDS];
-    map::won_map(g, &mut scratch, &mut map);
+    let _ = map::won_map(g, &mut scratch, &mut map);
     map_count(&map, g.input.states, g.output.states)
 }
 
 // What an accepted game comes to, in the two rooms.
-fn solve(g: Game, controller: &mut [u16; ROOM], panel: &mut [u16; ROOM]) -> Outcome
-    requires { acceptance g ≡ Accepted }
+fn solve(g: Game, controller: &mut [u16; ROOM], panel: &mut [u16; ROOM]) -> Result<Counted, Refusal>
+    requires { acceptance g ≡ accepted }
     ensures { Comes g (verdict_answer g (scratch_length g) room_entries room_entries) result × Modest result }
 {
     let mut scratch = [0u64; scratch::MOST];
-    let v = solver::solve_into(g, &mut scratch, controller, panel);
-    match v {
-        Verdict::Refused(n) => Outcome::Refused(n),
-        Verdict::System(k) => {
-            let w = won_count(g);
-            Outcome::System(w, g.input.states * g.output.states)
-        }
-        Verdict::Environment(k) => {
-            let w = won_count(g);
-            Outcome::Environment(w, g.input.states * g.output.states)
-        }
+    let winner = solver::solve_into(g, &mut scratch, controller, panel)?;
+    let won = won_count(g);
+    let positions = g.input.states * g.output.states;
+    match winner {
+        Winner::System(_) => Ok(Counted::System(won, positions)),
+        Winner::Environment(_) => Ok(Counted::Environment(won, positions)),
     }
 }
 
 // What a file comes to. The rooms are the solve program's, and what they hold afterwards is nobody's.
-pub fn judge(file: &[u8], controller: &mut [u16; ROOM], panel: &mut [u16; ROOM]) -> Outcome
+pub fn judge(
+    file: &[u8],
+    controller: &mut [u16; ROOM],
+    panel: &mut [u16; ROOM],
+) -> Result<Counted, Refusal>
     ensures { Judged file.now result × Modest result }
 {
-    let r = text::read(file);
-    let a = r.answer;
-    match a {
-        Answer::Misshapen(p) => Outcome::Refused(11),
-        Answer::Refused(n) => Outcome::Refused(n),
-        Answer::Read => {
-            let g = r.game;
-            solve(g, controller, panel)
-        }
+    match text::read(file) {
+        Ok(g) => solve(g, controller, panel),
+        Err(Unread::Misshapen(_)) => Err(Refusal::NoGame),
+        Err(Unread::Refused(r)) => Err(r),
     }
 }

@@ -13,12 +13,10 @@ fn set(x: u64) -> Set {
 // Every state moves to state 0, which is the initial one.
 fn graph(states: usize) -> Graph {
     let mut moves = [0u64; sets::ROW_WORDS];
-    let mut s = 0;
-    while s < sets::CAPACITY {
+    for s in 0..sets::CAPACITY {
         if s < states {
             moves[2 * s] = 1;
         }
-        s += 1;
     }
     Graph {
         states,

@@ -4,11 +4,11 @@ use game::{Acceptance, Game};
 // Where the lines go.
 const STDOUT_FILENO: i32 = 1;
 
-// 0 for accepted, else the refusal's code.
+// 0 for accepted, else the refusal's number.
 fn number(a: Acceptance) -> u64 {
     match a {
-        Acceptance::Accepted => 0,
-        Acceptance::Refused(n) => n as u64,
+        Ok(()) => 0,
+        Err(r) => u8::from(r) as u64,
     }
 }
 

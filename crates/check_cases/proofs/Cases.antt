@@ -32,8 +32,7 @@ use Rattle.game.specs.declared.OutSet.{OutSet}
 use Rattle.game.specs.declared.Requirement.{Requirement}
 use Rattle.game.specs.declared.Game.{Game}
 use Rattle.game.specs.Access.{no_input, no_output, no_requirement, requirement_at, assumption_at, guarantee_at}
-use Rattle.game.specs.declared.Acceptance.{Acceptance}
-use Rattle.game.specs.declared.Acceptance.TheVariants.{Accepted}
+use Rattle.game.specs.Acceptance.{accepted, Acceptance}
 use Rattle.game.specs.Acceptance.{
   limit,
   count_fits,
@@ -112,7 +111,7 @@ use Rattle.text.proofs.Arrays.{Arrays}
 use Rattle.text.proofs.OneText.{accepted_shaped, one_text_holds}
 use Rattle.waiting.specs.Waiting.{RightToWait}
 use Rattle.waiting.proofs.Waiting.{right_to_wait}
-use Rattle.prints.specs.Prints.{table_print, game_print, answer_print, reading_print}
+use Rattle.prints.specs.Prints.{table_print, game_print, reading_print}
 use Rattle.check_cases.specs.Bytes.{line_bytes, file_bytes}
 use Rattle.check_cases.specs.Cases.{Case, padded, graph, if_then, game, case8, table, Proved}
 
@@ -122,22 +121,22 @@ unfolding line_bytes file_bytes padded set_of words_of empty_requirement graph i
 made c = c
 
 text : Game → List ℕ
-unfolding one value bits_of sets_in plain has words word gap_text items bracket line members decimal digits set_text cells sets_text header_line state_line state_lines
-    requirement_line requirement_lines game_text
+unfolding one value bits_of sets_in plain has words word gap_text items bracket line members decimal digits set_text cells sets_text header_line state_line
+    state_lines requirement_line requirement_lines game_text
 text g = game_text g
 
 answer : Game → Acceptance
-unfolding all value bits_of sets_in within limit count_fits row_fits states_fit has_initial few_sets in_set_fits out_set_fits in_use requirement_fits few_sets_at
-    requirement_fits_at counts_fit states_in_count initials_exist few_requirements lengths_fit sets_fit tests first_failing acceptance
+unfolding all value bits_of sets_in within limit count_fits row_fits states_fit has_initial few_sets in_set_fits out_set_fits in_use requirement_fits
+    few_sets_at requirement_fits_at counts_fit states_in_count initials_exist few_requirements lengths_fit sets_fit tests first_failing acceptance
 answer g = acceptance g
 
 -- the tables, with all that document 01's choices are computed by
 chosen : Game → List ℕ
-unfolding all any least least_from count one all_of any_of tabulate tabulate_from value bits_of sets_in has pack edge begins stuck rel rows_of nearby joins via reaches
-    joined number nontrivial leaves meets_at widens layer near approach shortest prefer toward due served accepting safe home_for settles answers replies rule
-    region_rows region opens verdict goal_at around inside ahead goal has_goal target arrive tour sets_of guarantees assumptions home homeward settled
-    controller_row controller_start lost way_out gate outward escapes pressing pushing opposing environment_row refused environment_start entry controller_counters
-    environment_counters row_of controller_entries environment_entries graph_of requirement_of requirements_of separated_of
+unfolding all any least least_from count one all_of any_of tabulate tabulate_from value bits_of sets_in has pack edge begins stuck rel rows_of nearby joins
+    via reaches joined number nontrivial leaves meets_at widens layer near approach shortest prefer toward due served accepting safe home_for settles
+    answers replies rule region_rows region opens verdict goal_at around inside ahead goal has_goal target arrive tour sets_of guarantees assumptions home
+    homeward settled controller_row controller_start lost way_out gate outward escapes pressing pushing opposing environment_row refused environment_start
+    entry controller_counters environment_counters row_of controller_entries environment_entries graph_of requirement_of requirements_of separated_of
 chosen g = controller_entries (separated_of g) ++ environment_entries (separated_of g)
 
 print : Game → List ℕ
@@ -149,7 +148,7 @@ files : map (λ (c : Case). game_text c.game) table ≡ map (λ (c : Case). c.fi
 unfolding made text table
 files = refl
 
-acceptances : map (λ (c : Case). acceptance c.game) table ≡ map (λ (c : Case). Accepted) table
+acceptances : map (λ (c : Case). acceptance c.game) table ≡ map (λ (c : Case). accepted) table
 unfolding made answer table
 acceptances = refl
 
@@ -274,11 +273,11 @@ at f g (b ∷ l) h c m = elim (Memᴰ.cases_cons m) [ inl e ↦ ap f e ∙ first
 
 -- The table, proved of the definitions.
 proved : (c : Case) → Memᴰ c table → Proved c
-unfolding reading_print answer_print
+unfolding reading_print
 proved c m =
     let arrays = are_arrays c.game (all_of_elim (λ (d : Case). lengths d.game && narrow_words d.game) table records c m) in
     let file = at (λ (d : Case). game_text d.game) (λ (d : Case). d.file) table files c m in
-    let accepted = at (λ (d : Case). acceptance d.game) (λ (d : Case). Accepted) table acceptances c m in
+    let accepted = at (λ (d : Case). acceptance d.game) (λ (d : Case). accepted) table acceptances c m in
     let shaped = accepted_shaped c.game accepted arrays in
     let short : length (game_text c.game) ≤ 40960 =
     subst⁻¹ (λ (s : List ℕ). length s ≤ 40960) file

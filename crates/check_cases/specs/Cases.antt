@@ -17,10 +17,9 @@ use Rattle.sets.specs.Words.{capacity, set_of, words_of}
 use Rattle.game.specs.declared.Graph.{Graph}
 use Rattle.game.specs.declared.Requirement.{Requirement}
 use Rattle.game.specs.declared.Game.{Game}
-use Rattle.game.specs.declared.Acceptance.TheVariants.{Accepted}
-use Rattle.game.specs.Acceptance.{acceptance}
+use Rattle.game.specs.Acceptance.{accepted, acceptance}
 use Rattle.text_shape.specs.Text.{game_text, in_sets, out_sets, empty_requirement, Shaped}
-use Rattle.text.specs.declared.Reading.{Reading}
+use Rattle.text.specs.Reading.{Reading}
 use Rattle.text.specs.Read.{Reads}
 use Rattle.prints.specs.Prints.{game_print, reading_print}
 use Rattle.check_cases.specs.Bytes.{file_bytes}
@@ -271,7 +270,8 @@ kept_off = record {
 }
 
 unfoldable pub table : List Case
-unfolding case1 case2 case3 case4 case5 case6 case7 case8 held_aim held_free held_panel_aim held_panel_free stuck_input stuck_output stuck_both driven_on latch kept_off
+unfolding case1 case2 case3 case4 case5 case6 case7 case8 held_aim held_free held_panel_aim held_panel_free stuck_input stuck_output stuck_both driven_on
+    latch kept_off
 table =
     case1 ∷ case2 ∷ case3 ∷ case4 ∷ case5 ∷ case6 ∷ case7 ∷ case8 ∷ held_aim ∷ held_free ∷ held_panel_aim ∷ held_panel_free
     ∷ stuck_input ∷ stuck_output ∷ stuck_both ∷
@@ -281,7 +281,7 @@ pub record Proved (c : Case) : Type 0 where
   -- the game is within the shape's limits, its text is the file, it is accepted, and its print is the print
   pub shaped : Shaped c.game
   pub file : game_text c.game ≡ c.file
-  pub accepted : acceptance c.game ≡ Accepted
+  pub accepted : acceptance c.game ≡ accepted
   pub print : game_print c.game ≡ c.print
   -- so whatever answers the file as the reader promises, the print for it is the print
   pub reads : (r : Reading) → Reads c.file r → reading_print r ≡ c.print

@@ -89,10 +89,8 @@ pub fn fault(mut g: Game, n: usize) -> Game {
 // The game with the faults of all codes from n to 7.
 pub fn faults(n: usize) -> Game {
     let mut g = eight();
-    let mut k = n;
-    while k < 8 {
+    for k in n..8 {
         g = fault(g, k);
-        k += 1;
     }
     g
 }

@@ -1,4 +1,4 @@
-// Executed cases of the player: each line is a case's name and the position (input, output, counter) or the refusal's code.
+// Executed cases of the player: each line is a case's name and the position (input, output, counter) or the refusal's number.
 #![tactic(auto)]
 
 ghost use Rattle.std.specs.Prelude.{◌≤◌, ◌<◌};

@@ -1,22 +1,12 @@
 // Runs of a player.
-use game::{Game, InState};
-use player_place::Played;
+use game::{Game, InState, Refusal};
+use player_place::Position;
 
-// One input more; a refusal ends the run.
-fn then(g: Game, table: &[u16], a: Played, next: InState) -> Played {
-    match a {
-        Played::At(p) => player::step(g, table, p, next),
-        Played::Refused(n) => Played::Refused(n),
+// Begun with input 0 and stepped so many times with the same input; a refusal ends the run.
+pub fn steady(g: Game, table: &[u16], next: InState, steps: usize) -> Result<Position, Refusal> {
+    let mut at = player::begin(g, table, InState(0))?;
+    for _step in 0..steps {
+        at = player::step(g, table, at, next)?;
     }
-}
-
-// Begun with input 0 and stepped so many times with the same input.
-pub fn steady(g: Game, table: &[u16], next: InState, steps: usize) -> Played {
-    let mut a = player::begin(g, table, InState(0));
-    let mut k = 0;
-    while k < steps {
-        a = then(g, table, a, next);
-        k += 1;
-    }
-    a
+    Ok(at)
 }

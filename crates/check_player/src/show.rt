@@ -1,5 +1,6 @@
-// The line of a case: its name, and the position or the refusal's code.
-use player_place::{Played, Position};
+// The line of a case: its name, and the position or the refusal's number.
+use game::Refusal;
+use player_place::Position;
 
 // Where the lines go.
 const STDOUT_FILENO: i32 = 1;
@@ -16,13 +17,13 @@ fn position(p: Position) {
     number(p.counter);
 }
 
-pub fn show(name: &[u8], a: Played) {
+pub fn show(name: &[u8], a: Result<Position, Refusal>) {
     io::write_all(STDOUT_FILENO, name);
     match a {
-        Played::At(p) => position(p),
-        Played::Refused(n) => {
+        Ok(p) => position(p),
+        Err(r) => {
             io::write_all(STDOUT_FILENO, b": refused");
-            number(n as usize);
+            number(u8::from(r) as usize);
         }
     }
     io::write_all(STDOUT_FILENO, b"\n");

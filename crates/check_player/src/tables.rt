@@ -22,10 +22,8 @@ pub fn with(k: usize, entry: u16) -> [u16; 30]
 pub fn longer() -> [u16; 31] {
     let t = EIGHT;
     let mut r = [NONE; 31];
-    let mut k = 0;
-    while k < 30 {
+    for k in 0..30 {
         r[k] = t[k];
-        k += 1;
     }
     r
 }

@@ -2,7 +2,7 @@
 // is written back byte for byte, else the refusal.
 #![tactic(auto)]
 
-use text::{Answer, WriteAnswer};
+use text::Unread;
 
 // Where the lines go.
 const STDOUT_FILENO: i32 = 1;
@@ -18,8 +18,7 @@ fn wide(b: u8) -> usize {
 // The number that five digits stand for; 65,536 where they are none.
 fn length_of(head: &[u8; 5]) -> usize {
     let mut n: usize = 0;
-    let mut i: usize = 0;
-    while i < 5 {
+    for i in 0..5 {
         let b = wide(head[i]);
         if b < ZERO {
             return 65536;
@@ -31,7 +30,6 @@ fn length_of(head: &[u8; 5]) -> usize {
             return 65536;
         }
         n = 10 * n + (b - ZERO);
-        i += 1;
     }
     n
 }
@@ -44,12 +42,10 @@ fn same(a: &[u8], b: &[u8], n: usize) -> bool {
     if b.len() < n {
         return false;
     }
-    let mut i: usize = 0;
-    while i < n {
+    for i in 0..n {
         if a[i] != b[i] {
             return false;
         }
-        i += 1;
     }
     true
 }
@@ -64,22 +60,18 @@ fn print(line: &[u8], n: usize) {
 // The line of one text.
 fn answer(file: &[u8]) {
     let mut line = [0u8; 160];
-    let r = text::read(file);
-    let a = r.answer;
-    match a {
-        Answer::Misshapen(p) => {
+    match text::read(file) {
+        Err(Unread::Misshapen(p)) => {
             let n = print_lines::put_misshapen(&mut line, p);
             print(&line, n);
         }
-        Answer::Refused(m) => {
-            let n = print_lines::put_refused(&mut line, m);
+        Err(Unread::Refused(r)) => {
+            let n = print_lines::put_refused(&mut line, u8::from(r));
             print(&line, n);
         }
-        Answer::Read => {
-            let g = r.game;
+        Ok(g) => {
             let mut out = io::large_buffer();
-            let w = text::write(g, &mut out);
-            if let WriteAnswer::Written(n) = w {
+            if let Ok(n) = text::write(g, &mut out) {
                 if n == file.len() && same(file, &out, n) {
                     io::write_all(STDOUT_FILENO, b"same\n");
                     return;
@@ -115,13 +107,11 @@ fn show(file: &[u8], n: usize) {
 
 fn main() {
     let mut file = io::large_buffer();
-    let mut t: usize = 0;
-    while t < 1000000 {
+    for _ in 0..1000000 {
         let n = load(&mut file);
         if n > 65535 {
             return;
         }
         show(&file, n);
-        t += 1;
     }
 }

@@ -65,11 +65,9 @@ fn graph(shape: Shape, n: usize) -> Graph
     ensures { result.states ≡ n }
 {
     let mut moves = [0u64; sets::ROW_WORDS];
-    let mut s = 0;
-    while s < n {
+    for s in 0..n {
         let x = row(shape, n, s);
         sets::put_of(&mut moves, s, x);
-        s += 1;
     }
     Graph {
         states: n,
@@ -97,11 +95,9 @@ fn coded(n: usize, base: u64, code: u64) -> Graph
 {
     let mut moves = [0u64; sets::ROW_WORDS];
     let mut rest = code;
-    let mut s = 0;
-    while s < n {
+    for s in 0..n {
         moves[2 * s] = rest % base;
         rest /= base;
-        s += 1;
     }
     Graph {
         states: n,
@@ -124,12 +120,10 @@ fn count_bounded(n: usize, base: u64, codes: u64) -> u64
     requires { (n ≤ capacity) × (1 ≤ base) }
 {
     let mut kept = 0u64;
-    let mut code = 0u64;
-    while code < codes {
+    for code in 0u64..codes {
         if bounded(n, base, code) {
             kept += 1;
         }
-        code += 1;
     }
     kept
 }

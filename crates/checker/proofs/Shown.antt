@@ -12,7 +12,6 @@ use mathlib.Core.Path.{◌≡◌, refl, sym, ◌∙◌, ap, subst}
 use mathlib.Core.Bool.{true}
 use mathlib.Core.List.{List}
 use native.Mathlib.Omega.{arith}
-use native.Mathlib.Decide.{dec_lt}
 use lib.ListN.{length, get_or, replicate, length-replicate, get_or-replicate}
 use borrow.Author.Tests.{eq-eqb}
 use Rattle.finite.proofs.Lists.{all_default}
@@ -37,13 +36,16 @@ use Rattle.checker_rows.proofs.Leads as rows
 use Rattle.checker_reach.specs.Reach.{starts, OpenFits, Opens, Scanned, ScanFits, Stem, StemFits}
 use Rattle.checker_reach.specs.declared.Opened.{Opened}
 use Rattle.checker_reach.specs.declared.Gap.{Gap}
+use Rattle.std.specs.Prelude.{Option, IsSome}
+use Rattle.std.specs.declared.option.Option.TheVariants.{None, Some}
 use Rattle.checker_reach.proofs.Opening.{states}
 use Rattle.checker_table.proofs.Table.{grid, row_input}
 use Rattle.checker_table.proofs.Wins as wins
 use Rattle.checker_table.proofs.Findings as findings
-use Rattle.checker.specs.declared.Checked.TheVariants.{Accepted, BadStart, BadRow, BadRound}
+use Rattle.checker.specs.declared.Finding.TheVariants.{Accepted, BadStart, BadRow, BadRound}
 use Rattle.checker.specs.Check.{walk_at, Told}
 use Rattle.checker.specs.Steps.{RoundFits, RoundWritten, Found}
+use Rattle.std.specs.declared.result.Result.TheVariants.{Ok}
 
 -- ---- the arrays
 
@@ -56,36 +58,33 @@ unmarked = record { long = length-replicate 4096 zero; none = λ a. marked_not (
 
 -- ---- a round written behind the way to its first place
 
-module _ {queue from : List ℕ} {n : ℕ} {walk : List ℕ} {c : ℕ} {room : List ℕ} (P : RoundFits queue from n walk c room) {v k : ℕ} (e : v ≡ at walk 0)
-    (A : FirstAt queue n v k) where
-  first_found : k < n
-  first_found = go (dec_lt k n)
-    where
-      go : Dec (k < n) → k < n
-      go (yes b) = b
-      go (no d) = absurd (A.none (omega (arith, d, A.bound)) P.there.0 P.there.1 (P.there.2 ∙ sym e))
+module _ {queue from : List ℕ} {n : ℕ} {walk : List ℕ} {c : ℕ} {room : List ℕ} (P : RoundFits queue from n walk c room) {v : ℕ} (e : v ≡ at walk 0) where
+  pub first_some : (o : Option ℕ) → FirstAt queue n v o → IsSome o
+  first_some None A = absurd (A P.there.0 P.there.1 (P.there.2 ∙ sym e))
+  first_some (Some k) A = refl
 
-  pub way_fits : {way : List ℕ} → length way ≡ 4096 → StemFits from k way room
-  way_fits h = record { place = omega (arith, first_found, P.few); finders = P.finders k first_found; way_long = h; room_long = P.room_long }
+  module _ {k : ℕ} (A : FirstAt queue n v (Some k)) where
+    pub way_fits : {way : List ℕ} → length way ≡ 4096 → StemFits from k way room
+    way_fits h = record { place = omega (arith, A.0, P.few); finders = P.finders k A.0; way_long = h; room_long = P.room_long }
 
-  pub round_room : {way : List ℕ} {m : ℕ} → Stem queue from k room way m → (1 ≤ c) × (c ≤ length walk) × (m + (c - 1) ≤ length way)
-  round_room S = (
-    omega (arith, P.turns),
-    omega (arith, P.walk_long, P.short),
-    omega (arith, S.short, S.long, first_found, P.few, P.short, P.room_long),
-  )
+    pub round_room : {way : List ℕ} {m : ℕ} → Stem queue from k room way m → (1 ≤ c) × (c ≤ length walk) × (m + (c - 1) ≤ length way)
+    round_room S = (
+      omega (arith, P.turns),
+      omega (arith, P.walk_long, P.short),
+      omega (arith, S.short, S.long, A.0, P.few, P.short, P.room_long),
+    )
 
-  pub written : {way room' : List ℕ} {m : ℕ} → Stem queue from k room way m → Copied walk 1 c way m room'
-      → RoundWritten queue from n walk c room room' m
-  written {way} S C = record {
-    place = k;
-    found = first_found;
-    short = omega (arith, S.short, first_found, P.few);
-    same = A.there first_found ∙ e;
-    way = way;
-    stem = S;
-    round = C;
-  }
+    pub written : {way room' : List ℕ} {m : ℕ} → Stem queue from k room way m → Copied walk 1 c way m room'
+        → RoundWritten queue from n walk c room room' m
+    written {way} S C = record {
+      place = k;
+      found = A.0;
+      short = omega (arith, S.short, A.0, P.few);
+      same = A.1 ∙ e;
+      way = way;
+      stem = S;
+      round = C;
+    }
 
 -- ---- a table of the controller's length
 
@@ -103,12 +102,12 @@ module _ (g : Game) (M N : ℕ) (l : List ℕ) (R : Ready g M l) (e : N ≡ plac
   }
 
   module _ (to : List ℕ) (F : Filled g l to N) where
-    pub start_shown : (w : List ℕ) {m q f : List ℕ} {o : Opened} → Opens g N l m q f o → o.bad < g.input.states
-        → Found g l w w (BadStart (record { 0 = o.bad }))
+    pub start_shown : (w : List ℕ) {m q f : List ℕ} {o : Opened} → Opens g N l m q f o → (i : ℕ) → o.bad ≡ Some i
+        → Found g l w w (Ok (BadStart (record { 0 = i })))
     unfolding Told
-    start_shown w {o = o} O b = record {
+    start_shown w O i b = record {
       number = refl;
-      told = let x = O.bad b in findings.start_found g M N l to R e F o.bad x.0 x.1;
+      told = let x = O.bad i b in findings.start_found g M N l to R e F i x.1 x.2;
       fits = omega arith;
       long = refl;
       rest = λ k h. refl;
@@ -142,15 +141,15 @@ module _ (g : Game) (M N : ℕ) (l : List ℕ) (R : Ready g M l) (e : N ≡ plac
       unfolding walk_at play_of arena_of separated_of graph_of controller_of controller_table
       walks room = refl
 
-      pub row_shown : (s : Gap) (w w' : List ℕ) (m : ℕ) → Scanned g.input.states g.input.moves to queue n s → s.at < n
-          → 24576 ≤ length w → Stem queue from s.at w w' m → Found g l w w' (BadRow m (record { 0 = s.input }))
+      pub row_shown : (s : Gap) (w w' : List ℕ) (m : ℕ) → Scanned g.input.states g.input.moves to queue n (Some s)
+          → 24576 ≤ length w → Stem queue from s.at w w' m → Found g l w w' (Ok (BadRow m (record { 0 = s.input })))
       unfolding Told
-      row_shown s w w' m S b v Z = record {
+      row_shown s w w' m S v Z = record {
         number = refl;
         told = subst (λ (x : ℕ → Configuration). finding.BadRow (play_of g) (controller_of g l) x m s.input) (walks w')
             (subst (finding.BadRow (play_of g) (controller_of g l) (λ i. placed (play_of g).inputs (controller_of g l).memories (at w' i)) m) input
-            (findings.row_found g M N l to R e F (replicate 4096 1) mark queue from n listed s.at b w w' m Z s.input (S.here b).0 (S.here b).1));
-        fits = omega (arith, Z.short, b, queue_few, v);
+            (findings.row_found g M N l to R e F (replicate 4096 1) mark queue from n listed s.at S.0 w w' m Z s.input S.1 S.2));
+        fits = omega (arith, Z.short, S.0, queue_few, v);
         long = Z.long;
         rest = Z.rest;
         whole = λ z. absurd (omega (arith, z, Z.some));
@@ -158,7 +157,7 @@ module _ (g : Game) (M N : ℕ) (l : List ℕ) (R : Ready g M l) (e : N ≡ plac
         where
           below : s.input < g.input.states
           below = (grid g M N l to R e F).move (at queue s.at % g.input.states) s.input
-              (mod-lt (at queue s.at) (grid g M N l to R e F).some) (S.here b).0
+              (mod-lt (at queue s.at) (grid g M N l to R e F).some) S.1
 
           input : (at queue s.at / g.input.states * g.input.states + s.input) % (play_of g).inputs ≡ s.input
           input = ap (λ (x : ℕ). (at queue s.at / g.input.states * g.input.states + s.input) % x) (states g)
@@ -176,29 +175,28 @@ module _ (g : Game) (M N : ℕ) (l : List ℕ) (R : Ready g M l) (e : N ≡ plac
         walk_long = h;
       }
 
-      module _ (good : g.input.states ≤ o.bad) (s : Gap) (S : Scanned g.input.states g.input.moves to queue n s) (clean : n ≤ s.at)
-          (walk : List ℕ) (v : Verdict) (J : Judged g.input.states N g.input.moves to M g mark walk v) where
-        pub wins_shown : (w : List ℕ) → v.round ≡ 0 → Found g l w w Accepted
+      module _ (good : o.bad ≡ None) (S : Scanned g.input.states g.input.moves to queue n None) (walk : List ℕ) where
+        pub wins_shown : (w : List ℕ) → Judged g.input.states N g.input.moves to M g mark walk None → Found g l w w (Ok Accepted)
         unfolding Told
-        wins_shown w z = record {
+        wins_shown w J = record {
           number = refl;
-          told = wins.wins g M N l to R e F (replicate 4096 1) mark₀ queue₀ from₀ mark queue from o n s
-              (λ a b. every a (omega (arith, b, few))) O good E S (omega (arith, clean, S.bound)) (J.clear z);
+          told = wins.wins g M N l to R e F (replicate 4096 1) mark₀ queue₀ from₀ mark queue from o n
+              (λ a b. every a (omega (arith, b, few))) O good E S J.found;
           fits = omega arith;
           long = refl;
           rest = λ k h. refl;
           whole = λ h. refl;
         }
 
-        module _ (some : 0 < v.round) where
-          broken : Broken g.input.states N g.input.moves to M (requirement_at g v.requirement) (J.broken some).1.0 mark walk v.round
-          broken = (J.broken some).1.2
+        module _ (v : Verdict) (J : Judged g.input.states N g.input.moves to M g mark walk (Some v)) where
+          pub broken : Broken g.input.states N g.input.moves to M (requirement_at g v.requirement) J.found.1.0 mark walk v.round
+          broken = J.found.1.2
 
           pub round_fits : (w : List ℕ) → 24576 ≤ length w → RoundFits queue from n walk v.round w
           round_fits w h =
               let D = broken.round in
               let W = D.walking in
-              let first : 0 < v.round = some in
+              let first : 0 < v.round = omega (arith, D.turns) in
               record {
                 few = queue_few;
                 finders = finders;
@@ -210,7 +208,7 @@ module _ (g : Game) (M N : ℕ) (l : List ℕ) (R : Ready g M l) (e : N ≡ plac
               }
 
           pub round_shown : (w w' : List ℕ) (m : ℕ) → 24576 ≤ length w → RoundWritten queue from n walk v.round w w' m
-              → Found g l w w' (BadRound (m + v.round - 1) (m - 1) v.requirement)
+              → Found g l w w' (Ok (BadRound (m + v.round - 1) (m - 1) v.requirement))
           unfolding Told
           round_shown w w' m u D =
               let Z = D.stem in
@@ -219,12 +217,12 @@ module _ (g : Game) (M N : ℕ) (l : List ℕ) (R : Ready g M l) (e : N ≡ plac
               record {
                 number = refl;
                 told = (
-                  (J.broken some).0,
+                  J.found.0,
                   subst
                       (λ (x : ℕ → Configuration). finding.BadRound (play_of g) (controller_of g l) x (m + v.round - 1) (m - 1)
                       (requirement_of (requirement_at g v.requirement))) (walks w')
                       (findings.round_found g M N l to R e F (replicate 4096 1) mark queue from n listed D.place D.found w D.way m Z
-                      v.requirement (J.broken some).1.0 walk w' v.round mark broken (J.broken some).0 (J.broken some).1.1 D.same C),
+                      v.requirement J.found.1.0 walk w' v.round mark broken J.found.0 J.found.1.1 D.same C),
                 );
                 fits = omega (arith, D.short, broken.round.short, u);
                 long = C.long ∙ Z.long;

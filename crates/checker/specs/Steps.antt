@@ -6,7 +6,7 @@ use Rattle.std.specs.Prelude.{ℕ, ◌≤◌, ◌<◌, ◌≡◌, List, length, 
 use Rattle.game.specs.declared.Game.{Game}
 use Rattle.checker_search.specs.Queues.{at, Copied, Finders}
 use Rattle.checker_reach.specs.Reach.{Stem}
-use Rattle.checker.specs.declared.Checked.{Checked}
+use Rattle.checker.specs.Checked.{Checked}
 use Rattle.checker.specs.Check.{checker_number, walk_length, Told}
 use Rattle.checker_places.specs.Place.{walk_room, most_places}
 

@@ -2,7 +2,7 @@
 // answer is right in any order, and nothing is shown of this one.
 #![tactic(auto)]
 
-ghost use Rattle.std.specs.Prelude.{◌≡◌, true, ◌≤◌, ◌<◌, length};
+ghost use Rattle.std.specs.Prelude.{◌≡◌, true, ◌≤◌, ◌<◌, length, IfSome};
 ghost use Rattle.checker_places.specs.Place.{most_places};
 ghost use Rattle.sets.specs.Words.{capacity, row_words, words_for};
 ghost use Rattle.checker_order.specs.Picks.{Tries};
@@ -10,22 +10,13 @@ ghost use Rattle.checker_order.specs.Picks.{Tries};
 use checker_places::PLACES;
 use sets::Set;
 
-// A place that was kept in 16 bits.
-fn wide(x: u16) -> usize
-    ensures { (result ≡ x) × (result < 65536) }
-{
-    x as usize
-}
-
 // The inputs that move to input j.
 fn sources(inputs: usize, moves: &[u64; sets::ROW_WORDS], j: usize) -> Set
     requires { (inputs ≤ capacity) × (j < capacity) }
 {
     let mut x = sets::empty();
-    let mut i: usize = 0;
-    while i < inputs {
+    for i in 0..inputs {
         x = sets::insert_if(x, i, sets::member(sets::row_of(moves, i), j));
-        i += 1;
     }
     x
 }
@@ -34,10 +25,8 @@ fn sources(inputs: usize, moves: &[u64; sets::ROW_WORDS], j: usize) -> Set
 fn turn_round(inputs: usize, moves: &[u64; sets::ROW_WORDS], into: &mut [u64; sets::ROW_WORDS])
     requires { (inputs ≤ capacity) × (length into.old ≡ row_words) }
 {
-    let mut j: usize = 0;
-    while j < inputs {
+    for j in 0..inputs {
         sets::put_of(into, j, sources(inputs, moves, j));
-        j += 1;
     }
 }
 
@@ -45,16 +34,12 @@ fn turn_round(inputs: usize, moves: &[u64; sets::ROW_WORDS], into: &mut [u64; se
 fn list_rows(places: usize, to: &[u16; PLACES], head: &mut [u16; PLACES], link: &mut [u16; PLACES])
     requires { places ≤ most_places }
 {
-    let mut r: usize = 0;
-    while r < places {
-        let d = wide(to[r]);
-        if d >= places {
-            r += 1;
-            continue;
+    for r in 0..places {
+        let d = usize::from(to[r]);
+        if d < places {
+            link[r] = head[d];
+            head[d] = r as u16;
         }
-        link[r] = head[d];
-        head[d] = r as u16;
-        r += 1;
     }
 }
 
@@ -88,19 +73,22 @@ fn add(inputs: usize, kept: u8, unseen: &mut [u64], c: usize)
 fn gather(inputs: usize, places: usize, kept: &[u8; PLACES], unseen: &mut [u64])
     requires { (0 < inputs) × (inputs ≤ capacity) × (places ≤ most_places) × (words_for most_places ≤ length unseen.old) }
 {
-    let mut c: usize = 0;
-    while c < places {
+    for c in 0..places {
         add(inputs, kept[c], unseen, c);
-        c += 1;
     }
 }
 
-// The lowest input of an unseen place from which row r is followed; CAPACITY where there is none.
-fn source(inputs: usize, back: &[u64; sets::ROW_WORDS], unseen: &[u64], r: usize) -> usize
+// The lowest input of an unseen place from which row r is followed.
+fn source(inputs: usize, back: &[u64; sets::ROW_WORDS], unseen: &[u64], r: usize) -> Option<usize>
     requires { (0 < inputs) × (inputs ≤ capacity) × (r < most_places) × (words_for most_places ≤ length unseen.now) }
+    ensures { IfSome result (λ i. i < capacity) }
 {
     let x = sets::row(unseen, r / inputs);
-    sets::lowest(sets::intersection(x, sets::row_of(back, r % inputs)))
+    let y = sets::intersection(x, sets::row_of(back, r % inputs));
+    if sets::is_empty(y) {
+        return None;
+    }
+    Some(sets::lowest(y))
 }
 
 // Puts c behind the order's n places.
@@ -164,24 +152,21 @@ fn finish(
     }
     let mut count = n;
     let mut top = push(inputs, head, unseen, stack, row, 0, v);
-    let mut steps: usize = 0;
-    while steps < 16384 {
-        steps += 1;
+    for _step in 0..16384 {
         if top == 0 {
             return count;
         }
-        let c = wide(stack[top - 1]) % PLACES;
-        let r = wide(row[c]);
+        let c = usize::from(stack[top - 1]) % PLACES;
+        let r = usize::from(row[c]);
         if r >= places {
             count = append(order, count, c);
             top -= 1;
             continue;
         }
-        let i = source(inputs, back, unseen, r);
-        if i >= inputs {
+        let Some(i) = source(inputs, back, unseen, r) else {
             row[c] = link[r];
             continue;
-        }
+        };
         top = push(
             inputs,
             head,
@@ -217,10 +202,8 @@ pub fn advise(
     list_rows(places, to, &mut head, &mut link);
     gather(inputs, places, kept, &mut unseen);
     let mut n: usize = 0;
-    let mut v: usize = 0;
-    while v < places {
+    for v in 0..places {
         if kept[v] != 1 {
-            v += 1;
             continue;
         }
         n = finish(
@@ -236,7 +219,6 @@ pub fn advise(
             n,
             v,
         );
-        v += 1;
     }
     n
 }
@@ -257,14 +239,12 @@ pub fn left(places: usize, kept: &[u8; PLACES], order: &[u16; PLACES], n: usize)
     requires { (places ≤ most_places) × (n ≤ most_places) }
     ensures { result ≤ most_places }
 {
-    let mut k = n;
-    while k > 0 {
-        if holds(places, kept, wide(order[k - 1])) {
-            return k;
+    for k in (0..n).rev() {
+        if holds(places, kept, usize::from(order[k])) {
+            return k + 1;
         }
-        k -= 1;
     }
-    k
+    0
 }
 
 // The last of the order's n places where it is kept, else v.
@@ -275,9 +255,9 @@ pub fn pick(places: usize, kept: &[u8; PLACES], order: &[u16; PLACES], n: usize,
     if n == 0 {
         return v;
     }
-    let p = wide(order[n - 1]);
-    if !holds(places, kept, p) {
-        return v;
+    let p = usize::from(order[n - 1]);
+    if holds(places, kept, p) {
+        return p;
     }
-    p
+    v
 }

@@ -1,15 +1,19 @@
 -- A set of places emptied by attempts.
 --
+--   is_none, not_none  : what the test of an option says
 --   removals_only      : nothing is put in
 --   Emptying           == the places below v are out
 --   emptying-*         : how that begins, goes on and ends
 use Prim.Native.Nat.{ℕ, ◌+◌, ◌≤◌, ◌<◌}
-use mathlib.Core.Path.{◌≡◌, ◌∙◌, ap}
+use mathlib.Core.Path.{◌≡◌, refl, ◌∙◌, ap}
 use mathlib.Core.Bool.{true, false}
 use mathlib.Core.List.{List}
 use mathlib.Core.Logic.{◌≢◌, inl, inr}
 use native.Mathlib.Omega.{arith}
 use lib.ListN.{length}
+use Rattle.std.specs.declared.option.Option.TheVariants.{None, Some}
+use Rattle.std.specs.Option.{is_some}
+use Rattle.std.specs.Prelude.{Option}
 use Rattle.finite.proofs.Truth.{clash, false_of}
 use Rattle.finite.proofs.Bounded.{below_suc}
 use Rattle.game.specs.declared.Requirement.{Requirement}
@@ -20,6 +24,14 @@ use Rattle.checker_order.specs.Picks.{Tries}
 use Rattle.checker_rounds.specs.Rounds.{AttemptFits, Attempted}
 use Rattle.checker_rounds.specs.declared.Tried.{Tried}
 use Rattle.checker_pairs.specs.Pairs.{Removals, whole, next, PairFits, Left, Emptied}
+
+pub is_none : (o : Option ℕ) → false ≡ is_some o → o ≡ None
+is_none None e = refl
+is_none (Some n) e = absurd cc
+
+pub not_none : (o : Option ℕ) → true ≡ is_some o → o ≢ None
+not_none None e z = absurd cc
+not_none (Some n) e z = absurd cc
 
 module _ (I N : ℕ) (rows to : List ℕ) (q : Requirement) where
   removals_only : {X Y : List ℕ} → Removals I N rows to q X Y → (k : ℕ) → marked Y k ≡ true → marked X k ≡ true
@@ -56,13 +68,13 @@ module _ (I N : ℕ) (rows to : List ℕ) (q : Requirement) where
         ];
       }
 
-      pub emptying_end : N ≤ v → Emptied I N rows to q kept₀ kept mark queue from way walk (record { found = n; round = 0 })
+      pub emptying_end : N ≤ v → Emptied I N rows to q kept₀ kept mark queue from way walk (record { found = n; round = None })
       emptying_end l = record {
         left = E.left;
         kept_long = E.kept_long;
         removals = λ z. E.removals;
         none = λ z k b. E.gone k (omega (arith, b, l));
-        round = λ z. absurd (omega (arith, z));
+        round = λ m z. absurd cc;
       }
 
       pub emptying_fits : {p : ℕ} → Tries N kept p → AttemptFits I N rows to q kept mark queue from way walk n p
@@ -82,16 +94,16 @@ module _ (I N : ℕ) (rows to : List ℕ) (q : Requirement) where
         left' : Left I N rows to mark' queue' from' way' walk' t.found
         left' = record { sized = A.sized; held = A.held; way_long = A.way_long; walk_long = A.walk_long }
 
-        pub emptying_round : t.round ≢ 0 → Emptied I N rows to q kept₀ kept' mark' queue' from' way' walk' t
+        pub emptying_round : t.round ≢ None → Emptied I N rows to q kept₀ kept' mark' queue' from' way' walk' t
         emptying_round d = record {
           left = left';
           kept_long = A.kept_long;
           removals = λ z. absurd (d z);
           none = λ z. absurd (d z);
-          round = λ z. (kept, removals_only E.removals, A.round z);
+          round = λ m z. (kept, removals_only E.removals, A.round m z);
         }
 
-        pub emptying_next : t.round ≡ 0 → Emptying kept₀ kept' mark' queue' from' way' walk' t.found v
+        pub emptying_next : t.round ≡ None → Emptying kept₀ kept' mark' queue' from' way' walk' t.found v
         emptying_next z = record {
           left = left';
           kept_long = A.kept_long;

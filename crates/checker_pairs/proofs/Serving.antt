@@ -8,6 +8,7 @@ use mathlib.Core.Bool.{false}
 use mathlib.Core.List.{List}
 use mathlib.Core.Logic.{◌≢◌, inl, inr}
 use native.Mathlib.Omega.{arith}
+use Rattle.std.specs.declared.option.Option.TheVariants.{None, Some}
 use lib.ListN.{length, replicate, length-replicate}
 use Rattle.finite.proofs.Lists.{all_default}
 use Rattle.finite.proofs.Truth.{clash}
@@ -46,12 +47,12 @@ module _ (I N : ℕ) (rows to : List ℕ) (M : ℕ) where
           let K = F.keeps in
           record { inputs = K.inputs; counters = K.counters; places = K.places; output = K.output; long = S.kept_long }
 
-      pub serving_end : q.guaranteed ≤ b → Served I N rows to M q reached kept mark queue from way walk (record { found = n; round = 0 })
+      pub serving_end : q.guaranteed ≤ b → Served I N rows to M q reached kept mark queue from way walk (record { found = n; round = None })
       serving_end l = record {
         left = S.left;
         kept_long = S.kept_long;
         clear = λ z i m. S.clear i (omega (arith, m, l));
-        broken = λ z. absurd (omega (arith, z));
+        broken = λ m z. absurd cc;
       }
 
       module _ (l : b < q.guaranteed) (kept' : List ℕ) (K : Keep I M N reached (guarantee q b) kept' N) where
@@ -67,12 +68,12 @@ module _ (I N : ℕ) (rows to : List ℕ) (M : ℕ) where
         }
 
         module _ (kept'' mark' queue' from' way' walk' : List ℕ) (t : Tried) (E : Emptied I N rows to q kept' kept'' mark' queue' from' way' walk' t) where
-          pub serving_broken : t.round ≢ 0 → Served I N rows to M q reached kept'' mark' queue' from' way' walk' t
+          pub serving_broken : t.round ≢ None → Served I N rows to M q reached kept'' mark' queue' from' way' walk' t
           serving_broken d = record {
             left = E.left;
             kept_long = E.kept_long;
             clear = λ z. absurd (d z);
-            broken = λ z. let r = E.round z in (
+            broken = λ m z. let r = E.round m z in (
               b,
               l,
               record {
@@ -84,7 +85,7 @@ module _ (I N : ℕ) (rows to : List ℕ) (M : ℕ) where
             );
           }
 
-          pub serving_next : t.round ≡ 0 → Serving q reached kept'' mark' queue' from' way' walk' t.found (b + 1)
+          pub serving_next : t.round ≡ None → Serving q reached kept'' mark' queue' from' way' walk' t.found (b + 1)
           serving_next z = record {
             left = E.left;
             kept_long = E.kept_long;
@@ -134,12 +135,8 @@ module _ (I N : ℕ) (rows to : List ℕ) (M : ℕ) where
         unmarked a = marked_not (replicate 4096 0) a (λ e. omega (arith, e, all_default {A = ℕ} 4096 a 0))
 
     module _ (kept mark queue from way walk : List ℕ) (n r : ℕ) (J : Judging g reached kept mark queue from way walk n r) where
-      pub judging_end : g.k ≤ r → Judged I N rows to M g reached walk (record { round = 0; requirement = 0 })
-      judging_end l = record {
-        walk_long = J.left.walk_long;
-        clear = λ z i m. J.clear i (omega (arith, m, l));
-        broken = λ z. absurd (omega (arith, z));
-      }
+      pub judging_end : g.k ≤ r → Judged I N rows to M g reached walk None
+      judging_end l = record { walk_long = J.left.walk_long; found = λ i m. J.clear i (omega (arith, m, l)) }
 
       module _ (l : r < g.k) where
         pub judging_place : r < 8
@@ -162,14 +159,10 @@ module _ (I N : ℕ) (rows to : List ℕ) (M : ℕ) where
 
         module _ (kept' mark' queue' from' way' walk' : List ℕ) (t : Tried)
             (S : Served I N rows to M (requirement_at g r) reached kept' mark' queue' from' way' walk' t) where
-          pub judging_broken : t.round ≢ 0 → Judged I N rows to M g reached walk' (record { round = t.round; requirement = r })
-          judging_broken d = record {
-            walk_long = S.left.walk_long;
-            clear = λ z. absurd (d z);
-            broken = λ z. (l, S.broken z);
-          }
+          pub judging_broken : (c : ℕ) → t.round ≡ Some c → Judged I N rows to M g reached walk' (Some (record { round = c; requirement = r }))
+          judging_broken c e = record { walk_long = S.left.walk_long; found = (l, S.broken c e) }
 
-          pub judging_next : t.round ≡ 0 → Judging g reached kept' mark' queue' from' way' walk' t.found (r + 1)
+          pub judging_next : t.round ≡ None → Judging g reached kept' mark' queue' from' way' walk' t.found (r + 1)
           judging_next z = record {
             left = S.left;
             kept_long = S.kept_long;

@@ -7,7 +7,8 @@
 --   Cleared                 == the reachable places outside the guarantee are emptied
 --   Broken                  == they have a round that visits every assumption
 --   Served, Judged          == that for all guarantees of one requirement, and of all
-use Rattle.std.specs.Prelude.{ℕ, ◌/◌, ◌≤◌, ◌<◌, ◌≡◌, true, false, not, ◌&&◌, List, length, get_or}
+use Rattle.std.specs.Prelude.{ℕ, ◌/◌, ◌≤◌, ◌<◌, ◌≡◌, true, false, not, ◌&&◌, List, length, get_or, Option, MatchOption}
+use Rattle.std.specs.declared.option.Option.TheVariants.{None, Some}
 use Rattle.bits.specs.Member.{has}
 use Rattle.sets.specs.Words.{capacity, bits_of}
 use Rattle.game.specs.declared.Requirement.{Requirement}
@@ -58,9 +59,9 @@ module _ (I N : ℕ) (rows to : List ℕ) where
   pub record Emptied (q : Requirement) (kept kept' mark' queue' from' way' walk' : List ℕ) (r : Tried) : Type 0 where
     pub left : Left mark' queue' from' way' walk' r.found
     pub kept_long : length kept' ≡ most_places
-    pub removals : r.round ≡ 0 → Removals q kept kept'
-    pub none : r.round ≡ 0 → (k : ℕ) → k < N → marked kept' k ≡ false
-    pub round : 0 < r.round → (X : List ℕ) × ((k : ℕ) → marked X k ≡ true → marked kept k ≡ true) × Round I N rows to q X walk' r.round
+    pub removals : r.round ≡ None → Removals q kept kept'
+    pub none : r.round ≡ None → (k : ℕ) → k < N → marked kept' k ≡ false
+    pub round : (n : ℕ) → r.round ≡ Some n → (X : List ℕ) × ((k : ℕ) → marked X k ≡ true → marked kept k ≡ true) × Round I N rows to q X walk' n
 
   -- M is how many counters there are
   module _ (M : ℕ) where
@@ -95,11 +96,12 @@ module _ (I N : ℕ) (rows to : List ℕ) where
     pub record Served (q : Requirement) (reached kept' mark' queue' from' way' walk' : List ℕ) (r : Tried) : Type 0 where
       pub left : Left mark' queue' from' way' walk' r.found
       pub kept_long : length kept' ≡ most_places
-      pub clear : r.round ≡ 0 → (b : ℕ) → b < q.guaranteed → Cleared q b reached
-      pub broken : 0 < r.round → (b : ℕ) × (b < q.guaranteed) × Broken q b reached walk' r.round
+      pub clear : r.round ≡ None → (b : ℕ) → b < q.guaranteed → Cleared q b reached
+      pub broken : (n : ℕ) → r.round ≡ Some n → (b : ℕ) × (b < q.guaranteed) × Broken q b reached walk' n
 
-    pub record Judged (g : Game) (reached walk' : List ℕ) (r : Verdict) : Type 0 where
+    pub record Judged (g : Game) (reached walk' : List ℕ) (r : Option Verdict) : Type 0 where
       pub walk_long : length walk' ≡ walk_room
-      pub clear : r.round ≡ 0 → (i : ℕ) → i < g.k → (b : ℕ) → b < (requirement_at g i).guaranteed → Cleared (requirement_at g i) b reached
-      pub broken : 0 < r.round → (r.requirement < g.k) × ((b : ℕ) × (b < (requirement_at g r.requirement).guaranteed)
-          × Broken (requirement_at g r.requirement) b reached walk' r.round)
+      -- all is clear, or the round of a verdict breaks its requirement
+      pub found : MatchOption r ((i : ℕ) → i < g.k → (b : ℕ) → b < (requirement_at g i).guaranteed → Cleared (requirement_at g i) b reached)
+          (λ v. (v.requirement < g.k) × ((b : ℕ) × (b < (requirement_at g v.requirement).guaranteed)
+          × Broken (requirement_at g v.requirement) b reached walk' v.round))

@@ -11,7 +11,7 @@ use checker_rounds::Tried;
 use game::{Game, OutSet, Requirement};
 use sets::Set;
 
-// The length of a round that was found, 0 where there is none, and the requirement that it breaks.
+// The length of a round that was found, and the requirement that it breaks.
 #[derive(Clone, Copy)]
 pub struct Verdict {
     pub round: usize,
@@ -45,10 +45,8 @@ fn keep(
     ensures { Keep inputs counters places reached.now (bits_of x.0) kept.new places }
 {
     let y = x.0;
-    let mut c: usize = 0;
-    while c < places {
+    for c in 0..places {
         kept[c] = outside(inputs, counters, reached[c], y, c);
-        c += 1;
     }
 }
 
@@ -74,23 +72,20 @@ fn empty(
     let mut order = [0u16; PLACES];
     let mut k = checker_order::advise(inputs, places, moves, to, kept, &mut order);
     let mut found = n;
-    let mut v: usize = 0;
-    while v < places {
-        if kept[v] != 1 {
-            v += 1;
-            continue;
+    for v in 0..places {
+        while kept[v] == 1 {
+            k = checker_order::left(places, kept, &order, k);
+            let pivot = checker_order::pick(places, kept, &order, k, v);
+            let t = checker_rounds::attempt(
+                inputs, places, moves, to, q, kept, mark, queue, from, way, walk, found, pivot,
+            );
+            if t.round.is_some() {
+                return t;
+            }
+            found = t.found;
         }
-        k = checker_order::left(places, kept, &order, k);
-        let pivot = checker_order::pick(places, kept, &order, k, v);
-        let t = checker_rounds::attempt(
-            inputs, places, moves, to, q, kept, mark, queue, from, way, walk, found, pivot,
-        );
-        if t.round != 0 {
-            return t;
-        }
-        found = t.found;
     }
-    Tried { found, round: 0 }
+    Tried { found, round: None }
 }
 
 // All guarantees of q. `reached` has the reachable places.
@@ -115,20 +110,18 @@ fn serve(
         queue.new from.new way.new walk.new result }
 {
     let mut found = n;
-    let mut b: usize = 0;
-    while b < q.guaranteed {
+    for b in 0..q.guaranteed {
         let x = q.guarantees[b];
         keep(inputs, counters, places, reached, x, kept);
         let t = empty(
             inputs, places, moves, to, q, kept, mark, queue, from, way, walk, found,
         );
-        if t.round != 0 {
+        if t.round.is_some() {
             return t;
         }
         found = t.found;
-        b += 1;
     }
-    Tried { found, round: 0 }
+    Tried { found, round: None }
 }
 
 // All guarantees of all requirements.
@@ -141,7 +134,7 @@ pub fn judge(
     to: &[u16; PLACES],
     reached: &[u8; PLACES],
     walk: &mut [u16; WALK],
-) -> Verdict
+) -> Option<Verdict>
     requires { JudgeFits inputs places moves.now to.now counters g walk.old }
     ensures { Judged inputs places moves.now to.now counters g reached.now walk.new result }
 {
@@ -151,8 +144,7 @@ pub fn judge(
     let mut from = [0u16; PLACES];
     let mut way = [0u16; PLACES];
     let mut found: usize = 0;
-    let mut r: usize = 0;
-    while r < g.k {
+    for r in 0..g.k {
         let t = serve(
             inputs,
             counters,
@@ -169,17 +161,13 @@ pub fn judge(
             walk,
             found,
         );
-        if t.round != 0 {
-            return Verdict {
-                round: t.round,
+        if let Some(round) = t.round {
+            return Some(Verdict {
+                round,
                 requirement: r,
-            };
+            });
         }
         found = t.found;
-        r += 1;
     }
-    Verdict {
-        round: 0,
-        requirement: 0,
-    }
+    None
 }

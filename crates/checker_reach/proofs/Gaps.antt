@@ -5,7 +5,7 @@
 --   stem_made               : the way written and copied to the room
 use Prim.Native.Nat.{ℕ, suc, ◌+◌, ◌-◌, ◌*◌, ◌/◌, ◌%◌, ◌^◌, ◌≤◌, ◌<◌}
 use native.Mathlib.Nat.{mod-lt}
-use mathlib.Core.Path.{◌≡◌, refl, sym, ◌∙◌, ap, subst}
+use mathlib.Core.Path.{◌≡◌, sym, ◌∙◌, ap, subst}
 use mathlib.Core.Bool.{true, false, not, ◌&&◌}
 use mathlib.Core.List.{List}
 use mathlib.Core.Logic.{◌≢◌, inl, inr}
@@ -13,6 +13,7 @@ use native.Mathlib.Omega.{arith}
 use native.Mathlib.Decide.{ℕ_discrete}
 use lib.Dec.{eqb}
 use lib.ListN.{get_or}
+use Rattle.std.specs.declared.option.Option.TheVariants.{None, Some}
 use Rattle.finite.specs.Bounded.{count, least}
 use Rattle.finite.proofs.Truth.{clash}
 use Rattle.finite.proofs.Bounded.{below_suc}
@@ -37,11 +38,8 @@ module _ (I N : ℕ) (rows to : List ℕ) (c : ℕ) (P : Grid I N rows to × (c 
   }
 
   module _ (rest : ℕ) (S : Passing I rows to c rest) where
-    pub passing_end : rest ≡ 0 → NoneAfter I rows to c capacity
-    passing_end z = record {
-      here = λ d. absurd (d refl);
-      nowhere = λ e j h. S.done j h (ap (λ (y : ℕ). has y j) z ∙ has_zero_lem j);
-    }
+    pub passing_end : rest ≡ 0 → NoneAfter I rows to c None
+    passing_end z = λ j h. S.done j h (ap (λ (y : ℕ). has y j) z ∙ has_zero_lem j)
 
     module _ (ne : rest ≢ 0) (h : ℕ) (e : h ≡ least capacity (has rest)) where
       small : rest < 2 ^ capacity
@@ -56,11 +54,8 @@ module _ (I N : ℕ) (rows to : List ℕ) (c : ℕ) (P : Grid I N rows to × (c 
           let b : h < I = P.0.move (c % I) h (mod-lt c P.0.some) (S.inside h taken) in
           omega (arith, P.0.whole c h P.1 b, P.0.places)
 
-      pub passing_found : at to (c / I * I + h) ≡ 65535 → NoneAfter I rows to c h
-      passing_found z = record {
-        here = λ d. (S.inside h taken, z);
-        nowhere = λ q. let b = lowest_below capacity rest h small ne e in absurd (omega (arith, q, b));
-      }
+      pub passing_found : at to (c / I * I + h) ≡ 65535 → NoneAfter I rows to c (Some h)
+      passing_found z = (S.inside h taken, z)
 
       module _ (r : ℕ) (d : (s : ℕ) → has r s ≡ (has rest s && not (eqb s (least capacity (has rest))))) where
         less : (s : ℕ) → has r s ≡ (has rest s && not (eqb s h))
@@ -88,28 +83,20 @@ module _ (I : ℕ) (rows to queue : List ℕ) (n : ℕ) where
   clean_start = record { upto = omega arith; none = λ i b. absurd (omega (arith, b)) }
 
   module _ (k : ℕ) (C : Clean I rows to queue n k) where
-    pub clean_end : n ≤ k → Scanned I rows to queue n (record { at = n; input = 0 })
-    clean_end l = record {
-      bound = omega arith;
-      here = λ b. absurd (omega (arith, b));
-      nowhere = λ e i b. C.none i (omega (arith, b, l));
-    }
+    pub clean_end : n ≤ k → Scanned I rows to queue n None
+    clean_end l = λ i b. C.none i (omega (arith, b, l))
 
-    module _ (b : k < n) (c : ℕ) (e : c ≡ at queue k) (r : ℕ) (A : NoneAfter I rows to c r) where
-      pub clean_found : r ≢ capacity → Scanned I rows to queue n (record { at = k; input = r })
-      clean_found d = record {
-        bound = omega (arith, b);
-        here = λ l. let h = A.here d in
-            (ap (λ (x : ℕ). has (get_or (sets_in rows) (x % I) 0) r) (sym e) ∙ h.0, ap (λ (x : ℕ). at to (x / I * I + r)) (sym e) ∙ h.1);
-        nowhere = λ z. absurd (omega (arith, z, b));
-      }
+    module _ (b : k < n) (c : ℕ) (e : c ≡ at queue k) where
+      pub clean_found : (r : ℕ) → NoneAfter I rows to c (Some r) → Scanned I rows to queue n (Some (record { at = k; input = r }))
+      clean_found r A =
+          (b, ap (λ (x : ℕ). has (get_or (sets_in rows) (x % I) 0) r) (sym e) ∙ A.0, ap (λ (x : ℕ). at to (x / I * I + r)) (sym e) ∙ A.1)
 
-      pub clean_next : r ≡ capacity → Clean I rows to queue n (k + 1)
-      clean_next z = record {
+      pub clean_next : NoneAfter I rows to c None → Clean I rows to queue n (k + 1)
+      clean_next A = record {
         upto = omega (arith, b);
         none = λ i l j h. elim (below_suc i k (omega (arith, l))) [
           | inl q ↦ let f : c ≡ at queue i = e ∙ ap (at queue) (sym q) in
-              λ y. A.nowhere z j (ap (λ (x : ℕ). has (get_or (sets_in rows) (x % I) 0) j) f ∙ h) (ap (λ (x : ℕ). at to (x / I * I + j)) f ∙ y)
+              λ y. A j (ap (λ (x : ℕ). has (get_or (sets_in rows) (x % I) 0) j) f ∙ h) (ap (λ (x : ℕ). at to (x / I * I + j)) f ∙ y)
           | inr o ↦ C.none i o j h
         ];
       }

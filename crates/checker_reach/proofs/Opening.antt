@@ -5,12 +5,13 @@
 --   opening-*          : how that begins, goes on and ends
 use Prim.Native.Nat.{ℕ, ◌+◌, ◌%◌, ◌≤◌, ◌<◌}
 use mathlib.Core.Path.{◌≡◌, refl, sym, ◌∙◌, ap}
-use mathlib.Core.Bool.{Bool, true, false, not}
+use mathlib.Core.Bool.{Bool, true, false}
 use mathlib.Core.List.{List}
 use mathlib.Core.Logic.{◌≢◌, inl, inr}
 use native.Mathlib.Omega.{arith}
 use borrow.Author.Tests.{eq-eqb}
-use Rattle.finite.proofs.Truth.{clash, and_intro, not_true, not_false}
+use Rattle.std.specs.declared.option.Option.TheVariants.{None, Some}
+use Rattle.finite.proofs.Truth.{clash, and_intro}
 use Rattle.finite.proofs.Bounded.{below_suc}
 use Rattle.graphs.specs.Graph.{begins}
 use Rattle.arena.specs.Arena.{arena_of}
@@ -24,7 +25,7 @@ use Rattle.checker_places.proofs.Found.{starting_input}
 use Rattle.checker_places.proofs.Listed.{listed_none}
 use Rattle.checker_search.specs.Turns.{marked}
 use Rattle.checker_search.specs.Queues.{at, InQueue, Queued, FinderFits, Visited}
-use Rattle.checker_rows.proofs.Leads.{playing, few}
+use Rattle.checker_rows.proofs.Leads.{playing}
 use Rattle.checker_reach.specs.Reach.{starts, OpenFits, Opens}
 
 pub memories : (g : Game) (l : List ℕ) → (controller_of g l).memories ≡ controller_counters (separated_of g)
@@ -89,13 +90,13 @@ module _ (g : Game) (M N : ℕ) (l all mark₀ queue₀ from₀ : List ℕ) (F :
   }
 
   module _ (mark queue from : List ℕ) (n i : ℕ) (O : Opening g N l mark queue from n i) where
-    pub opening_skip : i < g.input.states → {r : Bool} → r ≡ begins (graph_of g.input) i → not r ≡ true → Opening g N l mark queue from n (i + 1)
+    pub opening_skip : i < g.input.states → {r : Bool} → r ≡ begins (graph_of g.input) i → r ≡ false → Opening g N l mark queue from n (i + 1)
     opening_skip b {r} e h = record {
       queued = O.queued;
       upto = omega (arith, b);
       listed = O.listed;
       first = λ j l' m. elim (below_suc j i (omega (arith, l'))) [
-        | inl z ↦ clash (ap (play_of g).in_initial (sym z) ∙ m) (initially g i ∙ sym e ∙ not_true r h)
+        | inl z ↦ clash (ap (play_of g).in_initial (sym z) ∙ m) (initially g i ∙ sym e ∙ h)
         | inr k ↦ O.first j k m
       ];
     }
@@ -103,16 +104,21 @@ module _ (g : Game) (M N : ℕ) (l all mark₀ queue₀ from₀ : List ℕ) (F :
     pub opening_fits : FinderFits N 0 mark queue from n
     opening_fits = record { queued = O.queued; finder = omega arith }
 
-    pub opening_bad : i < g.input.states → {r : Bool} → r ≡ begins (graph_of g.input) i → not r ≡ false → (s : ℕ)
-        → s ≡ starting (play_of g) (controller_of g l) i → s ≡ 65535 → Opens g N l mark queue from (record { found = n; bad = i })
+    pub opening_bad : i < g.input.states → {r : Bool} → r ≡ begins (graph_of g.input) i → r ≡ true → (s : ℕ)
+        → s ≡ starting (play_of g) (controller_of g l) i → s ≡ 65535 → Opens g N l mark queue from (record { found = n; bad = Some i })
     opening_bad b {r} e h s f z = record {
       queued = O.queued;
       listed = O.listed;
-      first = λ m. absurd (omega (arith, m, b));
-      bad = λ m. (initially g i ∙ sym e ∙ not_false r h, sym f ∙ z);
+      first = λ m. absurd cc;
+      bad = λ j m.
+          let x : i ≡ j = cc in (
+            omega (arith, b, x),
+            ap (play_of g).in_initial (sym x) ∙ initially g i ∙ sym e ∙ h,
+            ap (starting (play_of g) (controller_of g l)) (sym x) ∙ sym f ∙ z,
+          );
     }
 
-    pub opening_next : i < g.input.states → {r : Bool} → r ≡ begins (graph_of g.input) i → not r ≡ false → (s : ℕ)
+    pub opening_next : i < g.input.states → {r : Bool} → r ≡ begins (graph_of g.input) i → r ≡ true → (s : ℕ)
         → s ≡ starting (play_of g) (controller_of g l) i → s ≢ 65535 → (mark' queue' from' : List ℕ) (n' : ℕ)
         → Visited N all 0 s mark queue from n mark' queue' from' n' → Opening g N l mark' queue' from' n' (i + 1)
     opening_next b {r} e h s f d mark' queue' from' n' v = record {
@@ -131,15 +137,15 @@ module _ (g : Game) (M N : ℕ) (l all mark₀ queue₀ from₀ : List ℕ) (F :
         ne z = d (f ∙ z)
 
         initial : (play_of g).in_initial i ≡ true
-        initial = initially g i ∙ sym e ∙ not_false r h
+        initial = initially g i ∙ sym e ∙ h
 
         small : s < N
         small = omega (arith, f, start_below i b ne)
 
-    pub opening_end : g.input.states ≤ i → Opens g N l mark queue from (record { found = n; bad = i })
+    pub opening_end : g.input.states ≤ i → Opens g N l mark queue from (record { found = n; bad = None })
     opening_end b = record {
       queued = O.queued;
       listed = O.listed;
       first = λ m j h. O.first j (omega (arith, (playing g).initial j h, states g, b)) h;
-      bad = λ m. absurd (omega (arith, m, b));
+      bad = λ j m. absurd cc;
     }

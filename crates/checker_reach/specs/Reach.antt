@@ -5,9 +5,10 @@
 --   NoneAfter             == the lowest next input of a place whose row is none
 --   ScanFits, Scanned     == the first place of the queue with such a row
 --   StemFits, Stem        == the way to a queue place, at the front of the room
-use Rattle.std.specs.Prelude.{ℕ, suc, ◌+◌, ◌-◌, ◌*◌, ◌/◌, ◌%◌, ◌≤◌, ◌<◌, ◌≡◌, Bool, true, ◌&&◌, ◌≢◌, List, eqb, length, get_or}
+use Rattle.std.specs.Prelude.{ℕ, suc, ◌+◌, ◌-◌, ◌*◌, ◌/◌, ◌%◌, ◌≤◌, ◌<◌, ◌≡◌, Bool, true, ◌&&◌, ◌≢◌, List, eqb, length, get_or, Option}
+use Rattle.std.specs.declared.option.Option.TheVariants.{None, Some}
 use Rattle.bits.specs.Member.{has}
-use Rattle.sets.specs.Words.{capacity, sets_in}
+use Rattle.sets.specs.Words.{sets_in}
 use Rattle.game.specs.declared.Game.{Game}
 use Rattle.demands.specs.Demands.{play_of, controller_of}
 use Rattle.checker_places.specs.Place.{walk_room, most_places, place_count, starting}
@@ -31,23 +32,23 @@ pub record OpenFits (g : Game) (M N : ℕ) (l all mark queue from : List ℕ) : 
 pub record Opens (g : Game) (N : ℕ) (l mark queue from : List ℕ) (r : Opened) : Type 0 where
   pub queued : Queued N mark queue from r.found
   pub listed : (s : ℕ → ℕ → Bool) → InQueue (starts g l) s N mark queue from r.found
-  pub first : g.input.states ≤ r.bad → (i : ℕ) → (play_of g).in_initial i ≡ true → marked mark (starting (play_of g) (controller_of g l) i) ≡ true
-  pub bad : r.bad < g.input.states → ((play_of g).in_initial r.bad ≡ true) × (starting (play_of g) (controller_of g l) r.bad ≡ 65535)
+  pub first : r.bad ≡ None → (i : ℕ) → (play_of g).in_initial i ≡ true → marked mark (starting (play_of g) (controller_of g l) i) ≡ true
+  pub bad : (i : ℕ) → r.bad ≡ Some i
+      → (i < g.input.states) × ((play_of g).in_initial i ≡ true) × (starting (play_of g) (controller_of g l) i ≡ 65535)
 
-pub record NoneAfter (I : ℕ) (rows to : List ℕ) (c r : ℕ) : Type 0 where
-  pub here : r ≢ capacity → (has (get_or (sets_in rows) (c % I) 0) r ≡ true) × (at to (c / I * I + r) ≡ 65535)
-  pub nowhere : r ≡ capacity → (j : ℕ) → has (get_or (sets_in rows) (c % I) 0) j ≡ true → at to (c / I * I + j) ≢ 65535
+abbrev pub NoneAfter : ℕ → List ℕ → List ℕ → ℕ → Option ℕ → Type 0
+NoneAfter I rows to c None = (j : ℕ) → has (get_or (sets_in rows) (c % I) 0) j ≡ true → at to (c / I * I + j) ≢ 65535
+NoneAfter I rows to c (Some j) = (has (get_or (sets_in rows) (c % I) 0) j ≡ true) × (at to (c / I * I + j) ≡ 65535)
 
 pub record ScanFits (N : ℕ) (queue : List ℕ) (n : ℕ) : Type 0 where
   pub short : n ≤ most_places
   pub below : (k : ℕ) → k < n → at queue k < N
 
-pub record Scanned (I : ℕ) (rows to queue : List ℕ) (n : ℕ) (r : Gap) : Type 0 where
-  pub bound : r.at ≤ n
-  pub here : r.at < n → (has (get_or (sets_in rows) (at queue r.at % I) 0) r.input ≡ true)
-      × (at to (at queue r.at / I * I + r.input) ≡ 65535)
-  pub nowhere : r.at ≡ n → (k : ℕ) → k < n → (j : ℕ) → has (get_or (sets_in rows) (at queue k % I) 0) j ≡ true
-      → at to (at queue k / I * I + j) ≢ 65535
+abbrev pub Scanned : ℕ → List ℕ → List ℕ → List ℕ → ℕ → Option Gap → Type 0
+Scanned I rows to queue n None = (k : ℕ) → k < n → (j : ℕ) → has (get_or (sets_in rows) (at queue k % I) 0) j ≡ true
+    → at to (at queue k / I * I + j) ≢ 65535
+Scanned I rows to queue n (Some s) = (s.at < n) × (has (get_or (sets_in rows) (at queue s.at % I) 0) s.input ≡ true)
+    × (at to (at queue s.at / I * I + s.input) ≡ 65535)
 
 pub record StemFits (from : List ℕ) (k : ℕ) (way room : List ℕ) : Type 0 where
   pub place : k < most_places

@@ -8,25 +8,18 @@ ghost use Rattle.checker_reach.specs.Reach.{OpenFits, Opens, NoneAfter, ScanFits
 use checker_places::PLACES;
 use game::{Game, InState};
 
-// How many places are in the queue, and the first initial input whose start is none; the count of inputs where there is none.
+// How many places are in the queue, and the first initial input whose start is none.
 #[derive(Clone, Copy)]
 pub struct Opened {
     pub found: usize,
-    pub bad: usize,
+    pub bad: Option<usize>,
 }
 
-// The queue place and the next input of a row that is none; the length of the queue where there is none.
+// The queue place and the next input of a row that is none.
 #[derive(Clone, Copy)]
 pub struct Gap {
     pub at: usize,
     pub input: usize,
-}
-
-// A place that was kept in 16 bits.
-fn wide(x: u16) -> usize
-    ensures { (result ≡ x) × (result < 65536) }
-{
-    x as usize
 }
 
 // Visits the places of the first configurations.
@@ -44,43 +37,40 @@ pub fn open(
     ensures { Opens g places table.now mark.new queue.new from.new result }
 {
     let mut found: usize = 0;
-    let mut i: usize = 0;
-    while i < g.input.states {
+    for i in 0..g.input.states {
         if !player_place::begins_with(g, InState(i)) {
-            i += 1;
             continue;
         }
-        let s = wide(checker_rows::start(g, counters, table, InState(i)));
+        let s = usize::from(checker_rows::start(g, counters, table, InState(i)));
         if s == 65535 {
-            return Opened { found, bad: i };
+            return Opened {
+                found,
+                bad: Some(i),
+            };
         }
         found = checker_search::visit(places, all, mark, queue, from, found, 0, s);
-        i += 1;
     }
-    Opened { found, bad: i }
+    Opened { found, bad: None }
 }
 
-// The lowest next input of place c whose row is none; CAPACITY where there is none.
+// The lowest next input of place c whose row is none.
 fn none_after(
     inputs: usize,
     places: usize,
     moves: &[u64; sets::ROW_WORDS],
     to: &[u16; PLACES],
     c: usize,
-) -> usize
+) -> Option<usize>
     requires { Grid inputs places moves.now to.now × (c < places) }
     ensures { NoneAfter inputs moves.now to.now c result }
 {
     let base = c / inputs * inputs;
-    let mut rest = sets::row_of(moves, c % inputs);
-    while !sets::is_empty(rest) {
-        let j = sets::lowest(rest);
+    for j in sets::row_of(moves, c % inputs) {
         if to[base + j] == 65535 {
-            return j;
+            return Some(j);
         }
-        rest = sets::without_lowest(rest);
     }
-    sets::CAPACITY
+    None
 }
 
 // The first of the queue's n places after which a row is none.
@@ -91,19 +81,16 @@ pub fn scan(
     to: &[u16; PLACES],
     queue: &[u16; PLACES],
     n: usize,
-) -> Gap
+) -> Option<Gap>
     requires { Grid inputs places moves.now to.now × ScanFits places queue.now n }
     ensures { Scanned inputs moves.now to.now queue.now n result }
 {
-    let mut k: usize = 0;
-    while k < n {
-        let j = none_after(inputs, places, moves, to, wide(queue[k]));
-        if j != sets::CAPACITY {
-            return Gap { at: k, input: j };
+    for k in 0..n {
+        if let Some(j) = none_after(inputs, places, moves, to, usize::from(queue[k])) {
+            return Some(Gap { at: k, input: j });
         }
-        k += 1;
     }
-    Gap { at: n, input: 0 }
+    None
 }
 
 // Writes the way to queue place k to the front of the room.

@@ -5,21 +5,22 @@
 --   fits_same, tried_same     : of the same set
 --   attempt_missed, attempt_alone, attempt_round        : the three ends
 use Prim.Native.Nat.{ℕ, ◌-◌, ◌%◌, ◌<◌}
-use mathlib.Core.Path.{◌≡◌, sym, ◌∙◌, ap, subst}
+use mathlib.Core.Path.{◌≡◌, refl, sym, ◌∙◌, ap, subst}
 use mathlib.Core.Bool.{true, false}
 use mathlib.Core.List.{List}
 use mathlib.Core.Logic.{◌⊎◌, inl, inr, ◌≢◌}
 use native.Mathlib.Omega.{arith}
-use native.Mathlib.Decide.{dec_lt}
 use lib.ListN.{length, set}
 use Rattle.finite.specs.Bounded.{count}
 use Rattle.finite.proofs.Bounded.{count_less}
 use Rattle.bits.specs.Member.{has}
 use Rattle.game.specs.declared.Requirement.{Requirement}
+use Rattle.std.specs.Prelude.{Option, IsSome}
+use Rattle.std.specs.declared.option.Option.TheVariants.{None, Some}
 use Rattle.checker_search.specs.Turns.{marked, follows}
 use Rattle.checker_search.specs.Queues.{at, Held, Reach, FirstAt}
 use Rattle.checker_search.proofs.Turns.{enters_both, marked_is, marked_not}
-use Rattle.checker_rounds.specs.Rounds.{assumption, CutFits, Cut, LegFits, Leg, Walking, LegsFit, Legs, AttemptFits, Attempted}
+use Rattle.checker_rounds.specs.Rounds.{assumption, CutFits, Cut, LegFits, Leg, Walking, Round, LegsFit, Legs, AttemptFits, Attempted}
 use Rattle.checker_rounds.specs.declared.Course.{Course}
 use Rattle.checker_rounds.specs.declared.Tried.{Tried}
 use Rattle.checker_rounds.proofs.Walking.{reach_held, reach_finders, walking_one, walking_on}
@@ -71,7 +72,7 @@ module _ (I N : ℕ) (rows to : List ℕ) (q : Requirement) (X : List ℕ) (mark
 
     -- the pivot does not reach itself
     pub attempt_alone : at mark u ≢ 1 → (Y : List ℕ) → Cut X queue 0 u Y
-        → Attempted I N rows to q X Y mark queue from way walk (record { found = n; round = 0 })
+        → Attempted I N rows to q X Y mark queue from way walk (record { found = n; round = None })
     attempt_alone m Y C = record {
       sized = P.reach.sized;
       held = reach_held I N rows to X u mark queue from n F.grid P.reach;
@@ -88,19 +89,19 @@ module _ (I N : ℕ) (rows to : List ℕ) (q : Requirement) (X : List ℕ) (mark
         only = C.only;
         fewer = count_less N (marked Y) (marked X) (λ k b h. C.only k h) u P.below C.gone P.inside;
       };
-      round = λ z. absurd (omega (arith, z));
+      round = λ m z. absurd cc;
     }
 
     module _ (mark' queue' from' way' walk' : List ℕ) (r : Course) (L : Legs I N rows to q X u mark mark' queue' from' way' walk' r) where
       end_below : r.end < N
       end_below =
           let s = L.walking.some in
-          omega (arith, L.walking.last, L.walking.below (r.length - 1) (omega (arith, s)))
+          omega (arith, L.walking.last, L.walking.below (L.length - 1) (omega (arith, s)))
 
       end_inside : marked X r.end ≡ true
       end_inside =
           let s = L.walking.some in
-          ap (marked X) (sym L.walking.last) ∙ L.walking.inside (r.length - 1) (omega (arith, s))
+          ap (marked X) (sym L.walking.last) ∙ L.walking.inside (L.length - 1) (omega (arith, s))
 
       pub held : Held mark' queue' r.found
       held = reach_held I N rows to X r.end mark' queue' from' r.found F.grid L.reach
@@ -114,8 +115,8 @@ module _ (I N : ℕ) (rows to : List ℕ) (q : Requirement) (X : List ℕ) (mark
       }
 
       -- what the end of the legs reaches misses an assumption
-      pub attempt_missed : r.missed ≡ true → (Y : List ℕ) → Cut X queue' r.found r.end Y
-          → Attempted I N rows to q X Y mark' queue' from' way' walk' (record { found = r.found; round = 0 })
+      pub attempt_missed : r.length ≡ None → (Y : List ℕ) → Cut X queue' r.found r.end Y
+          → Attempted I N rows to q X Y mark' queue' from' way' walk' (record { found = r.found; round = None })
       attempt_missed m Y C = record {
         sized = L.reach.sized;
         held = held;
@@ -132,7 +133,7 @@ module _ (I N : ℕ) (rows to : List ℕ) (q : Requirement) (X : List ℕ) (mark
           only = C.only;
           fewer = count_less N (marked Y) (marked X) (λ k b h. C.only k h) r.end end_below C.gone end_inside;
         };
-        round = λ z. absurd (omega (arith, z));
+        round = λ m z. absurd cc;
       }
         where
           lacking : (j : ℕ) → ((k : ℕ) → k < r.found → has (assumption q j) (at queue' k % I) ≡ false)
@@ -143,46 +144,53 @@ module _ (I N : ℕ) (rows to : List ℕ) (q : Requirement) (X : List ℕ) (mark
           taken k (inl w) = inl (ap (marked mark') (sym w.2) ∙ L.reach.listed.known w.0 w.1)
           taken k (inr e) = inr e
 
-      module _ (visited : r.missed ≡ false) where
-        -- the pivot is reached again
-        module _ (m : at mark' u ≡ 1) (k : ℕ) (A : FirstAt queue' r.found u k) where
-          closing_place : k < r.found
-          closing_place =
-              let w = L.reach.listed.found u (marked_is mark' u m) in
-              elim (dec_lt k r.found) [
-                | yes l ↦ l
-                | no d ↦ absurd (A.none (omega (arith, d, A.bound)) w.0 w.1 w.2)
-              ]
+      module _ (steps : ℕ) (visited : r.length ≡ Some steps) where
+        whole : steps ≡ L.length
+        whole = (L.visits steps visited).0
 
-          pub closing_fits : LegFits from' k way' walk' r.length
+        -- the pivot is reached again
+        pub closing_some : at mark' u ≡ 1 → (o : Option ℕ) → FirstAt queue' r.found u o → IsSome o
+        closing_some m None A = let w = L.reach.listed.found u (marked_is mark' u m) in absurd (A w.0 w.1 w.2)
+        closing_some m (Some k) A = refl
+
+        module _ (m : at mark' u ≡ 1) (k : ℕ) (A : FirstAt queue' r.found u (Some k)) where
+          closing_place : k < r.found
+          closing_place = A.0
+
+          pub closing_fits : LegFits from' k way' walk' steps
           closing_fits = record {
             place = omega (arith, closing_place, held.short);
             finders = reach_finders I N rows to X r.end mark' queue' from' r.found F.grid L.reach k closing_place;
             way_long = L.way_long;
             walk_long = L.walking.long;
-            room = omega (arith, L.short, F.few, closing_place, held.short);
+            room = omega (arith, L.short, whole, F.few, closing_place, held.short);
           }
 
-          pub attempt_round : (way'' walk'' : List ℕ) (n' : ℕ) → Leg queue' from' k walk' r.length way'' walk'' n'
-              → Attempted I N rows to q X X mark' queue' from' way'' walk'' (record { found = r.found; round = n' })
+          pub attempt_round : (way'' walk'' : List ℕ) (n' : ℕ) → Leg queue' from' k walk' steps way'' walk'' n'
+              → Attempted I N rows to q X X mark' queue' from' way'' walk'' (record { found = r.found; round = Some n' })
           attempt_round way'' walk'' n' M = record {
             sized = L.reach.sized;
             held = held;
             kept_long = F.kept_long;
             way_long = M.way_long;
             walk_long = M.walk_long;
-            removed = λ z. absurd (omega (arith, z, M.more));
-            round = λ z. record {
-              place = u;
-              walking = subst (λ (w : ℕ). Walking I N rows to X u w walk'' n') (A.there closing_place)
-                  (walking_on I N rows to X r.end mark' queue' from' r.found F.grid L.reach u walk' r.length L.walking k closing_place
-                  way'' walk'' n' M);
-              turns = omega (arith, M.more, L.walking.some);
-              short = omega (arith, M.short, L.short, F.few, closing_place, held.short);
-              visits = λ j b. let w = L.visits visited j b in
-                  (w.0, omega (arith, w.1, M.more), ap (λ (s : ℕ). has (assumption q j) (s % I)) (M.before w.0 w.1) ∙ w.2);
-            };
+            removed = λ z. absurd cc;
+            round = λ m' z. let e : n' ≡ m' = cc in subst (Round I N rows to q X walk'') e closed;
           }
+            where
+              walked : Walking I N rows to X u r.end walk' steps
+              walked = subst (Walking I N rows to X u r.end walk') (sym whole) L.walking
+
+              closed : Round I N rows to q X walk'' n'
+              closed = record {
+                place = u;
+                walking = subst (λ (w : ℕ). Walking I N rows to X u w walk'' n') A.1
+                    (walking_on I N rows to X r.end mark' queue' from' r.found F.grid L.reach u walk' steps walked k closing_place way'' walk'' n' M);
+                turns = omega (arith, M.more, walked.some);
+                short = omega (arith, M.short, L.short, whole, F.few, closing_place, held.short);
+                visits = λ j b. let w = (L.visits steps visited).1 j b in
+                    (w.0, omega (arith, w.1, M.more), ap (λ (s : ℕ). has (assumption q j) (s % I)) (M.before w.0 w.1) ∙ w.2);
+              }
 
         pub pivot_next : Pivot I N rows to X mark' queue' from' way' walk' r.end r.found
         pivot_next = record {

@@ -3,16 +3,16 @@
 --   Going              == the first j assumptions are visited
 --   going-*            : how that begins, goes on and ends
 use Prim.Native.Nat.{ℕ, ◌+◌, ◌-◌, ◌*◌, ◌%◌, ◌≤◌, ◌<◌}
-use mathlib.Core.Path.{◌≡◌, refl, sym, ◌∙◌, ap}
-use mathlib.Core.Bool.{true, false}
+use mathlib.Core.Path.{◌≡◌, sym, ◌∙◌, ap}
+use mathlib.Core.Bool.{true}
 use mathlib.Core.List.{List}
-use mathlib.Core.Logic.{◌≢◌, inl, inr}
+use mathlib.Core.Logic.{inl, inr}
 use native.Mathlib.Omega.{arith}
 use lib.ListN.{length}
-use Rattle.finite.proofs.Truth.{clash}
 use Rattle.finite.proofs.Bounded.{below_suc}
 use Rattle.bits.specs.Member.{has}
 use Rattle.game.specs.declared.Requirement.{Requirement}
+use Rattle.std.specs.declared.option.Option.TheVariants.{None, Some}
 use Rattle.checker_search.specs.Turns.{marked}
 use Rattle.checker_search.specs.Queues.{at, Reach, FirstIn}
 use Rattle.checker_rounds.specs.Rounds.{assumption, LegFits, Leg, Walking, LegsFit, Legs}
@@ -45,32 +45,36 @@ module _ {I N : ℕ} {rows to : List ℕ} {q : Requirement} {X : List ℕ} {v : 
     pub going_found : found ≤ 4096
     going_found = omega (arith, reach_short I N rows to X end mark queue from found F.grid S.reach, F.grid.places)
 
-    pub going_missed : j < q.assumed → {k x : ℕ} → x ≡ assumption q j → FirstIn I queue found x k → k ≡ found
-        → Legs I N rows to q X v mark₀ mark queue from way walk (record { end = end; found = found; length = n; missed = true })
-    going_missed b e f z = record {
+    pub going_missed : j < q.assumed → {x : ℕ} → x ≡ assumption q j → FirstIn I queue found x None
+        → Legs I N rows to q X v mark₀ mark queue from way walk (record { end = end; found = found; length = None })
+    going_missed b e f = record {
       reach = S.reach;
       way_long = S.way_long;
+      length = n;
       walking = S.walking;
       short = omega (arith, S.short, b);
       less = S.less;
-      lacks = λ m. (j, b, λ i l. ap (λ (y : ℕ). has y (at queue i % I)) (sym e) ∙ f.none z i l);
-      visits = λ m. clash refl m;
+      lacks = λ m. (j, b, λ i l. ap (λ (y : ℕ). has y (at queue i % I)) (sym e) ∙ f i l);
+      visits = λ m z. absurd cc;
     }
 
-    pub going_end : q.assumed ≤ j → Legs I N rows to q X v mark₀ mark queue from way walk (record { end = end; found = found; length = n; missed = false })
+    pub going_end : q.assumed ≤ j → Legs I N rows to q X v mark₀ mark queue from way walk (record { end = end; found = found; length = Some n })
     going_end b = record {
       reach = S.reach;
       way_long = S.way_long;
+      length = n;
       walking = S.walking;
       short = omega (arith, S.short, S.upto, b);
       less = S.less;
-      lacks = λ m. clash m refl;
-      visits = λ m i l. S.visits i (omega (arith, l, b));
+      lacks = λ z. absurd cc;
+      visits = λ m z.
+          let e : m ≡ n = cc in
+          (e, λ i l. let w = S.visits i (omega (arith, l, b)) in (w.0, omega (arith, w.1, e), w.2));
     }
 
-    module _ (b : j < q.assumed) {k x : ℕ} (e : x ≡ assumption q j) (f : FirstIn I queue found x k) (ne : k ≢ found) where
+    module _ (b : j < q.assumed) {k x : ℕ} (e : x ≡ assumption q j) (f : FirstIn I queue found x (Some k)) where
       going_place : k < found
-      going_place = omega (arith, f.bound, ne)
+      going_place = f.0
 
       pub going_leg : LegFits from k way walk n
       going_leg = record {
@@ -99,7 +103,7 @@ module _ {I N : ℕ} {rows to : List ℕ} {q : Requirement} {X : List ℕ} {v : 
           | inl y ↦ (
             n' - 1,
             omega (arith, L.more),
-            (λ t. has (assumption q (y t)) (L.last t % I)) ∙ ap (λ (s : ℕ). has s (at queue k % I)) (sym e) ∙ f.there going_place,
+            (λ t. has (assumption q (y t)) (L.last t % I)) ∙ ap (λ (s : ℕ). has s (at queue k % I)) (sym e) ∙ f.1,
           )
           | inr m ↦ let w = S.visits i m in
               (w.0, omega (arith, w.1, L.more), ap (λ (s : ℕ). has (assumption q i) (s % I)) (L.before w.0 w.1) ∙ w.2)

@@ -9,6 +9,7 @@
 --   LegsFit, Legs                   == a walk through the assumptions, as far as it goes
 --   AttemptFits, Attempted          == what one attempt shows
 use Rattle.std.specs.Prelude.{ℕ, suc, ◌+◌, ◌-◌, ◌*◌, ◌%◌, ◌≤◌, ◌<◌, ◌≡◌, Bool, true, false, ◌⊎◌, List, length, get_or}
+use Rattle.std.specs.declared.option.Option.TheVariants.{None, Some}
 use Rattle.finite.specs.Bounded.{count}
 use Rattle.bits.specs.Member.{has}
 use Rattle.sets.specs.Words.{bits_of}
@@ -94,11 +95,13 @@ module _ (I N : ℕ) (rows to : List ℕ) where
   pub record Legs (q : Requirement) (X : List ℕ) (v : ℕ) (mark mark' queue' from' way' walk' : List ℕ) (r : Course) : Type 0 where
     pub reach : Reach I N rows to X r.end mark' queue' from' r.found
     pub way_long : length way' ≡ most_places
-    pub walking : Walking X v r.end walk' r.length
-    pub short : r.length ≤ 1 + q.assumed * most_places
+    pub length : ℕ
+    pub walking : Walking X v r.end walk' length
+    pub short : length ≤ 1 + q.assumed * most_places
     pub less : (a : ℕ) → marked mark' a ≡ true → marked mark a ≡ true
-    pub lacks : r.missed ≡ true → (j : ℕ) × (j < q.assumed) × ((k : ℕ) → k < r.found → has (assumption q j) (at queue' k % I) ≡ false)
-    pub visits : r.missed ≡ false → (j : ℕ) → j < q.assumed → (k : ℕ) × (k < r.length) × (has (assumption q j) (at walk' k % I) ≡ true)
+    pub lacks : r.length ≡ None → (j : ℕ) × (j < q.assumed) × ((k : ℕ) → k < r.found → has (assumption q j) (at queue' k % I) ≡ false)
+    pub visits : (n : ℕ) → r.length ≡ Some n → (n ≡ length)
+        × ((j : ℕ) → j < q.assumed → (k : ℕ) × (k < n) × (has (assumption q j) (at walk' k % I) ≡ true))
 
   pub record AttemptFits (q : Requirement) (kept mark queue from way walk : List ℕ) (n v : ℕ) : Type 0 where
     pub grid : Grid I N rows to
@@ -117,5 +120,5 @@ module _ (I N : ℕ) (rows to : List ℕ) where
     pub kept_long : length kept' ≡ most_places
     pub way_long : length way' ≡ most_places
     pub walk_long : length walk' ≡ walk_room
-    pub removed : r.round ≡ 0 → Removed q kept kept'
-    pub round : 0 < r.round → Round q kept walk' r.round
+    pub removed : r.round ≡ None → Removed q kept kept'
+    pub round : (n : ℕ) → r.round ≡ Some n → Round q kept walk' n

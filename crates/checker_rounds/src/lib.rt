@@ -7,27 +7,19 @@ ghost use Rattle.checker_rounds.specs.Rounds.{Cut, CutFits, LegFits, Leg, LegsFi
 use checker_places::{PLACES, WALK};
 use game::Requirement;
 
-// Where the legs end, how many places its search has in the queue, how long the walk is, and whether it lacks an assumption.
+// Where the legs end, how many places its search has in the queue, and how long the walk is, None where it lacks an assumption.
 #[derive(Clone, Copy)]
 pub struct Course {
     pub end: usize,
     pub found: usize,
-    pub length: usize,
-    pub missed: bool,
+    pub length: Option<usize>,
 }
 
-// How many places the last search has in the queue, and the length of the round that was found, 0 where there is none.
+// How many places the last search has in the queue, and the length of the round that was found.
 #[derive(Clone, Copy)]
 pub struct Tried {
     pub found: usize,
-    pub round: usize,
-}
-
-// A place that was kept in 16 bits.
-fn wide(x: u16) -> usize
-    ensures { (result ≡ x) × (result < 65536) }
-{
-    x as usize
+    pub round: Option<usize>,
 }
 
 // Takes u and the queue's n places out of `kept`.
@@ -35,11 +27,9 @@ fn cut(kept: &mut [u8; PLACES], queue: &[u16; PLACES], n: usize, u: usize)
     requires { CutFits kept.old queue.now n u }
     ensures { Cut kept.old queue.now n u kept.new }
 {
-    let mut k: usize = 0;
-    while k < n {
-        let a = wide(queue[k]);
+    for k in 0..n {
+        let a = usize::from(queue[k]);
         kept[a] = 0;
-        k += 1;
     }
     kept[u] = 0;
 }
@@ -84,30 +74,25 @@ fn legs(
     let mut end = v;
     let mut found = n;
     let mut length: usize = 1;
-    let mut j: usize = 0;
-    while j < q.assumed {
+    for j in 0..q.assumed {
         let x = q.assumptions[j];
-        let k = checker_search::first_in(inputs, queue, found, x.0);
-        if k == found {
+        let Some(k) = checker_search::first_in(inputs, queue, found, x.0) else {
             return Course {
                 end,
                 found,
-                length,
-                missed: true,
+                length: None,
             };
-        }
+        };
         length = leg(queue, from, k, way, walk, length);
-        end = wide(queue[k]);
+        end = usize::from(queue[k]);
         found = checker_search::reach(
             inputs, places, moves, to, kept, mark, queue, from, found, end,
         );
-        j += 1;
     }
     Course {
         end,
         found,
-        length,
-        missed: false,
+        length: Some(length),
     }
 }
 
@@ -141,24 +126,25 @@ pub fn attempt(
         let l = legs(
             inputs, places, moves, to, q, kept, mark, queue, from, way, walk, found, pivot,
         );
-        if l.missed {
+        let Some(length) = l.length else {
             cut(kept, queue, l.found, l.end);
             return Tried {
                 found: l.found,
-                round: 0,
+                round: None,
             };
-        }
+        };
         if mark[pivot] == 1 {
-            let k = checker_search::first_at(queue, l.found, pivot);
-            let round = leg(queue, from, k, way, walk, l.length);
+            // What is marked is in the queue.
+            let k = checker_search::first_at(queue, l.found, pivot).unwrap();
+            let round = leg(queue, from, k, way, walk, length);
             return Tried {
                 found: l.found,
-                round,
+                round: Some(round),
             };
         }
         pivot = l.end;
         found = l.found;
     }
     cut(kept, queue, 0, pivot);
-    Tried { found, round: 0 }
+    Tried { found, round: None }
 }

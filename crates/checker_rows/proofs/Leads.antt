@@ -34,17 +34,18 @@ use Rattle.theory.specs.Entries.{none_entry, answer, controller_counters, contro
 use Rattle.theory.proofs.Entries.{controller_long}
 use Rattle.demands.specs.Demands.{play_of, controller_of}
 use Rattle.player_place.specs.declared.Position.{Position}
-use Rattle.player_place.specs.declared.Played.{Played}
-use Rattle.player_place.specs.declared.Played.TheVariants.{At, Refused}
+use Rattle.player_place.specs.Played.{Played}
 use Rattle.player_place.specs.Place.{provided, arrives}
 use Rattle.player_place.proofs.Moves.{initial_outputs, output_moves}
 use Rattle.checker_places.specs.Place.{place_count, place, placed, lead, starting, leads}
 use Rattle.checker_places.proofs.Place.{place_below, placed_inside, place_placed, lead_cases, named_inside}
 use Rattle.checker_rows.specs.Rows.{Ready, Filled}
+use Rattle.game.specs.declared.Refusal.{Refusal}
+use Rattle.std.specs.declared.result.Result.TheVariants.{Ok, Err}
 
 unfoldable pub place_of : ℕ → ℕ → Played → ℕ
-place_of I M (At p) = (p.output.0 * M + p.counter) * I + p.input.0
-place_of I M (Refused n) = 65535
+place_of I M (Ok p) = (p.output.0 * M + p.counter) * I + p.input.0
+place_of I M (Err n) = 65535
 
 place_of_lead : (I M : ℕ) (ok : ℕ → Bool) (j : InState) (a : Answer) → place_of I M (arrives M ok j a) ≡ lead I M ok j.0 a
 unfolding place_of arrives provided lead place
@@ -61,15 +62,15 @@ product_fits y (suc I) i b l h = (omega (arith, h, mul-suc y I), omega (arith, h
 
 -- the parts of a position that is read, and where it leads
 module _ (I M : ℕ) (ok : ℕ → Bool) (j : InState) (a : Answer) (x : Played) (e : x ≡ arrives M ok j a) where
-  pub lead_at : (p : Position) → x ≡ At p → (p.output.0 * M + p.counter) * I + p.input.0 ≡ lead I M ok j.0 a
+  pub lead_at : (p : Position) → x ≡ Ok p → (p.output.0 * M + p.counter) * I + p.input.0 ≡ lead I M ok j.0 a
   unfolding place_of
   lead_at p h = ap (place_of I M) (sym h ∙ e) ∙ place_of_lead I M ok j a
 
-  pub lead_refused : (n : ℕ) → x ≡ Refused n → 65535 ≡ lead I M ok j.0 a
+  pub lead_refused : (n : Refusal) → x ≡ Err n → 65535 ≡ lead I M ok j.0 a
   unfolding place_of
   lead_refused n h = ap (place_of I M) (sym h ∙ e) ∙ place_of_lead I M ok j a
 
-  module _ (p : Position) (h : x ≡ At p) (l : 0 < I) (b : lead I M ok j.0 a ≤ 65535) where
+  module _ (p : Position) (h : x ≡ Ok p) (l : 0 < I) (b : lead I M ok j.0 a ≤ 65535) where
     pub lead_parts : (p.output.0 * M ≤ 65535) × (p.output.0 * M + p.counter ≤ 65535) × ((p.output.0 * M + p.counter) * I ≤ 65535)
         × ((p.output.0 * M + p.counter) * I + p.input.0 ≤ 65535)
     lead_parts =

@@ -11,7 +11,6 @@ ghost use Rattle.checker_rows.specs.Rows.{Ready, Filled};
 
 use checker_places::PLACES;
 use game::{Game, InState, OutSet, OutState};
-use player_place::Played;
 
 // The place that an entry leads to with the next input j, the outputs allowed being those of a set; 65,535 for an entry that is none.
 fn lead(inputs: usize, counters: usize, allowed: OutSet, j: InState, entry: u16) -> u16
@@ -19,8 +18,8 @@ fn lead(inputs: usize, counters: usize, allowed: OutSet, j: InState, entry: u16)
     ensures { result ≡ leadOf inputs counters (has (bits_of allowed.0)) j.0 (answer entry) }
 {
     match player_place::arrive(counters, allowed, j, entry) {
-        Played::At(p) => ((p.output.0 * counters + p.counter) * inputs + p.input.0) as u16,
-        Played::Refused(_) => 65535,
+        Ok(p) => ((p.output.0 * counters + p.counter) * inputs + p.input.0) as u16,
+        Err(_) => 65535,
     }
 }
 
@@ -47,8 +46,7 @@ pub fn fill(g: Game, counters: usize, places: usize, table: &[u16], to: &mut [u1
     ensures { Filled g table.now to.new places }
 {
     let h = g.output;
-    let mut r: usize = 0;
-    while r < places {
+    for r in 0..places {
         let inputs = g.input.states;
         let allowed = replies(&h.moves, OutState(r / inputs / counters));
         to[r] = lead(
@@ -58,6 +56,5 @@ pub fn fill(g: Game, counters: usize, places: usize, table: &[u16], to: &mut [u1
             InState(r % inputs),
             table[inputs + r],
         );
-        r += 1;
     }
 }

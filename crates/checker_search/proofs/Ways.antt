@@ -2,10 +2,9 @@
 --
 --   Unmarking, unmarking-*    : the marks of the first k of the queue are gone
 --   Chaining, chaining-*      : the way to a queue place, written from its end
---   Copying, copying-*        : the first k entries are copied
 --   first-*                   : the first queue place with a test
 use Prim.Native.Nat.{ℕ, suc, ◌+◌, ◌-◌, ◌%◌, ◌≤◌, ◌<◌}
-use mathlib.Core.Path.{◌≡◌, refl, sym, ◌∙◌, ap, subst}
+use mathlib.Core.Path.{◌≡◌, sym, ◌∙◌, ap, subst}
 use mathlib.Core.Bool.{Bool, true, false}
 use mathlib.Core.List.{List}
 use mathlib.Core.Logic.{◌≢◌, inl, inr}
@@ -17,8 +16,9 @@ use Rattle.finite.proofs.Truth.{false_of}
 use Rattle.finite.proofs.Bounded.{below_suc}
 use Rattle.bits.specs.Member.{has}
 use Rattle.checker_search.specs.Turns.{marked}
-use Rattle.checker_search.specs.Queues.{at, Held, Unmarked, Finders, Link, Chained, Copied, FirstIn, FirstAt}
+use Rattle.checker_search.specs.Queues.{at, Held, Unmarked, Finders, Link, Chained, FirstIn, FirstAt}
 use Rattle.checker_search.proofs.Turns.{unmarked_left}
+use Rattle.std.specs.declared.option.Option.TheVariants.{Some}
 
 pub record Unmarking (queue : List ℕ) (n : ℕ) (mark : List ℕ) (k : ℕ) : Type 0 where
   pub long : length mark ≡ 4096
@@ -141,40 +141,6 @@ module _ (queue from : List ℕ) (k : ℕ) where
       link = C.link;
     }
 
-pub record Copying (src : List ℕ) (a : ℕ) (dst : List ℕ) (p : ℕ) (out : List ℕ) (n : ℕ) : Type 0 where
-  pub long : length out ≡ length dst
-  pub before : (k : ℕ) → k < p → at out k ≡ at dst k
-  pub here : (k : ℕ) → k < n → at out (p + k) ≡ at src (a + k)
-  pub after : (k : ℕ) → p + n ≤ k → at out k ≡ at dst k
-
-module _ (src : List ℕ) (a : ℕ) (dst : List ℕ) (p : ℕ) where
-  pub copying_start : Copying src a dst p dst 0
-  copying_start = record { long = refl; before = λ k b. refl; here = λ k b. absurd (omega arith); after = λ k b. refl }
-
-  pub copying_next : (out : List ℕ) (n : ℕ) → Copying src a dst p out n → p + n < length dst
-      → Copying src a dst p (set out (p + n) (at src (a + n))) (n + 1)
-  copying_next out n C b = record {
-    long = length-set out (p + n) (at src (a + n)) ∙ C.long;
-    before = λ k l. other k (omega (arith, l)) ∙ C.before k l;
-    here = λ k l. elim (below_suc k n (omega (arith, l))) [
-      | inl e ↦ ap (λ (x : ℕ). at (set out (p + n) (at src (a + n))) (p + x)) e
-          ∙ get_or-set_same out (p + n) (at src (a + n)) 0 (omega (arith, b, C.long)) ∙ ap (λ (x : ℕ). at src (a + x)) (sym e)
-      | inr i ↦ other (p + k) (omega (arith, i)) ∙ C.here k i
-    ];
-    after = λ k l. other k (omega (arith, l)) ∙ C.after k (omega (arith, l));
-  }
-    where
-      other : (k : ℕ) → k ≢ p + n → at (set out (p + n) (at src (a + n))) k ≡ at out k
-      other k d = get_or-set_other out (p + n) k (at src (a + n)) 0 d
-
-  pub copying_end : (out : List ℕ) (n e : ℕ) → n ≤ e - a → e - a ≤ n → Copying src a dst p out n → Copied src a e dst p out
-  copying_end out n e b l C = record {
-    long = C.long;
-    before = C.before;
-    here = λ k m. C.here k (omega (arith, m, l));
-    after = λ k m. C.after k (omega (arith, m, b));
-  }
-
 -- the entries passed have the test's opposite, and so has the next
 module _ (I : ℕ) (queue : List ℕ) (n x : ℕ) where
   pub first_in_on : (k a : ℕ) {b : Bool} → ((i : ℕ) → i < k → has x (at queue i % I) ≡ false) → a ≡ at queue k → b ≡ has x (a % I) → b ≡ false
@@ -185,23 +151,13 @@ module _ (I : ℕ) (queue : List ℕ) (n x : ℕ) where
         | inr l ↦ f i l
       ]
 
-  pub first_in_here : (k a : ℕ) {b : Bool} → k < n → a ≡ at queue k → b ≡ has x (a % I) → b ≡ true → FirstIn I queue n x k
-  first_in_here k a b e h z = record {
-    bound = omega (arith, b);
-    there = λ l. ap (λ (y : ℕ). has x (y % I)) (sym e) ∙ sym h ∙ z;
-    none = λ e. absurd (omega (arith, e, b));
-  }
-
-  pub first_in_none : ((k : ℕ) → k < n → has x (at queue k % I) ≡ false) → FirstIn I queue n x n
-  first_in_none f = record { bound = omega arith; there = λ l. absurd (omega (arith, l)); none = λ e. f }
+  pub first_in_here : (k a : ℕ) {b : Bool} → k < n → a ≡ at queue k → b ≡ has x (a % I) → b ≡ true → FirstIn I queue n x (Some k)
+  first_in_here k a b e h z = (b, ap (λ (y : ℕ). has x (y % I)) (sym e) ∙ sym h ∙ z)
 
 module _ (queue : List ℕ) (n v : ℕ) where
   pub first_at_on : (k a : ℕ) → ((i : ℕ) → i < k → at queue i ≢ v) → a ≡ at queue k → a ≢ v → (i : ℕ) → i < k + 1 → at queue i ≢ v
   first_at_on k a f e d i b =
       elim (below_suc i k (omega (arith, b))) [ inl q ↦ λ z. d (e ∙ ap (at queue) (sym q) ∙ z) | inr l ↦ f i l ]
 
-  pub first_at_here : (k a : ℕ) → k < n → a ≡ at queue k → a ≡ v → FirstAt queue n v k
-  first_at_here k a b e h = record { bound = omega (arith, b); there = λ l. sym e ∙ h; none = λ e. absurd (omega (arith, e, b)) }
-
-  pub first_at_none : ((k : ℕ) → k < n → at queue k ≢ v) → FirstAt queue n v n
-  first_at_none f = record { bound = omega arith; there = λ l. absurd (omega (arith, l)); none = λ e. f }
+  pub first_at_here : (k a : ℕ) → k < n → a ≡ at queue k → a ≡ v → FirstAt queue n v (Some k)
+  first_at_here k a b e h = (b, sym e ∙ h)

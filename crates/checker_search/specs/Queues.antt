@@ -13,7 +13,8 @@
 --   Chained queue from k out i       == out has, from i on, the way to queue place k
 --   Copied src a e dst at out        == out is dst with the entries a to e - 1 of src from `at` on
 --   FirstIn, FirstAt                 == the first queue place with an input in a set, or that is a place
-use Rattle.std.specs.Prelude.{ℕ, suc, ◌+◌, ◌-◌, ◌%◌, ◌≤◌, ◌<◌, ◌≡◌, Bool, true, false, ◌≢◌, List, length, get_or}
+use Rattle.std.specs.Prelude.{ℕ, suc, ◌+◌, ◌-◌, ◌%◌, ◌≤◌, ◌<◌, ◌≡◌, Bool, true, false, ◌≢◌, List, length, get_or, Option}
+use Rattle.std.specs.declared.option.Option.TheVariants.{None, Some}
 use Rattle.finite.specs.Bounded.{count}
 use Rattle.bits.specs.Member.{has}
 use Rattle.checker_places.specs.Search.{Listed}
@@ -114,12 +115,10 @@ pub record Copied (src : List ℕ) (a e : ℕ) (dst : List ℕ) (p : ℕ) (out :
   pub here : (k : ℕ) → k < e - a → at out (p + k) ≡ at src (a + k)
   pub after : (k : ℕ) → p + (e - a) ≤ k → at out k ≡ at dst k
 
-pub record FirstIn (I : ℕ) (queue : List ℕ) (n x r : ℕ) : Type 0 where
-  pub bound : r ≤ n
-  pub there : r < n → has x (at queue r % I) ≡ true
-  pub none : r ≡ n → (k : ℕ) → k < n → has x (at queue k % I) ≡ false
+abbrev pub FirstIn : ℕ → List ℕ → ℕ → ℕ → Option ℕ → Type 0
+FirstIn I queue n x None = (k : ℕ) → k < n → has x (at queue k % I) ≡ false
+FirstIn I queue n x (Some r) = (r < n) × (has x (at queue r % I) ≡ true)
 
-pub record FirstAt (queue : List ℕ) (n v r : ℕ) : Type 0 where
-  pub bound : r ≤ n
-  pub there : r < n → at queue r ≡ v
-  pub none : r ≡ n → (k : ℕ) → k < n → at queue k ≢ v
+abbrev pub FirstAt : List ℕ → ℕ → ℕ → Option ℕ → Type 0
+FirstAt queue n v None = (k : ℕ) → k < n → at queue k ≢ v
+FirstAt queue n v (Some r) = (r < n) × (at queue r ≡ v)

@@ -41,13 +41,6 @@ pub fn visit(
     n + 1
 }
 
-// A place that was kept in 16 bits.
-fn wide(x: u16) -> usize
-    ensures { (result ≡ x) × (result < 65536) }
-{
-    x as usize
-}
-
 // Visits every place that a turn enters from place `at`.
 fn spread(
     inputs: usize,
@@ -68,12 +61,9 @@ fn spread(
 {
     let base = at / inputs * inputs;
     let mut found = n;
-    let mut rest = sets::row_of(moves, at % inputs);
-    while !sets::is_empty(rest) {
-        let j = sets::lowest(rest);
-        let d = wide(to[base + j]);
+    for j in sets::row_of(moves, at % inputs) {
+        let d = usize::from(to[base + j]);
         found = visit(places, within, mark, queue, from, found, finder, d);
-        rest = sets::without_lowest(rest);
     }
     found
 }
@@ -96,8 +86,9 @@ pub fn exhaust(
 {
     let mut a: usize = 0;
     let mut found = n;
+    // The queue grows while it is followed, so that no range has its places.
     while a < found {
-        let c = wide(queue[a]);
+        let c = usize::from(queue[a]);
         found = spread(
             inputs,
             places,
@@ -121,11 +112,9 @@ fn unmark(mark: &mut [u8; PLACES], queue: &[u16; PLACES], n: usize)
     requires { Held mark.old queue.now n }
     ensures { Unmarked mark.new }
 {
-    let mut k: usize = 0;
-    while k < n {
-        let a = wide(queue[k]);
+    for k in 0..n {
+        let a = usize::from(queue[k]);
         mark[a] = 0;
-        k += 1;
     }
 }
 
@@ -167,7 +156,7 @@ pub fn chain(
     let mut i: usize = 4095;
     out[i] = queue[k];
     while from[k] != 0 {
-        k = wide(from[k]) - 1;
+        k = usize::from(from[k]) - 1;
         i -= 1;
         out[i] = queue[k];
     }
@@ -179,39 +168,31 @@ pub fn copy(src: &[u16], a: usize, e: usize, dst: &mut [u16], at: usize)
     requires { (a ≤ e) × (e ≤ length src.now) × (at + (e - a) ≤ length dst.old) }
     ensures { Copied src.now a e dst.old at dst.new }
 {
-    let mut k: usize = 0;
-    while k < e - a {
-        dst[at + k] = src[a + k];
-        k += 1;
-    }
+    dst[at..at + (e - a)].copy_from_slice(&src[a..e]);
 }
 
-// The first of the queue's n places whose input belongs to x; n where there is none.
-pub fn first_in(inputs: usize, queue: &[u16; PLACES], n: usize, x: Set) -> usize
+// The first of the queue's n places whose input belongs to x.
+pub fn first_in(inputs: usize, queue: &[u16; PLACES], n: usize, x: Set) -> Option<usize>
     requires { (0 < inputs) × (inputs ≤ capacity) × (n ≤ most_places) }
     ensures { FirstIn inputs queue.now n (bits_of x) result }
 {
-    let mut k: usize = 0;
-    while k < n {
-        if sets::member(x, wide(queue[k]) % inputs) {
-            return k;
+    for k in 0..n {
+        if sets::member(x, usize::from(queue[k]) % inputs) {
+            return Some(k);
         }
-        k += 1;
     }
-    n
+    None
 }
 
-// The first of the queue's n places that is v; n where there is none.
-pub fn first_at(queue: &[u16; PLACES], n: usize, v: usize) -> usize
+// The first of the queue's n places that is v.
+pub fn first_at(queue: &[u16; PLACES], n: usize, v: usize) -> Option<usize>
     requires { n ≤ most_places }
     ensures { FirstAt queue.now n v result }
 {
-    let mut k: usize = 0;
-    while k < n {
-        if wide(queue[k]) == v {
-            return k;
+    for k in 0..n {
+        if usize::from(queue[k]) == v {
+            return Some(k);
         }
-        k += 1;
     }
-    n
+    None
 }

@@ -29,7 +29,7 @@ use Rattle.checker_places.specs.Marked.{Marked}
 use Rattle.checker_places.proofs.WalkPart.{entry_in, entry_of}
 use Rattle.checker_places.proofs.Accept.{places_start, places_cut, places_drop, places_none, accepted}
 use Rattle.checker_search.specs.Turns.{marked, follows, enters}
-use Rattle.checker_search.specs.Queues.{at, InQueue, Exhausted}
+use Rattle.checker_search.specs.Queues.{InQueue, Exhausted}
 use Rattle.checker_search.proofs.Turns.{enters_here}
 use Rattle.checker_rounds.specs.Rounds.{assumption, Removed}
 use Rattle.checker_pairs.specs.Pairs.{guarantee, Removals, whole, next, Cleared}
@@ -37,7 +37,7 @@ use Rattle.checker_rows.specs.Rows.{Ready, Filled}
 use Rattle.checker_rows.proofs.Leads.{playing}
 use Rattle.checker_reach.specs.Reach.{starts, Opens, Scanned}
 use Rattle.checker_reach.specs.declared.Opened.{Opened}
-use Rattle.checker_reach.specs.declared.Gap.{Gap}
+use Rattle.std.specs.declared.option.Option.TheVariants.{None}
 use Rattle.checker_reach.proofs.Opening.{memories, states}
 use Rattle.checker_table.proofs.Table.{count_places, few_places, row_input, row_leads, leads_below, grid, moves, follows_turns}
 
@@ -111,10 +111,10 @@ module _ (g : Game) (M N : ℕ) (l to : List ℕ) (R : Ready g M l) (e : N ≡ p
     removals_hold H (next S D) = removed_hold (removals_hold H S) D
 
   -- the search from the starts, inside all places, and no row after what it found is none
-  module _ (all mark₀ queue₀ from₀ mark queue from : List ℕ) (o : Opened) (n : ℕ) (s : Gap) (every : (a : ℕ) → a < N → marked all a ≡ true)
-      (O : Opens g N l mark₀ queue₀ from₀ o) (good : g.input.states ≤ o.bad)
+  module _ (all mark₀ queue₀ from₀ mark queue from : List ℕ) (o : Opened) (n : ℕ) (every : (a : ℕ) → a < N → marked all a ≡ true)
+      (O : Opens g N l mark₀ queue₀ from₀ o) (good : o.bad ≡ None)
       (E : Exhausted g.input.states N g.input.moves to all mark₀ queue₀ from₀ o.found mark queue from n)
-      (S : Scanned g.input.states g.input.moves to queue n s) (clean : s.at ≡ n) where
+      (S : Scanned g.input.states g.input.moves to queue n None) where
     pub listed : InQueue (starts g l) (enters g.input.states g.input.moves to all) N mark queue from n
     listed = E.listed (starts g l) (O.listed (enters I g.input.moves to all))
 
@@ -134,7 +134,7 @@ module _ (g : Game) (M N : ℕ) (l to : List ℕ) (R : Ready g M l) (e : N ≡ p
             let row = moves g M N l to R e F (k % I) j (mod_small k) ∙ m in
             let z = row_leads g M N l to R e F k j b i in
             let some : get_or to (k / I * I + j) 0 ≢ 65535 = subst (λ (x : ℕ). get_or to (x / I * I + j) 0 ≢ 65535) v.2
-            (S.nowhere clean v.0 v.1 j (ap (λ (x : ℕ). has (get_or (sets_in g.input.moves) (x % I) 0) j) v.2 ∙ row)) in
+            (S v.0 v.1 j (ap (λ (x : ℕ). has (get_or (sets_in g.input.moves) (x % I) 0) j) v.2 ∙ row)) in
             let small : leads (play_of g) T (k / I * I + j) < N = leads_below g M N l to R e F (k / I * I + j)
             (omega (arith, row_input g M N l to R e F k j i, i)) (λ y. some (z ∙ y)) in
             let t = enters_here I N g.input.moves to all (grid g M N l to R e F) k j b row (omega (arith, z, small))

@@ -7,8 +7,7 @@ use Rattle.arena.specs.Stopped.{NeverStopped}
 use Rattle.arena.proofs.Bounds.{bounded_arena_of}
 use Rattle.arena.proofs.Stopped as arena
 use Rattle.game.specs.declared.Game.{Game}
-use Rattle.game.specs.declared.Acceptance.TheVariants.{Accepted}
-use Rattle.game.specs.Acceptance.{acceptance}
+use Rattle.game.specs.Acceptance.{accepted, acceptance}
 use Rattle.play.specs.Play.{separated_of}
 use Rattle.theory.proofs.Agree.{rows_agree}
 use Rattle.demands.specs.Demands.{play_of}
@@ -20,7 +19,7 @@ use Rattle.compact.proofs.Entries.{starts_equal, rows_equal, compact_entries_len
 use Rattle.compact.proofs.Moving.{over_entries, back_entries, to_fits, to_ranks, from_fits, from_rows, over_and_back, back_and_over}
 use Rattle.compact.proofs.Outcome.{same_table, wins_over, wins_back, compact_demand_three}
 
-pub rows_by_component : (g : Game) → acceptance g ≡ Accepted → RowsByComponent g
+pub rows_by_component : (g : Game) → acceptance g ≡ accepted → RowsByComponent g
 unfolding play_of
 rows_by_component g a = record {
   depends = λ o c j k lo e. rows_agree (separated_of g) j k e o c lo;
@@ -44,7 +43,7 @@ rows_by_component g a = record {
   wins_back = wins_back (separated_of g);
 }
 
-pub never_stopped : (g : Game) → acceptance g ≡ Accepted → NeverStopped (play_of g) (compact_outcome (separated_of g))
+pub never_stopped : (g : Game) → acceptance g ≡ accepted → NeverStopped (play_of g) (compact_outcome (separated_of g))
 unfolding play_of
 never_stopped g a =
     arena.never_stopped (bounded_arena_of (separated_of g)) (compact_outcome (separated_of g)) (rows_by_component g a).demand

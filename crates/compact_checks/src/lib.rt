@@ -5,8 +5,7 @@
 ghost use Rattle.std.specs.Prelude.{◌≡◌, ◌⊎◌, ℕ, ◌+◌, ◌*◌, ◌≤◌, ◌<◌, length, get_or};
 ghost use Rattle.bits.specs.Member.{pack};
 ghost use Rattle.sets.specs.Words.{capacity, bits_of};
-ghost use Rattle.game.specs.declared.Acceptance.TheVariants.{Accepted};
-ghost use Rattle.game.specs.Acceptance.{acceptance};
+ghost use Rattle.game.specs.Acceptance.{acceptance, accepted};
 ghost use Rattle.play.specs.Play.{separated_of};
 ghost use Rattle.compact.specs.Rank.{leads};
 ghost use Rattle.compact.specs.Compact.{full_length};
@@ -20,12 +19,6 @@ use sets::Set;
 // How many inputs a part has at most.
 const PART: usize = 64;
 
-fn wide(x: u8) -> usize
-    ensures { result ≡ x }
-{
-    x as usize
-}
-
 // Whether the entries of `count` inputs from `part` on are those of the inputs named by firsts, in the row number that begins at `row`. The loop has no way out
 // in the middle: most tables fit, and without one a table is moved in a sixth less time.
 fn row_fits(table: &[u16], row: usize, part: usize, count: usize, firsts: &[u8; PART]) -> bool
@@ -34,13 +27,11 @@ fn row_fits(table: &[u16], row: usize, part: usize, count: usize, firsts: &[u8; 
     ensures { result ≡ row_agrees table.now firsts.now row part count }
 {
     let mut same = true;
-    let mut k: usize = 0;
-    while k < count {
-        let s = wide(firsts[k]);
+    for k in 0..count {
+        let s = usize::from(firsts[k]);
         if table[row + part + k] != table[row + s] {
             same = false;
         }
-        k += 1;
     }
     same
 }
@@ -58,12 +49,10 @@ fn part_fits(
         × ((k : ℕ) → k < count → get_or firsts.now k 0 < inputs) }
     ensures { result ≡ part_fits table.now firsts.now inputs rows part count }
 {
-    let mut x: usize = 0;
-    while x < rows {
+    for x in 0..rows {
         if !row_fits(table, inputs + x * inputs, part, count, firsts) {
             return false;
         }
-        x += 1;
     }
     true
 }
@@ -74,29 +63,24 @@ fn mark(firsts: &mut [u8; PART], part: usize, count: usize, c: Set, s: u8)
     ensures { Marked part count (bits_of c) s firsts.old firsts.new }
 {
     let low = sets::intersection(c, sets::below(part + count));
-    let mut rest = sets::difference(low, sets::below(part));
-    while !sets::is_empty(rest) {
-        let t = sets::lowest(rest);
+    for t in sets::difference(low, sets::below(part)) {
         firsts[t - part] = s;
-        rest = sets::without_lowest(rest);
     }
 }
 
 // The smallest input of the component of each of `count` inputs from `part` on.
 fn name_firsts(g: Game, leaders: InSet, part: usize, count: usize, firsts: &mut [u8; PART])
-    requires { (acceptance g ≡ Accepted) × (bits_of leaders.0 ≡ pack g.input.states (leads (separated_of g))) × (count ≤ part_size)
+    requires { (acceptance g ≡ accepted) × (bits_of leaders.0 ≡ pack g.input.states (leads (separated_of g))) × (count ≤ part_size)
         × (part + count ≤ g.input.states) × (length firsts.old ≡ part_size) }
     ensures { Firsts g part count firsts.new }
 {
     let n = g.input.states;
     let places = graph_ranks::crossings(g);
-    let mut j: usize = 0;
-    while j < n {
+    for j in 0..n {
         if sets::member(leaders.0, j) {
             let c = graph_ranks::component(&g.input.moves, n, places, InState(j));
             mark(firsts, part, count, c.0, j as u8);
         }
-        j += 1;
     }
 }
 
@@ -112,7 +96,7 @@ fn part_length(n: usize) -> usize
 
 // Whether no two inputs of one component differ in a row, part after part of the inputs.
 fn parts_fit(g: Game, leaders: InSet, table: &[u16]) -> bool
-    requires { (acceptance g ≡ Accepted) × (bits_of leaders.0 ≡ pack g.input.states (leads (separated_of g)))
+    requires { (acceptance g ≡ accepted) × (bits_of leaders.0 ≡ pack g.input.states (leads (separated_of g)))
         × (length table.now ≡ full_length (separated_of g)) }
     ensures { result ≡ rows_fit (separated_of g) table.now }
 {
@@ -133,7 +117,7 @@ fn parts_fit(g: Game, leaders: InSet, table: &[u16]) -> bool
 
 // The same, the inputs that lead their components being given. Where every input has a component of its own nothing need be compared.
 pub fn rows_fit(g: Game, leaders: InSet, table: &[u16]) -> bool
-    requires { (acceptance g ≡ Accepted) × (bits_of leaders.0 ≡ pack g.input.states (leads (separated_of g)))
+    requires { (acceptance g ≡ accepted) × (bits_of leaders.0 ≡ pack g.input.states (leads (separated_of g)))
         × (length table.now ≡ full_length (separated_of g)) }
     ensures { result ≡ rows_fit (separated_of g) table.now }
 {

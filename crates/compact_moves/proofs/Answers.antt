@@ -3,19 +3,22 @@
 --   over_faulty, over_length, over_rows, over_room_lem, over_made    : a move over
 --   back_faulty, back_length, back_ranks, back_room_lem, back_made   : a move back
 --   count_faulty, count_made                                     : a count of the components
-use Prim.Native.Nat.{ℕ, zero, suc, ◌≤◌, ◌<◌}
+use Prim.Native.Nat.{ℕ, ◌≤◌, ◌<◌}
+use native.Mathlib.Omega.{arith}
 use mathlib.Core.Path.{◌≡◌, refl, sym, ◌∙◌, ap, subst}
 use mathlib.Core.Bool.{Bool, true, false}
 use mathlib.Core.List.{List, [], ◌∷◌, ◌++◌}
 use mathlib.Core.Logic.{◌≢◌}
 use lib.Dec.{leb}
 use lib.ListN.{length, drop}
-use borrow.Author.Tests.{ne_eqb}
+use borrow.Author.Tests.{ne_eqb, lt-leb}
+use Rattle.std.specs.declared.result.Result.TheVariants.{Ok, Err}
 use Rattle.game.specs.declared.Game.{Game}
-use Rattle.game.specs.declared.Acceptance.{Acceptance}
-use Rattle.game.specs.declared.Acceptance.TheVariants.{Accepted, Refused as Faulty}
-use Rattle.game.specs.Acceptance.{acceptance, acceptance_number as acceptNumber}
-use Rattle.game.specs.Numbers.{first_of, game_tests}
+use Rattle.game.specs.declared.Refusal.{Refusal}
+use Rattle.game.specs.declared.Refusal.TheVariants.{OtherLayout, OtherRanks, RowsDiffer, ShortController}
+use Rattle.game.specs.Refusals.{number}
+use Rattle.game.specs.Acceptance.{Acceptance, accepted, first_failing, acceptance, acceptance_number}
+use Rattle.game.specs.Numbers.{numbered, first_of, game_tests}
 use Rattle.game.proofs.Numbers.{after, game_after, number_alone}
 use Rattle.arena.specs.Arena.{Separated}
 use Rattle.play.specs.Play.{separated_of}
@@ -25,11 +28,10 @@ use Rattle.compact.specs.Moving.{to_compact, from_compact, full_fits, compact_fi
 use Rattle.compact.proofs.Tests.{full_fits_intro, compact_fits_intro}
 use Rattle.compact.proofs.Moving.{over_and_back, back_and_over}
 use Rattle.compact.proofs.Numbers as numbers
-use Rattle.compact_moves.specs.declared.Move.{Move}
-use Rattle.compact_moves.specs.declared.Move.TheVariants.{Moved, Refused}
-use Rattle.compact_moves.specs.declared.Count.{Count}
-use Rattle.compact_moves.specs.declared.Count.TheVariants.{Components, Refused as NotCounted}
+use Rattle.compact_moves.specs.Move.{Move, Count}
 use Rattle.compact_moves.specs.Promise.{
+  over_refusals,
+  back_refusals,
   move_as,
   over_answer,
   back_answer,
@@ -47,37 +49,101 @@ use Rattle.compact_moves.specs.Promise.{
 
 -- ---- the number
 
-number_as : (k n : ℕ) → move_number (move_as k n) ≡ k
+number_as : (a : Acceptance) (n : ℕ) → move_number (move_as a n) ≡ acceptance_number a
 unfolding move_as
-number_as zero n = refl
-number_as (suc k) n = refl
+number_as (Ok u) n = refl
+number_as (Err r) n = refl
 
-accepted_as : (a : Acceptance) (k n : ℕ) → move_number (elim a as (λ x. Move) [ Accepted ↦ move_as k n | Faulty m ↦ Refused m ]) ≡ after a k
-accepted_as Accepted k n = number_as k n
-accepted_as (Faulty m) k n = refl
+accepted_as : (a b : Acceptance) (n : ℕ) → move_number (elim a as (λ x. Move) [ Ok u ↦ move_as b n | Err r ↦ Err r ]) ≡ after a (acceptance_number b)
+accepted_as (Ok u) b n = number_as b n
+accepted_as (Err r) b n = refl
 
-three : (p q r : ℕ) (a b c : Bool)
-    → elim a as (λ x. ℕ) [ true ↦ elim b as (λ x. ℕ) [ true ↦ elim c as (λ x. ℕ) [ true ↦ 0 | false ↦ r ] | false ↦ q ] | false ↦ p ]
-    ≡ first_of ((p, a) ∷ (q, b) ∷ (r, c) ∷ [])
-unfolding first_of
+tests_number : (ts : List (Refusal × Bool)) → acceptance_number (first_failing ts) ≡ first_of (numbered ts)
+unfolding first_failing numbered first_of
+tests_number [] = refl
+tests_number ((r, true) ∷ ts) = tests_number ts
+tests_number ((r, false) ∷ ts) = refl
+
+-- three tests in a row: the number is that of their answer, and none is given only where all hold
+three : (p q r : Refusal) (a b c : Bool)
+    → elim a as (λ x. ℕ) [
+      | true ↦ elim b as (λ x. ℕ) [ true ↦ elim c as (λ x. ℕ) [ true ↦ 0 | false ↦ number r ] | false ↦ number q ]
+      | false ↦ number p
+    ]
+    ≡ acceptance_number (first_failing ((p, a) ∷ (q, b) ∷ (r, c) ∷ []))
+unfolding first_failing
 three p q r true true true = refl
 three p q r true true false = refl
 three p q r true false c = refl
 three p q r false b c = refl
 
-not_moved : {A : Type 0} (k n : ℕ) → Refused k ≡ Moved n → A
-not_moved {A} k n e = absurd (subst told e tt)
+three_none : (p q r : Refusal) → 0 < number p → 0 < number q → 0 < number r → (a b c : Bool)
+    → acceptance_number (first_failing ((p, a) ∷ (q, b) ∷ (r, c) ∷ [])) ≡ 0 → first_failing ((p, a) ∷ (q, b) ∷ (r, c) ∷ []) ≡ accepted
+unfolding first_failing
+three_none p q r x y z true true true e = refl
+three_none p q r x y z true true false e = absurd (omega arith)
+three_none p q r x y z true false c e = absurd (omega arith)
+three_none p q r x y z false b c e = absurd (omega arith)
+
+not_moved : {A : Type 0} (n : ℕ) (r : Refusal) → Err r ≡ Ok n → A
+not_moved {A} n r e = absurd (subst told e tt)
   where
     told : Move → Type 0
-    told (Moved n) = ⊥
-    told (Refused n) = Unit {0}
+    told (Ok n) = ⊥
+    told (Err n) = Unit {0}
 
-module _ (g : Game) (a : acceptance g ≡ Accepted) (l : List ℕ) where
-  over_as : (n k : ℕ) → over_number (separated_of g) l n ≡ k → over_answer g l n ≡ move_as k (compact_length (separated_of g))
+-- what the tests say, by those that hold
+module _ (S : Separated) (l : List ℕ) (n : ℕ) where
+  over_number_as : over_number S l n ≡ acceptance_number (first_failing (over_refusals S l n))
+  unfolding over_number over_refusals
+  over_number_as = three OtherLayout RowsDiffer ShortController (full_fits S l) (rows_fit S l) (leb (compact_length S) n)
+
+  back_number_as : back_number S l n ≡ acceptance_number (first_failing (back_refusals S l n))
+  unfolding back_number back_refusals
+  back_number_as = three OtherLayout OtherRanks ShortController (compact_fits S l) (ranks_fit S l) (leb (full_length S) n)
+
+  over_none : over_number S l n ≡ 0 → first_failing (over_refusals S l n) ≡ accepted
+  unfolding over_refusals
+  over_none e =
+      three_none OtherLayout RowsDiffer ShortController (omega arith) (omega arith) (omega arith) (full_fits S l) (rows_fit S l)
+      (leb (compact_length S) n) (sym over_number_as ∙ e)
+
+  back_none : back_number S l n ≡ 0 → first_failing (back_refusals S l n) ≡ accepted
+  unfolding back_refusals
+  back_none e =
+      three_none OtherLayout OtherRanks ShortController (omega arith) (omega arith) (omega arith) (compact_fits S l) (ranks_fit S l)
+      (leb (full_length S) n) (sym back_number_as ∙ e)
+
+  over_other : full_fits S l ≡ false → first_failing (over_refusals S l n) ≡ Err OtherLayout
+  unfolding over_refusals first_failing
+  over_other a = rw (a, first_failing) refl
+
+  over_differ : full_fits S l ≡ true → rows_fit S l ≡ false → first_failing (over_refusals S l n) ≡ Err RowsDiffer
+  unfolding over_refusals first_failing
+  over_differ a b = rw (a, b, first_failing) refl
+
+  over_short : full_fits S l ≡ true → rows_fit S l ≡ true → n < compact_length S → first_failing (over_refusals S l n) ≡ Err ShortController
+  unfolding over_refusals first_failing
+  over_short a b h = rw (a, b, lt-leb (compact_length S) n h, first_failing) refl
+
+  back_other : compact_fits S l ≡ false → first_failing (back_refusals S l n) ≡ Err OtherLayout
+  unfolding back_refusals first_failing
+  back_other a = rw (a, first_failing) refl
+
+  back_differ : compact_fits S l ≡ true → ranks_fit S l ≡ false → first_failing (back_refusals S l n) ≡ Err OtherRanks
+  unfolding back_refusals first_failing
+  back_differ a b = rw (a, b, first_failing) refl
+
+  back_short : compact_fits S l ≡ true → ranks_fit S l ≡ true → n < full_length S → first_failing (back_refusals S l n) ≡ Err ShortController
+  unfolding back_refusals first_failing
+  back_short a b h = rw (a, b, lt-leb (full_length S) n h, first_failing) refl
+
+module _ (g : Game) (a : acceptance g ≡ accepted) (l : List ℕ) where
+  over_as : (n : ℕ) (k : Acceptance) → first_failing (over_refusals (separated_of g) l n) ≡ k → over_answer g l n ≡ move_as k (compact_length (separated_of g))
   unfolding over_answer
   over_as n k h = rw (a, h, over_answer) refl
 
-  back_as : (n k : ℕ) → back_number (separated_of g) l n ≡ k → back_answer g l n ≡ move_as k (full_length (separated_of g))
+  back_as : (n : ℕ) (k : Acceptance) → first_failing (back_refusals (separated_of g) l n) ≡ k → back_answer g l n ≡ move_as k (full_length (separated_of g))
   unfolding back_answer
   back_as n k h = rw (a, h, back_answer) refl
 
@@ -86,76 +152,76 @@ module _ (g : Game) (l : List ℕ) where
   S = separated_of g
 
   over_number_lem : (n : ℕ) → move_number (over_answer g l n) ≡ first_of (over_tests g l n)
-  unfolding over_answer over_tests over_number
+  unfolding over_answer over_tests
   over_number_lem n =
-      accepted_as (acceptance g) (over_number S l n) (compact_length S)
-      ∙ ap (after (acceptance g)) (three 23 21 9 (full_fits S l) (rows_fit S l) (leb (compact_length S) n))
-      ∙ sym (game_after g ((23, full_fits S l) ∷ (21, rows_fit S l) ∷ (9, leb (compact_length S) n) ∷ []))
+      accepted_as (acceptance g) (first_failing (over_refusals S l n)) (compact_length S)
+      ∙ ap (after (acceptance g)) (tests_number (over_refusals S l n))
+      ∙ sym (game_after g (numbered (over_refusals S l n)))
 
   back_number_lem : (n : ℕ) → move_number (back_answer g l n) ≡ first_of (back_tests g l n)
-  unfolding back_answer back_tests back_number
+  unfolding back_answer back_tests
   back_number_lem n =
-      accepted_as (acceptance g) (back_number S l n) (full_length S)
-      ∙ ap (after (acceptance g)) (three 23 22 9 (compact_fits S l) (ranks_fit S l) (leb (full_length S) n))
-      ∙ sym (game_after g ((23, compact_fits S l) ∷ (22, ranks_fit S l) ∷ (9, leb (full_length S) n) ∷ []))
+      accepted_as (acceptance g) (first_failing (back_refusals S l n)) (full_length S)
+      ∙ ap (after (acceptance g)) (tests_number (back_refusals S l n))
+      ∙ sym (game_after g (numbered (back_refusals S l n)))
 
   -- ---- refusals
 
   module _ (w : List ℕ) where
-    over_refused : (k : ℕ) → Refused k ≡ over_answer g l (length w) → MovedOver g l w w (Refused k)
+    over_refused : (r : Refusal) → Err r ≡ over_answer g l (length w) → MovedOver g l w w (Err r)
     unfolding over_room
-    over_refused k h = record {
+    over_refused r h = record {
       answer = h;
       number = ap move_number h ∙ over_number_lem (length w);
       room = refl;
-      over_and_back = λ n e. not_moved k n e;
+      over_and_back = λ n e. not_moved n r e;
     }
 
-    back_refused : (k : ℕ) → Refused k ≡ back_answer g l (length w) → MovedBack g l w w (Refused k)
+    back_refused : (r : Refusal) → Err r ≡ back_answer g l (length w) → MovedBack g l w w (Err r)
     unfolding back_room
-    back_refused k h = record {
+    back_refused r h = record {
       answer = h;
       number = ap move_number h ∙ back_number_lem (length w);
       room = refl;
-      back_and_over = λ n e. not_moved k n e;
+      back_and_over = λ n e. not_moved n r e;
     }
 
-    pub over_faulty : (k : ℕ) → acceptance g ≡ Faulty k → MovedOver g l w w (Refused k)
+    pub over_faulty : (r : Refusal) → acceptance g ≡ Err r → MovedOver g l w w (Err r)
     unfolding over_answer
-    over_faulty k a = over_refused k (rw (a, over_answer) refl)
+    over_faulty r a = over_refused r (rw (a, over_answer) refl)
 
-    pub back_faulty : (k : ℕ) → acceptance g ≡ Faulty k → MovedBack g l w w (Refused k)
+    pub back_faulty : (r : Refusal) → acceptance g ≡ Err r → MovedBack g l w w (Err r)
     unfolding back_answer
-    back_faulty k a = back_refused k (rw (a, back_answer) refl)
+    back_faulty r a = back_refused r (rw (a, back_answer) refl)
 
-  module _ (a : acceptance g ≡ Accepted) where
+  module _ (a : acceptance g ≡ accepted) where
     module _ (w : List ℕ) where
-      over_told : (k : ℕ) → over_number S l (length w) ≡ suc k → MovedOver g l w w (Refused (suc k))
+      over_told : (r : Refusal) → first_failing (over_refusals S l (length w)) ≡ Err r → MovedOver g l w w (Err r)
       unfolding move_as
-      over_told k h = over_refused w (suc k) (sym (over_as g a l (length w) (suc k) h))
+      over_told r h = over_refused w r (sym (over_as g a l (length w) (Err r) h))
 
-      back_told : (k : ℕ) → back_number S l (length w) ≡ suc k → MovedBack g l w w (Refused (suc k))
+      back_told : (r : Refusal) → first_failing (back_refusals S l (length w)) ≡ Err r → MovedBack g l w w (Err r)
       unfolding move_as
-      back_told k h = back_refused w (suc k) (sym (back_as g a l (length w) (suc k) h))
+      back_told r h = back_refused w r (sym (back_as g a l (length w) (Err r) h))
 
-      pub over_length : length l ≢ full_length S → MovedOver g l w w (Refused 23)
+      pub over_length : length l ≢ full_length S → MovedOver g l w w (Err OtherLayout)
       unfolding full_fits
-      over_length h = over_told 22 (numbers.over_length S l (length w) (ne_eqb (length l) (full_length S) h))
+      over_length h = over_told OtherLayout (over_other S l (length w) (ne_eqb (length l) (full_length S) h))
 
-      pub back_length : length l ≢ compact_length S → MovedBack g l w w (Refused 23)
+      pub back_length : length l ≢ compact_length S → MovedBack g l w w (Err OtherLayout)
       unfolding compact_fits
-      back_length h = back_told 22 (numbers.back_length S l (length w) (ne_eqb (length l) (compact_length S) h))
+      back_length h = back_told OtherLayout (back_other S l (length w) (ne_eqb (length l) (compact_length S) h))
 
       module _ (long : length l ≡ full_length S) where
-        pub over_rows : rows_fit S l ≡ false → MovedOver g l w w (Refused 21)
-        over_rows h = over_told 20 (numbers.over_rows S l (length w) (full_fits_intro S l long) h)
+        pub over_rows : rows_fit S l ≡ false → MovedOver g l w w (Err RowsDiffer)
+        over_rows h = over_told RowsDiffer (over_differ S l (length w) (full_fits_intro S l long) h)
 
         module _ (rows : rows_fit S l ≡ true) where
-          pub over_room_lem : length w < compact_length S → MovedOver g l w w (Refused 9)
-          over_room_lem h = over_told 8 (numbers.over_room_lem S l (length w) (full_fits_intro S l long) rows h)
+          pub over_room_lem : length w < compact_length S → MovedOver g l w w (Err ShortController)
+          over_room_lem h = over_told ShortController (over_short S l (length w) (full_fits_intro S l long) rows h)
 
           pub over_made : (n : ℕ) {w' : List ℕ} → n ≡ compact_length S → compact_length S ≤ length w → w' ≡ to_compact S l ++ drop (compact_length S) w
-              → MovedOver g l w w' (Moved n)
+              → MovedOver g l w w' (Ok n)
           unfolding move_as over_room
           over_made n {w'} z h e = record {
             answer = made;
@@ -167,22 +233,25 @@ module _ (g : Game) (l : List ℕ) where
               none : over_number S l (length w) ≡ 0
               none = numbers.over_done S l (length w) (full_fits_intro S l long) rows h
 
-              made : Moved n ≡ over_answer g l (length w)
-              made = ap Moved z ∙ sym (over_as g a l (length w) 0 none)
+              made : Ok n ≡ over_answer g l (length w)
+              made = ap Ok z ∙ sym (over_as g a l (length w) accepted (over_none S l (length w) none))
 
-              again : back_answer g (to_compact S l) (length l) ≡ Moved (length l)
-              again = back_as g a (to_compact S l) (length l) 0 (numbers.over_returns S l (length w) none) ∙ ap Moved (sym long)
+              again : back_answer g (to_compact S l) (length l) ≡ Ok (length l)
+              again =
+                  back_as g a (to_compact S l) (length l) accepted
+                  (back_none S (to_compact S l) (length l) (numbers.over_returns S l (length w) none))
+                  ∙ ap Ok (sym long)
 
       module _ (long : length l ≡ compact_length S) where
-        pub back_ranks : ranks_fit S l ≡ false → MovedBack g l w w (Refused 22)
-        back_ranks h = back_told 21 (numbers.back_ranks S l (length w) (compact_fits_intro S l long) h)
+        pub back_ranks : ranks_fit S l ≡ false → MovedBack g l w w (Err OtherRanks)
+        back_ranks h = back_told OtherRanks (back_differ S l (length w) (compact_fits_intro S l long) h)
 
         module _ (ranks : ranks_fit S l ≡ true) where
-          pub back_room_lem : length w < full_length S → MovedBack g l w w (Refused 9)
-          back_room_lem h = back_told 8 (numbers.back_room_lem S l (length w) (compact_fits_intro S l long) ranks h)
+          pub back_room_lem : length w < full_length S → MovedBack g l w w (Err ShortController)
+          back_room_lem h = back_told ShortController (back_short S l (length w) (compact_fits_intro S l long) ranks h)
 
           pub back_made : (n : ℕ) {w' : List ℕ} → n ≡ full_length S → full_length S ≤ length w → w' ≡ from_compact S l ++ drop (full_length S) w
-              → MovedBack g l w w' (Moved n)
+              → MovedBack g l w w' (Ok n)
           unfolding move_as back_room
           back_made n {w'} z h e = record {
             answer = made;
@@ -194,11 +263,14 @@ module _ (g : Game) (l : List ℕ) where
               none : back_number S l (length w) ≡ 0
               none = numbers.back_done S l (length w) (compact_fits_intro S l long) ranks h
 
-              made : Moved n ≡ back_answer g l (length w)
-              made = ap Moved z ∙ sym (back_as g a l (length w) 0 none)
+              made : Ok n ≡ back_answer g l (length w)
+              made = ap Ok z ∙ sym (back_as g a l (length w) accepted (back_none S l (length w) none))
 
-              again : over_answer g (from_compact S l) (length l) ≡ Moved (length l)
-              again = over_as g a (from_compact S l) (length l) 0 (numbers.back_returns S l (length w) none) ∙ ap Moved (sym long)
+              again : over_answer g (from_compact S l) (length l) ≡ Ok (length l)
+              again =
+                  over_as g a (from_compact S l) (length l) accepted
+                  (over_none S (from_compact S l) (length l) (numbers.back_returns S l (length w) none))
+                  ∙ ap Ok (sym long)
 
 -- ---- the count of the components
 
@@ -208,17 +280,17 @@ module _ (g : Game) where
   count_number_lem = as_accepted (acceptance g) ∙ number_alone (acceptance g) (game_tests g) (game_after g)
     where
       as_accepted : (a : Acceptance)
-          → count_number (elim a as (λ x. Count) [ Accepted ↦ Components (component_count (separated_of g)) | Faulty k ↦ NotCounted k ]) ≡ acceptNumber a
-      as_accepted Accepted = refl
-      as_accepted (Faulty k) = refl
+          → count_number (elim a as (λ x. Count) [ Ok u ↦ Ok (component_count (separated_of g)) | Err k ↦ Err k ]) ≡ acceptance_number a
+      as_accepted (Ok u) = refl
+      as_accepted (Err k) = refl
 
   counted : {r : Count} → r ≡ count_answer g → Counted g r
   counted e = record { answer = e; number = ap count_number e ∙ count_number_lem }
 
-  pub count_faulty : (k : ℕ) → acceptance g ≡ Faulty k → Counted g (NotCounted k)
+  pub count_faulty : (r : Refusal) → acceptance g ≡ Err r → Counted g (Err r)
   unfolding count_answer
-  count_faulty k a = counted (rw (a, count_answer) refl)
+  count_faulty r a = counted (rw (a, count_answer) refl)
 
-  pub count_made : (n : ℕ) → acceptance g ≡ Accepted → n ≡ component_count (separated_of g) → Counted g (Components n)
+  pub count_made : (n : ℕ) → acceptance g ≡ accepted → n ≡ component_count (separated_of g) → Counted g (Ok n)
   unfolding count_answer
-  count_made n a e = counted (ap Components e ∙ rw (a, count_answer) refl)
+  count_made n a e = counted (ap Ok e ∙ rw (a, count_answer) refl)

@@ -12,8 +12,7 @@ use native.Mathlib.Omega.{arith}
 use lib.ListN.{length, get_or, drop}
 use Rattle.arena.specs.Arena.{Separated}
 use Rattle.game.specs.declared.Game.{Game}
-use Rattle.game.specs.declared.Acceptance.TheVariants.{Accepted}
-use Rattle.game.specs.Acceptance.{acceptance}
+use Rattle.game.specs.Acceptance.{accepted, acceptance}
 use Rattle.game.proofs.Laws.{accepted_fits}
 use Rattle.play.specs.Play.{graph_of, separated_of}
 use Rattle.theory.specs.Entries.{none_entry, controller_counters, controller_entries}
@@ -141,7 +140,7 @@ module _ (g : Game) (T : List ℕ) {c r : ℕ} (p : c ≡ component_count (separ
   compact_length_is = ap₂ (λ (x y : ℕ). N + N + x * y) q p ∙ add_assoc N N (g.output.states * controller_counters G * component_count G)
 
   module _ (fits : rows_fit G T ≡ true) (long : length T ≡ full_length G) {l m : List ℕ} (W : RanksWritten g l m) where
-    pub compact_fits_lem : acceptance g ≡ Accepted → compact_length G ≤ length l → CompactFits T N c r m
+    pub compact_fits_lem : acceptance g ≡ accepted → compact_length G ≤ length l → CompactFits T N c r m
     unfolding separated_of graph_of
     compact_fits_lem a b = record {
       few = omega (arith, inputs_most g a);

@@ -1,2 +1,3 @@
 -- What the moves promise.
+pub mod Move
 pub mod Promise

@@ -5,21 +5,13 @@ ghost use Rattle.std.specs.Prelude.{◌+◌, ◌≤◌, length, ◌≡◌};
 ghost use Rattle.compact_rows.specs.Copying.{Started, GatherFits, Gathered, FullFits, GatheredRows, FullFilled};
 ghost use Rattle.compact_rows.specs.Copying.{RepresentFits, Represented, PickFits, Picked, PickRowsFits, PickedRows, CompactFits, CompactFilled};
 
-fn wide(x: u16) -> usize
-    ensures { result ≡ x }
-{
-    x as usize
-}
-
 // The starts are the same in both layouts. Another table that begins with the starts of this one gets them here too.
 pub fn starts(inputs: usize, table: &[u16], room: &mut [u16])
     requires { (inputs ≤ length table.now) × (inputs ≤ length room.old) }
     ensures { Started table.now inputs inputs room.old room.new }
 {
-    let mut i: usize = 0;
-    while i < inputs {
+    for i in 0..inputs {
         room[i] = table[i];
-        i += 1;
     }
 }
 
@@ -28,11 +20,9 @@ fn gather(table: &[u16], inputs: usize, from: usize, room: &mut [u16], at: usize
     requires { GatherFits table.now inputs from at (length room.old) }
     ensures { Gathered table.now inputs from at inputs room.old room.new }
 {
-    let mut j: usize = 0;
-    while j < inputs {
-        let c = wide(table[inputs + j]);
+    for j in 0..inputs {
+        let c = usize::from(table[inputs + j]);
         room[at + j] = table[from + c];
-        j += 1;
     }
 }
 
@@ -41,8 +31,7 @@ fn gather_rows(table: &[u16], inputs: usize, components: usize, rows: usize, roo
     requires { FullFits table.now inputs components rows (length room.old) }
     ensures { GatheredRows table.now inputs components rows rows room.old room.new }
 {
-    let mut x: usize = 0;
-    while x < rows {
+    for x in 0..rows {
         gather(
             table,
             inputs,
@@ -50,7 +39,6 @@ fn gather_rows(table: &[u16], inputs: usize, components: usize, rows: usize, roo
             room,
             inputs + x * inputs,
         );
-        x += 1;
     }
 }
 
@@ -69,11 +57,9 @@ fn represent(inputs: usize, components: usize, room: &mut [u16], at: usize)
     requires { RepresentFits inputs components room.old at }
     ensures { Represented inputs components at inputs room.old room.new }
 {
-    let mut j: usize = 0;
-    while j < inputs {
-        let c = wide(room[inputs + j]);
+    for j in 0..inputs {
+        let c = usize::from(room[inputs + j]);
         room[at + c] = j as u16;
-        j += 1;
     }
 }
 
@@ -82,11 +68,9 @@ fn pick(table: &[u16], from: usize, components: usize, room: &mut [u16], at: usi
     requires { PickFits table.now from components room.old at cells }
     ensures { Picked table.now from at cells components room.old room.new }
 {
-    let mut c: usize = 0;
-    while c < components {
-        let j = wide(room[at + c]);
+    for c in 0..components {
+        let j = usize::from(room[at + c]);
         room[cells + c] = table[from + j];
-        c += 1;
     }
 }
 

@@ -4,8 +4,7 @@ use native.Mathlib.Nat.{mul-le-mul}
 use mathlib.Core.Path.{◌≡◌, ap₂}
 use native.Mathlib.Omega.{arith}
 use Rattle.game.specs.declared.Game.{Game}
-use Rattle.game.specs.declared.Acceptance.TheVariants.{Accepted}
-use Rattle.game.specs.Acceptance.{acceptance}
+use Rattle.game.specs.Acceptance.{accepted, acceptance}
 use Rattle.game.proofs.Laws.{accepted_fits}
 use Rattle.play.specs.Play.{graph_of, separated_of}
 use Rattle.theory.specs.Entries.{controller_counters}
@@ -19,9 +18,9 @@ module _ (g : Game) (m k : ℕ) (e : m ≡ controller_counters (separated_of g))
   unfolding compact_length separated_of graph_of
   length_is = ap₂ (λ (x y : ℕ). g.input.states + (g.input.states + g.output.states * x * y)) e f
 
-  components_most : acceptance g ≡ Accepted → k ≤ 128
+  components_most : acceptance g ≡ accepted → k ≤ 128
   unfolding separated_of graph_of
   components_most a = omega (arith, f, components_le (separated_of g), (accepted_fits g a).input.most)
 
-  pub rows_most : acceptance g ≡ Accepted → g.output.states * m * k ≤ 524288
+  pub rows_most : acceptance g ≡ accepted → g.output.states * m * k ≤ 524288
   rows_most a = mul-le-mul (controller_rows g a m e) (components_most a)

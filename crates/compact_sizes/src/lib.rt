@@ -2,8 +2,7 @@
 #![tactic(auto)]
 
 ghost use Rattle.std.specs.Prelude.{◌≡◌};
-ghost use Rattle.game.specs.Acceptance.{acceptance};
-ghost use Rattle.game.specs.declared.Acceptance.TheVariants.{Accepted};
+ghost use Rattle.game.specs.Acceptance.{acceptance, accepted};
 ghost use Rattle.play.specs.Play.{separated_of};
 ghost use Rattle.compact.specs.Rank.{component_count};
 ghost use Rattle.compact.specs.Compact.{compact_length};
@@ -12,7 +11,7 @@ use game::Game;
 
 // How many entries the table has, for this many components.
 pub fn compact_length(g: Game, components: usize) -> usize
-    requires { (acceptance g ≡ Accepted) × (components ≡ component_count (separated_of g)) }
+    requires { (acceptance g ≡ accepted) × (components ≡ component_count (separated_of g)) }
     ensures { result ≡ compact_length (separated_of g) }
 {
     let inputs = g.input.states;

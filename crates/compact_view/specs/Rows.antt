@@ -7,8 +7,7 @@
 --   Looked l I M C o g j r       == r is that entry; of a game's table it is the row of the full layout
 use Rattle.std.specs.Prelude.{ℕ, ◌+◌, ◌*◌, ◌<◌, ◌≡◌, true, false, ◌&&◌, List, ltb, leb, get_or}
 use Rattle.game.specs.declared.Game.{Game}
-use Rattle.game.specs.declared.Acceptance.TheVariants.{Accepted}
-use Rattle.game.specs.Acceptance.{acceptance}
+use Rattle.game.specs.Acceptance.{accepted, acceptance}
 use Rattle.play.specs.Play.{separated_of}
 use Rattle.theory.specs.Entries.{none_entry, controller_counters}
 use Rattle.compact.specs.Rank.{component_count}
@@ -25,7 +24,7 @@ unfoldable pub compact_entry : List ℕ → (I M C o g j : ℕ) → ℕ
 compact_entry l I M C o g j = elim (in_range I M o g j && leb C I) [ true ↦ rank_entry l I M C o g (get_or l (I + j) none_entry) | false ↦ none_entry ]
 
 pub record Ranked (G : Game) (l : List ℕ) (I M C : ℕ) : Type 0 where
-  pub accepted : acceptance G ≡ Accepted
+  pub accepted : acceptance G ≡ accepted
   pub inputs : I ≡ G.input.states
   pub counters : M ≡ controller_counters (separated_of G)
   pub components : C ≡ component_count (separated_of G)

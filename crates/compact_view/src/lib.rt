@@ -7,12 +7,6 @@ ghost use Rattle.compact_view.specs.Rows.{Looked};
 
 use view::RowIndex;
 
-fn wide(x: u16) -> usize
-    ensures { result ≡ x }
-{
-    x as usize
-}
-
 // The entry of a row: that of the rank which the table has for the new input. (SPEC 9.5, 11.2)
 pub fn lookup(rows: &[u16], inputs: usize, counters: usize, components: usize, at: RowIndex) -> u16
     ensures { Looked rows.now inputs counters components at.output.0 at.counter at.input.0 result }
@@ -25,7 +19,7 @@ pub fn lookup(rows: &[u16], inputs: usize, counters: usize, components: usize, a
     }
     let o = at.output.0;
     let j = at.input.0;
-    let c = wide(view::entry(rows, inputs + j));
+    let c = usize::from(view::entry(rows, inputs + j));
     if c >= components {
         return table_entries::NONE;
     }

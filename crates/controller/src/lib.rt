@@ -5,8 +5,7 @@
 ghost use Rattle.std.specs.Prelude.{◌≡◌, ◌≤◌, ◌<◌, length, drop, ◌++◌};
 ghost use Rattle.sets.specs.Words.{bits_of, sets_in};
 ghost use Rattle.scratch.specs.Stored.{Ready};
-ghost use Rattle.game.specs.Acceptance.{acceptance};
-ghost use Rattle.game.specs.declared.Acceptance.TheVariants.{Accepted};
+ghost use Rattle.game.specs.Acceptance.{acceptance, accepted};
 ghost use Rattle.play.specs.Play.{separated_of};
 ghost use Rattle.theory.specs.Entries.{controller_entries};
 ghost use Rattle.game_sets.specs.Lists.{Lists};
@@ -81,10 +80,8 @@ fn settle_all(
     ensures { ControllerFilled (separated_of g) z (Below (separated_of g) z.outputs) room.old room.new }
 {
     let m = z.outputs;
-    let mut d = 0;
-    while d < m {
+    for d in 0..m {
         settle(g, given, l, outs, s, room, z, c, firsts, OutState(d));
-        d += 1;
     }
 }
 
@@ -109,7 +106,7 @@ fn rows(
 
 // The size of the table of an accepted game, with rows by input.
 fn size_of(g: Game, given: Outline) -> Size
-    requires { (acceptance g ≡ Accepted) × Outlined g given }
+    requires { (acceptance g ≡ accepted) × Outlined g given }
     ensures { Sized g result × ByInput result }
 {
     let inputs = g.input.states;
@@ -135,7 +132,7 @@ pub fn fill(
     c: InSet,
     room: &mut [u16],
 )
-    requires { (acceptance g ≡ Accepted) × Ready g s.now (bits_of c.0) × (length (controller_entries (separated_of g)) ≤ length room.old)
+    requires { (acceptance g ≡ accepted) × Ready g s.now (bits_of c.0) × (length (controller_entries (separated_of g)) ≤ length room.old)
         × Outlined g given × (outs.now ≡ g.output.moves) × Lists g l.now }
     ensures { room.new ≡ controller_entries (separated_of g) ++ drop (length (controller_entries (separated_of g))) room.old }
 {
@@ -146,7 +143,7 @@ pub fn fill(
 
 // The size of the table of an accepted game, with rows by component; the leaders are the smallest inputs of the components.
 fn compact_size(g: Game, given: Outline, leaders: InSet) -> Size
-    requires { (acceptance g ≡ Accepted) × (bits_of leaders.0 ≡ pack g.input.states (leads (separated_of g))) × Outlined g given }
+    requires { (acceptance g ≡ accepted) × (bits_of leaders.0 ≡ pack g.input.states (leads (separated_of g))) × Outlined g given }
     ensures { Sized g result × ByComponent g result }
 {
     let inputs = g.input.states;
@@ -172,7 +169,7 @@ pub fn fill_compact(
     c: InSet,
     room: &mut [u16],
 ) -> usize
-    requires { (acceptance g ≡ Accepted) × Ready g s.now (bits_of c.0) × (compact_length (separated_of g) ≤ length room.old)
+    requires { (acceptance g ≡ accepted) × Ready g s.now (bits_of c.0) × (compact_length (separated_of g) ≤ length room.old)
         × Outlined g given × (outs.now ≡ g.output.moves) × Lists g l.now }
     ensures { (room.new ≡ compact_entries (separated_of g) ++ drop (compact_length (separated_of g)) room.old)
         × (result ≡ compact_length (separated_of g)) }

@@ -27,12 +27,9 @@ fn settled(s: &[u64], n: usize, c: InSet, reach: OutSet, d: OutState) -> InSet
     ensures { bits_of result.0 ≡ pack n (settled_at (sets_in s.now) n (bits_of c.0) (bits_of reach.0) d.0) }
 {
     let mut x = sets::empty();
-    let mut rest = sets::intersection(c.0, sets::below(n));
-    while !sets::is_empty(rest) {
-        let j = sets::lowest(rest);
+    for j in sets::intersection(c.0, sets::below(n)) {
         let row = scratch::region_row(s, n, InState(j));
         x = sets::insert_if(x, j, home_is(row, reach, d));
-        rest = sets::without_lowest(rest);
     }
     InSet(x)
 }
@@ -70,12 +67,9 @@ fn alike(s: &[u64], n: usize, x: InSet, homes: OutSet, d: OutState) -> InSet
     ensures { bits_of result.0 ≡ pack n (λ j. has (bits_of x.0) j && alike_at (sets_in s.now) n d.0 (bits_of homes.0) j) }
 {
     let mut y = sets::empty();
-    let mut rest = x.0;
-    while !sets::is_empty(rest) {
-        let j = sets::lowest(rest);
+    for j in x.0 {
         let own = lower(s, n, InState(j), d);
         y = sets::insert_if(y, j, sets::same(own.0, homes.0));
-        rest = sets::without_lowest(rest);
     }
     InSet(y)
 }
@@ -108,11 +102,9 @@ fn reaching(s: &[u64], n: usize, m: usize, d: OutState) -> OutSet
     ensures { bits_of result.0 ≡ pack m (reaches_at (sets_in s.now) n d.0) }
 {
     let mut x = sets::empty();
-    let mut o: usize = 0;
-    while o < m {
+    for o in 0..m {
         let reach = scratch::out_reach(s, n, OutState(o));
         x = sets::insert_if(x, o, sets::member(reach.0, d.0));
-        o += 1;
     }
     OutSet(x)
 }
@@ -124,12 +116,9 @@ fn nearest(s: &[u64], n: usize, m: usize, x: OutSet, homes: OutSet) -> OutSet
     ensures { (o : ℕ) → has (bits_of result.0) o ≡ (has (bits_of x.0) o && avoids_at (sets_in s.now) n (bits_of homes.0) o) }
 {
     let mut y = sets::empty();
-    let mut rest = sets::difference(x.0, homes.0);
-    while !sets::is_empty(rest) {
-        let o = sets::lowest(rest);
+    for o in sets::difference(x.0, homes.0) {
         let reach = scratch::out_reach(s, n, OutState(o));
         y = sets::insert_if(y, o, !sets::meets(reach.0, homes.0));
-        rest = sets::without_lowest(rest);
     }
     OutSet(y)
 }

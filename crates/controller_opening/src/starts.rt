@@ -27,9 +27,7 @@ pub fn starts(room: &mut [u16], s: &[u64], z: Size, c: InSet, ins: InSet, outs: 
         room.new }
 {
     let n = z.inputs;
-    let mut i = 0;
-    while i < n {
+    for i in 0..n {
         room[i] = start(s, z, c, ins, outs, InState(i));
-        i += 1;
     }
 }

@@ -17,12 +17,9 @@ fn settling(s: &[u64], n: usize, x: InSet, reach: OutSet) -> InSet
     ensures { bits_of result.0 ≡ pack n (λ j. settles_at (bits_of x.0) j (row_at (sets_in s.now) n j) (bits_of reach.0)) }
 {
     let mut y = sets::empty();
-    let mut rest = sets::intersection(x.0, sets::below(n));
-    while !sets::is_empty(rest) {
-        let j = sets::lowest(rest);
+    for j in sets::intersection(x.0, sets::below(n)) {
         let row = scratch::region_row(s, n, InState(j));
         y = sets::insert_if(y, j, sets::meets(row.0, reach.0));
-        rest = sets::without_lowest(rest);
     }
     InSet(y)
 }
@@ -76,13 +73,11 @@ fn plain(room: &mut [u16], s: &[u64], z: Size, c: InSet, firsts: InSet, o: OutSt
         return;
     }
     let mut b: usize = 0;
-    let mut j: usize = 0;
-    while j < z.inputs {
+    for j in 0..z.inputs {
         if sets::member(leaders.0, j) {
             plain_row(room, s, z, x, o, moves, InState(j), Other(b));
             b += 1;
         }
-        j += 1;
     }
 }
 
@@ -100,8 +95,7 @@ pub fn plains(
     ensures { Plains z (sets_in s.now) (bits_of c.0) (sets_in moves.now) z.outputs room.old room.new }
 {
     let m = z.outputs;
-    let mut o = 0;
-    while o < m {
+    for o in 0..m {
         plain(
             room,
             s,
@@ -111,6 +105,5 @@ pub fn plains(
             OutState(o),
             OutSet(sets::row_of(moves, o)),
         );
-        o += 1;
     }
 }

@@ -18,13 +18,11 @@ fn among(z: Size, x: InSet) -> Set
     let leaders = z.leaders;
     let mut r = sets::empty();
     let mut b: usize = 0;
-    let mut j: usize = 0;
-    while j < z.inputs {
+    for j in 0..z.inputs {
         if sets::member(leaders.0, j) {
             r = sets::insert_if(r, b, sets::member(x.0, j));
             b += 1;
         }
-        j += 1;
     }
     r
 }

@@ -18,8 +18,7 @@ use Rattle.bits.specs.Member.{has, pack}
 use Rattle.graphs.specs.Component.{joined, nontrivial, meets_at}
 use Rattle.arena.specs.Arena.{Separated}
 use Rattle.game.specs.declared.Game.{Game}
-use Rattle.game.specs.declared.Acceptance.TheVariants.{Accepted}
-use Rattle.game.specs.Acceptance.{acceptance}
+use Rattle.game.specs.Acceptance.{accepted, acceptance}
 use Rattle.play.specs.Play.{separated_of}
 use Rattle.sets.specs.Words.{bits_of}
 use Rattle.scratch.specs.Stored.{Ready}
@@ -34,6 +33,7 @@ use Rattle.controller_rows.specs.declared.Home.{Home}
 use Rattle.controller_rows.specs.Writes.{leading, input_of, layout_of}
 
 -- "rows by output, counter, input, the last running fastest", "rows by output, counter and component" (SPEC 7.2, 11.1)
+
 pub record Sheet (S : Separated) (y : Layout) (input : ℕ → ℕ) (E : List ℕ) : Type 0 where
   pub outputs : y.states ≡ S.output.states
   pub counters : y.counters ≡ controller_counters S
@@ -67,7 +67,7 @@ pub record Below (S : Separated) (k o c j : ℕ) : Type 0 where
   pub below : home S j o < k
 
 pub record Sized (g : Game) (z : Size) : Type 0 where
-  pub accepted : acceptance g ≡ Accepted
+  pub accepted : acceptance g ≡ accepted
   pub inputs : z.inputs ≡ g.input.states
   pub outputs : z.outputs ≡ g.output.states
   pub counters : z.counters ≡ controller_counters (separated_of g)

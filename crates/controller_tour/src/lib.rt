@@ -33,12 +33,10 @@ fn seek_all(
     let component = w.component;
     let over = leaders::columns_of(z, w.inputs);
     let mut n: usize = 0;
-    let mut r: usize = 0;
-    while r < g.k {
+    for r in 0..g.k {
         let t = table_sizes::guarantees_of(g, given, l, r, n);
         sorts::aim_some(outs, room, y, component, over, q, t);
         n += t.count;
-        r += 1;
     }
 }
 

@@ -13,9 +13,8 @@ use Rattle.bits.specs.Member.{has}
 use Rattle.arena.specs.Arena.{Requirement}
 use Rattle.game.specs.declared.Game.{Game}
 use Rattle.game.specs.declared.Requirement.{Requirement as RequirementRecord}
-use Rattle.game.specs.declared.Acceptance.TheVariants.{Accepted}
 use Rattle.game.specs.Access.{no_input, no_output, requirement_at}
-use Rattle.game.specs.Acceptance.{acceptance}
+use Rattle.game.specs.Acceptance.{accepted, acceptance}
 use Rattle.game.proofs.Laws.{Fits, accepted_fits}
 use Rattle.play.specs.Play.{graph_of, requirement_of, requirements_of, separated_of}
 use Rattle.theory.specs.Choice.{sets_of, guarantees, assumptions}
@@ -23,6 +22,7 @@ use Rattle.theory.specs.Entries.{controller_counters, environment_counters}
 use Rattle.theory.proofs.Entries.{Sized}
 
 -- few sets in each of k requirements are few in all
+
 sets_few : (f : Requirement → List (ℕ → Bool)) (h : ℕ → Requirement) (s k : ℕ)
     → ((r : ℕ) → r < k → length (f (h (s + r))) ≤ 4) → length (sets_of f (tabulate_from s k h)) ≤ 4 * k
 unfolding sets_of tabulate_from
@@ -86,5 +86,5 @@ module _ (g : Game) (F : Fits g) where
     environment = omega (arith, environment_few);
   }
 
-pub accepted_sized : (g : Game) → acceptance g ≡ Accepted → Sized (separated_of g)
+pub accepted_sized : (g : Game) → acceptance g ≡ accepted → Sized (separated_of g)
 accepted_sized g a = fits_sized g (accepted_fits g a)

@@ -64,10 +64,8 @@ fn walked_rows<'a>(
 {
     let n = g.input.states;
     let mut ahead = inner;
-    let mut i: usize = 0;
-    while i < n {
+    for i in 0..n {
         ahead = component_rows(g, given, l, b, ins, outs, s, inner, ahead, InState(i), room);
-        i += 1;
     }
 }
 

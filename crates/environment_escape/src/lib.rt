@@ -42,12 +42,9 @@ fn exits(moves: &[u64; sets::ROW_WORDS], n: usize, c: InSet, out: InSet) -> InSe
     ensures { bits_of result.0 ≡ pack n (exits_at (sets_in moves.now) (bits_of c.0) (bits_of out.0)) }
 {
     let mut x = sets::empty();
-    let mut rest = c.0;
-    while !sets::is_empty(rest) {
-        let k = sets::lowest(rest);
+    for k in c.0 {
         let row = sets::row_of(moves, k);
         x = sets::insert_if(x, k, sets::meets(row, out.0));
-        rest = sets::without_lowest(rest);
     }
     InSet(x)
 }
@@ -162,8 +159,7 @@ pub fn escapes<'a>(
         outputs: OutSet(sets::empty()),
     };
     let mut touring = sets::empty();
-    let mut o: usize = 0;
-    while o < g.output.states {
+    for o in 0..g.output.states {
         let t = escape(
             ins,
             s,
@@ -177,7 +173,6 @@ pub fn escapes<'a>(
         );
         group = t.group;
         touring = sets::insert_if(touring, o, t.tours);
-        o += 1;
     }
     let gates = group.gates;
     let outputs = group.outputs;

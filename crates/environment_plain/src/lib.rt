@@ -22,12 +22,9 @@ fn reached(s: &[u64], n: usize, m: usize, set: OutSet) -> OutSet
     ensures { Reached (sets_in s.now) n m (bits_of set.0) (bits_of result.0) }
 {
     let mut x = sets::empty();
-    let mut rest = set.0;
-    while !sets::is_empty(rest) {
-        let p = sets::lowest(rest);
+    for p in set.0 {
         let more = scratch::out_reach(s, n, OutState(p));
         x = sets::union(x, more.0);
-        rest = sets::without_lowest(rest);
     }
     OutSet(x)
 }
@@ -39,14 +36,12 @@ fn refused(s: &[u64], n: usize, m: usize, inner: InSet, set: OutSet) -> InSet
 {
     let reach = reached(s, n, m, set);
     let mut x = sets::empty();
-    let mut j: usize = 0;
-    while j < n {
+    for j in 0..n {
         x = sets::insert_if(
             x,
             j,
             !scratch::some_won(s, n, m, inner, InState(j), set, reach),
         );
-        j += 1;
     }
     InSet(x)
 }
@@ -101,10 +96,8 @@ fn none_rows(g: Game, s: &[u64], inner: InSet, counters: usize, room: &mut [u16]
     ensures { EnvironmentFilled g (λ a h b. region (separated_of g) a b ≡ true) room.old room.new }
 {
     let n = g.input.states;
-    let mut i: usize = 0;
-    while i < n {
+    for i in 0..n {
         none_row(g, s, inner, counters, InState(i), room);
-        i += 1;
     }
 }
 
@@ -182,11 +175,9 @@ fn push_columns<'a>(
     ensures { EnvironmentFilled g (λ a h b. (unwalked g a b ≡ true) × (region (separated_of g) a b ≡ false)) room.old room.new }
 {
     let m = g.output.states;
-    let mut o: usize = 0;
-    while o < m {
+    for o in 0..m {
         let x = pushed(g.input.states, trivials, OutSet(sets::row_of(outs, o)));
         push_column(g, ins, outs, s, inner, counters, x, OutState(o), room);
-        o += 1;
     }
 }
 

@@ -18,11 +18,8 @@ pub fn lost(s: &[u64], n: usize, inner: InSet, x: InSet, o: OutState) -> InSet
     ensures { bits_of result.0 ≡ pack n (lost_in (sets_in s.now) n (bits_of inner.0) (bits_of x.0) o.0) }
 {
     let mut y = sets::empty();
-    let mut rest = x.0;
-    while !sets::is_empty(rest) {
-        let j = sets::lowest(rest);
+    for j in x.0 {
         y = sets::insert_if(y, j, !scratch::won(s, n, inner, InState(j), o));
-        rest = sets::without_lowest(rest);
     }
     InSet(y)
 }

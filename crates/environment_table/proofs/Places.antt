@@ -18,8 +18,7 @@ use borrow.Author.Tests.{lt-ltb}
 use Rattle.bits.specs.Member.{has}
 use Rattle.graphs.proofs.Graph.{edge_to}
 use Rattle.game.specs.declared.Game.{Game}
-use Rattle.game.specs.declared.Acceptance.TheVariants.{Accepted}
-use Rattle.game.specs.Acceptance.{acceptance}
+use Rattle.game.specs.Acceptance.{accepted, acceptance}
 use Rattle.play.specs.Play.{graph_of, separated_of}
 use Rattle.arena.specs.Table.{gives}
 use Rattle.theory.specs.Region.{region}
@@ -49,7 +48,7 @@ module _ (g : Game) (i h o : ℕ) (li : i < g.input.states) (lh : h < environmen
   entry_at = environment_row_at (separated_of g) 0 i h o li lh lo
 
   -- the state of a row that is not won
-  pub pushed_state : acceptance g ≡ Accepted → region (separated_of g) i o ≡ false → (c j : ℕ) → environment_row (separated_of g) i h o ≡ gives c j
+  pub pushed_state : acceptance g ≡ accepted → region (separated_of g) i o ≡ false → (c j : ℕ) → environment_row (separated_of g) i h o ≡ gives c j
       → j < g.input.states
   unfolding separated_of graph_of
   pushed_state a e c j q =

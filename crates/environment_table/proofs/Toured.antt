@@ -19,8 +19,7 @@ use Rattle.graphs.specs.Graph.{stuck}
 use Rattle.graphs.specs.Component.{joined, meets_at}
 use Rattle.graphs.proofs.Component.{joined_self}
 use Rattle.game.specs.declared.Game.{Game}
-use Rattle.game.specs.declared.Acceptance.TheVariants.{Accepted}
-use Rattle.game.specs.Acceptance.{acceptance}
+use Rattle.game.specs.Acceptance.{accepted, acceptance}
 use Rattle.game.proofs.Laws.{accepted_fits}
 use Rattle.play.specs.Play.{graph_of, separated_of}
 use Rattle.theory.specs.Region.{region}
@@ -88,7 +87,7 @@ module _ (g : Game) (c q over M : ℕ) (A : Aims g c q over M) where
 
 -- the assumptions, counted
 
-count_of : (g : Game) (n : ℕ) → acceptance g ≡ Accepted → n ≡ length (assumptions (separated_of g)) → Count g n
+count_of : (g : Game) (n : ℕ) → acceptance g ≡ accepted → n ≡ length (assumptions (separated_of g)) → Count g n
 count_of g n a e = record {
   accepted = a;
   all = e;

@@ -13,7 +13,6 @@ use native.Mathlib.Omega.{arith}
 use native.Mathlib.Decide.{ℕ_discrete}
 use lib.Dec.{leb}
 use borrow.Author.Tests.{leb-true, le-leb}
-use Rattle.finite.specs.Bounded.{least}
 use Rattle.finite.proofs.Truth.{decide, clash, false_of, same_test, and_intro, and_left, and_right, not_true, not_false, or_false_left, or_false_right, and_all}
 use Rattle.bits.specs.Member.{has, pack}
 use Rattle.bits.proofs.Membership.{has_pack_below}

@@ -13,8 +13,7 @@ use Rattle.finite.specs.Bounded.{least}
 use Rattle.bits.specs.Member.{has, both, sets_meet}
 use Rattle.sets.specs.Words.{capacity, sets_in}
 use Rattle.game.specs.declared.Game.{Game}
-use Rattle.game.specs.declared.Acceptance.TheVariants.{Accepted}
-use Rattle.game.specs.Acceptance.{acceptance}
+use Rattle.game.specs.Acceptance.{accepted, acceptance}
 use Rattle.play.specs.Play.{separated_of}
 use Rattle.arena.specs.Table.{gives}
 use Rattle.theory.specs.Choice.{environment_row}
@@ -32,7 +31,7 @@ unfoldable pub environment_place : ℕ → ℕ → ℕ → ℕ → ℕ → ℕ
 environment_place M O i h o = 1 + ((i * M + h) * O + o)
 
 pub record Known (g : Game) (s : List ℕ) (inner : ℕ) : Type 0 where
-  pub accepted : acceptance g ≡ Accepted
+  pub accepted : acceptance g ≡ accepted
   pub ready : Ready g s inner
 
 pub record Solved (g : Game) (s : List ℕ) (inner n : ℕ) : Type 0 where
@@ -40,7 +39,7 @@ pub record Solved (g : Game) (s : List ℕ) (inner n : ℕ) : Type 0 where
   pub room : length (environment_entries (separated_of g)) ≤ n
 
 pub record Roomy (g : Game) (M n : ℕ) : Type 0 where
-  pub accepted : acceptance g ≡ Accepted
+  pub accepted : acceptance g ≡ accepted
   pub counters : M ≡ environment_counters (separated_of g)
   pub few : M ≤ most_counters
   pub inputs : g.input.states ≤ capacity

@@ -6,8 +6,7 @@
 use Rattle.std.specs.Prelude.{ℕ, ◌≤◌, ◌≡◌, ◌≢◌, length}
 use Rattle.bits.specs.Member.{pack}
 use Rattle.game.specs.declared.Game.{Game}
-use Rattle.game.specs.declared.Acceptance.TheVariants.{Accepted}
-use Rattle.game.specs.Acceptance.{acceptance}
+use Rattle.game.specs.Acceptance.{accepted, acceptance}
 use Rattle.play.specs.Play.{separated_of}
 use Rattle.theory.specs.Choice.{assumptions}
 use Rattle.sets.specs.Words.{capacity}
@@ -16,7 +15,7 @@ use Rattle.table_goals.specs.Ranges.{met_in}
 use Rattle.environment_table.specs.Pressing.{Whole, touring_at}
 
 pub record Count (g : Game) (n : ℕ) : Type 0 where
-  pub accepted : acceptance g ≡ Accepted
+  pub accepted : acceptance g ≡ accepted
   pub all : n ≡ length (assumptions (separated_of g))
   pub few : n ≤ most_counters
   pub inputs : g.input.states ≤ capacity

@@ -34,12 +34,10 @@ fn aims(
 {
     let z = rows::layout_of(g.input.states, counters, g.output.states);
     let mut n: usize = 0;
-    let mut r: usize = 0;
-    while r < g.k {
+    for r in 0..g.k {
         let t = table_sizes::assumptions_of(g, given, l, r, n);
         sorts::aim_some(ins, room, z, c, over, q, t);
         n += t.count;
-        r += 1;
     }
 }
 

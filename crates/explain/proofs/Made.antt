@@ -10,33 +10,25 @@ use native.Mathlib.Omega.{arith}
 use lib.Dec.{ltb, leb}
 use lib.ListN.{length}
 use borrow.Author.Tests.{le-leb, lt-leb, lt-ltb, le-ltb}
+use Rattle.std.specs.Prelude.{Result}
+use Rattle.std.specs.declared.result.Result.TheVariants.{Ok, Err}
 use Rattle.finite.proofs.Truth.{and_intro, and_false_left, and_false_right}
 use Rattle.game.specs.declared.Game.{Game}
 use Rattle.game.specs.declared.InState.{InState}
 use Rattle.game.specs.declared.OutState.{OutState}
-use Rattle.game.specs.declared.Acceptance.{Acceptance}
-use Rattle.game.specs.declared.Acceptance.TheVariants.{Accepted, Refused as Faulty}
-use Rattle.game.specs.Acceptance.{tests, first_failing, acceptance}
+use Rattle.game.specs.declared.Refusal.{Refusal}
+use Rattle.game.specs.declared.Refusal.TheVariants.{ShortScratch, NoPosition}
+use Rattle.game.specs.Refusals.{number}
+use Rattle.game.specs.Acceptance.{Acceptance, accepted, acceptance}
 use Rattle.game.specs.Numbers.{first_of}
 use Rattle.game.proofs.Numbers.{after, game_after}
+use Rattle.game.proofs.Refusals.{refused_code}
 use Rattle.play.specs.Play.{graph_of, separated_of}
 use Rattle.scratch_clearing.specs.Clearing.{cleared}
 use Rattle.scratch.specs.Scratch.{scratch_length}
-use Rattle.grounds.specs.Ground.{
-  Ground,
-  input_stuck,
-  by_replies,
-  at_home,
-  output_stuck,
-  unanswered,
-  by_way_out,
-  unserved,
-  pushed_on,
-  ground,
-}
+use Rattle.grounds.specs.Ground.{Ground, ground}
 use Rattle.grounds.proofs.Explained.{ground_explains}
 use Rattle.ground_search.specs.declared.Explanation.{Explanation}
-use Rattle.ground_search.specs.declared.Explanation.TheVariants.{Refused}
 use Rattle.ground_search.specs.Told.{told}
 use Rattle.explain.specs.Explain.{
   in_game,
@@ -49,18 +41,6 @@ use Rattle.explain.specs.Explain.{
   Explained,
 }
 
--- a ground is no refusal
-told_number_lem : (x : Ground) → explain_number (told x) ≡ 0
-unfolding told
-told_number_lem input_stuck = refl
-told_number_lem by_replies = refl
-told_number_lem (at_home d) = refl
-told_number_lem output_stuck = refl
-told_number_lem (unanswered j) = refl
-told_number_lem (by_way_out j) = refl
-told_number_lem (unserved k n) = refl
-told_number_lem pushed_on = refl
-
 explain_number_lem : (g : Game) (s : ℕ) (i : InState) (o : OutState) → explain_number (explain_answer g s i o) ≡ first_of (explain_tests g s i o)
 unfolding explain_tests explain_answer explain_position explain_room first_of
 explain_number_lem g s i o = go (acceptance g) ∙ sym (game_after g ((25, in_game g i o) ∷ (8, leb (scratch_length g) s) ∷ []))
@@ -68,30 +48,23 @@ explain_number_lem g s i o = go (acceptance g) ∙ sym (game_after g ((25, in_ga
     x : Ground
     x = ground (separated_of g) i.0 o.0
 
-    room : (b : Bool) → explain_number (elim b as (λ z. Explanation) [ true ↦ told x | false ↦ Refused 8 ]) ≡ first_of ((8, b) ∷ [])
-    room true = told_number_lem x
+    room : (b : Bool) → explain_number (elim b as (λ z. Result Explanation Refusal) [ true ↦ Ok (told x) | false ↦ Err ShortScratch ]) ≡ first_of ((8, b) ∷ [])
+    room true = refl
     room false = refl
 
     here : (b : Bool)
-        → explain_number (elim b as (λ z. Explanation) [ true ↦ explain_room g s i o | false ↦ Refused 25 ])
+        → explain_number (elim b as (λ z. Result Explanation Refusal) [ true ↦ explain_room g s i o | false ↦ Err NoPosition ])
         ≡ first_of ((25, b) ∷ (8, leb (scratch_length g) s) ∷ [])
     here true = room (leb (scratch_length g) s)
     here false = refl
 
     go : (a : Acceptance)
-        → explain_number (elim a as (λ z. Explanation) [ Accepted ↦ explain_position g s i o | Faulty n ↦ Refused n ])
+        → explain_number (elim a as (λ z. Result Explanation Refusal) [ Ok u ↦ explain_position g s i o | Err r ↦ Err r ])
         ≡ after a (first_of ((25, in_game g i o) ∷ (8, leb (scratch_length g) s) ∷ []))
-    go Accepted = here (in_game g i o)
-    go (Faulty n) = refl
+    go (Ok u) = here (in_game g i o)
+    go (Err r) = refl
 
 -- ---- refusals
-
--- a fault's number is none of those before the first test
-fault_from : (k n : ℕ) (ts : List Bool) → first_failing k ts ≡ Faulty n → k ≤ n
-unfolding first_failing
-fault_from k n [] e = let z : ◌≡◌ {A = ℕ} 0 1 = cc in absurd (omega arith)
-fault_from k n (true ∷ ts) e = omega (arith, fault_from (suc k) n ts e)
-fault_from k n (false ∷ ts) e = let z : k ≡ n = cc in omega (arith, z)
 
 kept : (g : Game) (n : ℕ) (s : List ℕ) → 1 ≤ n → s ≡ scratch_after g n s
 unfolding scratch_after
@@ -99,28 +72,28 @@ kept g zero s b = absurd (omega arith)
 kept g (suc n) s b = refl
 
 module _ (g : Game) (s : List ℕ) (i : InState) (o : OutState) where
-  refused : (n : ℕ) → 1 ≤ n → Refused n ≡ explain_answer g (length s) i o → Explained g s s i o (Refused n)
-  refused n b e = record {
+  refused : (r : Refusal) → 1 ≤ number r → Err r ≡ explain_answer g (length s) i o → Explained g s s i o (Err r)
+  refused r b e = record {
     answer = e;
     number = ap explain_number e ∙ explain_number_lem g (length s) i o;
-    scratch = kept g n s b;
+    scratch = kept g (number r) s b;
     grounded = λ z. absurd (omega (arith, z));
   }
 
-  pub faulty : (n : ℕ) → acceptance g ≡ Faulty n → Explained g s s i o (Refused n)
-  unfolding explain_answer acceptance
-  faulty n e = refused n (fault_from 1 n (tests g) e) (rw (e, explain_answer) refl)
+  pub faulty : (r : Refusal) → acceptance g ≡ Err r → Explained g s s i o (Err r)
+  unfolding explain_answer
+  faulty r e = refused r (refused_code g r e).0 (rw (e, explain_answer) refl)
 
-  module _ (a : acceptance g ≡ Accepted) where
-    outside : in_game g i o ≡ false → Explained g s s i o (Refused 25)
+  module _ (a : acceptance g ≡ accepted) where
+    outside : in_game g i o ≡ false → Explained g s s i o (Err NoPosition)
     unfolding explain_answer explain_position
-    outside e = refused 25 (omega arith) (rw (a, explain_answer) (rw (e, explain_position) refl))
+    outside e = refused NoPosition (omega arith) (rw (a, explain_answer) (rw (e, explain_position) refl))
 
-    pub outside_input : g.input.states ≤ i.0 → Explained g s s i o (Refused 25)
+    pub outside_input : g.input.states ≤ i.0 → Explained g s s i o (Err NoPosition)
     unfolding in_game
     outside_input b = outside (and_false_left (ltb o.0 g.output.states) (le-ltb i.0 g.input.states b))
 
-    pub outside_output : g.output.states ≤ o.0 → Explained g s s i o (Refused 25)
+    pub outside_output : g.output.states ≤ o.0 → Explained g s s i o (Err NoPosition)
     unfolding in_game
     outside_output b = outside (and_false_right (ltb i.0 g.input.states) (le-ltb o.0 g.output.states b))
 
@@ -129,19 +102,19 @@ module _ (g : Game) (s : List ℕ) (i : InState) (o : OutState) where
       unfolding in_game
       inside = and_intro (lt-ltb i.0 g.input.states bi) (lt-ltb o.0 g.output.states bo)
 
-      pub short : length s < scratch_length g → Explained g s s i o (Refused 8)
+      pub short : length s < scratch_length g → Explained g s s i o (Err ShortScratch)
       unfolding explain_answer explain_position explain_room
       short b =
-          refused 8 (omega arith)
+          refused ShortScratch (omega arith)
           (rw (a, explain_answer) (rw (inside, explain_position) (rw (lt-leb (scratch_length g) (length s) b, explain_room) refl)))
 
-      pub explained : {s' : List ℕ} {r : Explanation} → scratch_length g ≤ length s → s' ≡ cleared (scratch_length g) s
-          → r ≡ told (ground (separated_of g) i.0 o.0) → Explained g s s' i o r
+      pub explained : {s' : List ℕ} {r : Result Explanation Refusal} → scratch_length g ≤ length s → s' ≡ cleared (scratch_length g) s
+          → r ≡ Ok (told (ground (separated_of g) i.0 o.0)) → Explained g s s' i o r
       unfolding explain_answer explain_position explain_room scratch_after separated_of graph_of
       explained {s'} {r} b e h = record {
         answer = answer;
         number = ap explain_number answer ∙ explain_number_lem g (length s) i o;
-        scratch = e ∙ ap (λ (n : ℕ). scratch_after g n s) (sym (ap explain_number h ∙ told_number_lem (ground (separated_of g) i.0 o.0)));
+        scratch = e ∙ ap (λ (n : ℕ). scratch_after g n s) (sym (ap explain_number h));
         grounded = λ z. record { ground = ground (separated_of g) i.0 o.0; tells = h; explains = ground_explains (separated_of g) i.0 o.0 bi bo };
       }
         where

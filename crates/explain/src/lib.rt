@@ -2,8 +2,7 @@
 #![tactic(auto)]
 
 ghost use Rattle.std.specs.Prelude.{◌≡◌, ◌≤◌, ◌<◌, length};
-ghost use Rattle.game.specs.declared.Acceptance.TheVariants.{Accepted};
-ghost use Rattle.game.specs.Acceptance.{acceptance};
+ghost use Rattle.game.specs.Acceptance.{acceptance, accepted};
 ghost use Rattle.game.specs.Fits.{Fits};
 ghost use Rattle.play.specs.Play.{separated_of};
 ghost use Rattle.scratch_clearing.specs.Clearing.{cleared};
@@ -12,7 +11,7 @@ ghost use Rattle.grounds.specs.Ground.{ground};
 ghost use Rattle.ground_search.specs.Told.{told};
 ghost use Rattle.explain.specs.Explain.{Explained};
 
-use game::{Acceptance, Game, InState, OutState};
+use game::{Game, InState, OutState, Refusal};
 use ground_search::Explanation;
 
 // The ground of a position of an accepted game. Clears scratch.
@@ -30,29 +29,36 @@ fn explain_position(g: Game, scratch: &mut [u64], i: InState, o: OutState) -> Ex
 }
 
 // The ground of a position, where the game is accepted.
-fn explain_accepted(g: Game, scratch: &mut [u64], i: InState, o: OutState) -> Explanation
-    requires { acceptance g ≡ Accepted }
+fn explain_accepted(
+    g: Game,
+    scratch: &mut [u64],
+    i: InState,
+    o: OutState,
+) -> Result<Explanation, Refusal>
+    requires { acceptance g ≡ accepted }
     ensures { Explained g scratch.old scratch.new i o result }
 {
     if i.0 >= g.input.states {
-        return Explanation::Refused(25);
+        return Err(Refusal::NoPosition);
     }
     if o.0 >= g.output.states {
-        return Explanation::Refused(25);
+        return Err(Refusal::NoPosition);
     }
     if scratch.len() < scratch::length(g) {
-        return Explanation::Refused(8);
+        return Err(Refusal::ShortScratch);
     }
-    explain_position(g, scratch, i, o)
+    Ok(explain_position(g, scratch, i, o))
 }
 
 // Tells what made the position of input i and output o won or lost: the first ground that fits, with the lowest numbers. (SPEC 14.1, 14.2)
-pub fn explain(g: Game, scratch: &mut [u64], i: InState, o: OutState) -> Explanation
+pub fn explain(
+    g: Game,
+    scratch: &mut [u64],
+    i: InState,
+    o: OutState,
+) -> Result<Explanation, Refusal>
     ensures { Explained g scratch.old scratch.new i o result }
 {
-    let accepted = acceptance::accept(g);
-    match accepted {
-        Acceptance::Refused(n) => Explanation::Refused(n),
-        Acceptance::Accepted => explain_accepted(g, scratch, i, o),
-    }
+    acceptance::accept(g)?;
+    explain_accepted(g, scratch, i, o)
 }

@@ -44,7 +44,6 @@ use Rattle.ground_search.specs.declared.Explanation.TheVariants.{
   ByWayOut,
   Unserved,
   PushedOn,
-  Refused,
 }
 use Rattle.ground_search.specs.Told.{told}
 use Rattle.ground_search.proofs.Requirements.{nth}
@@ -64,7 +63,6 @@ number_small (Unanswered j) = omega arith
 number_small (ByWayOut j) = omega arith
 number_small (Unserved k n) = omega arith
 number_small PushedOn = omega arith
-number_small (Refused n) = omega arith
 
 module _ (g : Game) (F : Fits g) (i o : ℕ) (a : i < g.input.states) (b : o < g.output.states) where
   requirement_few : (k : ℕ) → k < length (separated_of g).requirements → k < g.k
@@ -75,7 +73,11 @@ module _ (g : Game) (F : Fits g) (i o : ℕ) (a : i < g.input.states) (b : o < g
   unfolding requirement_of
   sets_few k h =
       rw (nth g k h)
-      (omega (arith, length_tabulate (λ j. has (bits_of (guarantee_at g k j).0)) (requirement_at g k).guaranteed, (F.requirement k (omega (arith, F.few))).few_guaranteed))
+      (omega (
+        arith,
+        length_tabulate (λ j. has (bits_of (guarantee_at g k j).0)) (requirement_at g k).guaranteed,
+        (F.requirement k (omega (arith, F.few))).few_guaranteed,
+      ))
 
   names : (x : Ground) → Holds (separated_of g) i o x → Named x
   unfolding Holds told second_named separated_of graph_of

@@ -14,17 +14,14 @@ use borrow.Author.Tests.{leb-true, le-leb, lt-leb}
 use Rattle.finite.proofs.Truth.{and_left, and_right, and_false_left}
 use Rattle.finite.proofs.Front.{front_at}
 use Rattle.game.specs.declared.Game.{Game}
-use Rattle.game.specs.declared.Acceptance.{Acceptance}
-use Rattle.game.specs.declared.Acceptance.TheVariants.{Accepted, Refused as Faulty}
-use Rattle.game.specs.Acceptance.{acceptance}
+use Rattle.game.specs.Acceptance.{Acceptance, accepted, acceptance}
 use Rattle.game.specs.Numbers.{first_of}
 use Rattle.game.proofs.Laws.{accepted_fits}
 use Rattle.game.proofs.Numbers.{after, game_after}
 use Rattle.play.specs.Play.{graph_of, separated_of}
 use Rattle.scratch_clearing.specs.Clearing.{cleared}
 use Rattle.scratch.specs.Scratch.{scratch_length}
-use Rattle.map_marks.specs.declared.Mapped.{Mapped}
-use Rattle.map_marks.specs.declared.Mapped.TheVariants.{Done, Refused}
+use Rattle.map_marks.specs.Mapped.{made, Mapped}
 use Rattle.map_marks.specs.Answer.{map_number}
 use Rattle.map_marks.proofs.Answer.{not_done}
 use Rattle.map.specs.Map.{map_scratch}
@@ -43,22 +40,25 @@ use Rattle.explain_all.specs.All.{
   ExplainedAll,
 }
 use Rattle.explain_all.proofs.Entries.{entry_read}
+use Rattle.std.specs.declared.result.Result.TheVariants.{Ok, Err}
+use Rattle.game.specs.declared.Refusal.{Refusal}
+use Rattle.game.specs.declared.Refusal.TheVariants.{ShortScratch}
 
 all_number : (g : Game) (s m : ℕ) → map_number (all_answer g s m) ≡ first_of (all_tests g s m)
 unfolding all_tests all_answer all_room first_of
 all_number g s m = go (acceptance g) ∙ sym (game_after g ((8, all_fits g s m) ∷ []))
   where
-    room : (b : Bool) → map_number (elim b as (λ x. Mapped) [ true ↦ Done | false ↦ Refused 8 ]) ≡ first_of ((8, b) ∷ [])
+    room : (b : Bool) → map_number (elim b as (λ x. Mapped) [ true ↦ made | false ↦ Err ShortScratch ]) ≡ first_of ((8, b) ∷ [])
     room true = refl
     room false = refl
 
     go : (a : Acceptance)
-        → map_number (elim a as (λ x. Mapped) [ Accepted ↦ all_room g s m | Faulty n ↦ Refused n ]) ≡ after a (first_of ((8, all_fits g s m) ∷ []))
-    go Accepted = room (all_fits g s m)
-    go (Faulty n) = refl
+        → map_number (elim a as (λ x. Mapped) [ Ok u ↦ all_room g s m | Err n ↦ Err n ]) ≡ after a (first_of ((8, all_fits g s m) ∷ []))
+    go (Ok u) = room (all_fits g s m)
+    go (Err n) = refl
 
-all_room_lem : (g : Game) (s m : ℕ) (b : Bool) {r : Mapped} → acceptance g ≡ Accepted → all_fits g s m ≡ b
-    → r ≡ elim b as (λ x. Mapped) [ true ↦ Done | false ↦ Refused 8 ] → r ≡ all_answer g s m
+all_room_lem : (g : Game) (s m : ℕ) (b : Bool) {r : Mapped} → acceptance g ≡ accepted → all_fits g s m ≡ b
+    → r ≡ elim b as (λ x. Mapped) [ true ↦ made | false ↦ Err ShortScratch ] → r ≡ all_answer g s m
 unfolding all_answer all_room
 all_room_lem g s m b a e h = rw (a, all_answer) (rw (e, all_room) h)
 
@@ -66,20 +66,20 @@ module _ (g : Game) (s m : List ℕ) where
   told : {r : Mapped} → r ≡ all_answer g (length s) (length m) → map_number r ≡ first_of (all_tests g (length s) (length m))
   told e = ap map_number e ∙ all_number g (length s) (length m)
 
-  refused : (n : ℕ) → Refused n ≡ all_answer g (length s) (length m) → ExplainedAll g s s m m (Refused n)
+  refused : (n : Refusal) → Err n ≡ all_answer g (length s) (length m) → ExplainedAll g s s m m (Err n)
   unfolding map_scratch grounds_after
   refused n e = record { answer = e; number = told e; scratch = refl; grounds = refl; explains = λ q. not_done q }
 
-  pub all_faulty : (n : ℕ) → acceptance g ≡ Faulty n → ExplainedAll g s s m m (Refused n)
+  pub all_faulty : (n : Refusal) → acceptance g ≡ Err n → ExplainedAll g s s m m (Err n)
   unfolding all_answer
   all_faulty n e = refused n (rw (e, all_answer) refl)
 
-  module _ (a : acceptance g ≡ Accepted) where
-    pub all_short : all_fits g (length s) (length m) ≡ false → ExplainedAll g s s m m (Refused 8)
-    all_short b = refused 8 (all_room_lem g (length s) (length m) false a b refl)
+  module _ (a : acceptance g ≡ accepted) where
+    pub all_short : all_fits g (length s) (length m) ≡ false → ExplainedAll g s s m m (Err ShortScratch)
+    all_short b = refused ShortScratch (all_room_lem g (length s) (length m) false a b refl)
 
     pub all_done : {s' m' : List ℕ} → all_fits g (length s) (length m) ≡ true → s' ≡ cleared (scratch_length g) s
-        → m' ≡ grounds_after g Done m → ExplainedAll g s s' m m' Done
+        → m' ≡ grounds_after g made m → ExplainedAll g s s' m m' made
     unfolding map_scratch separated_of graph_of grounds_after positions position_entry
     all_done {s'} {m'} b e f = record {
       answer = done;
@@ -89,7 +89,7 @@ module _ (g : Game) (s m : List ℕ) where
       explains = λ q i o bi bo. subst (Explains (separated_of g) i o) (sym (stands i o bi bo)) (explained i o bi bo);
     }
       where
-        done : Done ≡ all_answer g (length s) (length m)
+        done : made ≡ all_answer g (length s) (length m)
         done = all_room_lem g (length s) (length m) true a b refl
 
         explained : (i o : ℕ) → i < g.input.states → o < g.output.states → Explains (separated_of g) i o (ground (separated_of g) i o)

@@ -9,18 +9,18 @@
 use Rattle.std.specs.Prelude.{ℕ, ◌+◌, ◌*◌, ◌/◌, ◌%◌, ◌<◌, ◌≡◌, Bool, true, false, ◌&&◌, List, [], ◌∷◌, ◌++◌, leb, length, get_or, drop}
 use Rattle.finite.specs.Tabulate.{tabulate}
 use Rattle.game.specs.declared.Game.{Game}
-use Rattle.game.specs.declared.Acceptance.TheVariants.{Accepted, Refused as Faulty}
 use Rattle.game.specs.Acceptance.{acceptance}
 use Rattle.game.specs.Numbers.{first_of, game_tests}
 use Rattle.play.specs.Play.{separated_of}
 use Rattle.scratch.specs.Scratch.{scratch_length}
-use Rattle.map_marks.specs.declared.Mapped.{Mapped}
-use Rattle.map_marks.specs.declared.Mapped.TheVariants.{Done, Refused}
+use Rattle.map_marks.specs.Mapped.{made, Mapped}
 use Rattle.map_marks.specs.Answer.{map_number}
 use Rattle.map.specs.Map.{map_scratch}
 use Rattle.grounds.specs.Ground.{ground}
 use Rattle.grounds.specs.Holds.{Explains}
 use Rattle.explain_all.specs.Entry.{ground_entry, entry_ground}
+use Rattle.std.specs.declared.result.Result.TheVariants.{Ok, Err}
+use Rattle.game.specs.declared.Refusal.TheVariants.{ShortScratch}
 
 unfoldable pub positions : Game → ℕ
 positions g = g.input.states * g.output.states
@@ -34,10 +34,10 @@ unfoldable pub all_fits : Game → ℕ → ℕ → Bool
 all_fits g s m = leb (scratch_length g) s && leb (positions g) m
 
 unfoldable pub all_room : Game → ℕ → ℕ → Mapped
-all_room g s m = elim (all_fits g s m) [ true ↦ Done | false ↦ Refused 8 ]
+all_room g s m = elim (all_fits g s m) [ true ↦ made | false ↦ Err ShortScratch ]
 
 unfoldable pub all_answer : Game → ℕ → ℕ → Mapped
-all_answer g s m = elim (acceptance g) [ Accepted ↦ all_room g s m | Faulty n ↦ Refused n ]
+all_answer g s m = elim (acceptance g) [ Ok u ↦ all_room g s m | Err n ↦ Err n ]
 
 -- SPEC 9.1, 14.6
 unfoldable pub all_tests : Game → ℕ → ℕ → List (ℕ × Bool)
@@ -45,8 +45,8 @@ all_tests g s m = game_tests g ++ (8, all_fits g s m) ∷ []
 
 -- an entry a position, the rest unchanged; "Each returns its number only .. and changes no lent memory" (SPEC 14.6)
 unfoldable pub grounds_after : Game → Mapped → List ℕ → List ℕ
-grounds_after g Done m = tabulate (positions g) (position_entry g) ++ drop (positions g) m
-grounds_after g (Refused n) m = m
+grounds_after g (Ok u) m = tabulate (positions g) (position_entry g) ++ drop (positions g) m
+grounds_after g (Err n) m = m
 
 -- `explains`: what is read from the entry of a position "holds with won and lost as 01 defines them, not by a map" (SPEC 14.6)
 pub record ExplainedAll (g : Game) (s s' m m' : List ℕ) (r : Mapped) : Type 0 where
@@ -54,5 +54,5 @@ pub record ExplainedAll (g : Game) (s s' m m' : List ℕ) (r : Mapped) : Type 0 
   pub number : map_number r ≡ first_of (all_tests g (length s) (length m))
   pub scratch : s' ≡ map_scratch g r s
   pub grounds : m' ≡ grounds_after g r m
-  pub explains : r ≡ Done → (i o : ℕ) → i < g.input.states → o < g.output.states
+  pub explains : r ≡ made → (i o : ℕ) → i < g.input.states → o < g.output.states
       → Explains (separated_of g) i o (entry_ground (get_or m' (i * g.output.states + o) 0))

@@ -1,6 +1,6 @@
 -- A ground as one entry of 16 bits.
 --
---   told_number x        == the number of the ground that x tells, 1 to 8 as M-109 lists them; 0 of a refusal
+--   told_number x        == the number of the ground that x tells, 1 to 8 as M-109 lists them
 --   told_name x          == what it names, as one number: an output, an input, or 4 times a requirement and its output set; 0 where it names nothing
 --   told_entry x         == the entry that stands for x
 --   ground_entry x       == the entry of the ground x
@@ -18,7 +18,6 @@ use Rattle.ground_search.specs.declared.Explanation.TheVariants.{
   ByWayOut,
   Unserved,
   PushedOn,
-  Refused,
 }
 use Rattle.ground_search.specs.Told.{told}
 
@@ -31,7 +30,6 @@ told_number (Unanswered j) = 5
 told_number (ByWayOut j) = 6
 told_number (Unserved k n) = 7
 told_number PushedOn = 8
-told_number (Refused n) = 0
 
 abbrev pub told_name : Explanation → ℕ
 told_name InputStuck = 0
@@ -42,7 +40,6 @@ told_name (Unanswered j) = j.0
 told_name (ByWayOut j) = j.0
 told_name (Unserved k n) = k * 4 + n
 told_name PushedOn = 0
-told_name (Refused n) = 0
 
 -- SPEC 14.6
 abbrev pub told_entry : Explanation → ℕ

@@ -3,24 +3,22 @@
 
 ghost use Rattle.std.specs.Prelude.{◌≡◌, ◌≤◌, ◌<◌, length};
 ghost use Rattle.sets.specs.Words.{bits_of};
-ghost use Rattle.game.specs.declared.Acceptance.TheVariants.{Accepted};
-ghost use Rattle.game.specs.Acceptance.{acceptance};
+ghost use Rattle.game.specs.Acceptance.{acceptance, accepted};
 ghost use Rattle.game.specs.Fits.{Fits};
 ghost use Rattle.play.specs.Play.{separated_of};
 ghost use Rattle.scratch_clearing.specs.Clearing.{cleared};
 ghost use Rattle.scratch.specs.Scratch.{scratch_length};
 ghost use Rattle.scratch.specs.Stored.{Ready};
 ghost use Rattle.grounds.specs.Ground.{ground};
-ghost use Rattle.map_marks.specs.declared.Mapped.TheVariants.{Done};
+ghost use Rattle.map_marks.specs.Mapped.{made};
 ghost use Rattle.ground_search.specs.Asked.{PositionAsked};
 ghost use Rattle.explain_all.specs.Entry.{told_number, told_name, told_entry, ground_entry};
 ghost use Rattle.explain_all.specs.All.{positions as positions_of, all_fits, grounds_after, ExplainedAll};
 
-use game::{Acceptance, Game, InSet, InState, OutState};
+use game::{Game, InSet, InState, OutState, Refusal};
 use ground_search::Explanation;
-use map_marks::Mapped;
 
-// The ground's number, 1 to 8 in the order of `Explanation`; 0 of a refusal.
+// The ground's number, 1 to 8 in the order of `Explanation`.
 fn number(x: Explanation) -> usize
     ensures { result ≡ told_number x }
 {
@@ -33,7 +31,6 @@ fn number(x: Explanation) -> usize
         Explanation::ByWayOut(_) => 6,
         Explanation::Unserved(_, _) => 7,
         Explanation::PushedOn => 8,
-        Explanation::Refused(_) => 0,
     }
 }
 
@@ -51,7 +48,6 @@ fn name(x: Explanation) -> usize
         Explanation::ByWayOut(j) => j.0,
         Explanation::Unserved(k, n) => k * 4 + n,
         Explanation::PushedOn => 0,
-        Explanation::Refused(_) => 0,
     }
 }
 
@@ -82,20 +78,18 @@ fn positions(g: Game) -> usize
 // Writes an entry a position: position number p is that of input p / outputs and output p % outputs.
 fn fill(g: Game, s: &[u64], c: InSet, n: usize, grounds: &mut [u16])
     requires { Ready g s.now (bits_of c.0) × (n ≡ positions_of g) × (n ≤ length grounds.old) }
-    ensures { grounds.new ≡ grounds_after g Done grounds.old }
+    ensures { grounds.new ≡ grounds_after g made grounds.old }
 {
     let m = g.output.states;
-    let mut p: usize = 0;
-    while p < n {
+    for p in 0..n {
         let e = position_entry(g, s, c, InState(p / m), OutState(p % m));
         grounds[p] = e;
-        p += 1;
     }
 }
 
 // Whether scratch of so many words and a room of so many entries are long enough.
 fn fits(g: Game, words: usize, room: usize) -> bool
-    requires { acceptance g ≡ Accepted }
+    requires { acceptance g ≡ accepted }
     ensures { result ≡ all_fits g words room }
 {
     if words < scratch::length(g) {
@@ -108,7 +102,7 @@ fn fits(g: Game, words: usize, room: usize) -> bool
 fn explain_positions(g: Game, scratch: &mut [u64], grounds: &mut [u16])
     requires { Fits g × (scratch_length g ≤ length scratch.old) × (positions_of g ≤ length grounds.old) }
     ensures { (scratch.new ≡ cleared (scratch_length g) scratch.old)
-        × (grounds.new ≡ grounds_after g Done grounds.old) }
+        × (grounds.new ≡ grounds_after g made grounds.old) }
 {
     let mut b: [u64; board::WORDS] = [0; board::WORDS];
     let z = board::lay(g, &mut b);
@@ -118,18 +112,13 @@ fn explain_positions(g: Game, scratch: &mut [u64], grounds: &mut [u16])
 }
 
 // Tells of every position what made it won or lost, as `explain` does of one. The region is worked out once. (SPEC 14.6)
-pub fn explain_all(g: Game, scratch: &mut [u64], grounds: &mut [u16]) -> Mapped
+pub fn explain_all(g: Game, scratch: &mut [u64], grounds: &mut [u16]) -> Result<(), Refusal>
     ensures { ExplainedAll g scratch.old scratch.new grounds.old grounds.new result }
 {
-    let accepted = acceptance::accept(g);
-    match accepted {
-        Acceptance::Refused(n) => Mapped::Refused(n),
-        Acceptance::Accepted => {
-            if !fits(g, scratch.len(), grounds.len()) {
-                return Mapped::Refused(8);
-            }
-            explain_positions(g, scratch, grounds);
-            Mapped::Done
-        },
+    acceptance::accept(g)?;
+    if !fits(g, scratch.len(), grounds.len()) {
+        return Err(Refusal::ShortScratch);
     }
+    explain_positions(g, scratch, grounds);
+    Ok(())
 }

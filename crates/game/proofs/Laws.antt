@@ -18,7 +18,6 @@ use Rattle.bits.proofs.Compare.{nonzero_member, member_nonzero}
 use Rattle.game.specs.declared.Graph.{Graph}
 use Rattle.game.specs.declared.Requirement.{Requirement}
 use Rattle.game.specs.declared.Game.{Game}
-use Rattle.game.specs.declared.Acceptance.TheVariants.{Accepted}
 use Rattle.game.specs.Access.{no_input, no_output, requirement_at}
 use Rattle.game.specs.Acceptance.{
   limit,
@@ -39,6 +38,7 @@ use Rattle.game.specs.Acceptance.{
   few_requirements,
   lengths_fit,
   sets_fit,
+  accepted,
   acceptance,
 }
 use Rattle.game.proofs.Steps
@@ -243,7 +243,7 @@ module _ (g : Game) where
           let z = h (omega arith) in
           or_right (ltb r g.k) (and_intro (eq-eqb q.assumed 0 z.0) (eq-eqb q.guaranteed 0 z.1))
 
-  pub accepted_fits : acceptance g ≡ Accepted → Fits g
+  pub accepted_fits : acceptance g ≡ accepted → Fits g
   accepted_fits e = record {
     input = graph_fits g.input (both_counts t.0).0 (both_states t.1).0 (both_initial t.2).0;
     output = graph_fits g.output (both_counts t.0).1 (both_states t.1).1 (both_initial t.2).1;

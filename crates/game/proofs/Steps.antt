@@ -13,10 +13,10 @@ use Rattle.bits.specs.Member.{within}
 use Rattle.game.specs.declared.Graph.{Graph}
 use Rattle.game.specs.declared.Requirement.{Requirement}
 use Rattle.game.specs.declared.Game.{Game}
-use Rattle.game.specs.declared.Acceptance.{Acceptance}
-use Rattle.game.specs.declared.Acceptance.TheVariants.{Accepted, Refused}
+use Rattle.std.specs.declared.result.Result.TheVariants.{Ok, Err}
+use Rattle.game.specs.declared.Refusal.{Refusal}
 use Rattle.game.specs.Access.{no_input, no_output, requirement_at}
-use Rattle.game.specs.Acceptance.{limit, count_fits, row_fits, states_fit, has_initial, few_sets, in_set_fits, out_set_fits, in_use, requirement_fits, few_sets_at, requirement_fits_at, counts_fit, states_in_count, initials_exist, lengths_fit, sets_fit, first_failing}
+use Rattle.game.specs.Acceptance.{limit, count_fits, row_fits, states_fit, has_initial, few_sets, in_set_fits, out_set_fits, in_use, requirement_fits, few_sets_at, requirement_fits_at, counts_fit, states_in_count, initials_exist, lengths_fit, sets_fit, first_failing, Acceptance, accepted}
 
 -- ---- a graph
 
@@ -155,14 +155,14 @@ module _ (g : Game) where
 
 -- ---- the first test that fails
 
-pub first_stop : (n : ℕ) (ts : List Bool) {b : Bool} → b ≡ false → Refused n ≡ first_failing n (b ∷ ts)
+pub first_stop : (r : Refusal) (ts : List (Refusal × Bool)) {b : Bool} → b ≡ false → Err r ≡ first_failing ((r, b) ∷ ts)
 unfolding first_failing
-first_stop n ts e = sym (ap (λ (t : Bool). first_failing n (t ∷ ts)) e)
+first_stop r ts e = sym (ap (λ (t : Bool). first_failing ((r, t) ∷ ts)) e)
 
-pub first_next : (n : ℕ) (ts : List Bool) {b : Bool} (r : Acceptance) → b ≡ true → r ≡ first_failing (suc n) ts → r ≡ first_failing n (b ∷ ts)
+pub first_next : (r : Refusal) (ts : List (Refusal × Bool)) {b : Bool} (a : Acceptance) → b ≡ true → a ≡ first_failing ts → a ≡ first_failing ((r, b) ∷ ts)
 unfolding first_failing
-first_next n ts r e q = q ∙ sym (ap (λ (t : Bool). first_failing n (t ∷ ts)) e)
+first_next r ts a e q = q ∙ sym (ap (λ (t : Bool). first_failing ((r, t) ∷ ts)) e)
 
-pub first_none : (n : ℕ) → Accepted ≡ first_failing n []
+pub first_none : accepted ≡ first_failing []
 unfolding first_failing
-first_none n = refl
+first_none = refl

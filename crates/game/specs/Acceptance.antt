@@ -17,21 +17,25 @@
 --   few_sets_at g r          == few_sets of the requirement at place r
 --   requirement_fits_at g r  == requirement_fits of the requirement at place r
 --
--- of a game g, one for each refusal code, which holds of g where the test fails:
+-- of a game g, one for each refusal's number, which holds of g where the test fails:
 --   1 counts_fit, 2 states_in_count, 3 initials_exist, 5 few_requirements, 6 lengths_fit, 7 sets_fit
---   tests g                == the seven in order, in the place of 4 one that holds of every game
---   first_failing n ts      == refused with n where the first of ts fails, with n + 1 where the next does, ..; accepted where none does
+--   tests g                == these six in order, each with the refusal that it stands for; there is none for 4
+--   first_failing ts       == the refusal of the first of ts that fails; none where all hold
+--   Acceptance             == an answer: nothing where the game is accepted, else the refusal
+--   accepted               == that it is accepted
 --   acceptance g           == the answer to g
---   acceptance_number a     == document 01's number of the answer a: a refusal's code, 0 for accepted
-use Rattle.std.specs.Prelude.{ℕ, suc, Bool, true, false, not, ◌&&◌, ◌||◌, List, [], ◌∷◌, eqb, ltb, leb, get_or}
+--   acceptance_number a     == document 01's number of the answer a: a refusal's number, 0 for accepted
+use Rattle.std.specs.Prelude.{ℕ, suc, Bool, true, false, not, ◌&&◌, ◌||◌, List, [], ◌∷◌, eqb, ltb, leb, get_or, Result}
+use Rattle.std.specs.declared.result.Result.TheVariants.{Ok, Err}
 use Rattle.sets.specs.Words.{capacity, bits_of, sets_in}
 use Rattle.finite.specs.Bounded.{all}
 use Rattle.bits.specs.Member.{within}
 use Rattle.game.specs.declared.Graph.{Graph}
 use Rattle.game.specs.declared.Requirement.{Requirement}
 use Rattle.game.specs.declared.Game.{Game}
-use Rattle.game.specs.declared.Acceptance.{Acceptance}
-use Rattle.game.specs.declared.Acceptance.TheVariants.{Accepted, Refused}
+use Rattle.game.specs.declared.Refusal.{Refusal}
+use Rattle.game.specs.declared.Refusal.TheVariants.{CountOutOfRange, StatePastCount, NoInitialState, TooManyRequirements, TooManySets, BadSet}
+use Rattle.game.specs.Refusals.{number}
 use Rattle.game.specs.Access.{no_input, no_output, requirement_at}
 
 unfoldable pub limit : ℕ → ℕ → ℕ → ℕ
@@ -101,19 +105,32 @@ unfoldable pub sets_fit : Game → Bool
 sets_fit g = all 8 (requirement_fits_at g)
 
 -- "So a state without a move is accepted, and 4 no longer occurs." (M-102) (SPEC 1.2, 9.2)
-unfoldable pub tests : Game → List Bool
-tests g = counts_fit g ∷ states_in_count g ∷ initials_exist g ∷ true ∷ few_requirements g ∷ lengths_fit g ∷ sets_fit g ∷ []
+unfoldable pub tests : Game → List (Refusal × Bool)
+tests g =
+    (CountOutOfRange, counts_fit g)
+    ∷ (StatePastCount, states_in_count g)
+    ∷ (NoInitialState, initials_exist g)
+    ∷ (TooManyRequirements, few_requirements g)
+    ∷ (TooManySets, lengths_fit g)
+    ∷ (BadSet, sets_fit g)
+    ∷ []
+
+abbrev pub Acceptance : Type 0
+Acceptance = Result (Unit {0}) Refusal
+
+abbrev pub accepted : Acceptance
+accepted = Ok tt
 
 -- "The lowest number whose condition holds is given" (SPEC 9.1)
-unfoldable pub first_failing : ℕ → List Bool → Acceptance
-first_failing n [] = Accepted
-first_failing n (true ∷ ts) = first_failing (suc n) ts
-first_failing n (false ∷ ts) = Refused n
+unfoldable pub first_failing : List (Refusal × Bool) → Acceptance
+first_failing [] = accepted
+first_failing ((r, true) ∷ ts) = first_failing ts
+first_failing ((r, false) ∷ ts) = Err r
 
 -- SPEC 9.1, 9.2
 unfoldable pub acceptance : Game → Acceptance
-acceptance g = first_failing 1 (tests g)
+acceptance g = first_failing (tests g)
 
 abbrev pub acceptance_number : Acceptance → ℕ
-acceptance_number Accepted = 0
-acceptance_number (Refused n) = n
+acceptance_number (Ok u) = 0
+acceptance_number (Err r) = number r

@@ -3,6 +3,7 @@
 
 ghost use Rattle.std.specs.Prelude.{◌≡◌, ◌<◌};
 ghost use Rattle.sets.specs.Words.{capacity};
+ghost use Rattle.game.specs.Refusals.{number};
 ghost use Rattle.game.specs.Access.{in_moves, out_moves, assumption_at, guarantee_at, in_initial, out_initial};
 
 use sets::Set;
@@ -56,12 +57,49 @@ pub struct Game {
     pub requirements: [Requirement; 8],
 }
 
-// A refusal holds its code, 1 to 7.
-#[derive(Clone, Copy)]
-pub enum Acceptance {
-    Accepted,
-    Refused(u8),
+// Why a call is refused, with the number of each in the list of docs/API.md. (SPEC 9.2, 9.3)
+#[derive(Clone, Copy, PartialEq, Eq)]
+pub enum Refusal {
+    CountOutOfRange = 1, // a count of states not 1 to 128
+    StatePastCount = 2, // a move or an initial state past the count, or a used row past it
+    NoInitialState = 3, // a graph without an initial state
+    TooManyRequirements = 5, // over 8 requirements; 4 does not occur
+    TooManySets = 6, // over 4 sets in a requirement
+    BadSet = 7, // a state past its count in a set, an unused set that is not empty, or sets in an unused requirement
+    ShortScratch = 8, // scratch, a map, bars, a walk or grounds with too little room
+    ShortController = 9, // too little room for the controller's table, or for one that is moved
+    ShortPanel = 10, // too little room for the panel's table
+    NoGame = 11, // bytes that are no text of a game
+    LongText = 12, // a text over 40,960 bytes
+    ShortText = 13, // too little room for a text
+    NotAllowed = 14, // a state that cannot be picked now
+    BadEntry = 15, // an entry that is none or names no counter or no move
+    OtherTable = 16, // a table of another length, or a position that the game does not have
+    CommandsOutOfRange = 17, // a count of commands not 1 to 16
+    BadNextMode = 18, // a next mode that the drive does not have
+    NotControllers = 19, // a table to check that has not the controller's length
+    TooManyRows = 20, // over 4,096 rows for each input to check
+    RowsDiffer = 21, // rows of one component that differ
+    OtherRanks = 22, // ranks that are not the game's
+    OtherLayout = 23, // a table to move that has not the length of its layout
+    TooManyStates = 24, // over 32 states, on the joined positions
+    NoPosition = 25, // a position to explain outside the game
+    Unread = 26, // a file that could not be read
+    TooManyNames = 27, // over 1,000 names
+    NotOneRequirement = 28, // barred pairs with other than one requirement
+    BarOutside = 29, // a barred pair outside the graphs
 }
+
+impl From<Refusal> for u8 {
+    ghost from_gives = { λ r n. n ≡ number r };
+
+    fn from(r: Refusal) -> u8 {
+        r as u8
+    }
+}
+
+// The answer to a game: nothing, or why it is refused.
+pub type Acceptance = Result<(), Refusal>;
 
 // The input states that i moves to.
 pub fn in_moves(g: Game, i: InState) -> InSet

@@ -25,13 +25,11 @@ fn put(l: &mut [u64; WORDS], r: usize, q: Requirement)
     requires { r < 8 }
     ensures { SetsPut q r l.old l.new }
 {
-    let mut j: usize = 0;
-    while j < 4 {
+    for j in 0..4 {
         let x = q.assumptions[j];
         let y = q.guarantees[j];
         sets::put(l, 8 * r + j, x.0);
         sets::put(l, 8 * r + 4 + j, y.0);
-        j += 1;
     }
 }
 
@@ -43,13 +41,11 @@ pub fn list_of(g: Game) -> Listed
     let mut l: [u64; WORDS] = [0; WORDS];
     let mut assumed: [usize; 8] = [0; 8];
     let mut guaranteed: [usize; 8] = [0; 8];
-    let mut r: usize = 0;
-    while r < 8 {
+    for r in 0..8 {
         let q = requirements[r];
         put(&mut l, r, q);
         assumed[r] = q.assumed;
         guaranteed[r] = q.guaranteed;
-        r += 1;
     }
     Listed {
         sets: l,

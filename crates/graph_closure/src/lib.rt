@@ -14,11 +14,9 @@ fn start(moves: &[u64], n: usize, rows: &mut [u64])
     ensures { (h : Graph) → Given h n moves.now → sets_in rows.new ≡ first_rows h (sets_in rows.old) }
 {
     let states = sets::below(n);
-    let mut s = 0;
-    while s < n {
+    for s in 0..n {
         let next = sets::row(moves, s);
         sets::put(rows, s, sets::insert(sets::intersection(next, states), s));
-        s += 1;
     }
 }
 
@@ -28,12 +26,10 @@ fn joined_low(rows: &[u64], n: usize, x: Set) -> Set
     ensures { bits_of result ≡ grown (sets_in rows.now) n (bits_of x) }
 {
     let mut y = x;
-    let mut t = 0;
-    while t < n {
+    for t in 0..n {
         if sets::member_low(y, t) {
             y = sets::union(y, sets::row(rows, t));
         }
-        t += 1;
     }
     y
 }
@@ -44,12 +40,10 @@ fn joined_high(rows: &[u64], n: usize, x: Set) -> Set
     ensures { (z : ℕ) → bits_of x ≡ grown (sets_in rows.now) low_states z → bits_of result ≡ grown (sets_in rows.now) n z }
 {
     let mut y = x;
-    let mut t = sets::LOW;
-    while t < n {
+    for t in sets::LOW..n {
         if sets::member_high(y, t) {
             y = sets::union(y, sets::row(rows, t));
         }
-        t += 1;
     }
     y
 }
@@ -95,8 +89,7 @@ fn sweep(rows: &mut [u64], n: usize, sweeps: &mut usize) -> bool
 {
     let mut added = false;
     let mut fixed = sets::empty();
-    let mut s = 0;
-    while s < n {
+    for s in 0..n {
         let old = sets::row(rows, s);
         let new = renewed(rows, n, fixed, old);
         fixed = latest(fixed, old, new);
@@ -104,7 +97,6 @@ fn sweep(rows: &mut [u64], n: usize, sweeps: &mut usize) -> bool
             sets::put(rows, s, new);
             added = true;
         }
-        s += 1;
     }
     *sweeps += 1;
     added

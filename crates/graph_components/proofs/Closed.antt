@@ -17,7 +17,7 @@ use Rattle.bits.specs.Member.{has, pack, sets_meet}
 use Rattle.bits.proofs.Membership.{has_pack_below, pack_ext, pack_lt, has_lt, has_pack_all}
 use Rattle.bits.proofs.Compare.{meets_intro, meets_elim}
 use Rattle.sets.specs.Words.{capacity, sets_in}
-use Rattle.graphs.specs.Graph.{Graph, edge}
+use Rattle.graphs.specs.Graph.{edge}
 use Rattle.graphs.specs.Rows.{rel}
 use Rattle.graphs.specs.Closure.{reaches}
 use Rattle.graphs.specs.Component.{joined, nontrivial, leaves}

@@ -36,11 +36,9 @@ fn pruned(rows: &[u64], n: usize, s: usize, near: Set) -> Set
     ensures { Pruned (sets_in rows.now) n s (bits_of result) }
 {
     let mut x = sets::intersection(sets::row(rows, s), sets::below(n));
-    let mut rest = sets::intersection(x, near);
-    while !sets::is_empty(rest) {
-        let row = sets::row(rows, sets::lowest(rest));
+    for t in sets::intersection(x, near) {
+        let row = sets::row(rows, t);
         x = spared(x, row, s);
-        rest = sets::without_lowest(rest);
     }
     x
 }
@@ -73,13 +71,10 @@ fn comes_back(rows: &[u64], n: usize, s: usize, x: Set) -> bool
     ensures { result ≡ sets_meet capacity (bits_of x) (pack n (together (sets_in rows.now) s)) }
 {
     let row = sets::row(rows, s);
-    let mut rest = sets::intersection(x, sets::below(n));
-    while !sets::is_empty(rest) {
-        let t = sets::lowest(rest);
+    for t in sets::intersection(x, sets::below(n)) {
         if both_ways(row, sets::row(rows, t), s, t) {
             return true;
         }
-        rest = sets::without_lowest(rest);
     }
     false
 }
@@ -90,11 +85,9 @@ pub fn nontrivial(moves: &[u64], n: usize, rows: &[u64]) -> Set
     ensures { bits_of result ≡ pack n (nontrivial_at (sets_in moves.now) (sets_in rows.now) n) }
 {
     let mut c = sets::empty();
-    let mut s: usize = 0;
-    while s < n {
+    for s in 0..n {
         let row = sets::row(moves, s);
         c = sets::insert_if(c, s, comes_back(rows, n, s, row));
-        s += 1;
     }
     c
 }
@@ -105,11 +98,8 @@ fn entering(moves: &[u64], n: usize, c: Set) -> Set
     ensures { (t : ℕ) → has (bits_of result) t ≡ enters (sets_in moves.now) (bits_of c) n t }
 {
     let mut x = sets::empty();
-    let mut rest = sets::intersection(c, sets::below(n));
-    while !sets::is_empty(rest) {
-        let k = sets::lowest(rest);
+    for k in sets::intersection(c, sets::below(n)) {
         x = sets::union(x, sets::row(moves, k));
-        rest = sets::without_lowest(rest);
     }
     x
 }

@@ -28,8 +28,7 @@ use Rattle.sets.specs.Words.{capacity, bits_of, sets_in}
 use Rattle.graphs.specs.Component.{joined}
 use Rattle.graphs.proofs.Component.{joined_to, number_below}
 use Rattle.game.specs.declared.Game.{Game}
-use Rattle.game.specs.declared.Acceptance.TheVariants.{Accepted}
-use Rattle.game.specs.Acceptance.{acceptance}
+use Rattle.game.specs.Acceptance.{accepted, acceptance}
 use Rattle.game.proofs.Laws.{accepted_fits}
 use Rattle.play.specs.Play.{graph_of, separated_of}
 use Rattle.compact.specs.Rank.{leads, component_count}
@@ -61,7 +60,7 @@ use Rattle.graph_ranks.proofs.Ranks.{
   ranked_fails,
 }
 
-module _ (g : Game) (A : acceptance g ≡ Accepted) where
+module _ (g : Game) (A : acceptance g ≡ accepted) where
   pub moves_narrow : Narrow (sets_in g.input.moves)
   moves_narrow = narrow g.input (accepted_fits g A).input
 
@@ -130,12 +129,12 @@ module _ (g : Game) (A : acceptance g ≡ Accepted) where
 
 -- inputs below j have been passed; left is what is left of the inputs, rank the rank that comes next
 pub record Walked (g : Game) (places j left rank : ℕ) : Type 0 where
-  pub accepted : acceptance g ≡ Accepted
+  pub accepted : acceptance g ≡ accepted
   pub crossed : Crossed (sets_in g.input.moves) g.input.states places
   remains : Left (separated_of g) j left
   pub counted : rank ≡ count j (leads (separated_of g))
 
-pub walked_start : (g : Game) (places left : ℕ) → acceptance g ≡ Accepted → Crossed (sets_in g.input.moves) g.input.states places
+pub walked_start : (g : Game) (places left : ℕ) → acceptance g ≡ accepted → Crossed (sets_in g.input.moves) g.input.states places
     → ((t : ℕ) → has left t ≡ ltb t g.input.states) → Walked g places 0 left 0
 unfolding count
 walked_start g places left A X d = record { accepted = A; crossed = X; remains = left_all g A left d; counted = refl }

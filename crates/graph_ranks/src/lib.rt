@@ -6,8 +6,7 @@ ghost use Rattle.bits.specs.Member.{has, pack};
 ghost use Rattle.sets.specs.Words.{capacity, bits_of, sets_in};
 ghost use Rattle.graphs.specs.Component.{joined};
 ghost use Rattle.game.specs.declared.Game.{Game};
-ghost use Rattle.game.specs.Acceptance.{acceptance};
-ghost use Rattle.game.specs.declared.Acceptance.TheVariants.{Accepted};
+ghost use Rattle.game.specs.Acceptance.{acceptance, accepted};
 ghost use Rattle.play.specs.Play.{graph_of, separated_of};
 ghost use Rattle.compact.specs.Rank.{leads, component_count};
 ghost use Rattle.compact.specs.Moving.{ranks_fit};
@@ -40,11 +39,8 @@ fn sweep(moves: &[u64; sets::ROW_WORDS], left: Set, found: Set) -> Set
     ensures { Swept (sets_in moves.now) (bits_of left) (bits_of found) (bits_of result) }
 {
     let mut more = found;
-    let mut rest = left;
-    while !sets::is_empty(rest) {
-        let t = sets::lowest(rest);
+    for t in left {
         more = sets::insert_if(more, t, sets::meets(sets::row_of(moves, t), more));
-        rest = sets::without_lowest(rest);
     }
     more
 }
@@ -94,10 +90,8 @@ fn crossed(moves: &[u64; sets::ROW_WORDS], n: usize) -> Set
     ensures { Crossed (sets_in moves.now) n (bits_of result) }
 {
     let mut found = sets::empty();
-    let mut t: usize = 0;
-    while t < n {
+    for t in 0..n {
         found = sets::union(found, span(sets::row_of(moves, t), t));
-        t += 1;
     }
     found
 }
@@ -137,7 +131,7 @@ fn reduced(moves: &[u64; sets::ROW_WORDS], places: Set, n: usize, left: Set, s: 
 
 // The places that moves of the inputs cross downwards.
 pub fn crossings(g: Game) -> InSet
-    requires { acceptance g ≡ Accepted }
+    requires { acceptance g ≡ accepted }
     ensures { Crossed (sets_in g.input.moves) g.input.states (bits_of result.0) }
 {
     InSet(crossed(&g.input.moves, g.input.states))
@@ -147,7 +141,7 @@ pub fn crossings(g: Game) -> InSet
 // that no move crosses.
 pub fn component(moves: &[u64; sets::ROW_WORDS], n: usize, places: InSet, j: InState) -> InSet
     requires { Narrow (sets_in moves.now) × (n ≤ capacity) × (j.0 < n) × Crossed (sets_in moves.now) n (bits_of places.0) }
-    ensures { (g : Game) → acceptance g ≡ Accepted → moves.now ≡ g.input.moves → n ≡ g.input.states → leads (separated_of g) j.0 ≡ true
+    ensures { (g : Game) → acceptance g ≡ accepted → moves.now ≡ g.input.moves → n ≡ g.input.states → leads (separated_of g) j.0 ≡ true
         → bits_of result.0 ≡ pack g.input.states (joined (graph_of g.input) j.0) }
 {
     let rest = sets::difference(sets::below(n), sets::below(j.0));
@@ -156,24 +150,22 @@ pub fn component(moves: &[u64; sets::ROW_WORDS], n: usize, places: InSet, j: InS
 
 // The inputs that are the smallest of their components.
 pub fn leading(g: Game) -> InSet
-    requires { acceptance g ≡ Accepted }
+    requires { acceptance g ≡ accepted }
     ensures { bits_of result.0 ≡ pack g.input.states (leads (separated_of g)) }
 {
     let places = crossed(&g.input.moves, g.input.states);
     let mut leaders = sets::empty();
     let mut left = sets::below(g.input.states);
-    let mut j: usize = 0;
-    while j < g.input.states {
+    for j in 0..g.input.states {
         leaders = sets::insert_if(leaders, j, sets::member(left, j));
         left = reduced(&g.input.moves, places, g.input.states, left, j);
-        j += 1;
     }
     InSet(leaders)
 }
 
 // How many components there are, from the inputs that are the smallest of theirs.
 pub fn components(g: Game, leaders: InSet) -> usize
-    requires { (acceptance g ≡ Accepted) × (bits_of leaders.0 ≡ pack g.input.states (leads (separated_of g))) }
+    requires { (acceptance g ≡ accepted) × (bits_of leaders.0 ≡ pack g.input.states (leads (separated_of g))) }
     ensures { result ≡ component_count (separated_of g) }
 {
     sets::count(leaders.0)
@@ -184,11 +176,8 @@ fn put_rank(room: &mut [u16], n: usize, c: Set, rank: u16)
     requires { (t : ℕ) → has (bits_of c) t ≡ true → (t < capacity) × (n + t < length room.old) }
     ensures { Put n (bits_of c) rank room.old room.new }
 {
-    let mut rest = c;
-    while !sets::is_empty(rest) {
-        let t = sets::lowest(rest);
+    for t in c {
         room[n + t] = rank;
-        rest = sets::without_lowest(rest);
     }
 }
 
@@ -197,47 +186,41 @@ fn ranked(table: &[u16], n: usize, c: Set, rank: u16) -> bool
     requires { (t : ℕ) → has (bits_of c) t ≡ true → (t < capacity) × (n + t < length table.now) }
     ensures { result ≡ holds n (bits_of c) rank table.now }
 {
-    let mut rest = c;
-    while !sets::is_empty(rest) {
-        let t = sets::lowest(rest);
+    for t in c {
         if table[n + t] != rank {
             return false;
         }
-        rest = sets::without_lowest(rest);
     }
     true
 }
 
 // Writes the rank of each input's component behind the starts.
 pub fn write_ranks(g: Game, room: &mut [u16])
-    requires { (acceptance g ≡ Accepted) × (g.input.states + g.input.states ≤ length room.old) }
+    requires { (acceptance g ≡ accepted) × (g.input.states + g.input.states ≤ length room.old) }
     ensures { RanksWritten g room.old room.new }
 {
     let places = crossed(&g.input.moves, g.input.states);
     let mut left = sets::below(g.input.states);
     let mut rank: u16 = 0;
-    let mut j: usize = 0;
-    while j < g.input.states {
+    for j in 0..g.input.states {
         if sets::member(left, j) {
             let c = around(&g.input.moves, places, g.input.states, left, j);
             put_rank(room, g.input.states, c, rank);
             left = sets::difference(left, c);
             rank += 1;
         }
-        j += 1;
     }
 }
 
 // Whether the ranks behind the starts are the game's.
 pub fn ranks_fit(g: Game, table: &[u16]) -> bool
-    requires { (acceptance g ≡ Accepted) × (g.input.states + g.input.states ≤ length table.now) }
+    requires { (acceptance g ≡ accepted) × (g.input.states + g.input.states ≤ length table.now) }
     ensures { result ≡ ranks_fit (separated_of g) table.now }
 {
     let places = crossed(&g.input.moves, g.input.states);
     let mut left = sets::below(g.input.states);
     let mut rank: u16 = 0;
-    let mut j: usize = 0;
-    while j < g.input.states {
+    for j in 0..g.input.states {
         if sets::member(left, j) {
             let c = around(&g.input.moves, places, g.input.states, left, j);
             if !ranked(table, g.input.states, c, rank) {
@@ -246,7 +229,6 @@ pub fn ranks_fit(g: Game, table: &[u16]) -> bool
             left = sets::difference(left, c);
             rank += 1;
         }
-        j += 1;
     }
     true
 }

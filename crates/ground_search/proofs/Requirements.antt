@@ -65,7 +65,8 @@ module _ (g : Game) (i o r : ℕ) (p : g.input.states ≤ capacity) (q : g.outpu
   served_in_lem : served_in g b r ≡ served (separated_of g) o (requirement_of (requirement_at g r))
   unfolding served_in out_meets out_meets_at served requirement_of separated_of
   served_in_lem =
-      all_same (requirement_at g r).guaranteed (out_meets_at (requirement_at g r) b) (λ j. meets_at (graph_of g.output) o (has (bits_of (guarantee_at g r j).0)))
+      all_same (requirement_at g r).guaranteed (out_meets_at (requirement_at g r) b)
+      (λ j. meets_at (graph_of g.output) o (has (bits_of (guarantee_at g r j).0)))
       (λ j l. component_meets g.output o (bits_of (guarantee_at g r j).0) q)
       ∙ sym (all_of_tabulate (meets_at (graph_of g.output) o) (requirement_at g r).guaranteed (λ j. has (bits_of (guarantee_at g r j).0)))
 

@@ -27,7 +27,6 @@ pub enum Explanation {
     ByWayOut(InState),
     Unserved(usize, usize),
     PushedOn,
-    Refused(u8),
 }
 
 // The home of a won position with its input in a nontrivial component.
@@ -72,12 +71,10 @@ fn first_unreplied(g: Game, s: &[u64], c: InSet, i: InState, o: OutState) -> InS
     ensures { result.0 ≡ least g.input.states (unrepliedAt (separated_of g) i.0 o.0) }
 {
     let n = g.input.states;
-    let mut j: usize = 0;
-    while j < n {
+    for j in 0..n {
         if unreplied(g, s, c, i, o, InState(j)) {
             return InState(j);
         }
-        j += 1;
     }
     InState(n)
 }
@@ -111,12 +108,10 @@ fn first_lost_exit(g: Game, s: &[u64], c: InSet, i: InState, o: OutState) -> InS
 {
     let n = g.input.states;
     let x = exits(g, s, c, i, o);
-    let mut j: usize = 0;
-    while j < n {
+    for j in 0..n {
         if exit_lost(g, s, c, x, i, o, InState(j)) {
             return InState(j);
         }
-        j += 1;
     }
     InState(n)
 }
@@ -128,13 +123,11 @@ fn due(g: Game, r: usize, a: InSet) -> bool
 {
     let q = g.requirements[r];
     let n = q.assumed;
-    let mut j: usize = 0;
-    while j < n {
+    for j in 0..n {
         let x = q.assumptions[j];
         if !sets::meets(x.0, a.0) {
             return false;
         }
-        j += 1;
     }
     true
 }
@@ -146,13 +139,11 @@ fn first_missed(g: Game, r: usize, b: OutSet) -> usize
 {
     let q = g.requirements[r];
     let n = q.guaranteed;
-    let mut j: usize = 0;
-    while j < n {
+    for j in 0..n {
         let x = q.guarantees[j];
         if !sets::meets(x.0, b.0) {
             return j;
         }
-        j += 1;
     }
     n
 }
@@ -175,12 +166,10 @@ fn first_owed(g: Game, a: InSet, b: OutSet) -> usize
     ensures { result ≡ least g.k (owed_in g (bits_of a.0) (bits_of b.0)) }
 {
     let n = g.k;
-    let mut r: usize = 0;
-    while r < n {
+    for r in 0..n {
         if owed(g, r, a, b) {
             return r;
         }
-        r += 1;
     }
     n
 }

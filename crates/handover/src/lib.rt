@@ -6,7 +6,7 @@ ghost use Rattle.solver.specs.Promise.{verdict_answer};
 ghost use Rattle.handover.specs.Handed.{Handed};
 
 use game::Game;
-use solver::Verdict;
+use solver::Winner;
 
 // The winner's table: the filled front of the controller's room or of the panel's. On a refusal that front is empty.
 // Beside it stand the number of the refusal, or 0, and whether the system wins.
@@ -26,18 +26,18 @@ pub fn solve<'a>(
 {
     let answer = solver::solve_into(g, scratch, controller, panel);
     match answer {
-        Verdict::System(n) => {
+        Ok(Winner::System(n)) => {
             *refusal = 0;
             *system = true;
             &mut controller[..n]
         },
-        Verdict::Environment(n) => {
+        Ok(Winner::Environment(n)) => {
             *refusal = 0;
             *system = false;
             &mut panel[..n]
         },
-        Verdict::Refused(n) => {
-            *refusal = n;
+        Err(r) => {
+            *refusal = u8::from(r);
             &mut controller[..0]
         },
     }

@@ -32,8 +32,7 @@ use Rattle.theory.proofs.Demands.{demand_two, verdict_wins, wins_verdict}
 use Rattle.graphs.specs.Graph.{begins}
 use Rattle.graphs.proofs.Graph.{begins_intro, begins_initial}
 use Rattle.game.specs.declared.Game.{Game}
-use Rattle.game.specs.declared.Acceptance.TheVariants.{Accepted}
-use Rattle.game.specs.Acceptance.{acceptance}
+use Rattle.game.specs.Acceptance.{accepted, acceptance}
 use Rattle.game.specs.Fits.{Fits}
 use Rattle.play.specs.Play.{graph_of, separated_of, requirements_of}
 use Rattle.barred.specs.Arena.{Pairs, barred_arena}
@@ -65,7 +64,8 @@ unbarred_none : (b : List ℕ) → some_barred b ≡ false → (i o : ℕ) → b
 unfolding some_barred
 unbarred_none b e i o = elim (decide (ltb i (length (sets_in b)))) [
   | inl h ↦ ap (λ (x : ℕ). has x o) (eqb-true (get_or (sets_in b) i 0) 0
-      (not_false (eqb (get_or (sets_in b) i 0) 0) (any_false (length (sets_in b)) (λ k. not (eqb (get_or (sets_in b) k 0) 0)) e i (ltb-true i (length (sets_in b)) h))))
+      (not_false (eqb (get_or (sets_in b) i 0) 0)
+      (any_false (length (sets_in b)) (λ k. not (eqb (get_or (sets_in b) k 0) 0)) e i (ltb-true i (length (sets_in b)) h))))
       ∙ has_zero_lem o
   | inr h ↦ ap (λ (x : ℕ). has x o) (get_or-eq_default (sets_in b) 0 (ltb-false i (length (sets_in b)) h)) ∙ has_zero_lem o
 ]
@@ -121,7 +121,7 @@ module _ (g : Game) (b m m' : List ℕ) where
       ap (λ (x : List ℕ). has (get_or x i 0) o) R.sets ∙ ap (λ (x : ℕ). has x o) (front_at (barred_row g b) (sets_in m) g.input.states i 0 a)
       ∙ has_pack_below g.output.states (marked g b i) o c
 
-  pub marks_won : acceptance g ≡ Accepted → one_requirement g b ≡ true → BarredFilled g b m m' → (i o : ℕ) → i < g.input.states → o < g.output.states
+  pub marks_won : acceptance g ≡ accepted → one_requirement g b ≡ true → BarredFilled g b m m' → (i o : ℕ) → i < g.input.states → o < g.output.states
       → (has (get_or (sets_in m') i 0) o ≡ true) ↔ ((bars b i o ≡ false) × Won (barred_arena (separated_of g) (bars b)) i o)
   unfolding separated_of graph_of
   marks_won acc r R i o a c = go (decide (some_barred b))

@@ -1,3 +1,4 @@
 -- The game with bars: what its two entries promise.
+pub mod Judged
 pub mod Bars
 pub mod Interlock

@@ -5,9 +5,7 @@ ghost use Rattle.std.specs.Prelude.{◌≡◌, true, ◌≤◌, ◌<◌, length,
 ghost use Rattle.finite.specs.Bounded.{all};
 ghost use Rattle.sets.specs.Words.{capacity, sets_in, set_count, words_for};
 ghost use Rattle.theory.specs.Region.{verdict};
-ghost use Rattle.game.specs.declared.Acceptance.TheVariants.{Accepted};
-ghost use Rattle.game.specs.Acceptance.{acceptance};
-ghost use Rattle.game.specs.Numbers.{first_of};
+ghost use Rattle.game.specs.Acceptance.{acceptance, accepted, first_failing};
 ghost use Rattle.play.specs.Play.{separated_of};
 ghost use Rattle.scratch_clearing.specs.Clearing.{cleared};
 ghost use Rattle.map_marks.specs.Marks.{MapFilled};
@@ -15,17 +13,15 @@ ghost use Rattle.barred.specs.Region.{barred_verdict};
 ghost use Rattle.barred_region.specs.Region.{only};
 ghost use Rattle.interlock.specs.Bars.{bars as barsOf, barrable as barrableOf, bars_inside, some_barred, one_requirement};
 ghost use Rattle.interlock.specs.Bars.{system_wins, RegionFilled, BarredFilled, opens_row};
-ghost use Rattle.interlock.specs.Interlock.{barred_words, bar_tests, BarredMap, BarredJudged};
+ghost use Rattle.interlock.specs.Interlock.{barred_words, bar_refusals, BarredMap, BarredJudged};
 
-use game::{Acceptance, Game, InState};
-use map_marks::Mapped;
+use game::{Game, InState, Refusal};
 
-// A refusal holds its code.
-#[derive(Clone, Copy)]
-pub enum Judged {
+// The side that wins.
+#[derive(Clone, Copy, PartialEq, Eq)]
+pub enum Side {
     System,
     Environment,
-    Refused(u8),
 }
 
 // How many words of scratch the calls take.
@@ -48,12 +44,10 @@ fn bars_inside(g: Game, bars: &[u64]) -> bool
     ensures { result ≡ bars_inside g bars.now }
 {
     let n = sets::parts(bars);
-    let mut i: usize = 0;
-    while i < n {
+    for i in 0..n {
         if !sets::within(sets::part(bars, i), barrable(g, i)) {
             return false;
         }
-        i += 1;
     }
     true
 }
@@ -63,12 +57,10 @@ fn some_barred(bars: &[u64]) -> bool
     ensures { result ≡ some_barred bars.now }
 {
     let n = sets::parts(bars);
-    let mut i: usize = 0;
-    while i < n {
+    for i in 0..n {
         if !sets::is_empty(sets::part(bars, i)) {
             return true;
         }
-        i += 1;
     }
     false
 }
@@ -83,24 +75,24 @@ fn one_requirement(g: Game, bars: &[u64]) -> bool
     true
 }
 
-// The number of the first fault of the bars and of scratch, which has so many words; 0 where there is none.
-fn fault(g: Game, bars: &[u64], words: usize) -> u8
-    requires { acceptance g ≡ Accepted }
-    ensures { result ≡ first_of (bar_tests g bars.now words) }
+// The first fault of the bars and of scratch, which has so many words.
+fn fault(g: Game, bars: &[u64], words: usize) -> Result<(), Refusal>
+    requires { acceptance g ≡ accepted }
+    ensures { result ≡ first_failing (bar_refusals g bars.now words) }
 {
     if !bars_inside(g, bars) {
-        return 29;
+        return Err(Refusal::BarOutside);
     }
     if !one_requirement(g, bars) {
-        return 28;
+        return Err(Refusal::NotOneRequirement);
     }
     if bars.len() < sets::words(g.input.states) {
-        return 8;
+        return Err(Refusal::ShortScratch);
     }
     if words < WORDS {
-        return 8;
+        return Err(Refusal::ShortScratch);
     }
-    0
+    Ok(())
 }
 
 // ---- the map
@@ -110,16 +102,14 @@ fn write_map(g: Game, s: &[u64], map: &mut [u64])
     requires { (g.input.states ≤ set_count s.now) × (g.input.states ≤ set_count map.old) }
     ensures { RegionFilled g (sets_in s.now) map.old map.new }
 {
-    let mut i: usize = 0;
-    while i < g.input.states {
+    for i in 0..g.input.states {
         sets::put(map, i, sets::row(s, i));
-        i += 1;
     }
 }
 
 // Marks the positions that are won with bars.
 fn mark_barred(g: Game, bars: &[u64], scratch: &mut [u64], map: &mut [u64])
-    requires { (acceptance g ≡ Accepted) × (words_for g.input.states ≤ length bars.now) × (barred_words ≤ length scratch.old)
+    requires { (acceptance g ≡ accepted) × (words_for g.input.states ≤ length bars.now) × (barred_words ≤ length scratch.old)
         × (words_for g.input.states ≤ length map.old) × (some_barred bars.now ≡ true) }
     ensures { (scratch.new ≡ cleared barred_words scratch.old)
         × BarredFilled g bars.now map.old map.new }
@@ -131,16 +121,16 @@ fn mark_barred(g: Game, bars: &[u64], scratch: &mut [u64], map: &mut [u64])
 
 // Marks the positions that are won without bars.
 fn mark_unbarred(g: Game, scratch: &mut [u64], map: &mut [u64])
-    requires { (acceptance g ≡ Accepted) × (barred_words ≤ length scratch.old) × (words_for g.input.states ≤ length map.old) }
+    requires { (acceptance g ≡ accepted) × (barred_words ≤ length scratch.old) × (words_for g.input.states ≤ length map.old) }
     ensures { (scratch.new ≡ cleared barred_words scratch.old) × MapFilled g map.old map.new }
 {
-    map::won_map(g, scratch, map);
+    let _ = map::won_map(g, scratch, map);
     scratch_clearing::clear(scratch, WORDS);
 }
 
 // Marks the won positions of an accepted game, bars and buffers being as they must be.
 fn mark(g: Game, bars: &[u64], scratch: &mut [u64], map: &mut [u64])
-    requires { (acceptance g ≡ Accepted) × (words_for g.input.states ≤ length bars.now) × (barred_words ≤ length scratch.old)
+    requires { (acceptance g ≡ accepted) × (words_for g.input.states ≤ length bars.now) × (barred_words ≤ length scratch.old)
         × (words_for g.input.states ≤ length map.old) }
     ensures { (scratch.new ≡ cleared barred_words scratch.old)
         × BarredFilled g bars.now map.old map.new }
@@ -153,30 +143,29 @@ fn mark(g: Game, bars: &[u64], scratch: &mut [u64], map: &mut [u64])
 }
 
 // The map of an accepted game.
-fn map_accepted(g: Game, bars: &[u64], scratch: &mut [u64], map: &mut [u64]) -> Mapped
-    requires { acceptance g ≡ Accepted }
+fn map_accepted(g: Game, bars: &[u64], scratch: &mut [u64], map: &mut [u64]) -> Result<(), Refusal>
+    requires { acceptance g ≡ accepted }
     ensures { BarredMap g bars.now scratch.old scratch.new map.old map.new result }
 {
-    let n = fault(g, bars, scratch.len());
-    if n != 0 {
-        return Mapped::Refused(n);
-    }
+    fault(g, bars, scratch.len())?;
     if map.len() < sets::words(g.input.states) {
-        return Mapped::Refused(8);
+        return Err(Refusal::ShortScratch);
     }
     mark(g, bars, scratch, map);
-    Mapped::Done
+    Ok(())
 }
 
 // Marks the won positions of a game with bars: one set of outputs for each input. (SPEC 15.1, 15.2, 15.3)
-pub fn barred_map(g: Game, bars: &[u64], scratch: &mut [u64], map: &mut [u64]) -> Mapped
+pub fn barred_map(
+    g: Game,
+    bars: &[u64],
+    scratch: &mut [u64],
+    map: &mut [u64],
+) -> Result<(), Refusal>
     ensures { BarredMap g bars.now scratch.old scratch.new map.old map.new result }
 {
-    let accepted = acceptance::accept(g);
-    match accepted {
-        Acceptance::Refused(n) => Mapped::Refused(n),
-        Acceptance::Accepted => map_accepted(g, bars, scratch, map),
-    }
+    acceptance::accept(g)?;
+    map_accepted(g, bars, scratch, map)
 }
 
 // ---- the verdict
@@ -200,19 +189,17 @@ fn all_open(g: Game, s: &[u64]) -> bool
     ensures { result ≡ all g.input.states (λ i. opens_row g (get_or (sets_in s.now) i 0) i) }
 {
     let n = g.input.states;
-    let mut i: usize = 0;
-    while i < n {
+    for i in 0..n {
         if !opens(g, s, InState(i)) {
             return false;
         }
-        i += 1;
     }
     true
 }
 
 // Whether the system wins with bars.
 fn wins_barred(g: Game, bars: &[u64], scratch: &mut [u64]) -> bool
-    requires { (acceptance g ≡ Accepted) × (words_for g.input.states ≤ length bars.now) × (barred_words ≤ length scratch.old) }
+    requires { (acceptance g ≡ accepted) × (words_for g.input.states ≤ length bars.now) × (barred_words ≤ length scratch.old) }
     ensures { (result ≡ barred_verdict (separated_of g) (barsOf bars.now) (only g))
         × (scratch.new ≡ cleared barred_words scratch.old) }
 {
@@ -224,7 +211,7 @@ fn wins_barred(g: Game, bars: &[u64], scratch: &mut [u64]) -> bool
 
 // Whether the system wins without bars.
 fn wins_unbarred(g: Game, scratch: &mut [u64]) -> bool
-    requires { (acceptance g ≡ Accepted) × (barred_words ≤ length scratch.old) }
+    requires { (acceptance g ≡ accepted) × (barred_words ≤ length scratch.old) }
     ensures { (result ≡ verdict (separated_of g)) × (scratch.new ≡ cleared barred_words scratch.old) }
 {
     let mut b: [u64; board::WORDS] = [0; board::WORDS];
@@ -237,7 +224,7 @@ fn wins_unbarred(g: Game, scratch: &mut [u64]) -> bool
 
 // Whether the system wins.
 fn wins(g: Game, bars: &[u64], scratch: &mut [u64]) -> bool
-    requires { (acceptance g ≡ Accepted) × (words_for g.input.states ≤ length bars.now) × (barred_words ≤ length scratch.old) }
+    requires { (acceptance g ≡ accepted) × (words_for g.input.states ≤ length bars.now) × (barred_words ≤ length scratch.old) }
     ensures { (result ≡ system_wins g bars.now) × (scratch.new ≡ cleared barred_words scratch.old) }
 {
     if some_barred(bars) {
@@ -247,27 +234,21 @@ fn wins(g: Game, bars: &[u64], scratch: &mut [u64]) -> bool
 }
 
 // The verdict of an accepted game.
-fn judge(g: Game, bars: &[u64], scratch: &mut [u64]) -> Judged
-    requires { acceptance g ≡ Accepted }
+fn judge(g: Game, bars: &[u64], scratch: &mut [u64]) -> Result<Side, Refusal>
+    requires { acceptance g ≡ accepted }
     ensures { BarredJudged g bars.now scratch.old scratch.new result }
 {
-    let n = fault(g, bars, scratch.len());
-    if n != 0 {
-        return Judged::Refused(n);
-    }
+    fault(g, bars, scratch.len())?;
     if wins(g, bars, scratch) {
-        return Judged::System;
+        return Ok(Side::System);
     }
-    Judged::Environment
+    Ok(Side::Environment)
 }
 
 // Which side wins a game with bars. (SPEC 15.1, 15.2, 15.3)
-pub fn barred_verdict(g: Game, bars: &[u64], scratch: &mut [u64]) -> Judged
+pub fn barred_verdict(g: Game, bars: &[u64], scratch: &mut [u64]) -> Result<Side, Refusal>
     ensures { BarredJudged g bars.now scratch.old scratch.new result }
 {
-    let accepted = acceptance::accept(g);
-    match accepted {
-        Acceptance::Refused(n) => Judged::Refused(n),
-        Acceptance::Accepted => judge(g, bars, scratch),
-    }
+    acceptance::accept(g)?;
+    judge(g, bars, scratch)
 }

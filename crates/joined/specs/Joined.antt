@@ -8,15 +8,15 @@ use Rattle.bits.specs.Member.{has}
 use Rattle.sets.specs.Words.{sets_in, words_for}
 use Rattle.arena.specs.Win.{Won}
 use Rattle.game.specs.declared.Game.{Game}
-use Rattle.game.specs.declared.Acceptance.TheVariants.{Accepted, Refused as Faulty}
 use Rattle.game.specs.Acceptance.{acceptance}
 use Rattle.game.specs.Numbers.{first_of, game_tests}
 use Rattle.demands.specs.Demands.{play_of}
 use Rattle.scratch_clearing.specs.Clearing.{cleared}
-use Rattle.map_marks.specs.declared.Mapped.{Mapped}
-use Rattle.map_marks.specs.declared.Mapped.TheVariants.{Done, Refused as NotMapped}
+use Rattle.map_marks.specs.Mapped.{made, Mapped}
 use Rattle.map_marks.specs.Answer.{map_number, MapAfter}
 use Rattle.joined_reach.specs.Words.{joined_words}
+use Rattle.std.specs.declared.result.Result.TheVariants.{Ok, Err}
+use Rattle.game.specs.declared.Refusal.TheVariants.{ShortScratch, TooManyStates}
 
 -- "24 a count over 32, after 7 and before 8" (document 02, M-108) (SPEC 14.3)
 unfoldable pub counts_small : Game → Bool
@@ -27,13 +27,13 @@ unfoldable pub joined_fits : Game → ℕ → ℕ → Bool
 joined_fits g s m = leb joined_words s && leb (words_for g.input.states) m
 
 unfoldable pub joined_room : Game → ℕ → ℕ → Mapped
-joined_room g s m = elim (joined_fits g s m) [ true ↦ Done | false ↦ NotMapped 8 ]
+joined_room g s m = elim (joined_fits g s m) [ true ↦ made | false ↦ Err ShortScratch ]
 
 unfoldable pub joined_size : Game → ℕ → ℕ → Mapped
-joined_size g s m = elim (counts_small g) [ true ↦ joined_room g s m | false ↦ NotMapped 24 ]
+joined_size g s m = elim (counts_small g) [ true ↦ joined_room g s m | false ↦ Err TooManyStates ]
 
 unfoldable pub joined_answer : Game → ℕ → ℕ → Mapped
-joined_answer g s m = elim (acceptance g) [ Accepted ↦ joined_size g s m | Faulty n ↦ NotMapped n ]
+joined_answer g s m = elim (acceptance g) [ Ok u ↦ joined_size g s m | Err n ↦ Err n ]
 
 -- SPEC 9.1, 14.3
 unfoldable pub joined_tests : Game → ℕ → ℕ → List (ℕ × Bool)
@@ -41,8 +41,8 @@ joined_tests g s m = game_tests g ++ (24, counts_small g) ∷ (8, joined_fits g 
 
 -- "after an answer the first that many words are zero and the rest unchanged"; "Each returns its number only .. and changes no lent memory" (SPEC 7.5, 14.3)
 unfoldable pub joined_scratch : Mapped → List ℕ → List ℕ
-joined_scratch Done s = cleared joined_words s
-joined_scratch (NotMapped n) s = s
+joined_scratch (Ok u) s = cleared joined_words s
+joined_scratch (Err n) s = s
 
 -- SPEC 14.3
 pub record JoinedMade (g : Game) (s s' m m' : List ℕ) (r : Mapped) : Type 0 where
@@ -51,4 +51,4 @@ pub record JoinedMade (g : Game) (s s' m m' : List ℕ) (r : Mapped) : Type 0 wh
   -- "Its won map equals ours on every game both accept, dead ends included." (SPEC 14.3)
   pub map : MapAfter g r m m'
   pub scratch : s' ≡ joined_scratch r s
-  pub won : r ≡ Done → (i o : ℕ) → i < g.input.states → o < g.output.states → (has (get_or (sets_in m') i 0) o ≡ true) ↔ Won (play_of g) i o
+  pub won : r ≡ made → (i o : ℕ) → i < g.input.states → o < g.output.states → (has (get_or (sets_in m') i 0) o ≡ true) ↔ Won (play_of g) i o

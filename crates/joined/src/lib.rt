@@ -5,8 +5,7 @@ ghost use Rattle.std.specs.Prelude.{◌≡◌, false, ◌*◌, ◌+◌, ◌≤�
 ghost use Rattle.finite.specs.But.{ButFor};
 ghost use Rattle.sets.specs.Words.{set_count};
 ghost use Rattle.joint.specs.Joint.{rank_at};
-ghost use Rattle.game.specs.declared.Acceptance.TheVariants.{Accepted};
-ghost use Rattle.game.specs.Acceptance.{acceptance};
+ghost use Rattle.game.specs.Acceptance.{acceptance, accepted};
 ghost use Rattle.play.specs.Play.{separated_of};
 ghost use Rattle.scratch_clearing.specs.Clearing.{cleared};
 ghost use Rattle.map_marks.specs.Marks.{MapFilled};
@@ -15,9 +14,8 @@ ghost use Rattle.joined_component.specs.Component.{known};
 ghost use Rattle.joined.specs.Order.{Backward, SettledWith, Passed, JoinedSolved};
 ghost use Rattle.joined.specs.Joined.{JoinedMade};
 
-use game::{Acceptance, Game, InState, OutState};
+use game::{Game, InState, OutState, Refusal};
 use joined_reach::{AHEAD, KNOWN, WON};
-use map_marks::Mapped;
 use sets::ROW_WORDS;
 
 // Settles the component of (i, o), n positions being ahead of it: all components that it leads to are settled.
@@ -68,14 +66,12 @@ fn settle_rank(g: Game, ins: &[u64; ROW_WORDS], outs: &[u64; ROW_WORDS], s: &mut
 {
     let m = g.output.states;
     let positions = g.input.states * m;
-    let mut c: usize = 0;
-    while c < positions {
+    for c in 0..positions {
         if s[AHEAD + c] == n {
             let i = c / m;
             let o = c % m;
             settle_position(g, ins, outs, s, InState(i), OutState(o), n);
         }
-        c += 1;
     }
 }
 
@@ -87,10 +83,8 @@ fn solve<'a>(g: Game, ins: &'a [u64; ROW_WORDS], outs: &'a [u64; ROW_WORDS], s: 
     joined_reach::count_ahead(g, ins, outs, s);
     scratch_clearing::clear(s, 160);
     let positions = g.input.states * g.output.states;
-    let mut n: usize = 1;
-    while n <= positions {
+    for n in 1..=positions {
         settle_rank(g, ins, outs, s, n as u64);
-        n += 1;
     }
 }
 
@@ -99,10 +93,8 @@ fn write_map(g: Game, s: &[u64], map: &mut [u64])
     requires { Small g × (joined_words ≤ length s.now) × JoinedSolved g s.now × (g.input.states ≤ set_count map.old) }
     ensures { MapFilled g map.old map.new }
 {
-    let mut i: usize = 0;
-    while i < g.input.states {
+    for i in 0..g.input.states {
         sets::put(map, i, sets::of_word(s[WON + i]));
-        i += 1;
     }
 }
 
@@ -117,33 +109,30 @@ fn make_map(g: Game, scratch: &mut [u64], map: &mut [u64])
 }
 
 // The map of an accepted game, where the counts are small and the buffers long enough.
-fn map_accepted(g: Game, scratch: &mut [u64], map: &mut [u64]) -> Mapped
-    requires { acceptance g ≡ Accepted }
+fn map_accepted(g: Game, scratch: &mut [u64], map: &mut [u64]) -> Result<(), Refusal>
+    requires { acceptance g ≡ accepted }
     ensures { JoinedMade g scratch.old scratch.new map.old map.new result }
 {
     if g.input.states > 32 {
-        return Mapped::Refused(24);
+        return Err(Refusal::TooManyStates);
     }
     if g.output.states > 32 {
-        return Mapped::Refused(24);
+        return Err(Refusal::TooManyStates);
     }
     if scratch.len() < joined_reach::WORDS {
-        return Mapped::Refused(8);
+        return Err(Refusal::ShortScratch);
     }
     if map.len() < sets::words(g.input.states) {
-        return Mapped::Refused(8);
+        return Err(Refusal::ShortScratch);
     }
     make_map(g, scratch, map);
-    Mapped::Done
+    Ok(())
 }
 
 // Marks the won positions, one set of outputs for each input, in a game of at most 32 states a graph. (SPEC 14.3)
-pub fn joined_map(g: Game, scratch: &mut [u64], map: &mut [u64]) -> Mapped
+pub fn joined_map(g: Game, scratch: &mut [u64], map: &mut [u64]) -> Result<(), Refusal>
     ensures { JoinedMade g scratch.old scratch.new map.old map.new result }
 {
-    let accepted = acceptance::accept(g);
-    match accepted {
-        Acceptance::Refused(n) => Mapped::Refused(n),
-        Acceptance::Accepted => map_accepted(g, scratch, map),
-    }
+    acceptance::accept(g)?;
+    map_accepted(g, scratch, map)
 }

@@ -37,11 +37,9 @@ pub fn draw_component(g: Game, s: &mut [u64], n: u64)
     requires { Small g × (joined_words ≤ length s.old) × Within g s.old }
     ensures { Drawn g n s.old s.new }
 {
-    let mut i: usize = 0;
-    while i < g.input.states {
+    for i in 0..g.input.states {
         let row = ranked_row(s, g.output.states, InState(i), n);
         s[COMPONENT + i] = row.0;
-        i += 1;
     }
 }
 
@@ -50,10 +48,8 @@ pub fn join(g: Game, s: &mut [u64], a: usize)
     requires { Small g × (a + 32 ≤ 128) × (joined_words ≤ length s.old) }
     ensures { Joined g a s.old s.new }
 {
-    let mut i: usize = 0;
-    while i < g.input.states {
+    for i in 0..g.input.states {
         s[a + i] = bits::union(s[a + i], s[COMPONENT + i]);
-        i += 1;
     }
 }
 
@@ -65,10 +61,8 @@ fn inputs_of(g: Game, s: &[u64]) -> InSet
     ensures { bits_of result.0 ≡ pack g.input.states (inputs_of (separated_of g) (component g s.now)) }
 {
     let mut c: u64 = 0;
-    let mut i: usize = 0;
-    while i < g.input.states {
+    for i in 0..g.input.states {
         c = bits::insert_if(c, i, s[COMPONENT + i] != 0);
-        i += 1;
     }
     InSet(sets::of_word(c))
 }
@@ -79,10 +73,8 @@ fn outputs_of(g: Game, s: &[u64]) -> OutSet
     ensures { (o : ℕ) → has (bits_of result.0) o ≡ outputs_of (separated_of g) (component g s.now) o }
 {
     let mut c: u64 = 0;
-    let mut i: usize = 0;
-    while i < g.input.states {
+    for i in 0..g.input.states {
         c = bits::union(c, s[COMPONENT + i]);
-        i += 1;
     }
     OutSet(sets::of_word(c))
 }
@@ -94,13 +86,11 @@ fn is_due(g: Game, r: usize, x: InSet) -> bool
 {
     let q = g.requirements[r];
     let n = q.assumed;
-    let mut j: usize = 0;
-    while j < n {
+    for j in 0..n {
         let a = q.assumptions[j];
         if !sets::meets(a.0, x.0) {
             return false;
         }
-        j += 1;
     }
     true
 }
@@ -112,13 +102,11 @@ fn is_served(g: Game, r: usize, y: OutSet) -> bool
 {
     let q = g.requirements[r];
     let n = q.guaranteed;
-    let mut j: usize = 0;
-    while j < n {
+    for j in 0..n {
         let a = q.guarantees[j];
         if !sets::meets(a.0, y.0) {
             return false;
         }
-        j += 1;
     }
     true
 }
@@ -139,12 +127,10 @@ fn accepts(g: Game, x: InSet, y: OutSet) -> bool
     requires { Small g }
     ensures { result ≡ accepts_on g (bits_of x.0) (bits_of y.0) }
 {
-    let mut r: usize = 0;
-    while r < g.k {
+    for r in 0..g.k {
         if !is_met(g, r, x, y) {
             return false;
         }
-        r += 1;
     }
     true
 }

@@ -154,10 +154,8 @@ fn count_found(g: Game, s: &[u64]) -> usize
     ensures { result ≡ found_below g s.now (g.input.states * g.output.states) }
 {
     let mut n: usize = 0;
-    let mut i: usize = 0;
-    while i < g.input.states {
+    for i in 0..g.input.states {
         n += bits::count(s[FOUND + i]);
-        i += 1;
     }
     n
 }
@@ -169,10 +167,8 @@ pub fn count_ahead(g: Game, ins: &[u64; ROW_WORDS], outs: &[u64; ROW_WORDS], s: 
 {
     let m = g.output.states;
     let positions = g.input.states * m;
-    let mut c: usize = 0;
-    while c < positions {
+    for c in 0..positions {
         close(g, ins, outs, s, InState(c / m), OutState(c % m));
         s[AHEAD + c] = count_found(g, s) as u64;
-        c += 1;
     }
 }

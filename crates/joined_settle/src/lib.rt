@@ -69,8 +69,7 @@ fn add_forced(g: Game, ins: &[u64; ROW_WORDS], outs: &[u64; ROW_WORDS], s: &mut 
     ensures { Grew g s.old s.new result }
 {
     let mut added = false;
-    let mut i: usize = 0;
-    while i < g.input.states {
+    for i in 0..g.input.states {
         let old = s[WON + i];
         let here = bits::difference(s[COMPONENT + i], old);
         let new = forcing(g, ins, outs, s, InState(i), OutWord(here));
@@ -78,7 +77,6 @@ fn add_forced(g: Game, ins: &[u64; ROW_WORDS], outs: &[u64; ROW_WORDS], s: &mut 
             s[WON + i] = bits::union(old, new.0);
             added = true;
         }
-        i += 1;
     }
     added
 }
@@ -89,8 +87,7 @@ fn drop_unsafe(g: Game, ins: &[u64; ROW_WORDS], outs: &[u64; ROW_WORDS], s: &mut
     ensures { Shrank g s.old s.new result }
 {
     let mut dropped = false;
-    let mut i: usize = 0;
-    while i < g.input.states {
+    for i in 0..g.input.states {
         let old = s[WON + i];
         let here = bits::intersection(s[COMPONENT + i], old);
         let safe = forcing(g, ins, outs, s, InState(i), OutWord(here));
@@ -99,7 +96,6 @@ fn drop_unsafe(g: Game, ins: &[u64; ROW_WORDS], outs: &[u64; ROW_WORDS], s: &mut
             s[WON + i] = bits::difference(old, unsafe_here);
             dropped = true;
         }
-        i += 1;
     }
     dropped
 }

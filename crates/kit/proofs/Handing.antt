@@ -5,20 +5,19 @@
 --   scratch_ready           : scratch has a word for each old mode
 --   ready                   : it is what the writing of the kit's table asks for
 --   done_system, done_environment, done_refused    : the kit's answer
-use Prim.Native.Nat.{ℕ, ◌+◌, ◌≤◌}
+use Prim.Native.Nat.{ℕ, ◌≤◌}
 use mathlib.Core.Path.{◌≡◌, sym, ◌∙◌, ap, subst}
 use mathlib.Core.List.{List, ◌++◌}
 use native.Mathlib.Omega.{arith}
 use lib.ListN.{length, take, drop, length-append}
 use Rattle.game.specs.declared.Game.{Game}
-use Rattle.game.specs.declared.Acceptance.TheVariants.{Accepted}
-use Rattle.game.specs.Acceptance.{acceptance}
+use Rattle.game.specs.Acceptance.{accepted, acceptance}
 use Rattle.play.specs.Play.{separated_of}
 use Rattle.theory.specs.Entries.{controller_counters, controller_entries}
 use Rattle.scratch.specs.Scratch.{scratch_length}
 use Rattle.scratch_clearing.specs.Clearing.{cleared}
-use Rattle.solver.specs.declared.Verdict.{Verdict}
-use Rattle.solver.specs.declared.Verdict.TheVariants.{System, Environment, Refused}
+use Rattle.solver.specs.Verdict.{Verdict}
+use Rattle.solver.specs.declared.Winner.TheVariants.{System, Environment}
 use Rattle.solver.specs.Promise.{controller_length, controller_after, Solved}
 use Rattle.kit_drives.specs.declared.Kit.{Kit}
 use Rattle.kit_drives.specs.Drive.{game_from}
@@ -29,8 +28,10 @@ use Rattle.kit.specs.Promise.{KitSolved}
 use Rattle.kit.specs.Roomy.{Roomy}
 use Rattle.kit.proofs.Answers.{system_length, handed, scratch_enough, kit_system, kit_environment, kit_refused}
 use Rattle.kit.proofs.Lengths.{controller_long, kit_ready}
+use Rattle.game.specs.declared.Refusal.{Refusal}
+use Rattle.std.specs.declared.result.Result.TheVariants.{Ok, Err}
 
-pub game_accepted : (k : Kit) (g : Game) → kit_acceptance k ≡ Accepted → g ≡ game_from k → acceptance g ≡ Accepted
+pub game_accepted : (k : Kit) (g : Game) → kit_acceptance k ≡ accepted → g ≡ game_from k → acceptance g ≡ accepted
 game_accepted k g a q = ap acceptance q ∙ (kit_fitting k a).game
 
 pub words_of : (k : Kit) (g : Game) (n : ℕ) → g ≡ game_from k → n ≡ scratch_length g → n ≡ scratch_length (game_from k)
@@ -48,13 +49,13 @@ module _ (k : Kit) (g : Game) (l : ℕ) (s s' c c' e e' t : List ℕ) (P : Roomy
   of_kit : (w : Verdict) → v ≡ w → Solved (game_from k) s s' c c' e e' w
   of_kit w q = subst (Solved (game_from k) s s' c c' e e') q (subst (λ (h : Game). Solved h s s' c c' e e' v) P.game S)
 
-  module _ {n : ℕ} (q : v ≡ System n) where
+  module _ {n : ℕ} (q : v ≡ Ok (System n)) where
     whole : take n c' ≡ controller_entries (separated_of (game_from k))
-    whole = handed k s c e t P.accepted P.scratch P.controller P.room n s' c' e' (of_kit (System n) q)
+    whole = handed k s c e t P.accepted P.scratch P.controller P.room n s' c' e' (of_kit (Ok (System n)) q)
 
     pub front_long : n ≡ length (take n c')
     front_long =
-        system_length k s c e t P.accepted P.scratch P.controller P.room n (of_kit (System n) q).answer
+        system_length k s c e t P.accepted P.scratch P.controller P.room n (of_kit (Ok (System n)) q).answer
         ∙ sym (ap length whole ∙ controller_long k)
 
     pub front_in : n ≤ length c'
@@ -64,7 +65,7 @@ module _ (k : Kit) (g : Game) (l : ℕ) (s s' c c' e e' t : List ℕ) (P : Roomy
           arith,
           front_long,
           ap length whole,
-          ap length (of_kit (System n) q).controller ∙ length-append (controller_entries (separated_of (game_from k))) (drop n c),
+          ap length (of_kit (Ok (System n)) q).controller ∙ length-append (controller_entries (separated_of (game_from k))) (drop n c),
         )
 
     pub ready : (m : ℕ) → m ≡ controller_counters (separated_of g) → KitReady k m (length (take n c')) (length t)
@@ -73,16 +74,16 @@ module _ (k : Kit) (g : Game) (l : ℕ) (s s' c c' e e' t : List ℕ) (P : Roomy
         (ap length whole ∙ controller_long k) P.room
 
     pub scratch_ready : k.old.modes ≤ length s'
-    scratch_ready = scratch_enough k s c e t P.accepted P.scratch P.controller P.room n s' c' e' (of_kit (System n) q)
+    scratch_ready = scratch_enough k s c e t P.accepted P.scratch P.controller P.room n s' c' e' (of_kit (Ok (System n)) q)
 
     pub done_system : {s'' t' : List ℕ} → t' ≡ kit_entries k (take n c') ++ drop (kit_length k) t → s'' ≡ cleared k.old.modes s'
-        → KitSolved k s s'' c c' e e' t t' (System l)
+        → KitSolved k s s'' c c' e e' t t' (Ok (System l))
     done_system {s''} {t'} h w =
-        subst (λ (m : ℕ). KitSolved k s s'' c c' e e' t t' (System m)) (sym P.table)
-        (kit_system k s c e t P.accepted P.scratch P.controller P.room n s' s'' c' e' t' (of_kit (System n) q) w h)
+        subst (λ (m : ℕ). KitSolved k s s'' c c' e e' t t' (Ok (System m))) (sym P.table)
+        (kit_system k s c e t P.accepted P.scratch P.controller P.room n s' s'' c' e' t' (of_kit (Ok (System n)) q) w h)
 
-  pub done_environment : {n : ℕ} → v ≡ Environment n → KitSolved k s s' c c' e e' t t (Environment n)
-  done_environment {n} q = kit_environment k s c e t P.accepted P.scratch P.controller P.room n s' c' e' (of_kit (Environment n) q)
+  pub done_environment : {n : ℕ} → v ≡ Ok (Environment n) → KitSolved k s s' c c' e e' t t (Ok (Environment n))
+  done_environment {n} q = kit_environment k s c e t P.accepted P.scratch P.controller P.room n s' c' e' (of_kit (Ok (Environment n)) q)
 
-  pub done_refused : {n : ℕ} → v ≡ Refused n → KitSolved k s s' c c' e e' t t (Refused n)
-  done_refused {n} q = kit_refused k s c e t P.accepted P.scratch P.controller P.room n s' c' e' (of_kit (Refused n) q)
+  pub done_refused : {n : Refusal} → v ≡ Err n → KitSolved k s s' c c' e e' t t (Err n)
+  done_refused {n} q = kit_refused k s c e t P.accepted P.scratch P.controller P.room n s' c' e' (of_kit (Err n) q)

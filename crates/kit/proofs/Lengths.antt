@@ -11,7 +11,6 @@ use mathlib.Core.Path.{◌≡◌, sym, ◌∙◌, ap}
 use native.Mathlib.Omega.{arith}
 use lib.ListN.{length}
 use Rattle.finite.proofs.Truth.{and_left}
-use Rattle.game.specs.declared.Acceptance.TheVariants.{Accepted}
 use Rattle.game.proofs.Laws.{accepted_fits}
 use Rattle.play.specs.Play.{graph_of, separated_of}
 use Rattle.theory.specs.Entries.{controller_entries}
@@ -23,12 +22,13 @@ use Rattle.kit_drives.specs.Drive.{graph_from, game_from, Small}
 use Rattle.kit_drives.specs.Acceptance.{entries_fit, kit_acceptance}
 use Rattle.kit_drives.proofs.Acceptance.{kit_fitting, kit_small, drive_named}
 use Rattle.kit_rows.specs.Rows.{counters, kit_length, KitReady}
+use Rattle.game.specs.Acceptance.{accepted}
 
 pub controller_long : (k : Kit) → length (controller_entries (separated_of (game_from k))) ≡ controller_length (game_from k)
 unfolding controller_length separated_of graph_of
 controller_long k = entries.controller_long (separated_of (game_from k))
 
-module _ (k : Kit) (a : kit_acceptance k ≡ Accepted) where
+module _ (k : Kit) (a : kit_acceptance k ≡ accepted) where
   pub both_small : Small k.old × Small k.new
   both_small = kit_small k (kit_fitting k a).modes (kit_fitting k a).commands
 

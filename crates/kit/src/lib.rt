@@ -2,19 +2,19 @@
 #![tactic(auto)]
 
 ghost use Rattle.std.specs.Prelude.{◌≡◌, length};
-ghost use Rattle.game.specs.declared.Acceptance.TheVariants.{Accepted};
+ghost use Rattle.game.specs.Acceptance.{accepted};
 ghost use Rattle.kit_drives.specs.Acceptance.{kit_acceptance};
 ghost use Rattle.kit_rows.specs.Rows.{kit_length, counters as countersOf};
 ghost use Rattle.kit.specs.Promise.{KitSolved};
 ghost use Rattle.kit.specs.Roomy.{Roomy};
 
-use game::{Acceptance, Game};
+use game::{Game, Refusal};
 use kit_drives::Kit;
-use solver::Verdict;
+use solver::Winner;
 
 // How many entries the kit's table has.
 fn table_length(k: Kit, counters: usize) -> usize
-    requires { (kit_acceptance k ≡ Accepted) × (counters ≡ countersOf k) }
+    requires { (kit_acceptance k ≡ accepted) × (counters ≡ countersOf k) }
     ensures { result ≡ kit_length k }
 {
     let modes = k.old.modes;
@@ -30,14 +30,14 @@ fn solve_fitting(
     controller: &mut [u16],
     panel: &mut [u16],
     room: &mut [u16],
-) -> Verdict
+) -> Result<Winner, Refusal>
     requires { Roomy k g t (length scratch.old) (length controller.old) (length room.old) }
     ensures { KitSolved k scratch.old scratch.new controller.old controller.new panel.old
         panel.new room.old room.new result }
 {
-    let answer = solver::solve_into(g, scratch, controller, panel);
+    let answer = solver::solve_into(g, scratch, controller, panel)?;
     match answer {
-        Verdict::System(n) => {
+        Winner::System(n) => {
             kit_rows::fill(
                 k,
                 table_sizes::controller_counters(g),
@@ -45,10 +45,9 @@ fn solve_fitting(
                 scratch,
                 room,
             );
-            Verdict::System(t)
+            Ok(Winner::System(t))
         },
-        Verdict::Environment(n) => Verdict::Environment(n),
-        Verdict::Refused(n) => Verdict::Refused(n),
+        Winner::Environment(n) => Ok(Winner::Environment(n)),
     }
 }
 
@@ -59,21 +58,21 @@ fn solve_accepted(
     controller: &mut [u16],
     panel: &mut [u16],
     room: &mut [u16],
-) -> Verdict
-    requires { kit_acceptance k ≡ Accepted }
+) -> Result<Winner, Refusal>
+    requires { kit_acceptance k ≡ accepted }
     ensures { KitSolved k scratch.old scratch.new controller.old controller.new panel.old
         panel.new room.old room.new result }
 {
     let g = kit_drives::game_of(k);
     if scratch.len() < scratch::length(g) {
-        return Verdict::Refused(8);
+        return Err(Refusal::ShortScratch);
     }
     if controller.len() < table_sizes::controller_length(g) {
-        return Verdict::Refused(9);
+        return Err(Refusal::ShortController);
     }
     let t = table_length(k, table_sizes::controller_counters(g));
     if room.len() < t {
-        return Verdict::Refused(9);
+        return Err(Refusal::ShortController);
     }
     solve_fitting(k, g, t, scratch, controller, panel, room)
 }
@@ -86,13 +85,10 @@ pub fn solve_kit(
     controller: &mut [u16],
     panel: &mut [u16],
     room: &mut [u16],
-) -> Verdict
+) -> Result<Winner, Refusal>
     ensures { KitSolved k scratch.old scratch.new controller.old controller.new panel.old
         panel.new room.old room.new result }
 {
-    let accepted = kit_checks::accept_kit(k);
-    match accepted {
-        Acceptance::Refused(n) => Verdict::Refused(n),
-        Acceptance::Accepted => solve_accepted(k, scratch, controller, panel, room),
-    }
+    kit_checks::accept_kit(k)?;
+    solve_accepted(k, scratch, controller, panel, room)
 }

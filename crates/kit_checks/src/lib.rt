@@ -6,7 +6,7 @@ ghost use Rattle.sets.specs.Words.{capacity};
 ghost use Rattle.finite.specs.Bounded.{all};
 ghost use Rattle.kit_drives.specs.Acceptance.{modes_fit, commands_fit, entry_fits, entries_fit, both_drives, KitAccepts};
 
-use game::Acceptance;
+use game::{Acceptance, Refusal};
 use kit_drives::{Drive, Kit};
 
 // Whether a count is 1 to most.
@@ -66,12 +66,10 @@ fn mode_fits(next: &[u8; kit_drives::NEXT], modes: usize, commands: usize, m: us
     requires { m < capacity }
     ensures { result ≡ all 16 (entry_fits next.now modes commands m) }
 {
-    let mut u = 0;
-    while u < 16 {
+    for u in 0..16 {
         if !entry_fits(next, modes, commands, m, u) {
             return false;
         }
-        u += 1;
     }
     true
 }
@@ -79,12 +77,10 @@ fn mode_fits(next: &[u8; kit_drives::NEXT], modes: usize, commands: usize, m: us
 fn drive_fits(d: Drive) -> bool
     ensures { result ≡ entries_fit d }
 {
-    let mut m = 0;
-    while m < sets::CAPACITY {
+    for m in 0..sets::CAPACITY {
         if !mode_fits(&d.next, d.modes, d.commands, m) {
             return false;
         }
-        m += 1;
     }
     true
 }
@@ -103,13 +99,13 @@ pub fn accept_kit(k: Kit) -> Acceptance
     ensures { KitAccepts k result }
 {
     if !modes_fit(k) {
-        return Acceptance::Refused(1);
+        return Err(Refusal::CountOutOfRange);
     }
     if !commands_fit(k) {
-        return Acceptance::Refused(17);
+        return Err(Refusal::CommandsOutOfRange);
     }
     if !entries_fit(k) {
-        return Acceptance::Refused(18);
+        return Err(Refusal::BadNextMode);
     }
     acceptance::accept(kit_drives::game_of(k))
 }

@@ -18,8 +18,7 @@ use Rattle.finite.proofs.Truth.{and_left, and_right, or_left, or_cases}
 use Rattle.finite.proofs.Bounded.{all_elim}
 use Rattle.finite.proofs.Loops.{and_stop, and_next}
 use Rattle.sets.specs.Words.{capacity}
-use Rattle.game.specs.declared.Acceptance.{Acceptance}
-use Rattle.game.specs.declared.Acceptance.TheVariants.{Accepted, Refused}
+use Rattle.game.specs.Acceptance.{accepted, Acceptance}
 use Rattle.game.specs.Acceptance.{acceptance, acceptance_number}
 use Rattle.game.specs.Numbers.{first_of, game_tests}
 use Rattle.game.proofs.Numbers.{after, game_after, number_alone}
@@ -27,16 +26,18 @@ use Rattle.kit_drives.specs.declared.Drive.{Drive}
 use Rattle.kit_drives.specs.declared.Kit.{Kit}
 use Rattle.kit_drives.specs.Drive.{next_in, next_mode, game_from, Small}
 use Rattle.kit_drives.specs.Acceptance.{modes_fit, commands_fit, entry_fits, entries_fit, both_drives, in_order, kit_acceptance, kit_tests, KitAccepts}
+use Rattle.std.specs.declared.result.Result.TheVariants.{Err}
+use Rattle.game.specs.declared.Refusal.TheVariants.{BadNextMode, CommandsOutOfRange, CountOutOfRange}
 
-refused_at_1 : (b c e : Bool) (a : Acceptance) → b ≡ false → Refused 1 ≡ in_order b c e a
+refused_at_1 : (b c e : Bool) (a : Acceptance) → b ≡ false → Err CountOutOfRange ≡ in_order b c e a
 unfolding in_order
 refused_at_1 b c e a p = rw p refl
 
-refused_at_17 : (b c e : Bool) (a : Acceptance) → b ≡ true → c ≡ false → Refused 17 ≡ in_order b c e a
+refused_at_17 : (b c e : Bool) (a : Acceptance) → b ≡ true → c ≡ false → Err CommandsOutOfRange ≡ in_order b c e a
 unfolding in_order
 refused_at_17 b c e a p q = rw (p, q) refl
 
-refused_at_18 : (b c e : Bool) (a : Acceptance) → b ≡ true → c ≡ true → e ≡ false → Refused 18 ≡ in_order b c e a
+refused_at_18 : (b c e : Bool) (a : Acceptance) → b ≡ true → c ≡ true → e ≡ false → Err BadNextMode ≡ in_order b c e a
 unfolding in_order
 refused_at_18 b c e a p q r = rw (p, q, r) refl
 
@@ -45,15 +46,15 @@ unfolding in_order
 past b c e a p q r = rw (p, q, r) refl
 
 module _ (k : Kit) where
-  pub refused_1 : both_drives modes_fit k ≡ false → Refused 1 ≡ kit_acceptance k
+  pub refused_1 : both_drives modes_fit k ≡ false → Err CountOutOfRange ≡ kit_acceptance k
   unfolding kit_acceptance
   refused_1 = refused_at_1 (both_drives modes_fit k) (both_drives commands_fit k) (both_drives entries_fit k) (acceptance (game_from k))
 
-  pub refused_17 : both_drives modes_fit k ≡ true → both_drives commands_fit k ≡ false → Refused 17 ≡ kit_acceptance k
+  pub refused_17 : both_drives modes_fit k ≡ true → both_drives commands_fit k ≡ false → Err CommandsOutOfRange ≡ kit_acceptance k
   unfolding kit_acceptance
   refused_17 = refused_at_17 (both_drives modes_fit k) (both_drives commands_fit k) (both_drives entries_fit k) (acceptance (game_from k))
 
-  pub refused_18 : both_drives modes_fit k ≡ true → both_drives commands_fit k ≡ true → both_drives entries_fit k ≡ false → Refused 18 ≡ kit_acceptance k
+  pub refused_18 : both_drives modes_fit k ≡ true → both_drives commands_fit k ≡ true → both_drives entries_fit k ≡ false → Err BadNextMode ≡ kit_acceptance k
   unfolding kit_acceptance
   refused_18 = refused_at_18 (both_drives modes_fit k) (both_drives commands_fit k) (both_drives entries_fit k) (acceptance (game_from k))
 
@@ -111,16 +112,16 @@ pub record Fitting (k : Kit) : Type 0 where
   pub modes : both_drives modes_fit k ≡ true
   pub commands : both_drives commands_fit k ≡ true
   pub entries : both_drives entries_fit k ≡ true
-  pub game : acceptance (game_from k) ≡ Accepted
+  pub game : acceptance (game_from k) ≡ accepted
 
-passes : (b c e : Bool) (a : Acceptance) → in_order b c e a ≡ Accepted → (b ≡ true) × (c ≡ true) × (e ≡ true) × (a ≡ Accepted)
+passes : (b c e : Bool) (a : Acceptance) → in_order b c e a ≡ accepted → (b ≡ true) × (c ≡ true) × (e ≡ true) × (a ≡ accepted)
 unfolding in_order
 passes true true true a h = (refl, refl, refl, h)
 passes true true false a h = absurd (let z : ◌≡◌ {A = ℕ} 0 1 = cc in omega arith)
 passes true false e a h = absurd (let z : ◌≡◌ {A = ℕ} 0 1 = cc in omega arith)
 passes false c e a h = absurd (let z : ◌≡◌ {A = ℕ} 0 1 = cc in omega arith)
 
-pub kit_fitting : (k : Kit) → kit_acceptance k ≡ Accepted → Fitting k
+pub kit_fitting : (k : Kit) → kit_acceptance k ≡ accepted → Fitting k
 unfolding kit_acceptance
 kit_fitting k h =
     let v = passes (both_drives modes_fit k) (both_drives commands_fit k) (both_drives entries_fit k) (acceptance (game_from k)) h in

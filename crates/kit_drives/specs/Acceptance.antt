@@ -14,15 +14,17 @@
 use Rattle.std.specs.Prelude.{ℕ, Bool, true, false, ◌&&◌, ◌||◌, List, ◌∷◌, ◌≡◌, eqb, ltb, leb}
 use Rattle.sets.specs.Words.{capacity}
 use Rattle.finite.specs.Bounded.{all}
-use Rattle.game.specs.declared.Acceptance.{Acceptance}
-use Rattle.game.specs.declared.Acceptance.TheVariants.{Refused}
+use Rattle.game.specs.Acceptance.{Acceptance}
 use Rattle.game.specs.Acceptance.{acceptance, acceptance_number}
 use Rattle.game.specs.Numbers.{first_of, game_tests}
 use Rattle.kit_drives.specs.declared.Drive.{Drive}
 use Rattle.kit_drives.specs.declared.Kit.{Kit}
 use Rattle.kit_drives.specs.Drive.{next_in, game_from}
+use Rattle.std.specs.declared.result.Result.TheVariants.{Err}
+use Rattle.game.specs.declared.Refusal.TheVariants.{BadNextMode, CommandsOutOfRange, CountOutOfRange}
 
 -- fails: "1 a count not 1 to 64", to 128 by M-105 (SPEC 13.1)
+
 unfoldable pub modes_fit : Drive → Bool
 modes_fit d = leb 1 d.modes && leb d.modes capacity
 
@@ -42,9 +44,9 @@ both_drives p k = p k.old && p k.new
 
 -- "17 ..; 18 ..; both after 1 and before 2" (SPEC 9.1)
 unfoldable pub in_order : (modes commands entries : Bool) → Acceptance → Acceptance
-in_order false c e a = Refused 1
-in_order true false e a = Refused 17
-in_order true true false a = Refused 18
+in_order false c e a = Err CountOutOfRange
+in_order true false e a = Err CommandsOutOfRange
+in_order true true false a = Err BadNextMode
 in_order true true true a = a
 
 unfoldable pub kit_acceptance : Kit → Acceptance

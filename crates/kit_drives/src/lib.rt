@@ -32,19 +32,12 @@ pub struct Kit {
     pub requirements: [Requirement; 8],
 }
 
-// A mode that was kept in a byte.
-fn wide(x: u8) -> usize
-    ensures { result ≡ x }
-{
-    x as usize
-}
-
 // The mode that command u leads to from mode m, 255 where it is barred.
 pub fn next_mode(next: &[u8; NEXT], m: usize, u: usize) -> usize
     requires { (m < capacity) × (u < 16) }
     ensures { result ≡ next_in next.now m u }
 {
-    wide(next[16 * m + u])
+    usize::from(next[16 * m + u])
 }
 
 // The modes that some command leads to from mode m.
@@ -53,13 +46,11 @@ fn moves_from(next: &[u8; NEXT], modes: usize, commands: usize, m: usize) -> Set
     ensures { bits_of result ≡ pack modes (made_by next.now commands m) }
 {
     let mut x = sets::empty();
-    let mut u: usize = 0;
-    while u < commands {
+    for u in 0..commands {
         let t = next_mode(next, m, u);
         if t < modes {
             x = sets::insert(x, t);
         }
-        u += 1;
     }
     x
 }
@@ -70,11 +61,9 @@ fn graph_of(d: Drive) -> Graph
     ensures { result ≡ graph_from d }
 {
     let mut moves = [0u64; sets::ROW_WORDS];
-    let mut m: usize = 0;
-    while m < sets::CAPACITY {
+    for m in 0..sets::CAPACITY {
         let x = moves_from(&d.next, d.modes, d.commands, m);
         sets::put_of(&mut moves, m, x);
-        m += 1;
     }
     let initial = d.initial;
     Graph {

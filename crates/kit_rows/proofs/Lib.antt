@@ -2,3 +2,4 @@
 pub mod Search
 pub mod Blocks
 pub mod Kits
+pub mod Cleared

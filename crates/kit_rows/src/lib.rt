@@ -24,12 +24,10 @@ fn lowest_command(next: &[u8; kit_drives::NEXT], commands: usize, o: usize, t: u
     requires { (commands ≤ 16) × (o < capacity) }
     ensures { result ≡ lowest_in next.now commands o t }
 {
-    let mut u: usize = 0;
-    while u < commands {
+    for u in 0..commands {
         if kit_drives::next_mode(next, o, u) == t {
             return u;
         }
-        u += 1;
     }
     commands
 }
@@ -61,10 +59,8 @@ fn translate(
     ensures { Said (commands_of new.now from.commands from.mode) controller.now base modes kept.old
         kept.new }
 {
-    let mut j: usize = 0;
-    while j < modes {
+    for j in 0..modes {
         kept[j] = translated(new, from, controller[base + j]) as u64;
-        j += 1;
     }
 }
 
@@ -92,10 +88,8 @@ fn mode_rows(
     requires { ModeFits next.now commands kept.now i at (length room.old) }
     ensures { Moded next.now commands kept.now i at commands room.old room.new }
 {
-    let mut u: usize = 0;
-    while u < commands {
+    for u in 0..commands {
         room[at + u] = row(next, kept, i, u);
-        u += 1;
     }
 }
 
@@ -111,8 +105,7 @@ fn counter_rows(
     requires { CountFits next.now modes commands kept.now first (length room.old) }
     ensures { Counted next.now modes commands kept.now first modes room.old room.new }
 {
-    let mut i: usize = 0;
-    while i < modes {
+    for i in 0..modes {
         mode_rows(
             next,
             commands,
@@ -121,7 +114,6 @@ fn counter_rows(
             room,
             modes + (first + i) * commands,
         );
-        i += 1;
     }
 }
 
@@ -144,8 +136,7 @@ fn output_rows(
         mode: o,
         commands: new.commands,
     };
-    let mut c: usize = 0;
-    while c < counters {
+    for c in 0..counters {
         let first = (o * counters + c) * old.modes;
         translate(
             &new.next,
@@ -156,7 +147,6 @@ fn output_rows(
             kept,
         );
         counter_rows(&old.next, old.modes, old.commands, kept, first, room);
-        c += 1;
     }
 }
 
@@ -168,10 +158,8 @@ pub fn fill(k: Kit, counters: usize, controller: &[u16], scratch: &mut [u64], ro
 {
     compact_rows::starts(k.old.modes, controller, room);
     let outputs = k.new.modes;
-    let mut o: usize = 0;
-    while o < outputs {
+    for o in 0..outputs {
         output_rows(k, counters, o, controller, scratch, room);
-        o += 1;
     }
     scratch_clearing::clear(scratch, k.old.modes);
 }

@@ -11,18 +11,18 @@ use Rattle.map_marks.proofs.Answer.{not_done}
 use Rattle.finite.proofs.Truth.{and_left, and_right, and_false_left}
 use Rattle.sets.specs.Words.{words_for}
 use Rattle.game.specs.declared.Game.{Game}
-use Rattle.game.specs.declared.Acceptance.{Acceptance}
-use Rattle.game.specs.declared.Acceptance.TheVariants.{Accepted, Refused as Faulty}
-use Rattle.game.specs.Acceptance.{acceptance}
+use Rattle.game.specs.Acceptance.{Acceptance, accepted, acceptance}
 use Rattle.game.specs.Numbers.{first_of}
 use Rattle.game.proofs.Numbers.{after, game_after}
 use Rattle.scratch_clearing.specs.Clearing.{cleared}
 use Rattle.scratch.specs.Scratch.{scratch_length}
 use Rattle.map_marks.specs.Marks.{MapFilled}
 use Rattle.map_marks.proofs.Marks.{marks}
-use Rattle.map_marks.specs.declared.Mapped.{Mapped}
-use Rattle.map_marks.specs.declared.Mapped.TheVariants.{Done, Refused as NotMapped}
+use Rattle.map_marks.specs.Mapped.{made, Mapped}
 use Rattle.map.specs.Map.{map_fits, map_room, map_answer, map_tests, map_scratch, MapMade}
+use Rattle.std.specs.declared.result.Result.TheVariants.{Ok, Err}
+use Rattle.game.specs.declared.Refusal.{Refusal}
+use Rattle.game.specs.declared.Refusal.TheVariants.{ShortScratch}
 
 -- what is told of the game on a board, told of the game that was laid out on it
 module _ {g h : Game} (e : h ≡ g) where
@@ -35,19 +35,19 @@ map_number_lem : (g : Game) (s m : ℕ) → map_number (map_answer g s m) ≡ fi
 unfolding map_tests map_answer map_room first_of
 map_number_lem g s m = go (acceptance g) ∙ sym (game_after g ((8, map_fits g s m) ∷ []))
   where
-    room : (b : Bool) → map_number (elim b as (λ x. Mapped) [ true ↦ Done | false ↦ NotMapped 8 ]) ≡ first_of ((8, b) ∷ [])
+    room : (b : Bool) → map_number (elim b as (λ x. Mapped) [ true ↦ made | false ↦ Err ShortScratch ]) ≡ first_of ((8, b) ∷ [])
     room true = refl
     room false = refl
 
     go : (a : Acceptance)
-        → map_number (elim a as (λ x. Mapped) [ Accepted ↦ map_room g s m | Faulty n ↦ NotMapped n ]) ≡ after a (first_of ((8, map_fits g s m) ∷ []))
-    go Accepted = room (map_fits g s m)
-    go (Faulty n) = refl
+        → map_number (elim a as (λ x. Mapped) [ Ok u ↦ map_room g s m | Err n ↦ Err n ]) ≡ after a (first_of ((8, map_fits g s m) ∷ []))
+    go (Ok u) = room (map_fits g s m)
+    go (Err n) = refl
 
 told : (g : Game) (s m : List ℕ) {r : Mapped} → r ≡ map_answer g (length s) (length m) → map_number r ≡ first_of (map_tests g (length s) (length m))
 told g s m e = ap map_number e ∙ map_number_lem g (length s) (length m)
 
-map_refused : (g : Game) (s m : List ℕ) (n : ℕ) → NotMapped n ≡ map_answer g (length s) (length m) → MapMade g s s m m (NotMapped n)
+map_refused : (g : Game) (s m : List ℕ) (n : Refusal) → Err n ≡ map_answer g (length s) (length m) → MapMade g s s m m (Err n)
 unfolding MapAfter map_scratch
 map_refused g s m n e = record {
   answer = e;
@@ -57,17 +57,17 @@ map_refused g s m n e = record {
   won = λ q. not_done q;
 }
 
-pub map_faulty : (g : Game) (s m : List ℕ) (n : ℕ) → acceptance g ≡ Faulty n → MapMade g s s m m (NotMapped n)
+pub map_faulty : (g : Game) (s m : List ℕ) (n : Refusal) → acceptance g ≡ Err n → MapMade g s s m m (Err n)
 unfolding map_answer
 map_faulty g s m n e = map_refused g s m n (rw (e, map_answer) refl)
 
-map_room_lem : (g : Game) (s m : ℕ) (b : Bool) {r : Mapped} → acceptance g ≡ Accepted → map_fits g s m ≡ b
-    → r ≡ elim b as (λ x. Mapped) [ true ↦ Done | false ↦ NotMapped 8 ] → r ≡ map_answer g s m
+map_room_lem : (g : Game) (s m : ℕ) (b : Bool) {r : Mapped} → acceptance g ≡ accepted → map_fits g s m ≡ b
+    → r ≡ elim b as (λ x. Mapped) [ true ↦ made | false ↦ Err ShortScratch ] → r ≡ map_answer g s m
 unfolding map_answer map_room
 map_room_lem g s m b a e h = rw (a, map_answer) (rw (e, map_room) h)
 
-pub map_short : (g : Game) (s m : List ℕ) → acceptance g ≡ Accepted → map_fits g (length s) (length m) ≡ false → MapMade g s s m m (NotMapped 8)
-map_short g s m a b = map_refused g s m 8 (map_room_lem g (length s) (length m) false a b refl)
+pub map_short : (g : Game) (s m : List ℕ) → acceptance g ≡ accepted → map_fits g (length s) (length m) ≡ false → MapMade g s s m m (Err ShortScratch)
+map_short g s m a b = map_refused g s m ShortScratch (map_room_lem g (length s) (length m) false a b refl)
 
 -- what is long enough
 pub fits_scratch : (g : Game) (s m : ℕ) → map_fits g s m ≡ true → scratch_length g ≤ s
@@ -86,8 +86,8 @@ pub long_fits : (g : Game) (s m : ℕ) {w : ℕ} → scratch_length g ≤ s → 
 unfolding map_fits
 long_fits g s m b e = rw (e, le-leb (scratch_length g) s b) refl
 
-pub map_done : (g : Game) (s s' m m' : List ℕ) → acceptance g ≡ Accepted → map_fits g (length s) (length m) ≡ true → s' ≡ cleared (scratch_length g) s
-    → MapFilled g m m' → MapMade g s s' m m' Done
+pub map_done : (g : Game) (s s' m m' : List ℕ) → acceptance g ≡ accepted → map_fits g (length s) (length m) ≡ true → s' ≡ cleared (scratch_length g) s
+    → MapFilled g m m' → MapMade g s s' m m' made
 unfolding MapAfter map_scratch
 map_done g s s' m m' a b e f = record {
   answer = done;
@@ -97,5 +97,5 @@ map_done g s s' m m' a b e f = record {
   won = λ q. marks g m m' f;
 }
   where
-    done : Done ≡ map_answer g (length s) (length m)
+    done : made ≡ map_answer g (length s) (length m)
     done = map_room_lem g (length s) (length m) true a b refl

@@ -8,26 +8,25 @@ use Rattle.bits.specs.Member.{has}
 use Rattle.sets.specs.Words.{sets_in, words_for}
 use Rattle.arena.specs.Win.{Won}
 use Rattle.game.specs.declared.Game.{Game}
-use Rattle.game.specs.declared.Acceptance.{Acceptance}
-use Rattle.game.specs.declared.Acceptance.TheVariants.{Accepted, Refused as Faulty}
 use Rattle.game.specs.Acceptance.{acceptance}
 use Rattle.game.specs.Numbers.{first_of, game_tests}
 use Rattle.demands.specs.Demands.{play_of}
 use Rattle.scratch_clearing.specs.Clearing.{cleared}
 use Rattle.scratch.specs.Scratch.{scratch_length}
-use Rattle.map_marks.specs.declared.Mapped.{Mapped}
-use Rattle.map_marks.specs.declared.Mapped.TheVariants.{Done, Refused as NotMapped}
+use Rattle.map_marks.specs.Mapped.{made, Mapped}
 use Rattle.map_marks.specs.Answer.{map_number, MapAfter}
+use Rattle.std.specs.declared.result.Result.TheVariants.{Ok, Err}
+use Rattle.game.specs.declared.Refusal.TheVariants.{ShortScratch}
 
 -- "Number 8 is given below that length" (document 02, M-103); "or, where the call writes the map, map room under one word an input" (SPEC 9.3)
 unfoldable pub map_fits : Game → ℕ → ℕ → Bool
 map_fits g s m = leb (scratch_length g) s && leb (words_for g.input.states) m
 
 unfoldable pub map_room : Game → ℕ → ℕ → Mapped
-map_room g s m = elim (map_fits g s m) [ true ↦ Done | false ↦ NotMapped 8 ]
+map_room g s m = elim (map_fits g s m) [ true ↦ made | false ↦ Err ShortScratch ]
 
 unfoldable pub map_answer : Game → ℕ → ℕ → Mapped
-map_answer g s m = elim (acceptance g) [ Accepted ↦ map_room g s m | Faulty n ↦ NotMapped n ]
+map_answer g s m = elim (acceptance g) [ Ok u ↦ map_room g s m | Err n ↦ Err n ]
 
 -- SPEC 9.1, 9.3
 unfoldable pub map_tests : Game → ℕ → ℕ → List (ℕ × Bool)
@@ -35,8 +34,8 @@ map_tests g s m = game_tests g ++ (8, map_fits g s m) ∷ []
 
 -- "after an answer the first that many words are zero and the rest unchanged"; "Each returns its number only .. and changes no lent memory" (SPEC 7.5)
 unfoldable pub map_scratch : Game → Mapped → List ℕ → List ℕ
-map_scratch g Done s = cleared (scratch_length g) s
-map_scratch g (NotMapped n) s = s
+map_scratch g (Ok u) s = cleared (scratch_length g) s
+map_scratch g (Err n) s = s
 
 -- SPEC 4.5, 7.5, 7.6
 pub record MapMade (g : Game) (s s' m m' : List ℕ) (r : Mapped) : Type 0 where
@@ -44,4 +43,4 @@ pub record MapMade (g : Game) (s s' m m' : List ℕ) (r : Mapped) : Type 0 where
   pub number : map_number r ≡ first_of (map_tests g (length s) (length m))
   pub map : MapAfter g r m m'
   pub scratch : s' ≡ map_scratch g r s
-  pub won : r ≡ Done → (i o : ℕ) → i < g.input.states → o < g.output.states → (has (get_or (sets_in m') i 0) o ≡ true) ↔ Won (play_of g) i o
+  pub won : r ≡ made → (i o : ℕ) → i < g.input.states → o < g.output.states → (has (get_or (sets_in m') i 0) o ≡ true) ↔ Won (play_of g) i o

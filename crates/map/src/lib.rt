@@ -3,8 +3,7 @@
 
 ghost use Rattle.std.specs.Prelude.{◌≡◌, ◌≤◌, ◌<◌};
 ghost use Rattle.sets.specs.Words.{bits_of, sets_in, set_count};
-ghost use Rattle.game.specs.declared.Acceptance.TheVariants.{Accepted};
-ghost use Rattle.game.specs.Acceptance.{acceptance};
+ghost use Rattle.game.specs.Acceptance.{acceptance, accepted};
 ghost use Rattle.game.specs.declared.Game.{Game};
 ghost use Rattle.board.specs.Board.{game_on};
 ghost use Rattle.scratch.specs.Stored.{WonKept, Ready};
@@ -12,8 +11,7 @@ ghost use Rattle.map_marks.specs.Marks.{map_row, MapFilled};
 ghost use Rattle.map.specs.Map.{map_fits, MapMade};
 
 use board::Sizes;
-use game::{Acceptance, Game, InSet, InState};
-use map_marks::Mapped;
+use game::{Game, InSet, InState, Refusal};
 use scratch::WonRow;
 
 // The outputs that are won with input i; c are the inputs in nontrivial components, k is what is kept of the inputs before.
@@ -34,18 +32,16 @@ fn fill_map(z: Sizes, b: &[u64; board::WORDS], s: &[u64], c: InSet, map: &mut [u
     ensures { MapFilled g map.old map.new }
 {
     let mut k = scratch::won_first();
-    let mut i: usize = 0;
-    while i < z.inputs {
+    for i in 0..z.inputs {
         k = map_row(z, b, s, c, InState(i), k);
         let won = k.row;
         sets::put(map, i, won.0);
-        i += 1;
     }
 }
 
 // Whether scratch of so many words and a map of so many are long enough.
 fn fits(g: Game, words: usize, room: usize) -> bool
-    requires { acceptance g ≡ Accepted }
+    requires { acceptance g ≡ accepted }
     ensures { result ≡ map_fits g words room }
 {
     if words < scratch::length(g) {
@@ -56,22 +52,17 @@ fn fits(g: Game, words: usize, room: usize) -> bool
 
 // Marks the won positions: one set of outputs for each input. The game is laid out on a board once, from which the region is worked out.
 // (SPEC 4.5, 7.5, 7.6)
-pub fn won_map(g: Game, scratch: &mut [u64], map: &mut [u64]) -> Mapped
+pub fn won_map(g: Game, scratch: &mut [u64], map: &mut [u64]) -> Result<(), Refusal>
     ensures { MapMade g scratch.old scratch.new map.old map.new result }
 {
     let mut b: [u64; board::WORDS] = [0; board::WORDS];
     let z = board::lay(g, &mut b);
-    let accepted = acceptance::accept_lent(g, board::in_rows(&b), board::out_rows(&b));
-    match accepted {
-        Acceptance::Refused(n) => Mapped::Refused(n),
-        Acceptance::Accepted => {
-            if !fits(g, scratch.len(), map.len()) {
-                return Mapped::Refused(8);
-            }
-            let x = region::prepare(z, &b, scratch);
-            fill_map(z, &b, scratch, x.inputs, map);
-            scratch_clearing::clear(scratch, scratch::length(g));
-            Mapped::Done
-        },
+    acceptance::accept_lent(g, board::in_rows(&b), board::out_rows(&b))?;
+    if !fits(g, scratch.len(), map.len()) {
+        return Err(Refusal::ShortScratch);
     }
+    let x = region::prepare(z, &b, scratch);
+    fill_map(z, &b, scratch, x.inputs, map);
+    scratch_clearing::clear(scratch, scratch::length(g));
+    Ok(())
 }

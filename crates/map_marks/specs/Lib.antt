@@ -1,3 +1,4 @@
 -- A map of won positions.
+pub mod Mapped
 pub mod Marks
 pub mod Answer

@@ -1,28 +1,32 @@
 -- A call that answers as the entry below it does promises what that entry promises.
 use Prim.Native.Nat.{ℕ}
-use mathlib.Core.Path.{◌≡◌, ap, subst, ◌∙◌}
+use mathlib.Core.Path.{◌≡◌, refl, ap, subst, ◌∙◌}
 use mathlib.Core.List.{List}
 use Rattle.game.specs.declared.Game.{Game}
 use Rattle.game.specs.declared.InState.{InState}
 use Rattle.game.specs.declared.OutState.{OutState}
-use Rattle.map_marks.specs.declared.Mapped.{Mapped}
+use Rattle.game.specs.declared.Refusal.{Refusal}
+use Rattle.game.specs.Acceptance.{Acceptance, acceptance_number}
+use Rattle.map_marks.specs.Mapped.{Mapped}
 use Rattle.map_marks.specs.Answer.{map_number}
 use Rattle.joined.specs.Joined.{JoinedMade}
-use Rattle.interlock.specs.declared.Judged.{Judged}
+use Rattle.interlock.specs.Judged.{Judged}
 use Rattle.interlock.specs.Interlock.{BarredMap, BarredJudged}
-use Rattle.solver.specs.declared.Verdict.{Verdict}
+use Rattle.solver.specs.Verdict.{Verdict}
 use Rattle.map.specs.Map.{MapMade}
 use Rattle.ground_search.specs.declared.Explanation.{Explanation}
 use Rattle.explain.specs.Explain.{Explained}
 use Rattle.explain_all.specs.All.{ExplainedAll}
 use Rattle.solver.specs.Promise.{Solved}
 use Rattle.solver.specs.Compact.{SolvedCompact}
-use Rattle.compact_moves.specs.declared.Move.{Move}
-use Rattle.compact_moves.specs.declared.Count.{Count}
+use Rattle.compact_moves.specs.Move.{Move, Count}
 use Rattle.compact_moves.specs.Promise.{MovedOver, MovedBack, Counted}
 use Rattle.kit_drives.specs.declared.Kit.{Kit}
 use Rattle.kit.specs.Promise.{KitSolved}
-use Rattle.text.specs.declared.WriteAnswer.{WriteAnswer}
+use Rattle.player_place.specs.declared.Position.{Position}
+use Rattle.player_place.specs.Played.{Played}
+use Rattle.player.specs.Player.{moved_of, refusal_of, Advanced}
+use Rattle.text.specs.WriteAnswer.{WriteAnswer}
 use Rattle.text.specs.Write.{Writes}
 use Rattle.nanpuwiq_results.specs.declared.SolveResult.{SolveResult}
 use Rattle.nanpuwiq_results.specs.declared.ExplainResult.{ExplainResult}
@@ -32,7 +36,9 @@ use Rattle.nanpuwiq_results.specs.declared.MoveResult.{MoveResult}
 use Rattle.nanpuwiq_results.specs.declared.CountResult.{CountResult}
 use Rattle.nanpuwiq_results.specs.Results.{solve_result, write_result, explain_result, judge_result, move_result, count_result}
 use Rattle.nanpuwiq.specs.Calls.{MapCalled, JoinedCalled, BarredCalled, JudgeCalled, SolveCalled, KitCalled, WriteCalled, ExplainCalled}
-use Rattle.nanpuwiq.specs.Calls.{ExplainAllCalled, CompactCalled, OverCalled, BackCalled, CountCalled}
+use Rattle.nanpuwiq.specs.Calls.{ExplainAllCalled, CompactCalled, OverCalled, BackCalled, CountCalled, AdvanceCalled}
+use Rattle.std.specs.Prelude.{Result}
+use Rattle.std.specs.declared.result.Result.TheVariants.{Ok, Err}
 
 pub map_called : {g : Game} {s s' m m' : List ℕ} {a : Mapped} {r : ℕ} → MapMade g s s' m m' a → r ≡ map_number a → MapCalled g s s' m m' r
 map_called {g} {s} {s'} {m} {m'} f e = record { answer = e ∙ f.number; made = subst (MapMade g s s' m m') f.answer f }
@@ -46,7 +52,7 @@ barred_called {g} {b} {s} {s'} {m} {m'} f e = record { answer = e ∙ f.number; 
 pub judge_called : {g : Game} {b s s' : List ℕ} {a : Judged} {r : JudgeResult} → BarredJudged g b s s' a → r ≡ judge_result a → JudgeCalled g b s s' r
 judge_called {g} {b} {s} {s'} f e = record { answer = e ∙ ap judge_result f.answer; judged = subst (BarredJudged g b s s') f.answer f }
 
-pub explain_called : {g : Game} {s s' : List ℕ} {i : InState} {o : OutState} {a : Explanation} {r : ExplainResult} → Explained g s s' i o a
+pub explain_called : {g : Game} {s s' : List ℕ} {i : InState} {o : OutState} {a : Result Explanation Refusal} {r : ExplainResult} → Explained g s s' i o a
     → r ≡ explain_result a → ExplainCalled g s s' i o r
 explain_called {g} {s} {s'} {i} {o} f e =
     record { answer = e ∙ ap explain_result f.answer; explained = subst (Explained g s s' i o) f.answer f }
@@ -81,3 +87,13 @@ over_called {g} {l} {w} {w'} f e = record { answer = e ∙ ap move_result f.answ
 
 pub back_called : {g : Game} {l w w' : List ℕ} {a : Move} {r : MoveResult} → MovedBack g l w w' a → r ≡ move_result a → BackCalled g l w w' r
 back_called {g} {l} {w} {w'} f e = record { answer = e ∙ ap move_result f.answer; moved = subst (MovedBack g l w w') f.answer f }
+
+-- the code of a step in place, by its answer
+step_code : (old : Position) (a : Played) → acceptance_number (refusal_of a) ≡ (moved_of old a).code
+unfolding moved_of refusal_of
+step_code old (Ok p) = refl
+step_code old (Err r) = refl
+
+pub advance_called : {old new : Position} {a : Played} {b : Acceptance} {n : ℕ} → Advanced old a new b → n ≡ acceptance_number b
+    → AdvanceCalled old a new n
+advance_called {old} {new} {a} f e = record { position = f.position; number = e ∙ ap acceptance_number f.refusal ∙ step_code old a }

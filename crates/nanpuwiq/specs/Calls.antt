@@ -15,6 +15,7 @@
 --   KitCalled k s s' c c' e e' t t' r  == the same of a kit, whose room t is left as t'
 --   ReadCalled s r                     == the reader answers r to the bytes s
 --   WriteCalled g d d' r               == the writer answers r and leaves the buffer d as d'; what it has written, read again, is g
+--   AdvanceCalled p a q n              == the step in place from p, whose answer is a, leaves the place as q and answers the number n
 use Rattle.std.specs.Prelude.{ℕ, ◌≡◌, List, length, take}
 use Rattle.game.specs.declared.Game.{Game}
 use Rattle.game.specs.declared.InState.{InState}
@@ -32,15 +33,17 @@ use Rattle.interlock.specs.Interlock.{
 }
 use Rattle.explain.specs.Explain.{explain_answer, Explained}
 use Rattle.explain_all.specs.All.{all_answer, all_tests, ExplainedAll}
-use Rattle.checker.specs.declared.Checked.{Checked}
+use Rattle.checker.specs.Checked.{Checked}
 use Rattle.checker.specs.Check.{Checks}
+use Rattle.player_place.specs.declared.Position.{Position}
+use Rattle.player_place.specs.Played.{Played}
+use Rattle.player.specs.Player.{moved_of}
 use Rattle.solver.specs.Promise.{verdict_answer, Solved}
 use Rattle.solver.specs.Compact.{compact_answer, SolvedCompact}
 use Rattle.compact_moves.specs.Promise.{over_answer, back_answer, count_answer, MovedOver, MovedBack, Counted}
 use Rattle.kit_drives.specs.declared.Kit.{Kit}
 use Rattle.kit.specs.Promise.{kit_answer, KitSolved}
-use Rattle.text.specs.declared.Reading.{Reading}
-use Rattle.text.specs.declared.WriteAnswer.TheVariants.{Written}
+use Rattle.text.specs.Reading.{Reading}
 use Rattle.text.specs.Read.{Reads}
 use Rattle.text.specs.Write.{write_answer, write_buffer, ReadsBack}
 use Rattle.nanpuwiq_results.specs.declared.SolveResult.{SolveResult}
@@ -52,8 +55,10 @@ use Rattle.nanpuwiq_results.specs.declared.WriteResult.{WriteResult}
 use Rattle.nanpuwiq_results.specs.declared.MoveResult.{MoveResult}
 use Rattle.nanpuwiq_results.specs.declared.CountResult.{CountResult}
 use Rattle.nanpuwiq_results.specs.Results.{solve_result, explain_result, check_result, judge_result, read_result, write_result, move_result, count_result}
+use Rattle.std.specs.declared.result.Result.TheVariants.{Ok}
 
 -- `made` says what both buffers hold, and carries demand 2
+
 pub record MapCalled (g : Game) (s s' m m' : List ℕ) (r : ℕ) : Type 0 where
   pub answer : r ≡ first_of (map_tests g (length s) (length m))
   pub made : MapMade g s s' m m' (map_answer g (length s) (length m))
@@ -127,4 +132,9 @@ pub record ReadCalled (s : List ℕ) (r : ReadResult) : Type 0 where
 pub record WriteCalled (g : Game) (d d' : List ℕ) (r : WriteResult) : Type 0 where
   pub answer : r ≡ write_result (write_answer g d)
   pub buffer : d' ≡ write_buffer g d
-  pub reads_back : (n : ℕ) → write_answer g d ≡ Written n → ReadsBack g (take n d')
+  pub reads_back : (n : ℕ) → write_answer g d ≡ Ok n → ReadsBack g (take n d')
+
+-- "Each returns its number only .. and changes no lent memory or player's place." (SPEC 9.1, 10.2)
+pub record AdvanceCalled (old : Position) (answer : Played) (new : Position) (code : ℕ) : Type 0 where
+  pub position : new ≡ (moved_of old answer).at
+  pub number : code ≡ (moved_of old answer).code

@@ -4,13 +4,13 @@
 
 ghost use Rattle.std.specs.Prelude.{◌≡◌};
 ghost use Rattle.game.specs.Numbers.{first_of, game_tests};
-ghost use Rattle.player.specs.Player.{moved_of, beginning, stepping, Advanced};
+ghost use Rattle.player.specs.Player.{moved_of, beginning, stepping};
 ghost use Rattle.recorder.specs.Recorded.{compared};
 ghost use Rattle.panel_player.specs.Panel.{panel_first, panel_begin, panel_next, panel_step};
 ghost use Rattle.nanpuwiq_results.specs.Results.{compare_result, panel_moved, zero_position};
 ghost use Rattle.kit_drives.specs.Acceptance.{kit_tests};
 ghost use Rattle.compact_view.specs.Rows.{Looked};
-ghost use Rattle.nanpuwiq.specs.Calls.{MapCalled, JoinedCalled, SolveCalled, CompactCalled, KitCalled, ReadCalled, WriteCalled};
+ghost use Rattle.nanpuwiq.specs.Calls.{AdvanceCalled, MapCalled, JoinedCalled, SolveCalled, CompactCalled, KitCalled, ReadCalled, WriteCalled};
 ghost use Rattle.nanpuwiq.specs.Calls.{ExplainCalled, ExplainAllCalled, CheckCalled, BarredCalled, JudgeCalled};
 ghost use Rattle.nanpuwiq.specs.Calls.{OverCalled, BackCalled, CountCalled};
 
@@ -30,7 +30,7 @@ use view::RowIndex;
 pub extern "C" fn nanpuwiq_accept(g: Game) -> u8
     ensures { result ≡ first_of (game_tests g) }
 {
-    nanpuwiq_results::accept_code(acceptance::accept(g))
+    nanpuwiq_results::refusal_code(acceptance::accept(g))
 }
 
 // Marks the won positions: one set of outputs for each input.
@@ -38,7 +38,7 @@ pub extern "C" fn nanpuwiq_accept(g: Game) -> u8
 pub extern "C" fn nanpuwiq_won_map(g: Game, scratch: &mut [u64], map: &mut [u64]) -> u8
     ensures { MapCalled g scratch.old scratch.new map.old map.new result }
 {
-    nanpuwiq_results::map_code(map::won_map(g, scratch, map))
+    nanpuwiq_results::refusal_code(map::won_map(g, scratch, map))
 }
 
 // Marks the won positions of a game of at most 32 states a graph, on the joined positions.
@@ -46,7 +46,7 @@ pub extern "C" fn nanpuwiq_won_map(g: Game, scratch: &mut [u64], map: &mut [u64]
 pub extern "C" fn nanpuwiq_joined_map(g: Game, scratch: &mut [u64], map: &mut [u64]) -> u8
     ensures { JoinedCalled g scratch.old scratch.new map.old map.new result }
 {
-    nanpuwiq_results::map_code(joined::joined_map(g, scratch, map))
+    nanpuwiq_results::refusal_code(joined::joined_map(g, scratch, map))
 }
 
 // Marks the won positions of a game with bars: some outputs are barred with certain inputs.
@@ -59,7 +59,7 @@ pub extern "C" fn nanpuwiq_barred_map(
 ) -> u8
     ensures { BarredCalled g bars.now scratch.old scratch.new map.old map.new result }
 {
-    nanpuwiq_results::map_code(interlock::barred_map(g, bars, scratch, map))
+    nanpuwiq_results::refusal_code(interlock::barred_map(g, bars, scratch, map))
 }
 
 // Which side wins a game with bars.
@@ -88,7 +88,7 @@ pub extern "C" fn nanpuwiq_explain(
 pub extern "C" fn nanpuwiq_explain_all(g: Game, scratch: &mut [u64], grounds: &mut [u16]) -> u8
     ensures { ExplainAllCalled g scratch.old scratch.new grounds.old grounds.new result }
 {
-    nanpuwiq_results::map_code(explain_all::explain_all(g, scratch, grounds))
+    nanpuwiq_results::refusal_code(explain_all::explain_all(g, scratch, grounds))
 }
 
 // Names the side that wins and writes its table into the front of its buffer.
@@ -177,7 +177,7 @@ pub extern "C" fn nanpuwiq_compact_row(
 pub extern "C" fn nanpuwiq_accept_kit(k: Kit) -> u8
     ensures { result ≡ first_of (kit_tests k) }
 {
-    nanpuwiq_results::accept_code(kit_checks::accept_kit(k))
+    nanpuwiq_results::refusal_code(kit_checks::accept_kit(k))
 }
 
 // Names the side that wins the kit's game. Where the system does, the front of room becomes the kit's table.
@@ -230,9 +230,9 @@ pub extern "C" fn nanpuwiq_step(g: Game, table: &[u16], at: Position, next: InSt
 // Moves the position on and answers 0; a refusal leaves it as it was and answers its code.
 #[unsafe(no_mangle)]
 pub extern "C" fn nanpuwiq_advance(g: Game, table: &[u16], at: &mut Position, next: InState) -> u8
-    ensures { Advanced at.old (stepping g table.now at.old next) at.new result }
+    ensures { AdvanceCalled at.old (stepping g table.now at.old next) at.new result }
 {
-    player::advance(g, table, at, next)
+    nanpuwiq_results::refusal_code(player::advance(g, table, at, next))
 }
 
 // The panel's first input and counter, by the start of its table.

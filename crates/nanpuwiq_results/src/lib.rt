@@ -3,24 +3,22 @@
 
 ghost use Rattle.std.specs.Prelude.{◌≡◌};
 ghost use Rattle.player.specs.Player.{moved_of};
-ghost use Rattle.game.specs.Acceptance.{acceptance_number as acceptNumber};
-ghost use Rattle.map_marks.specs.Answer.{map_number as map_number};
+ghost use Rattle.game.specs.Acceptance.{acceptance_number};
 ghost use Rattle.nanpuwiq_results.specs.Results.{solve_result, read_result, write_result, compare_result, panel_moved, zero_position};
 ghost use Rattle.nanpuwiq_results.specs.Results.{names_nothing, names_input, explain_result, check_result, judged_as, judge_result};
 ghost use Rattle.nanpuwiq_results.specs.Results.{move_result, count_result};
 
-use checker::Checked;
-use compact_moves::{Count, Move};
-use game::{Acceptance, Game, InState, OutState};
+use checker::Finding;
+use game::{Acceptance, Game, InState, OutState, Refusal};
 use ground_search::Explanation;
-use interlock::Judged;
-use map_marks::Mapped;
-use panel_place::Picked;
+use interlock::Side;
+use panel_place::PanelMove;
 use player::Moved;
-use player_place::{Played, Position};
-use recorder::Compared;
-use solver::Verdict;
-use text::{Answer, Reading, WriteAnswer};
+use player_place::Position;
+use recorder::Comparison;
+use solver::Winner;
+use text::Unread;
+use text_scan::whole;
 
 // The solver's answer: the code; whether the system wins; how many entries are filled. On a refusal the last two are false and 0.
 #[repr(C)]
@@ -118,21 +116,13 @@ pub struct CompareResult {
     pub step: usize,
 }
 
-pub fn accept_code(a: Acceptance) -> u8
-    ensures { result ≡ acceptNumber a }
+// The code of an answer that says nothing but whether it is refused.
+pub fn refusal_code(a: Acceptance) -> u8
+    ensures { result ≡ acceptance_number a }
 {
     match a {
-        Acceptance::Accepted => 0,
-        Acceptance::Refused(n) => n,
-    }
-}
-
-pub fn map_code(a: Mapped) -> u8
-    ensures { result ≡ map_number a }
-{
-    match a {
-        Mapped::Done => 0,
-        Mapped::Refused(n) => n,
+        Ok(()) => 0,
+        Err(r) => u8::from(r),
     }
 }
 
@@ -143,32 +133,34 @@ fn judged(code: u8, system: bool) -> JudgeResult
     JudgeResult { code, system }
 }
 
-pub fn judge_result(a: Judged) -> JudgeResult
+#[tactic(auto, unfolding(crate::specs::Results::judge_result))]
+pub fn judge_result(a: Result<Side, Refusal>) -> JudgeResult
     ensures { result ≡ judge_result a }
 {
     match a {
-        Judged::System => judged(0, true),
-        Judged::Environment => judged(0, false),
-        Judged::Refused(n) => judged(n, false),
+        Ok(Side::System) => judged(0, true),
+        Ok(Side::Environment) => judged(0, false),
+        Err(r) => judged(u8::from(r), false),
     }
 }
 
-pub fn solve_result(v: Verdict) -> SolveResult
+#[tactic(auto, unfolding(crate::specs::Results::solve_result))]
+pub fn solve_result(v: Result<Winner, Refusal>) -> SolveResult
     ensures { result ≡ solve_result v }
 {
     match v {
-        Verdict::System(n) => SolveResult {
+        Ok(Winner::System(n)) => SolveResult {
             code: 0,
             system: true,
             entries: n,
         },
-        Verdict::Environment(n) => SolveResult {
+        Ok(Winner::Environment(n)) => SolveResult {
             code: 0,
             system: false,
             entries: n,
         },
-        Verdict::Refused(n) => SolveResult {
-            code: n,
+        Err(r) => SolveResult {
+            code: u8::from(r),
             system: false,
             entries: 0,
         },
@@ -203,13 +195,14 @@ fn names_input(number: u8, input: InState) -> ExplainResult
     }
 }
 
-pub fn explain_result(a: Explanation) -> ExplainResult
+#[tactic(auto, unfolding(crate::specs::Results::explain_result))]
+pub fn explain_result(a: Result<Explanation, Refusal>) -> ExplainResult
     ensures { result ≡ explain_result a }
 {
     match a {
-        Explanation::InputStuck => names_nothing(0, 1),
-        Explanation::ByReplies => names_nothing(0, 2),
-        Explanation::AtHome(d) => ExplainResult {
+        Ok(Explanation::InputStuck) => names_nothing(0, 1),
+        Ok(Explanation::ByReplies) => names_nothing(0, 2),
+        Ok(Explanation::AtHome(d)) => ExplainResult {
             code: 0,
             number: 3,
             output: d,
@@ -217,10 +210,10 @@ pub fn explain_result(a: Explanation) -> ExplainResult
             requirement: 0,
             set: 0,
         },
-        Explanation::OutputStuck => names_nothing(0, 4),
-        Explanation::Unanswered(j) => names_input(5, j),
-        Explanation::ByWayOut(j) => names_input(6, j),
-        Explanation::Unserved(k, n) => ExplainResult {
+        Ok(Explanation::OutputStuck) => names_nothing(0, 4),
+        Ok(Explanation::Unanswered(j)) => names_input(5, j),
+        Ok(Explanation::ByWayOut(j)) => names_input(6, j),
+        Ok(Explanation::Unserved(k, n)) => ExplainResult {
             code: 0,
             number: 7,
             output: OutState(0),
@@ -228,16 +221,17 @@ pub fn explain_result(a: Explanation) -> ExplainResult
             requirement: k,
             set: n,
         },
-        Explanation::PushedOn => names_nothing(0, 8),
-        Explanation::Refused(n) => names_nothing(n, 0),
+        Ok(Explanation::PushedOn) => names_nothing(0, 8),
+        Err(r) => names_nothing(u8::from(r), 0),
     }
 }
 
-pub fn check_result(a: Checked) -> CheckResult
+#[tactic(auto, unfolding(crate::specs::Results::check_result))]
+pub fn check_result(a: Result<Finding, Refusal>) -> CheckResult
     ensures { result ≡ check_result a }
 {
     match a {
-        Checked::Accepted => CheckResult {
+        Ok(Finding::Accepted) => CheckResult {
             code: 0,
             finding: 0,
             input: InState(0),
@@ -245,7 +239,7 @@ pub fn check_result(a: Checked) -> CheckResult
             begins: 0,
             requirement: 0,
         },
-        Checked::BadStart(i) => CheckResult {
+        Ok(Finding::BadStart(i)) => CheckResult {
             code: 0,
             finding: 1,
             input: i,
@@ -253,7 +247,7 @@ pub fn check_result(a: Checked) -> CheckResult
             begins: 0,
             requirement: 0,
         },
-        Checked::BadRow(n, j) => CheckResult {
+        Ok(Finding::BadRow(n, j)) => CheckResult {
             code: 0,
             finding: 2,
             input: j,
@@ -261,7 +255,7 @@ pub fn check_result(a: Checked) -> CheckResult
             begins: 0,
             requirement: 0,
         },
-        Checked::BadRound(n, b, q) => CheckResult {
+        Ok(Finding::BadRound(n, b, q)) => CheckResult {
             code: 0,
             finding: 3,
             input: InState(0),
@@ -269,8 +263,8 @@ pub fn check_result(a: Checked) -> CheckResult
             begins: b,
             requirement: q,
         },
-        Checked::Refused(n) => CheckResult {
-            code: n,
+        Err(r) => CheckResult {
+            code: u8::from(r),
             finding: 0,
             input: InState(0),
             walk: 0,
@@ -280,93 +274,102 @@ pub fn check_result(a: Checked) -> CheckResult
     }
 }
 
-pub fn read_result(x: Reading) -> ReadResult
-    ensures { result ≡ read_result x }
+#[tactic(auto, unfolding(crate::specs::Results::read_result))]
+pub fn read_result(a: Result<Game, Unread>) -> ReadResult
+    ensures { result ≡ read_result a }
 {
-    let game = x.game;
-    let a = x.answer;
     match a {
-        Answer::Read => ReadResult {
+        Ok(game) => ReadResult {
             code: 0,
             place: 0,
             game,
         },
-        Answer::Misshapen(p) => ReadResult {
-            code: 11,
+        Err(Unread::Misshapen(p)) => ReadResult {
+            code: u8::from(Refusal::NoGame),
             place: p,
-            game,
+            game: whole::empty_game(),
         },
-        Answer::Refused(n) => ReadResult {
-            code: n,
+        Err(Unread::Refused(r)) => ReadResult {
+            code: u8::from(r),
             place: 0,
-            game,
+            game: whole::empty_game(),
         },
     }
 }
 
-pub fn write_result(a: WriteAnswer) -> WriteResult
+#[tactic(auto, unfolding(crate::specs::Results::write_result))]
+pub fn write_result(a: Result<usize, Refusal>) -> WriteResult
     ensures { result ≡ write_result a }
 {
     match a {
-        WriteAnswer::Written(n) => WriteResult { code: 0, bytes: n },
-        WriteAnswer::Refused(n) => WriteResult { code: n, bytes: 0 },
+        Ok(n) => WriteResult { code: 0, bytes: n },
+        Err(r) => WriteResult {
+            code: u8::from(r),
+            bytes: 0,
+        },
     }
 }
 
-pub fn move_result(a: Move) -> MoveResult
+#[tactic(auto, unfolding(crate::specs::Results::move_result))]
+pub fn move_result(a: Result<usize, Refusal>) -> MoveResult
     ensures { result ≡ move_result a }
 {
     match a {
-        Move::Moved(n) => MoveResult {
+        Ok(n) => MoveResult {
             code: 0,
             entries: n,
         },
-        Move::Refused(n) => MoveResult {
-            code: n,
+        Err(r) => MoveResult {
+            code: u8::from(r),
             entries: 0,
         },
     }
 }
 
-pub fn count_result(a: Count) -> CountResult
+#[tactic(auto, unfolding(crate::specs::Results::count_result))]
+pub fn count_result(a: Result<usize, Refusal>) -> CountResult
     ensures { result ≡ count_result a }
 {
     match a {
-        Count::Components(n) => CountResult { code: 0, count: n },
-        Count::Refused(n) => CountResult { code: n, count: 0 },
+        Ok(n) => CountResult { code: 0, count: n },
+        Err(r) => CountResult {
+            code: u8::from(r),
+            count: 0,
+        },
     }
 }
 
-pub fn compare_result(a: Compared) -> CompareResult
+#[tactic(auto, unfolding(crate::specs::Results::compare_result))]
+pub fn compare_result(a: Result<Comparison, Refusal>) -> CompareResult
     ensures { result ≡ compare_result a }
 {
     match a {
-        Compared::Agree => CompareResult {
+        Ok(Comparison::Agree) => CompareResult {
             code: 0,
             agree: true,
             ended: false,
             step: 0,
         },
-        Compared::Differ(n) => CompareResult {
+        Ok(Comparison::Differ(n)) => CompareResult {
             code: 0,
             agree: false,
             ended: false,
             step: n,
         },
-        Compared::Ended(n) => CompareResult {
+        Ok(Comparison::Ended(n)) => CompareResult {
             code: 0,
             agree: false,
             ended: true,
             step: n,
         },
-        Compared::Fault(n, c) => CompareResult {
-            code: c,
+        Ok(Comparison::Fault(n, r)) => CompareResult {
+            code: u8::from(r),
             agree: false,
             ended: false,
             step: n,
         },
-        Compared::Refused(c) => CompareResult {
-            code: c,
+        Err(r) => CompareResult {
+            code: u8::from(r),
             agree: false,
             ended: false,
             step: 0,
@@ -374,27 +377,29 @@ pub fn compare_result(a: Compared) -> CompareResult
     }
 }
 
-pub fn first_move(a: Played) -> Moved
+#[tactic(auto, unfolding(player::specs::Player::moved_of, crate::specs::Results::zero_position))]
+pub fn first_move(a: Result<Position, Refusal>) -> Moved
     ensures { result ≡ moved_of zero_position a }
 {
     match a {
-        Played::At(p) => Moved { at: p, code: 0 },
-        Played::Refused(n) => Moved {
+        Ok(p) => Moved { at: p, code: 0 },
+        Err(r) => Moved {
             at: Position {
                 input: InState(0),
                 output: OutState(0),
                 counter: 0,
             },
-            code: n,
+            code: u8::from(r),
         },
     }
 }
 
-pub fn panel_move(a: Picked) -> PanelMoved
+#[tactic(auto, unfolding(crate::specs::Results::panel_moved))]
+pub fn panel_move(a: Result<PanelMove, Refusal>) -> PanelMoved
     ensures { result ≡ panel_moved a }
 {
     match a {
-        Picked::To(m) => {
+        Ok(m) => {
             let input = m.input;
             PanelMoved {
                 input,
@@ -402,10 +407,10 @@ pub fn panel_move(a: Picked) -> PanelMoved
                 code: 0,
             }
         }
-        Picked::Refused(n) => PanelMoved {
+        Err(r) => PanelMoved {
             input: InState(0),
             counter: 0,
-            code: n,
+            code: u8::from(r),
         },
     }
 }

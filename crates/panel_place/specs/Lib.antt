@@ -1,2 +1,3 @@
 -- What the contracts of the panel's move cite.
+pub mod Picked
 pub mod Picks

@@ -4,14 +4,13 @@
 ghost use Rattle.std.specs.Prelude.{◌≡◌, ◌≤◌, ◌<◌};
 ghost use Rattle.sets.specs.Words.{capacity};
 ghost use Rattle.graphs.specs.Graph.{edge, begins};
-ghost use Rattle.game.specs.Acceptance.{acceptance};
-ghost use Rattle.game.specs.declared.Acceptance.TheVariants.{Accepted};
+ghost use Rattle.game.specs.Acceptance.{acceptance, accepted};
 ghost use Rattle.play.specs.Play.{graph_of};
 ghost use Rattle.theory.specs.Entries.{answer};
 ghost use Rattle.panel_place.specs.Picks.{named_input, picks, position_with};
 
-use game::{Game, InState, OutState};
-use player_place::{Played, Position};
+use game::{Game, InState, OutState, Refusal};
+use player_place::Position;
 
 // The panel's move: the next input and the next counter.
 #[derive(Clone, Copy)]
@@ -20,16 +19,9 @@ pub struct PanelMove {
     pub counter: usize,
 }
 
-// A refusal holds its code: 1 to 7, 15 or 16.
-#[derive(Clone, Copy)]
-pub enum Picked {
-    To(PanelMove),
-    Refused(u8),
-}
-
 // Whether output o is initial.
 pub fn opens_with(g: Game, o: OutState) -> bool
-    requires { acceptance g ≡ Accepted }
+    requires { acceptance g ≡ accepted }
     ensures { result ≡ begins (graph_of g.output) o.0 }
 {
     let h = g.output;
@@ -54,38 +46,33 @@ pub fn named(entry: u16) -> InState
 }
 
 // The move that an entry names, given whether its input is allowed.
-pub fn pick(counters: usize, entry: u16, allowed: bool) -> Picked
+pub fn pick(counters: usize, entry: u16, allowed: bool) -> Result<PanelMove, Refusal>
     ensures { result ≡ picks counters (λ s. allowed) (answer entry) }
 {
     if entry == table_entries::NONE {
-        return Picked::Refused(15);
+        return Err(Refusal::BadEntry);
     }
     let counter = table_entries::counter(entry);
     if counter >= counters {
-        return Picked::Refused(15);
+        return Err(Refusal::BadEntry);
     }
     if !allowed {
-        return Picked::Refused(15);
+        return Err(Refusal::BadEntry);
     }
-    Picked::To(PanelMove {
+    Ok(PanelMove {
         input: named(entry),
         counter,
     })
 }
 
 // The position that the panel's move makes with an output.
-pub fn join(output: OutState, a: Picked) -> Played
+pub fn join(output: OutState, a: Result<PanelMove, Refusal>) -> Result<Position, Refusal>
     ensures { result ≡ position_with output a }
 {
-    match a {
-        Picked::To(m) => {
-            let input = m.input;
-            Played::At(Position {
-                input,
-                output,
-                counter: m.counter,
-            })
-        }
-        Picked::Refused(n) => Played::Refused(n),
-    }
+    let m = a?;
+    Ok(Position {
+        input: m.input,
+        output,
+        counter: m.counter,
+    })
 }

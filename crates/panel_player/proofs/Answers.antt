@@ -14,8 +14,7 @@ use Rattle.graphs.specs.Graph.{edge, begins}
 use Rattle.game.specs.declared.InState.{InState}
 use Rattle.game.specs.declared.OutState.{OutState}
 use Rattle.game.specs.declared.Game.{Game}
-use Rattle.game.specs.declared.Acceptance.{Acceptance}
-use Rattle.game.specs.declared.Acceptance.TheVariants as acceptance·
+use Rattle.game.specs.Acceptance.{accepted, Acceptance}
 use Rattle.game.specs.Acceptance.{acceptance}
 use Rattle.game.specs.Numbers.{first_of}
 use Rattle.game.proofs.Laws.{accepted_fits}
@@ -26,16 +25,14 @@ use Rattle.theory.specs.Entries.{none_entry, answer, environment_counters, envir
 use Rattle.demands.specs.Demands.{environment_of}
 use Rattle.demands.proofs.Sizes.{environment_few}
 use Rattle.player_place.specs.declared.Position.{Position}
-use Rattle.player_place.specs.declared.Played.{Played}
-use Rattle.player_place.specs.declared.Played.TheVariants as played·
+use Rattle.player_place.specs.Played.{Played}
 use Rattle.player_place.specs.Place.{provided, names, has_position}
 use Rattle.player_place.specs.Place as place
 use Rattle.player_place.proofs.Moves.{inputs_most, outputs_most}
 use Rattle.player_place.proofs.Tests.{held, refused, position_in}
 use Rattle.player.specs.Player.{after_acceptance, Plays}
 use Rattle.player.proofs.Answers.{provided_number, after_number}
-use Rattle.panel_place.specs.declared.Picked.{Picked}
-use Rattle.panel_place.specs.declared.Picked.TheVariants.{To, Refused}
+use Rattle.panel_place.specs.Picked.{Picked}
 use Rattle.panel_place.specs.Picks.{granted, named_input, picks, position_with, panel_number}
 use Rattle.panel_place.proofs.Picks.{granted_held, granted_refused, picks_as}
 use Rattle.panel_player.specs.Panel.{
@@ -60,6 +57,10 @@ use Rattle.panel_player.specs.Panel.{
   panel_step_tests,
   Picks,
 }
+use Rattle.std.specs.declared.result.Result.TheVariants.{Ok, Err}
+use Rattle.game.specs.Refusals.{number}
+use Rattle.game.specs.declared.Refusal.{Refusal}
+use Rattle.game.specs.declared.Refusal.TheVariants.{BadEntry, NotAllowed, OtherTable}
 
 -- ---- the table's length
 
@@ -74,7 +75,7 @@ module _ (g : Game) (l : List ℕ) (n : ℕ) (e : n ≡ length (environment_entr
 
 -- ---- the entries
 
-module _ (g : Game) (M : ℕ) (p : Position) (a : acceptance g ≡ acceptance·.Accepted) (m : M ≡ environment_counters (separated_of g))
+module _ (g : Game) (M : ℕ) (p : Position) (a : acceptance g ≡ accepted) (m : M ≡ environment_counters (separated_of g))
     (h : has_position g M p ≡ true) where
   -- what a row's place is made of
   pub record Bounds : Type 0 where
@@ -127,31 +128,31 @@ module _ (g : Game) (l : List ℕ) where
 -- ---- the start
 
 module _ (g : Game) (l : List ℕ) where
-  pub first_length : panel_fitting g l ≡ false → Refused 16 ≡ first_move g l
+  pub first_length : panel_fitting g l ≡ false → Err OtherTable ≡ first_move g l
   unfolding first_move
-  first_length h = granted_refused 16 (start_move g l) h
+  first_length h = granted_refused OtherTable (start_move g l) h
 
   pub first_at : (r : Picked) → panel_fitting g l ≡ true → r ≡ start_move g l → r ≡ first_move g l
   unfolding first_move
-  first_at r h q = q ∙ granted_held 16 (start_move g l) h
+  first_at r h q = q ∙ granted_held OtherTable (start_move g l) h
 
 module _ (g : Game) (l : List ℕ) (o : OutState) where
   -- the answer where the table fits
   unfoldable opened : Played
-  opened = provided (begins (graph_of g.output) o.0) 14 (position_with o (start_move g l))
+  opened = provided (begins (graph_of g.output) o.0) NotAllowed (position_with o (start_move g l))
 
-  pub begin_length : panel_fitting g l ≡ false → played·.Refused 16 ≡ first_place g l o
+  pub begin_length : panel_fitting g l ≡ false → Err OtherTable ≡ first_place g l o
   unfolding first_place opened
-  begin_length h = refused 16 opened h
+  begin_length h = refused OtherTable opened h
 
-  pub begin_output : panel_fitting g l ≡ true → begins (graph_of g.output) o.0 ≡ false → played·.Refused 14 ≡ first_place g l o
+  pub begin_output : panel_fitting g l ≡ true → begins (graph_of g.output) o.0 ≡ false → Err NotAllowed ≡ first_place g l o
   unfolding first_place opened
-  begin_output h b = refused 14 (position_with o (start_move g l)) b ∙ held 16 opened h
+  begin_output h b = refused NotAllowed (position_with o (start_move g l)) b ∙ held OtherTable opened h
 
   pub begin_at : panel_fitting g l ≡ true → begins (graph_of g.output) o.0 ≡ true → (m : Picked) (r : Played) → m ≡ start_move g l → r ≡ position_with o m
       → r ≡ first_place g l o
   unfolding first_place opened
-  begin_at h b m r q s = s ∙ ap (position_with o) q ∙ held 14 (position_with o (start_move g l)) b ∙ held 16 opened h
+  begin_at h b m r q s = s ∙ ap (position_with o) q ∙ held NotAllowed (position_with o (start_move g l)) b ∙ held OtherTable opened h
 
 -- ---- a step
 
@@ -170,71 +171,71 @@ module _ (g : Game) (l : List ℕ) (p : Position) where
     pub both_hold : panel_fitting g l ≡ true → has_position g M p ≡ true → there ≡ true
     both_hold f h = and_intro f (ap (λ (k : ℕ). has_position g k p) (sym m) ∙ h)
 
-  pub next_refused : there ≡ false → Refused 16 ≡ next_move g l p
+  pub next_refused : there ≡ false → Err OtherTable ≡ next_move g l p
   unfolding next_move
-  next_refused h = granted_refused 16 (row_move g l p) h
+  next_refused h = granted_refused OtherTable (row_move g l p) h
 
   pub next_at : (r : Picked) → there ≡ true → r ≡ row_move g l p → r ≡ next_move g l p
   unfolding next_move
-  next_at r h q = q ∙ granted_held 16 (row_move g l p) h
+  next_at r h q = q ∙ granted_held OtherTable (row_move g l p) h
 
   module _ (q : OutState) where
     -- the answer where they do
     unfoldable replied : Played
-    replied = provided (edge (graph_of g.output) p.output.0 q.0) 14 (position_with q (row_move g l p))
+    replied = provided (edge (graph_of g.output) p.output.0 q.0) NotAllowed (position_with q (row_move g l p))
 
-    pub step_refused : there ≡ false → played·.Refused 16 ≡ next_place g l p q
+    pub step_refused : there ≡ false → Err OtherTable ≡ next_place g l p q
     unfolding next_place replied
-    step_refused h = refused 16 replied h
+    step_refused h = refused OtherTable replied h
 
-    pub step_output : there ≡ true → edge (graph_of g.output) p.output.0 q.0 ≡ false → played·.Refused 14 ≡ next_place g l p q
+    pub step_output : there ≡ true → edge (graph_of g.output) p.output.0 q.0 ≡ false → Err NotAllowed ≡ next_place g l p q
     unfolding next_place replied
-    step_output h b = refused 14 (position_with q (row_move g l p)) b ∙ held 16 replied h
+    step_output h b = refused NotAllowed (position_with q (row_move g l p)) b ∙ held OtherTable replied h
 
     pub step_at : there ≡ true → edge (graph_of g.output) p.output.0 q.0 ≡ true → (m : Picked) (r : Played) → m ≡ row_move g l p → r ≡ position_with q m
         → r ≡ next_place g l p q
     unfolding next_place replied
-    step_at h b m r e s = s ∙ ap (position_with q) e ∙ held 14 (position_with q (row_move g l p)) b ∙ held 16 replied h
+    step_at h b m r e s = s ∙ ap (position_with q) e ∙ held NotAllowed (position_with q (row_move g l p)) b ∙ held OtherTable replied h
 
 -- ---- acceptance first
 
-pub pick_refused : {a : Acceptance} (m : Picked) (n : ℕ) → a ≡ acceptance·.Refused n → Refused n ≡ pick_after a m
+pub pick_refused : {a : Acceptance} (m : Picked) (n : Refusal) → a ≡ Err n → Err n ≡ pick_after a m
 unfolding pick_after
 pick_refused m n e = rw (e, pick_after)
 
-pub pick_accepted : {a : Acceptance} (m : Picked) → a ≡ acceptance·.Accepted → m ≡ pick_after a m
+pub pick_accepted : {a : Acceptance} (m : Picked) → a ≡ accepted → m ≡ pick_after a m
 unfolding pick_after
 pick_accepted m e = rw (e, pick_after)
 
-pub play_refused : {a : Acceptance} (p : Played) (n : ℕ) → a ≡ acceptance·.Refused n → played·.Refused n ≡ after_acceptance a p
+pub play_refused : {a : Acceptance} (p : Played) (n : Refusal) → a ≡ Err n → Err n ≡ after_acceptance a p
 unfolding after_acceptance
 play_refused p n e = rw (e, after_acceptance)
 
-pub play_accepted : {a : Acceptance} (p : Played) → a ≡ acceptance·.Accepted → p ≡ after_acceptance a p
+pub play_accepted : {a : Acceptance} (p : Played) → a ≡ accepted → p ≡ after_acceptance a p
 unfolding after_acceptance
 play_accepted p e = rw (e, after_acceptance)
 
 -- ---- the numbers
 
-granted_number : (b : Bool) (n : ℕ) (a : Picked) (ts : List (ℕ × Bool)) → panel_number a ≡ first_of ts → panel_number (granted b n a) ≡ first_of ((n, b) ∷ ts)
+granted_number : (b : Bool) (r : Refusal) (a : Picked) (ts : List (ℕ × Bool)) → panel_number a ≡ first_of ts → panel_number (granted b r a) ≡ first_of ((number r, b) ∷ ts)
 unfolding granted first_of
-granted_number true n a ts h = h
-granted_number false n a ts h = refl
+granted_number true r a ts h = h
+granted_number false r a ts h = refl
 
 picks_number : (M : ℕ) (ok : ℕ → Bool) (a : Answer) → panel_number (picks M ok a) ≡ first_of ((15, names M ok a) ∷ [])
 unfolding picks names first_of
 picks_number M ok none = refl
-picks_number M ok (gives c s) = granted_number (ltb c M && ok s) 15 (To (record { input = record { 0 = s }; counter = c })) [] refl
+picks_number M ok (gives c s) = granted_number (ltb c M && ok s) BadEntry (Ok (record { input = record { 0 = s }; counter = c })) [] refl
 
 joined_number : (o : OutState) (a : Picked) → place.player_number (position_with o a) ≡ panel_number a
 unfolding position_with
-joined_number o (To m) = refl
-joined_number o (Refused n) = refl
+joined_number o (Ok m) = refl
+joined_number o (Err n) = refl
 
 picked_number : (a : Acceptance) (m : Picked) (n : ℕ) → panel_number m ≡ n → panel_number (pick_after a m) ≡ after a n
 unfolding pick_after
-picked_number acceptance·.Accepted m n h = h
-picked_number (acceptance·.Refused k) m n h = refl
+picked_number (Ok u) m n h = h
+picked_number (Err k) m n h = refl
 
 module _ (g : Game) (l : List ℕ) where
   start_number : panel_number (start_move g l) ≡ first_of ((15, start_names g l) ∷ [])
@@ -246,7 +247,7 @@ module _ (g : Game) (l : List ℕ) where
   picks_first h = record {
     answer = h;
     number =
-        ap panel_number h ∙ picked_number (acceptance g) (first_move g l) _ (granted_number (panel_fitting g l) 16 _ _ start_number) ∙ sym (game_after g _);
+        ap panel_number h ∙ picked_number (acceptance g) (first_move g l) _ (granted_number (panel_fitting g l) OtherTable _ _ start_number) ∙ sym (game_after g _);
   }
 
   pub plays_begin : (o : OutState) {r : Played} → r ≡ panel_begin g l o → Plays (panel_begin_tests g l o) (panel_begin g l o) r
@@ -256,8 +257,8 @@ module _ (g : Game) (l : List ℕ) where
     number =
         ap place.player_number h
         ∙ after_number (acceptance g) (first_place g l o) _
-        (provided_number (panel_fitting g l) 16 _ _
-        (provided_number (begins (graph_of g.output) o.0) 14 _ _ (joined_number o (start_move g l) ∙ start_number)))
+        (provided_number (panel_fitting g l) OtherTable _ _
+        (provided_number (begins (graph_of g.output) o.0) NotAllowed _ _ (joined_number o (start_move g l) ∙ start_number)))
         ∙ sym (game_after g _);
   }
 
@@ -273,7 +274,7 @@ module _ (g : Game) (l : List ℕ) where
     picks_next h = record {
       answer = h;
       number =
-          ap panel_number h ∙ picked_number (acceptance g) (next_move g l p) _ (granted_number (there g l p) 16 _ _ row_number) ∙ sym (game_after g _);
+          ap panel_number h ∙ picked_number (acceptance g) (next_move g l p) _ (granted_number (there g l p) OtherTable _ _ row_number) ∙ sym (game_after g _);
     }
 
     pub plays_step : (q : OutState) {r : Played} → r ≡ panel_step g l p q → Plays (panel_step_tests g l p q) (panel_step g l p q) r
@@ -283,7 +284,7 @@ module _ (g : Game) (l : List ℕ) where
       number =
           ap place.player_number h
           ∙ after_number (acceptance g) (next_place g l p q) _
-          (provided_number (there g l p) 16 _ _
-          (provided_number (edge (graph_of g.output) p.output.0 q.0) 14 _ _ (joined_number q (row_move g l p) ∙ row_number)))
+          (provided_number (there g l p) OtherTable _ _
+          (provided_number (edge (graph_of g.output) p.output.0 q.0) NotAllowed _ _ (joined_number q (row_move g l p) ∙ row_number)))
           ∙ sym (game_after g _);
     }

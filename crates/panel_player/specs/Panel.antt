@@ -17,22 +17,23 @@ use Rattle.std.specs.Prelude.{ℕ, ◌+◌, ◌*◌, ◌≡◌, Bool, ◌&&◌, 
 use Rattle.graphs.specs.Graph.{edge, begins}
 use Rattle.game.specs.declared.OutState.{OutState}
 use Rattle.game.specs.declared.Game.{Game}
-use Rattle.game.specs.declared.Acceptance.{Acceptance}
-use Rattle.game.specs.declared.Acceptance.TheVariants as acceptance·
+use Rattle.game.specs.Acceptance.{Acceptance}
 use Rattle.game.specs.Acceptance.{acceptance}
 use Rattle.game.specs.Numbers.{first_of, game_tests}
 use Rattle.play.specs.Play.{graph_of, separated_of}
 use Rattle.theory.specs.Entries.{none_entry, environment_counters, environment_entries}
 use Rattle.demands.specs.Demands.{environment_of}
 use Rattle.player_place.specs.declared.Position.{Position}
-use Rattle.player_place.specs.declared.Played.{Played}
+use Rattle.player_place.specs.Played.{Played}
 use Rattle.player_place.specs.Place.{provided, names, has_position}
 use Rattle.player.specs.Player.{after_acceptance}
-use Rattle.panel_place.specs.declared.Picked.{Picked}
-use Rattle.panel_place.specs.declared.Picked.TheVariants.{Refused}
+use Rattle.panel_place.specs.Picked.{Picked}
+use Rattle.game.specs.declared.Refusal.TheVariants.{NotAllowed, OtherTable}
 use Rattle.panel_place.specs.Picks.{granted, picks, position_with, panel_number}
+use Rattle.std.specs.declared.result.Result.TheVariants.{Ok, Err}
 
 -- as for a player: "16 table not of the controller's length, or a place the game lacks" (SPEC 10.2, 10.3)
+
 unfoldable pub panel_fitting : Game → List ℕ → Bool
 panel_fitting g l = eqb (length l) (length (environment_entries (separated_of g)))
 
@@ -50,25 +51,25 @@ row_move g l p =
     picks (environment_counters (separated_of g)) (edge (graph_of g.input) p.input.0) ((environment_of g l).step p.counter p.input.0 p.output.0)
 
 unfoldable pub first_move : Game → List ℕ → Picked
-first_move g l = granted (panel_fitting g l) 16 (start_move g l)
+first_move g l = granted (panel_fitting g l) OtherTable (start_move g l)
 
 -- "the panel's start with any initial output": 14 where it is not initial (SPEC 10.3)
 unfoldable pub first_place : Game → List ℕ → OutState → Played
-first_place g l o = provided (panel_fitting g l) 16 (provided (begins (graph_of g.output) o.0) 14 (position_with o (start_move g l)))
+first_place g l o = provided (panel_fitting g l) OtherTable (provided (begins (graph_of g.output) o.0) NotAllowed (position_with o (start_move g l)))
 
 unfoldable pub next_move : Game → List ℕ → Position → Picked
-next_move g l p = granted (panel_fitting g l && has_position g (environment_counters (separated_of g)) p) 16 (row_move g l p)
+next_move g l p = granted (panel_fitting g l && has_position g (environment_counters (separated_of g)) p) OtherTable (row_move g l p)
 
 -- "an input move, then an output move, one by the table's step, which also gives the memory, the other any move": 14 where it is none (SPEC 10.3)
 unfoldable pub next_place : Game → List ℕ → Position → OutState → Played
 next_place g l p q =
-    provided (panel_fitting g l && has_position g (environment_counters (separated_of g)) p) 16
-    (provided (edge (graph_of g.output) p.output.0 q.0) 14 (position_with q (row_move g l p)))
+    provided (panel_fitting g l && has_position g (environment_counters (separated_of g)) p) OtherTable
+    (provided (edge (graph_of g.output) p.output.0 q.0) NotAllowed (position_with q (row_move g l p)))
 
 -- "Whoever drives a player, after 1 to 7" (SPEC 9.1)
 unfoldable pub pick_after : Acceptance → Picked → Picked
-pick_after acceptance·.Accepted m = m
-pick_after (acceptance·.Refused n) m = Refused n
+pick_after (Ok u) m = m
+pick_after (Err n) m = Err n
 
 -- SPEC 10.3
 unfoldable pub panel_first : Game → List ℕ → Picked

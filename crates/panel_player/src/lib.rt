@@ -2,8 +2,7 @@
 #![tactic(auto)]
 
 ghost use Rattle.std.specs.Prelude.{true, ◌≡◌};
-ghost use Rattle.game.specs.Acceptance.{acceptance};
-ghost use Rattle.game.specs.declared.Acceptance.TheVariants.{Accepted};
+ghost use Rattle.game.specs.Acceptance.{acceptance, accepted};
 ghost use Rattle.play.specs.Play.{separated_of};
 ghost use Rattle.theory.specs.Entries.{environment_counters};
 ghost use Rattle.player_place.specs.Place.{has_position};
@@ -27,14 +26,14 @@ ghost use Rattle.panel_player.specs.Panel.{
   Picks,
 };
 
-use game::{Acceptance, Game, OutState};
-use panel_place::Picked;
+use game::{Game, OutState, Refusal};
+use panel_place::PanelMove;
 use player::Moved;
-use player_place::{Played, Position};
+use player_place::Position;
 
 // The move that the table's start names.
-fn start_move(g: Game, table: &[u16]) -> Picked
-    requires { acceptance g ≡ Accepted }
+fn start_move(g: Game, table: &[u16]) -> Result<PanelMove, Refusal>
+    requires { acceptance g ≡ accepted }
     ensures { result ≡ start_move g table.now }
 {
     let entry = view::entry(table, 0);
@@ -44,7 +43,7 @@ fn start_move(g: Game, table: &[u16]) -> Picked
 
 // The entry of the row at a position that the game has.
 fn row_entry(g: Game, table: &[u16], counters: usize, at: Position) -> u16
-    requires { (acceptance g ≡ Accepted) × (counters ≡ environment_counters (separated_of g)) × (has_position g counters at ≡ true) }
+    requires { (acceptance g ≡ accepted) × (counters ≡ environment_counters (separated_of g)) × (has_position g counters at ≡ true) }
     ensures { result ≡ panel_row_entry g table.now at }
 {
     let outputs = g.output.states;
@@ -54,8 +53,8 @@ fn row_entry(g: Game, table: &[u16], counters: usize, at: Position) -> u16
 }
 
 // The move that the row at a position names.
-fn row_move(g: Game, table: &[u16], counters: usize, at: Position) -> Picked
-    requires { (acceptance g ≡ Accepted) × (counters ≡ environment_counters (separated_of g)) × (has_position g counters at ≡ true) }
+fn row_move(g: Game, table: &[u16], counters: usize, at: Position) -> Result<PanelMove, Refusal>
+    requires { (acceptance g ≡ accepted) × (counters ≡ environment_counters (separated_of g)) × (has_position g counters at ≡ true) }
     ensures { result ≡ row_move g table.now at }
 {
     let entry = row_entry(g, table, counters, at);
@@ -71,101 +70,93 @@ fn row_move(g: Game, table: &[u16], counters: usize, at: Position) -> Picked
 }
 
 // The panel's first move in an accepted game.
-fn first_accepted(g: Game, table: &[u16]) -> Picked
-    requires { acceptance g ≡ Accepted }
+fn first_accepted(g: Game, table: &[u16]) -> Result<PanelMove, Refusal>
+    requires { acceptance g ≡ accepted }
     ensures { result ≡ first_move g table.now }
 {
     if table.len() != table_sizes::environment_length(g) {
-        return Picked::Refused(16);
+        return Err(Refusal::OtherTable);
     }
     start_move(g, table)
 }
 
 // The first position of an accepted game.
-fn begin_accepted(g: Game, table: &[u16], first: OutState) -> Played
-    requires { acceptance g ≡ Accepted }
+fn begin_accepted(g: Game, table: &[u16], first: OutState) -> Result<Position, Refusal>
+    requires { acceptance g ≡ accepted }
     ensures { result ≡ first_place g table.now first }
 {
     if table.len() != table_sizes::environment_length(g) {
-        return Played::Refused(16);
+        return Err(Refusal::OtherTable);
     }
     if !panel_place::opens_with(g, first) {
-        return Played::Refused(14);
+        return Err(Refusal::NotAllowed);
     }
     panel_place::join(first, start_move(g, table))
 }
 
 // The panel's next move in an accepted game.
-fn next_accepted(g: Game, table: &[u16], at: Position) -> Picked
-    requires { acceptance g ≡ Accepted }
+fn next_accepted(g: Game, table: &[u16], at: Position) -> Result<PanelMove, Refusal>
+    requires { acceptance g ≡ accepted }
     ensures { result ≡ next_move g table.now at }
 {
     if table.len() != table_sizes::environment_length(g) {
-        return Picked::Refused(16);
+        return Err(Refusal::OtherTable);
     }
     let counters = table_sizes::environment_counters(g);
     if !player_place::has_position(g, g.input.states, g.output.states, counters, at) {
-        return Picked::Refused(16);
+        return Err(Refusal::OtherTable);
     }
     row_move(g, table, counters, at)
 }
 
 // The next position of an accepted game.
-fn step_accepted(g: Game, table: &[u16], at: Position, next: OutState) -> Played
-    requires { acceptance g ≡ Accepted }
+fn step_accepted(g: Game, table: &[u16], at: Position, next: OutState) -> Result<Position, Refusal>
+    requires { acceptance g ≡ accepted }
     ensures { result ≡ next_place g table.now at next }
 {
     if table.len() != table_sizes::environment_length(g) {
-        return Played::Refused(16);
+        return Err(Refusal::OtherTable);
     }
     let counters = table_sizes::environment_counters(g);
     if !player_place::has_position(g, g.input.states, g.output.states, counters, at) {
-        return Played::Refused(16);
+        return Err(Refusal::OtherTable);
     }
     if !panel_place::replies_with(g, at.output, next) {
-        return Played::Refused(14);
+        return Err(Refusal::NotAllowed);
     }
     panel_place::join(next, row_move(g, table, counters, at))
 }
 
 // The panel's first input and counter, by the table's start. (SPEC 10.3)
-pub fn first(g: Game, table: &[u16]) -> Picked
+pub fn first(g: Game, table: &[u16]) -> Result<PanelMove, Refusal>
     ensures { Picks (panel_first_tests g table.now) (panel_first g table.now) result }
 {
-    match acceptance::accept(g) {
-        Acceptance::Refused(n) => Picked::Refused(n),
-        Acceptance::Accepted => first_accepted(g, table),
-    }
+    acceptance::accept(g)?;
+    first_accepted(g, table)
 }
 
 // The first position: the input and the counter of the table's start with the output `first`. (SPEC 10.3)
-pub fn begin(g: Game, table: &[u16], first: OutState) -> Played
+pub fn begin(g: Game, table: &[u16], first: OutState) -> Result<Position, Refusal>
     ensures { Plays (panel_begin_tests g table.now first) (panel_begin g table.now first) result }
 {
-    match acceptance::accept(g) {
-        Acceptance::Refused(n) => Played::Refused(n),
-        Acceptance::Accepted => begin_accepted(g, table, first),
-    }
+    acceptance::accept(g)?;
+    begin_accepted(g, table, first)
 }
 
 // The panel's next input and counter at a position, by the table's row. (SPEC 10.3)
-pub fn next(g: Game, table: &[u16], at: Position) -> Picked
+pub fn next(g: Game, table: &[u16], at: Position) -> Result<PanelMove, Refusal>
     ensures { Picks (panel_next_tests g table.now at) (panel_next g table.now at) result }
 {
-    match acceptance::accept(g) {
-        Acceptance::Refused(n) => Picked::Refused(n),
-        Acceptance::Accepted => next_accepted(g, table, at),
-    }
+    acceptance::accept(g)?;
+    next_accepted(g, table, at)
 }
 
 // The position after that move, with the output `next`. (SPEC 10.3)
-pub fn step(g: Game, table: &[u16], at: Position, next: OutState) -> Played
+pub fn step(g: Game, table: &[u16], at: Position, next: OutState) -> Result<Position, Refusal>
     ensures { Plays (panel_step_tests g table.now at next) (panel_step g table.now at next) result }
 {
-    match acceptance::accept(g) {
-        Acceptance::Refused(n) => Played::Refused(n),
-        Acceptance::Accepted => step_accepted(g, table, at, next),
-    }
+    acceptance::accept(g)?;
+    step_accepted(g, table, at, next)
 }
 
 // The next position with code 0; a refusal gives the old one back with its code. (SPEC 10.3)
@@ -173,7 +164,10 @@ pub fn step_or_stay(g: Game, table: &[u16], at: Position, next: OutState) -> Mov
     ensures { result ≡ moved_of at (panel_step g table.now at next) }
 {
     match step(g, table, at, next) {
-        Played::At(p) => Moved { at: p, code: 0 },
-        Played::Refused(n) => Moved { at, code: n },
+        Ok(p) => Moved { at: p, code: 0 },
+        Err(r) => Moved {
+            at,
+            code: u8::from(r),
+        },
     }
 }

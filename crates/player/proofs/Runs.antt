@@ -24,37 +24,39 @@ use Rattle.arena.proofs.Bounds.{bounded_arena_of, inside_controller}
 use Rattle.arena.proofs.Demand.{system_holds}
 use Rattle.game.specs.declared.InState.{InState}
 use Rattle.game.specs.declared.Game.{Game}
-use Rattle.game.specs.declared.Acceptance.TheVariants.{Accepted}
-use Rattle.game.specs.Acceptance.{acceptance}
+use Rattle.game.specs.Acceptance.{accepted, acceptance}
 use Rattle.play.specs.Play.{graph_of, separated_of}
 use Rattle.theory.specs.Region.{verdict}
 use Rattle.theory.specs.Entries.{controller_counters, controller_entries, controller_table}
 use Rattle.demands.specs.Demands.{play_of, controller_of}
 use Rattle.demands.proofs.Demands.{demand_three_system}
 use Rattle.player_place.specs.declared.Position.{Position}
-use Rattle.player_place.specs.declared.Played.{Played}
-use Rattle.player_place.specs.declared.Played.TheVariants.{At, Refused}
+use Rattle.player_place.specs.Played.{Played}
 use Rattle.player_place.specs.Place.{provided, arrives, has_position}
 use Rattle.player.specs.Player.{fitting, begun, stepped, beginning, stepping}
 use Rattle.player.specs.Runs.{configuration, along, next, run_of, position_of, trail_of, run, trail, PlayerReached, Ran}
 use Rattle.player_place.proofs.Tests.{held, counter_last}
 use Rattle.player.proofs.Answers.{beginning_accepted, stepping_accepted}
 use Rattle.player.proofs.Inverse.{arrives_some, began, turned}
+use Rattle.game.specs.declared.Refusal.{Refusal}
+use Rattle.std.specs.declared.result.Result.TheVariants.{Ok, Err}
+use Rattle.game.specs.declared.Refusal.TheVariants.{NotAllowed, OtherTable}
 
 -- nothing follows a refusal
-ended : (g : Game) (l : List ℕ) (js : List InState) (n : ℕ) → run_of g l js (Refused n) ≡ Refused n
+
+ended : (g : Game) (l : List ℕ) (js : List InState) (n : Refusal) → run_of g l js (Err n) ≡ Err n
 unfolding run_of next
 ended g l [] n = refl
 ended g l (j ∷ js) n = ended g l js n
 
 module _ (g : Game) (l : List ℕ) where
-  pub first_of : (i : InState) (p : Position) → beginning g l i ≡ At p → ControllerFirst (play_of g) (controller_of g l) (configuration p)
+  pub first_of : (i : InState) (p : Position) → beginning g l i ≡ Ok p → ControllerFirst (play_of g) (controller_of g l) (configuration p)
   unfolding play_of arena_of separated_of controller_of controller_table configuration
   first_of i p e =
       let v = began g l i p e in
       record { initial = rw v.arrived.input v.initial; start = rw v.arrived.input v.arrived.names }
 
-  turn_of : (p : Position) (j : InState) (q : Position) → stepping g l p j ≡ At q
+  turn_of : (p : Position) (j : InState) (q : Position) → stepping g l p j ≡ Ok q
       → ControllerTurn (play_of g) (controller_of g l) (configuration p) (configuration q)
   unfolding play_of arena_of separated_of controller_of controller_table configuration
   turn_of p j q e =
@@ -70,22 +72,22 @@ module _ (g : Game) (l : List ℕ) where
   unfolding passed
   alone p = record { walk = stay; passes = refl }
 
-  walk_of : (js : List InState) (p q : Position) → run_of g l js (At p) ≡ At q → Passes (trail_of g l js (At p)) p q
+  walk_of : (js : List InState) (p q : Position) → run_of g l js (Ok p) ≡ Ok q → Passes (trail_of g l js (Ok p)) p q
   unfolding run_of trail_of position_of next passed
   walk_of [] p q e = let h : p ≡ q = cc in subst (Passes (p ∷ []) p) h (alone p)
   walk_of (j ∷ js) p q e = go (stepping g l p j) refl e (walk_of js)
     where
-      go : (x : Played) → stepping g l p j ≡ x → run_of g l js x ≡ At q
-          → ((r s : Position) → run_of g l js (At r) ≡ At s → Passes (trail_of g l js (At r)) r s) → Passes (p ∷ trail_of g l js (stepping g l p j)) p q
-      go (At r) d f rec =
+      go : (x : Played) → stepping g l p j ≡ x → run_of g l js x ≡ Ok q
+          → ((r s : Position) → run_of g l js (Ok r) ≡ Ok s → Passes (trail_of g l js (Ok r)) r s) → Passes (p ∷ trail_of g l js (stepping g l p j)) p q
+      go (Ok r) d f rec =
           let w = rec r q f in
           record {
             walk = step (turn_of p j r d) w.walk;
             passes = ap (◌∷◌ (configuration p)) (w.passes ∙ ap (λ (x : Played). map configuration (trail_of g l js x)) (sym d));
           }
-      go (Refused n) d f rec = absurd (let z : ◌≡◌ {A = ℕ} 0 1 = cc (ended g l js n) in omega arith)
+      go (Err n) d f rec = absurd (let z : ◌≡◌ {A = ℕ} 0 1 = cc (ended g l js n) in omega arith)
 
-  ran_from : (i : InState) (js : List InState) (p q : Position) → beginning g l i ≡ At p → run_of g l js (At p) ≡ At q → Ran g l i js
+  ran_from : (i : InState) (js : List InState) (p q : Position) → beginning g l i ≡ Ok p → run_of g l js (Ok p) ≡ Ok q → Ran g l i js
   unfolding run trail
   ran_from i js p q b e =
       let w = walk_of js p q e in
@@ -99,30 +101,30 @@ module _ (g : Game) (l : List ℕ) where
       }
 
   -- Whatever the table: the positions of a run that is not refused are a walk of it from a first configuration.
-  ran : (i : InState) (js : List InState) (q : Position) → run g l i js ≡ At q → Ran g l i js
+  ran : (i : InState) (js : List InState) (q : Position) → run g l i js ≡ Ok q → Ran g l i js
   unfolding run
   ran i js q e = go (beginning g l i) refl e
     where
-      go : (x : Played) → beginning g l i ≡ x → run_of g l js x ≡ At q → Ran g l i js
-      go (At p) d f = ran_from i js p q d f
-      go (Refused n) d f = absurd (let z : ◌≡◌ {A = ℕ} 0 1 = cc (ended g l js n) in omega arith)
+      go : (x : Played) → beginning g l i ≡ x → run_of g l js x ≡ Ok q → Ran g l i js
+      go (Ok p) d f = ran_from i js p q d f
+      go (Err n) d f = absurd (let z : ◌≡◌ {A = ℕ} 0 1 = cc (ended g l js n) in omega arith)
 
   -- what a player comes to is reachable
-  pub reached : (i : InState) (js : List InState) (q : Position) → run g l i js ≡ At q → PlayerReached g l q
+  pub reached : (i : InState) (js : List InState) (q : Position) → run g l i js ≡ Ok q → PlayerReached g l q
   unfolding run
   reached i js q e =
       let v = ran i js q e in
       let h : v.last ≡ q = cc (v.ends, e) in
       subst (PlayerReached g l) h (record { origin = configuration v.first; first = v.starts; walk = v.walk })
 
-  module _ (a : acceptance g ≡ Accepted) (f : fitting g l ≡ true) (W : ControllerWins (play_of g) (controller_of g l)) where
-    wins_begin : (i : InState) → begins (graph_of g.input) i.0 ≡ true → (p : Position) × (beginning g l i ≡ At p)
+  module _ (a : acceptance g ≡ accepted) (f : fitting g l ≡ true) (W : ControllerWins (play_of g) (controller_of g l)) where
+    wins_begin : (i : InState) → begins (graph_of g.input) i.0 ≡ true → (p : Position) × (beginning g l i ≡ Ok p)
     unfolding play_of arena_of separated_of controller_of controller_table begun
     wins_begin i b =
         let M = controller_counters (separated_of g) in
         let start = arrives M (begins (graph_of g.output)) i ((controller_of g l).start i.0) in
         let v = arrives_some M (begins (graph_of g.output)) i ((controller_of g l).start i.0) (W.starts i.0 b) in
-        (v.0, sym (beginning_accepted g l i (At v.0) a (sym v.1 ∙ held 14 start b ∙ held 16 (provided (begins (graph_of g.input) i.0) 14 start) f)))
+        (v.0, sym (beginning_accepted g l i (Ok v.0) a (sym v.1 ∙ held NotAllowed start b ∙ held OtherTable (provided (begins (graph_of g.input) i.0) NotAllowed start) f)))
 
     -- a reachable position is one that the game has
     in_game_lem : (p : Position) → PlayerReached g l p
@@ -135,7 +137,7 @@ module _ (g : Game) (l : List ℕ) where
 
     wins_step : (p : Position) (j : InState)
         → PlayerReached g l p
-        → edge (graph_of g.input) p.input.0 j.0 ≡ true → (q : Position) × (stepping g l p j ≡ At q)
+        → edge (graph_of g.input) p.input.0 j.0 ≡ true → (q : Position) × (stepping g l p j ≡ Ok q)
     unfolding play_of arena_of separated_of controller_of controller_table configuration stepped
     wins_step p j r m =
         let M = controller_counters (separated_of g) in
@@ -144,19 +146,19 @@ module _ (g : Game) (l : List ℕ) where
         (W.steps (configuration p) r j.0 m) in (
           v.0,
           sym
-              (stepping_accepted g l p j (At v.0) a
-              (sym v.1 ∙ held 14 row m ∙ held 16 (provided (edge (graph_of g.input) p.input.0 j.0) 14 row) (and_intro f (in_game_lem p r)))),
+              (stepping_accepted g l p j (Ok v.0) a
+              (sym v.1 ∙ held NotAllowed row m ∙ held OtherTable (provided (edge (graph_of g.input) p.input.0 j.0) NotAllowed row) (and_intro f (in_game_lem p r)))),
         )
 
     -- one position more is reachable too
     onward : (p : Position) (j : InState) (q : Position)
         → PlayerReached g l p
-        → stepping g l p j ≡ At q → PlayerReached g l q
+        → stepping g l p j ≡ Ok q → PlayerReached g l q
     onward p j q r e = record { origin = r.origin; first = r.first; walk = extend r.walk (turn_of p j q e) }
 
     wins_on : (js : List InState) (p : Position)
         → PlayerReached g l p
-        → along g p.input.0 js ≡ true → (q : Position) × (run_of g l js (At p) ≡ At q)
+        → along g p.input.0 js ≡ true → (q : Position) × (run_of g l js (Ok p) ≡ Ok q)
     unfolding run_of next along
     wins_on [] p r h = (p, refl)
     wins_on (j ∷ js) p r h =
@@ -179,15 +181,15 @@ module _ (g : Game) (l : List ℕ) where
         ran_from i js v.0 w.0 v.1 w.1
 
     -- What demand 3 says of cycles holds of what the player does: where it comes back to a position, the positions that it passed meet all requirements.
-    pub cycle_meets : (i : InState) (js : List InState) (p : Position) → run g l i js ≡ At p
-        → (j : InState) (ks : List InState) → run_of g l (j ∷ ks) (At p) ≡ At p
-        → all_of (λ q. meets q (map configuration (trail_of g l (j ∷ ks) (At p)))) (play_of g).requirements ≡ true
+    pub cycle_meets : (i : InState) (js : List InState) (p : Position) → run g l i js ≡ Ok p
+        → (j : InState) (ks : List InState) → run_of g l (j ∷ ks) (Ok p) ≡ Ok p
+        → all_of (λ q. meets q (map configuration (trail_of g l (j ∷ ks) (Ok p)))) (play_of g).requirements ≡ true
     unfolding run_of trail_of position_of next configurations
     cycle_meets i js p e j ks back = go (stepping g l p j) refl back
       where
-        go : (x : Played) → stepping g l p j ≡ x → run_of g l ks x ≡ At p
+        go : (x : Played) → stepping g l p j ≡ x → run_of g l ks x ≡ Ok p
             → all_of (λ q. meets q (map configuration (p ∷ trail_of g l ks (stepping g l p j)))) (play_of g).requirements ≡ true
-        go (At r) d h =
+        go (Ok r) d h =
             let w = walk_of ks r p h in
             let cycle : Cycle (ControllerFirst (play_of g) (controller_of g l)) (ControllerTurn (play_of g) (controller_of g l)) = record {
               at = configuration p;
@@ -201,10 +203,10 @@ module _ (g : Game) (l : List ℕ) where
             ap (λ (x : Played). all_of (λ q. meets q (map configuration (p ∷ trail_of g l ks x))) (play_of g).requirements) d
             ∙ ap (λ (cs : List Configuration). all_of (λ q. meets q (configuration p ∷ cs)) (play_of g).requirements) (sym w.passes)
             ∙ W.rounds cycle
-        go (Refused n) d h = absurd (let z : ◌≡◌ {A = ℕ} 0 1 = cc (ended g l ks n) in omega arith)
+        go (Err n) d h = absurd (let z : ◌≡◌ {A = ℕ} 0 1 = cc (ended g l ks n) in omega arith)
 
 -- The solver's front: where the verdict names the system, its table's entries are such a table.
-pub solved_run : (g : Game) → acceptance g ≡ Accepted → verdict (separated_of g) ≡ true
+pub solved_run : (g : Game) → acceptance g ≡ accepted → verdict (separated_of g) ≡ true
     → (i : InState) (js : List InState) → begins (graph_of g.input) i.0 ≡ true → along g i.0 js ≡ true → Ran g (controller_entries (separated_of g)) i js
 unfolding fitting
 solved_run g a v =

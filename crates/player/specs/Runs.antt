@@ -19,11 +19,12 @@ use Rattle.game.specs.declared.Game.{Game}
 use Rattle.play.specs.Play.{graph_of}
 use Rattle.demands.specs.Demands.{play_of, controller_of}
 use Rattle.player_place.specs.declared.Position.{Position}
-use Rattle.player_place.specs.declared.Played.{Played}
-use Rattle.player_place.specs.declared.Played.TheVariants.{At, Refused}
+use Rattle.player_place.specs.Played.{Played}
 use Rattle.player.specs.Player.{beginning, stepping}
+use Rattle.std.specs.declared.result.Result.TheVariants.{Ok, Err}
 
 -- "A configuration is input, output and memory." "its counters being the memory" (SPEC 2.4)
+
 unfoldable pub configuration : Position → Configuration
 configuration p = record { input = p.input.0; output = p.output.0; memory = p.counter }
 
@@ -33,8 +34,8 @@ along g i (j ∷ js) = edge (graph_of g.input) i j.0 && along g j.0 js
 
 -- the answer to one input more
 unfoldable pub next : Game → List ℕ → Played → InState → Played
-next g l (At p) j = stepping g l p j
-next g l (Refused n) j = Refused n
+next g l (Ok p) j = stepping g l p j
+next g l (Err n) j = Err n
 
 unfoldable pub run_of : Game → List ℕ → List InState → Played → Played
 run_of g l [] a = a
@@ -42,8 +43,8 @@ run_of g l (j ∷ js) a = run_of g l js (next g l a j)
 
 -- the position that an answer gives
 unfoldable pub position_of : Played → List Position
-position_of (At p) = p ∷ []
-position_of (Refused n) = []
+position_of (Ok p) = p ∷ []
+position_of (Err n) = []
 
 unfoldable pub trail_of : Game → List ℕ → List InState → Played → List Position
 trail_of g l [] a = position_of a
@@ -63,6 +64,6 @@ pub record Ran (g : Game) (l : List ℕ) (i : InState) (js : List InState) : Typ
   pub first : Position
   pub last : Position
   pub starts : ControllerFirst (play_of g) (controller_of g l) (configuration first)
-  pub ends : run g l i js ≡ At last
+  pub ends : run g l i js ≡ Ok last
   pub walk : Walk (ControllerTurn (play_of g) (controller_of g l)) (configuration first) (configuration last)
   pub passes : passed walk ≡ map configuration (trail g l i js)

@@ -2,8 +2,7 @@
 #![tactic(auto)]
 
 ghost use Rattle.std.specs.Prelude.{◌≡◌, true};
-ghost use Rattle.game.specs.Acceptance.{acceptance};
-ghost use Rattle.game.specs.declared.Acceptance.TheVariants.{Accepted};
+ghost use Rattle.game.specs.Acceptance.{acceptance, accepted};
 ghost use Rattle.player.specs.Player.{
   sizes_of,
   Lent,
@@ -19,8 +18,8 @@ ghost use Rattle.player.specs.Player.{
   Advanced,
 };
 
-use game::{Acceptance, Game, InState, OutSet};
-use player_place::{Played, Position};
+use game::{Game, InState, OutSet, Refusal};
+use player_place::Position;
 
 // A position, and a refusal's code or 0.
 #[repr(C)]
@@ -39,15 +38,15 @@ pub struct Sizes {
 }
 
 // The first position of an accepted game, for a caller that has accepted it.
-pub fn begin_accepted(g: Game, table: &[u16], first: InState) -> Played
-    requires { acceptance g ≡ Accepted }
+pub fn begin_accepted(g: Game, table: &[u16], first: InState) -> Result<Position, Refusal>
+    requires { acceptance g ≡ accepted }
     ensures { result ≡ begun g table.now first }
 {
     if table.len() != table_sizes::controller_length(g) {
-        return Played::Refused(16);
+        return Err(Refusal::OtherTable);
     }
     if !player_place::begins_with(g, first) {
-        return Played::Refused(14);
+        return Err(Refusal::NotAllowed);
     }
     let counters = table_sizes::controller_counters(g);
     player_place::arrive(
@@ -60,7 +59,7 @@ pub fn begin_accepted(g: Game, table: &[u16], first: InState) -> Played
 
 // The sizes of an accepted game.
 pub fn sizes_of(g: Game) -> Sizes
-    requires { acceptance g ≡ Accepted }
+    requires { acceptance g ≡ accepted }
     ensures { result ≡ sizes_of g }
 {
     Sizes {
@@ -80,15 +79,15 @@ pub fn step_lent<'a>(
     table: &[u16],
     at: Position,
     next: InState,
-) -> Played
-    requires { (acceptance g ≡ Accepted) × Lent g n ins.now outs.now × (fitting g table.now ≡ true) }
+) -> Result<Position, Refusal>
+    requires { (acceptance g ≡ accepted) × Lent g n ins.now outs.now × (fitting g table.now ≡ true) }
     ensures { result ≡ stepped g table.now at next }
 {
     if !player_place::has_position(g, n.inputs, n.outputs, n.counters, at) {
-        return Played::Refused(16);
+        return Err(Refusal::OtherTable);
     }
     if !player_place::moves_to(g, n.inputs, ins, at.input, next) {
-        return Played::Refused(14);
+        return Err(Refusal::NotAllowed);
     }
     let entry = view::read(table, n.inputs, n.counters, player_place::row_of(at, next));
     let allowed = OutSet(sets::row_of(outs, at.output.0));
@@ -96,12 +95,12 @@ pub fn step_lent<'a>(
 }
 
 // The next position of an accepted game.
-fn step_accepted(g: Game, table: &[u16], at: Position, next: InState) -> Played
-    requires { acceptance g ≡ Accepted }
+fn step_accepted(g: Game, table: &[u16], at: Position, next: InState) -> Result<Position, Refusal>
+    requires { acceptance g ≡ accepted }
     ensures { result ≡ stepped g table.now at next }
 {
     if table.len() != table_sizes::controller_length(g) {
-        return Played::Refused(16);
+        return Err(Refusal::OtherTable);
     }
     let ins = g.input.moves;
     let outs = g.output.moves;
@@ -109,23 +108,19 @@ fn step_accepted(g: Game, table: &[u16], at: Position, next: InState) -> Played
 }
 
 // The first position: `first` with the output and the counter that the table's start gives. (SPEC 10.1, 10.2)
-pub fn begin(g: Game, table: &[u16], first: InState) -> Played
+pub fn begin(g: Game, table: &[u16], first: InState) -> Result<Position, Refusal>
     ensures { Plays (begin_tests g table.now first) (beginning g table.now first) result }
 {
-    match acceptance::accept(g) {
-        Acceptance::Refused(n) => Played::Refused(n),
-        Acceptance::Accepted => begin_accepted(g, table, first),
-    }
+    acceptance::accept(g)?;
+    begin_accepted(g, table, first)
 }
 
 // The position after the next input, with the output and the counter that the table's row gives. (SPEC 10.1, 10.2)
-pub fn step(g: Game, table: &[u16], at: Position, next: InState) -> Played
+pub fn step(g: Game, table: &[u16], at: Position, next: InState) -> Result<Position, Refusal>
     ensures { Plays (step_tests g table.now at next) (stepping g table.now at next) result }
 {
-    match acceptance::accept(g) {
-        Acceptance::Refused(n) => Played::Refused(n),
-        Acceptance::Accepted => step_accepted(g, table, at, next),
-    }
+    acceptance::accept(g)?;
+    step_accepted(g, table, at, next)
 }
 
 // The next position with code 0; a refusal gives the old one back with its code. (SPEC 10.1, 10.2)
@@ -133,16 +128,18 @@ pub fn step_or_stay(g: Game, table: &[u16], at: Position, next: InState) -> Move
     ensures { result ≡ moved_of at (stepping g table.now at next) }
 {
     match step(g, table, at, next) {
-        Played::At(p) => Moved { at: p, code: 0 },
-        Played::Refused(n) => Moved { at, code: n },
+        Ok(p) => Moved { at: p, code: 0 },
+        Err(r) => Moved {
+            at,
+            code: u8::from(r),
+        },
     }
 }
 
-// Moves the position on and answers 0; a refusal leaves it as it was and answers its code. (SPEC 10.1, 10.2)
-pub fn advance(g: Game, table: &[u16], at: &mut Position, next: InState) -> u8
+// Moves the position on; a refusal leaves it as it was. (SPEC 10.1, 10.2)
+pub fn advance(g: Game, table: &[u16], at: &mut Position, next: InState) -> Result<(), Refusal>
     ensures { Advanced at.old (stepping g table.now at.old next) at.new result }
 {
-    let m = step_or_stay(g, table, *at, next);
-    *at = m.at;
-    m.code
+    *at = step(g, table, *at, next)?;
+    Ok(())
 }

@@ -15,8 +15,7 @@ use Rattle.graphs.specs.Graph.{edge, begins}
 use Rattle.graphs.proofs.Graph.{begins_initial, begins_intro}
 use Rattle.game.specs.declared.Game.{Game}
 use Rattle.game.specs.declared.Graph.{Graph}
-use Rattle.game.specs.declared.Acceptance.TheVariants.{Accepted}
-use Rattle.game.specs.Acceptance.{acceptance}
+use Rattle.game.specs.Acceptance.{accepted, acceptance}
 use Rattle.game.proofs.Laws.{accepted_fits}
 use Rattle.finite.proofs.Loops.{and_next}
 use Rattle.play.specs.Play.{graph_of}
@@ -36,7 +35,7 @@ pub edge_lent : (h : Graph) (n s t x : ℕ) (l : List ℕ) (r : Bool) → n ≡ 
 edge_lent h n s t x l r e m b q k =
     edge_of h s t x r (omega (arith, e)) (q ∙ ap (λ (y : List ℕ). get_or (sets_in y) s 0) m) (k ∙ ap (λ (y : ℕ). ltb t y && has x t) e)
 
-module _ (g : Game) (a : acceptance g ≡ Accepted) where
+module _ (g : Game) (a : acceptance g ≡ accepted) where
   pub inputs_most : g.input.states ≤ capacity
   inputs_most = (accepted_fits g a).input.most
 

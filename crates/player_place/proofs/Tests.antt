@@ -13,24 +13,26 @@ use Rattle.game.specs.declared.Game.{Game}
 use Rattle.theory.specs.Entries.{none_entry, entry_state, entry_counter, answer}
 use Rattle.table_entries.proofs.Packed.{answer_none, answer_read}
 use Rattle.player_place.specs.declared.Position.{Position}
-use Rattle.player_place.specs.declared.Played.{Played}
-use Rattle.player_place.specs.declared.Played.TheVariants.{At, Refused}
+use Rattle.player_place.specs.Played.{Played}
 use Rattle.player_place.specs.Place.{provided, arrives, has_position}
+use Rattle.std.specs.declared.result.Result.TheVariants.{Ok, Err}
+use Rattle.game.specs.declared.Refusal.{Refusal}
+use Rattle.game.specs.declared.Refusal.TheVariants.{BadEntry}
 
 -- ---- one test after the other
 
-pub held : {b : Bool} (n : ℕ) (p : Played) → b ≡ true → p ≡ provided b n p
+pub held : {b : Bool} (n : Refusal) (p : Played) → b ≡ true → p ≡ provided b n p
 unfolding provided
 held n p e = rw (e, provided)
 
-pub refused : {b : Bool} (n : ℕ) (p : Played) → b ≡ false → Refused n ≡ provided b n p
+pub refused : {b : Bool} (n : Refusal) (p : Played) → b ≡ false → Err n ≡ provided b n p
 unfolding provided
 refused n p e = rw (e, provided)
 
 -- ---- an entry
 
 module _ (M : ℕ) (ok : ℕ → Bool) (i : InState) (e : ℕ) where
-  pub arrive_none : e ≡ none_entry → Refused 15 ≡ arrives M ok i (answer e)
+  pub arrive_none : e ≡ none_entry → Err BadEntry ≡ arrives M ok i (answer e)
   unfolding arrives
   arrive_none h = ap (arrives M ok i) (answer_none e h)
 
@@ -39,19 +41,19 @@ module _ (M : ℕ) (ok : ℕ → Bool) (i : InState) (e : ℕ) where
     some = ap (arrives M ok i) (answer_read e h p q)
 
     unfoldable there : Played
-    there = At (record { input = i; output = record { 0 = s }; counter = c })
+    there = Ok (record { input = i; output = record { 0 = s }; counter = c })
 
-    pub arrive_counter : M ≤ c → Refused 15 ≡ arrives M ok i (answer e)
+    pub arrive_counter : M ≤ c → Err BadEntry ≡ arrives M ok i (answer e)
     unfolding arrives there
-    arrive_counter b = refused 15 there (and_false_left (ok s) (le-ltb c M b)) ∙ some
+    arrive_counter b = refused BadEntry there (and_false_left (ok s) (le-ltb c M b)) ∙ some
 
-    pub arrive_output : c < M → ok s ≡ false → Refused 15 ≡ arrives M ok i (answer e)
+    pub arrive_output : c < M → ok s ≡ false → Err BadEntry ≡ arrives M ok i (answer e)
     unfolding arrives there
-    arrive_output b f = refused 15 there (and_false_right (ltb c M) f) ∙ some
+    arrive_output b f = refused BadEntry there (and_false_right (ltb c M) f) ∙ some
 
-    pub arrive_at : c < M → ok s ≡ true → At (record { input = i; output = record { 0 = s }; counter = c }) ≡ arrives M ok i (answer e)
+    pub arrive_at : c < M → ok s ≡ true → Ok (record { input = i; output = record { 0 = s }; counter = c }) ≡ arrives M ok i (answer e)
     unfolding arrives there
-    arrive_at b f = held 15 there (and_intro (lt-ltb c M b) f) ∙ some
+    arrive_at b f = held BadEntry there (and_intro (lt-ltb c M b) f) ∙ some
 
 -- ---- a position
 

@@ -1,2 +1,3 @@
 -- What the contracts of the position's tests cite.
+pub mod Played
 pub mod Place

@@ -5,13 +5,12 @@ ghost use Rattle.std.specs.Prelude.{◌≡◌, ◌&&◌, ◌≤◌, ◌<◌, ltb
 ghost use Rattle.bits.specs.Member.{has};
 ghost use Rattle.sets.specs.Words.{capacity, bits_of};
 ghost use Rattle.graphs.specs.Graph.{edge, begins};
-ghost use Rattle.game.specs.Acceptance.{acceptance};
-ghost use Rattle.game.specs.declared.Acceptance.TheVariants.{Accepted};
+ghost use Rattle.game.specs.Acceptance.{acceptance, accepted};
 ghost use Rattle.play.specs.Play.{graph_of};
 ghost use Rattle.theory.specs.Entries.{answer};
 ghost use Rattle.player_place.specs.Place.{arrives, has_position};
 
-use game::{Game, InState, OutSet, OutState};
+use game::{Game, InState, OutSet, OutState, Refusal};
 use sets::Set;
 use view::RowIndex;
 
@@ -22,13 +21,6 @@ pub struct Position {
     pub input: InState,
     pub output: OutState,
     pub counter: usize,
-}
-
-// A refusal holds its code: 1 to 7, 14, 15 or 16.
-#[derive(Clone, Copy)]
-pub enum Played {
-    At(Position),
-    Refused(u8),
 }
 
 // Whether s is below n and belongs to x.
@@ -44,7 +36,7 @@ pub fn holds(x: Set, n: usize, s: usize) -> bool
 
 // Whether input i is initial.
 pub fn begins_with(g: Game, i: InState) -> bool
-    requires { acceptance g ≡ Accepted }
+    requires { acceptance g ≡ accepted }
     ensures { result ≡ begins (graph_of g.input) i.0 }
 {
     let h = g.input;
@@ -92,21 +84,26 @@ pub fn row_of(at: Position, next: InState) -> RowIndex
 }
 
 // The position that an entry gives after an input, the outputs allowed being those of a set.
-pub fn arrive(counters: usize, allowed: OutSet, input: InState, entry: u16) -> Played
+pub fn arrive(
+    counters: usize,
+    allowed: OutSet,
+    input: InState,
+    entry: u16,
+) -> Result<Position, Refusal>
     ensures { result ≡ arrives counters (has (bits_of allowed.0)) input (answer entry) }
 {
     if entry == table_entries::NONE {
-        return Played::Refused(15);
+        return Err(Refusal::BadEntry);
     }
     let counter = table_entries::counter(entry);
     let state = table_entries::state(entry);
     if counter >= counters {
-        return Played::Refused(15);
+        return Err(Refusal::BadEntry);
     }
     if !sets::member(allowed.0, state) {
-        return Played::Refused(15);
+        return Err(Refusal::BadEntry);
     }
-    Played::At(Position {
+    Ok(Position {
         input,
         output: OutState(state),
         counter,

@@ -17,11 +17,9 @@ fn put_word(buffer: &mut [u8], at: usize, w: usize) -> usize
 {
     let n = words::letters(w);
     let mut to = at;
-    let mut k = 0;
-    while k < n {
+    for k in 0..n {
         let b = words::letter(w, k);
         to = text_put::put_byte(buffer, to, b);
-        k += 1;
     }
     to
 }

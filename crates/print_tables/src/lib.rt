@@ -12,10 +12,8 @@ fn put_starts(buffer: &mut [u8], at: usize, n: usize, table: &[u16]) -> usize
     ensures { Puts buffer.old at (start_lines n 0 table.now) result buffer.new }
 {
     let mut to = at;
-    let mut i: usize = 0;
-    while i < n {
+    for i in 0..n {
         to = print_lines::put_start(buffer, to, i, table[i]);
-        i += 1;
     }
     to
 }
@@ -35,10 +33,8 @@ fn put_steps(
 {
     let n = table.len() - first;
     let mut to = at;
-    let mut k: usize = 0;
-    while k < n {
+    for k in 0..n {
         to = print_lines::put_step(buffer, to, sets, last, k, table[first + k]);
-        k += 1;
     }
     to
 }

@@ -19,20 +19,21 @@ use lib.Dec.{eqb}
 use borrow.Author.Tests.{eq-eqb, ne_eqb}
 use Rattle.game.specs.declared.InState.{InState}
 use Rattle.game.specs.declared.Game.{Game}
-use Rattle.game.specs.declared.Acceptance.{Acceptance}
-use Rattle.game.specs.declared.Acceptance.TheVariants.{Accepted, Refused as Faulty}
+use Rattle.game.specs.Acceptance.{accepted, Acceptance}
 use Rattle.game.specs.Acceptance.{acceptance}
 use Rattle.game.specs.Numbers.{first_of}
 use Rattle.game.proofs.Numbers.{after, game_after}
 use Rattle.play.specs.Play.{separated_of}
 use Rattle.theory.specs.Entries.{controller_entries}
 use Rattle.player_place.specs.declared.Position.{Position}
-use Rattle.player_place.specs.declared.Played.{Played}
-use Rattle.player_place.specs.declared.Played.TheVariants.{At, Refused as Stopped}
+use Rattle.player_place.specs.Played.{Played}
 use Rattle.player.specs.Player.{fitting, begun, stepped, after_acceptance, beginning, stepping}
-use Rattle.recorder.specs.declared.Compared.{Compared}
-use Rattle.recorder.specs.declared.Compared.TheVariants.{Agree, Differ, Ended, Fault, Refused}
+use Rattle.recorder.specs.Compared.{Compared}
+use Rattle.recorder.specs.declared.Comparison.TheVariants.{Agree, Differ, Ended, Fault}
 use Rattle.recorder.specs.Recorded.{input_of, nowhere, step_judged, ended, answer_at, recorded, compared, fault_by, fault_number, recorder_number, Compares}
+use Rattle.std.specs.declared.result.Result.TheVariants.{Ok, Err}
+use Rattle.game.specs.declared.Refusal.{Refusal}
+use Rattle.game.specs.declared.Refusal.TheVariants.{OtherTable}
 
 module _ (g : Game) (l : List ℕ) (p : Position) (i : InState) where
   pub answer_start : (n : ℕ) {a : Played} → n ≡ 0 → a ≡ beginning g l i → a ≡ answer_at g l n p i
@@ -47,11 +48,11 @@ module _ (g : Game) (l : List ℕ) (p : Position) (i : InState) where
 
 -- what the player answers to an accepted game
 module _ (g : Game) (l : List ℕ) where
-  pub accepted_begins : (i : InState) {a : Played} → acceptance g ≡ Accepted → a ≡ begun g l i → a ≡ beginning g l i
+  pub accepted_begins : (i : InState) {a : Played} → acceptance g ≡ accepted → a ≡ begun g l i → a ≡ beginning g l i
   unfolding beginning after_acceptance
   accepted_begins i e q = q ∙ rw e refl
 
-  pub accepted_steps : (p : Position) (i : InState) {a : Played} → acceptance g ≡ Accepted → a ≡ stepped g l p i → a ≡ stepping g l p i
+  pub accepted_steps : (p : Position) (i : InState) {a : Played} → acceptance g ≡ accepted → a ≡ stepped g l p i → a ≡ stepping g l p i
   unfolding stepping after_acceptance
   accepted_steps p i e q = q ∙ rw e refl
 
@@ -62,11 +63,11 @@ past [] (suc n) b = refl
 past (o ∷ os) zero b = absurd (omega arith)
 past (o ∷ os) (suc n) b = past os n (omega arith)
 
-pub ends_both : (os : List ℕ) (n : ℕ) → length os ≤ n → Agree ≡ ended (drop n os) n
+pub ends_both : (os : List ℕ) (n : ℕ) → length os ≤ n → Ok Agree ≡ ended (drop n os) n
 unfolding ended
 ends_both os n b = sym (ap (λ (x : List ℕ). ended x n) (past os n b))
 
-pub ends_one : (os : List ℕ) (n : ℕ) → n < length os → Ended n ≡ ended (drop n os) n
+pub ends_one : (os : List ℕ) (n : ℕ) → n < length os → Ok (Ended n) ≡ ended (drop n os) n
 unfolding ended
 ends_one os n b = sym (ap (λ (x : List ℕ). ended x n) (drop-cons os n 0 b))
 
@@ -84,24 +85,24 @@ module _ (g : Game) (l is os : List ℕ) (n : ℕ) (p : Position) where
         ∙ ap (λ (x : Played). step_judged x (drop n os) n (recorded g l (drop (suc n) is) (drop 1 (drop n os)) (suc n)))
         (sym (e ∙ ap (λ (i : ℕ). answer_at g l n p (input_of i)) h))
 
-    pub step_fault : (c : ℕ) → a ≡ Stopped c → Fault n c ≡ recorded g l (drop n is) (drop n os) n p
+    pub step_fault : (c : Refusal) → a ≡ Err c → Ok (Fault n c) ≡ recorded g l (drop n is) (drop n os) n p
     unfolding step_judged
     step_fault c q = sym (shows ∙ ap (λ (x : Played). step_judged x (drop n os) n (recorded g l (drop (suc n) is) (drop 1 (drop n os)) (suc n))) q)
 
-    module _ (r : Position) (q : a ≡ At r) where
-      went : recorded g l (drop n is) (drop n os) n p ≡ step_judged (At r) (drop n os) n (recorded g l (drop (suc n) is) (drop 1 (drop n os)) (suc n))
+    module _ (r : Position) (q : a ≡ Ok r) where
+      went : recorded g l (drop n is) (drop n os) n p ≡ step_judged (Ok r) (drop n os) n (recorded g l (drop (suc n) is) (drop 1 (drop n os)) (suc n))
       went = shows ∙ ap (λ (x : Played). step_judged x (drop n os) n (recorded g l (drop (suc n) is) (drop 1 (drop n os)) (suc n))) q
 
-      pub step_ended : length os ≤ n → Ended n ≡ recorded g l (drop n is) (drop n os) n p
+      pub step_ended : length os ≤ n → Ok (Ended n) ≡ recorded g l (drop n is) (drop n os) n p
       unfolding step_judged
-      step_ended d = sym (went ∙ ap (λ (x : List ℕ). step_judged (At r) x n (recorded g l (drop (suc n) is) (drop 1 (drop n os)) (suc n))) (past os n d))
+      step_ended d = sym (went ∙ ap (λ (x : List ℕ). step_judged (Ok r) x n (recorded g l (drop (suc n) is) (drop 1 (drop n os)) (suc n))) (past os n d))
 
-      looked : n < length os → step_judged (At r) (drop n os) n (recorded g l (drop (suc n) is) (drop 1 (drop n os)) (suc n))
-          ≡ elim (eqb r.output.0 (get_or os n 0)) [ true ↦ recorded g l (drop (suc n) is) (drop 1 (drop n os)) (suc n) r | false ↦ Differ n ]
+      looked : n < length os → step_judged (Ok r) (drop n os) n (recorded g l (drop (suc n) is) (drop 1 (drop n os)) (suc n))
+          ≡ elim (eqb r.output.0 (get_or os n 0)) [ true ↦ recorded g l (drop (suc n) is) (drop 1 (drop n os)) (suc n) r | false ↦ Ok (Differ n) ]
       unfolding step_judged
-      looked d = ap (λ (x : List ℕ). step_judged (At r) x n (recorded g l (drop (suc n) is) (drop 1 (drop n os)) (suc n))) (drop-cons os n 0 d)
+      looked d = ap (λ (x : List ℕ). step_judged (Ok r) x n (recorded g l (drop (suc n) is) (drop 1 (drop n os)) (suc n))) (drop-cons os n 0 d)
 
-      pub step_differs : n < length os → (o : ℕ) → o ≡ get_or os n 0 → r.output.0 ≢ o → Differ n ≡ recorded g l (drop n is) (drop n os) n p
+      pub step_differs : n < length os → (o : ℕ) → o ≡ get_or os n 0 → r.output.0 ≢ o → Ok (Differ n) ≡ recorded g l (drop n is) (drop n os) n p
       step_differs d o i f = sym (went ∙ looked d ∙ rw (ne_eqb r.output.0 (get_or os n 0) (λ z. f (z ∙ sym i))) refl)
 
       pub step_same : n < length os → (o : ℕ) → o ≡ get_or os n 0 → r.output.0 ≡ o
@@ -112,15 +113,15 @@ module _ (g : Game) (l is os : List ℕ) (n : ℕ) (p : Position) where
           ∙ ap (λ (j : ℕ). recorded g l (drop j is) (drop j os) j r) (sym (add-one n)))
 
 module _ (g : Game) (l is os : List ℕ) where
-  pub compared_faulty : (n : ℕ) → acceptance g ≡ Faulty n → Refused n ≡ compared g l is os
+  pub compared_faulty : (n : Refusal) → acceptance g ≡ Err n → Err n ≡ compared g l is os
   unfolding compared
   compared_faulty n e = sym (rw (e, compared) refl)
 
-  pub compared_misfit : acceptance g ≡ Accepted → length l ≢ length (controller_entries (separated_of g)) → Refused 16 ≡ compared g l is os
+  pub compared_misfit : acceptance g ≡ accepted → length l ≢ length (controller_entries (separated_of g)) → Err OtherTable ≡ compared g l is os
   unfolding compared fitting
   compared_misfit e f = sym (rw (e, compared) (rw (ne_eqb (length l) (length (controller_entries (separated_of g))) f, fitting) refl))
 
-  pub compared_in : acceptance g ≡ Accepted → length l ≡ length (controller_entries (separated_of g)) → {r : Compared} → r ≡ recorded g l is os 0 nowhere
+  pub compared_in : acceptance g ≡ accepted → length l ≡ length (controller_entries (separated_of g)) → {r : Compared} → r ≡ recorded g l is os 0 nowhere
       → r ≡ compared g l is os
   unfolding compared fitting
   compared_in e f q = q ∙ sym (rw (e, compared) (rw (eq-eqb (length l) (length (controller_entries (separated_of g))) f, fitting) refl))
@@ -130,11 +131,11 @@ module _ (g : Game) (l is os : List ℕ) where
 judged_number : (a : Played) (os : List ℕ) (n : ℕ) (k : Position → Compared) (f : Position → ℕ) → ((p : Position) → recorder_number (k p) ≡ f p)
     → recorder_number (step_judged a os n k) ≡ fault_by a os f
 unfolding step_judged fault_by
-judged_number (Stopped c) os n k f h = refl
-judged_number (At p) [] n k f h = refl
-judged_number (At p) (o ∷ os) n k f h = go (eqb p.output.0 o)
+judged_number (Err c) os n k f h = refl
+judged_number (Ok p) [] n k f h = refl
+judged_number (Ok p) (o ∷ os) n k f h = go (eqb p.output.0 o)
   where
-    go : (b : Bool) → recorder_number (elim b as (λ x. Compared) [ true ↦ k p | false ↦ Differ n ]) ≡ elim b as (λ x. ℕ) [ true ↦ f p | false ↦ 0 ]
+    go : (b : Bool) → recorder_number (elim b as (λ x. Compared) [ true ↦ k p | false ↦ Ok (Differ n) ]) ≡ elim b as (λ x. ℕ) [ true ↦ f p | false ↦ 0 ]
     go true = h p
     go false = refl
 
@@ -154,18 +155,18 @@ module _ (g : Game) (l is os : List ℕ) where
   abbrev rest : Bool → List (ℕ × Bool)
   rest b = (16, b) ∷ (fault_number g l is os 0 nowhere, false) ∷ []
 
-  fitting_number : (b : Bool) → recorder_number (elim b as (λ x. Compared) [ true ↦ recorded g l is os 0 nowhere | false ↦ Refused 16 ]) ≡ first_of (rest b)
+  fitting_number : (b : Bool) → recorder_number (elim b as (λ x. Compared) [ true ↦ recorded g l is os 0 nowhere | false ↦ Err OtherTable ]) ≡ first_of (rest b)
   unfolding first_of
   fitting_number true = recorded_number g l is os 0 nowhere
   fitting_number false = refl
 
   compared_number : (a : Acceptance)
       → recorder_number (elim a as (λ x. Compared) [
-        | Accepted ↦ elim (fitting g l) [ true ↦ recorded g l is os 0 nowhere | false ↦ Refused 16 ]
-        | Faulty n ↦ Refused n
+        | Ok u ↦ elim (fitting g l) [ true ↦ recorded g l is os 0 nowhere | false ↦ Err OtherTable ]
+        | Err n ↦ Err n
       ]) ≡ after a (first_of (rest (fitting g l)))
-  compared_number Accepted = fitting_number (fitting g l)
-  compared_number (Faulty n) = refl
+  compared_number (Ok u) = fitting_number (fitting g l)
+  compared_number (Err n) = refl
 
   pub compares : {r : Compared} → r ≡ compared g l is os → Compares g l is os r
   unfolding compared

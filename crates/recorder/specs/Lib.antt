@@ -1,2 +1,3 @@
 -- What two recordings show.
+pub mod Compared
 pub mod Recorded

@@ -2,14 +2,13 @@
 #![tactic(auto)]
 
 ghost use Rattle.std.specs.Prelude.{true, ◌≡◌, ◌≤◌, ◌<◌, length, get_or, drop};
-ghost use Rattle.game.specs.declared.Acceptance.TheVariants.{Accepted};
-ghost use Rattle.game.specs.Acceptance.{acceptance};
+ghost use Rattle.game.specs.Acceptance.{acceptance, accepted};
 ghost use Rattle.player.specs.Player.{fitting, Lent};
 ghost use Rattle.recorder.specs.Recorded.{ended, answer_at, recorded, nowhere, Compares};
 
-use game::{Acceptance, Game, InState, OutState};
+use game::{Game, InState, OutState, Refusal};
 use player::Sizes;
-use player_place::{Played, Position};
+use player_place::Position;
 
 // The inputs of a run, recorded by the panel: a state number a byte.
 #[repr(C)]
@@ -27,12 +26,11 @@ pub struct OutRecording<'a> {
 
 // The reply. Steps count from 0, the start. A fault holds its step and the player's number.
 #[derive(Clone, Copy)]
-pub enum Compared {
+pub enum Comparison {
     Agree,
     Differ(usize),
     Ended(usize),
-    Fault(usize, u8),
-    Refused(u8),
+    Fault(usize, Refusal),
 }
 
 // Entry n of a recording.
@@ -54,8 +52,8 @@ fn answer_at<'a>(
     n: usize,
     at: Position,
     next: InState,
-) -> Played
-    requires { (acceptance g ≡ Accepted) × Lent g m ins.now outs.now × (fitting g table.now ≡ true) }
+) -> Result<Position, Refusal>
+    requires { (acceptance g ≡ accepted) × Lent g m ins.now outs.now × (fitting g table.now ≡ true) }
     ensures { result ≡ answer_at g table.now n at next }
 {
     if n == 0 {
@@ -65,14 +63,14 @@ fn answer_at<'a>(
 }
 
 // Where the inputs have ended at step n.
-fn at_end(outputs: &[u8], n: usize) -> Compared
+fn at_end(outputs: &[u8], n: usize) -> Result<Comparison, Refusal>
     requires { n ≤ length outputs.now }
     ensures { result ≡ ended (drop n outputs.now) n }
 {
     if n < outputs.len() {
-        return Compared::Ended(n);
+        return Ok(Comparison::Ended(n));
     }
-    Compared::Agree
+    Ok(Comparison::Agree)
 }
 
 // Plays the recorded inputs, and looks at each step whether the output is the recorded one.
@@ -84,8 +82,8 @@ fn follow<'a>(
     table: &[u16],
     inputs: &[u8],
     outputs: &[u8],
-) -> Compared
-    requires { (acceptance g ≡ Accepted) × Lent g m ins.now outs.now × (fitting g table.now ≡ true) }
+) -> Result<Comparison, Refusal>
+    requires { (acceptance g ≡ accepted) × Lent g m ins.now outs.now × (fitting g table.now ≡ true) }
     ensures { result ≡ recorded g table.now inputs.now outputs.now 0 nowhere }
 {
     let mut at = Position {
@@ -93,43 +91,41 @@ fn follow<'a>(
         output: OutState(0),
         counter: 0,
     };
-    let mut n: usize = 0;
-    while n < inputs.len() {
-        let answer = answer_at(g, m, ins, outs, table, n, at, InState(state_at(inputs, n)));
-        match answer {
-            Played::Refused(c) => {
-                return Compared::Fault(n, c);
+    for n in 0..inputs.len() {
+        match answer_at(g, m, ins, outs, table, n, at, InState(state_at(inputs, n))) {
+            Err(r) => {
+                return Ok(Comparison::Fault(n, r));
             }
-            Played::At(p) => {
+            Ok(p) => {
                 if n >= outputs.len() {
-                    return Compared::Ended(n);
+                    return Ok(Comparison::Ended(n));
                 }
                 if p.output.0 != state_at(outputs, n) {
-                    return Compared::Differ(n);
+                    return Ok(Comparison::Differ(n));
                 }
                 at = p;
-                n += 1;
             }
         }
     }
-    at_end(outputs, n)
+    at_end(outputs, inputs.len())
 }
 
 // Whether the outputs are those that the table gives for the inputs; else the first step that shows it.
-fn compare_states(g: Game, table: &[u16], inputs: &[u8], outputs: &[u8]) -> Compared
+fn compare_states(
+    g: Game,
+    table: &[u16],
+    inputs: &[u8],
+    outputs: &[u8],
+) -> Result<Comparison, Refusal>
     ensures { Compares g table.now inputs.now outputs.now result }
 {
     let ins = g.input.moves;
     let outs = g.output.moves;
-    match acceptance::accept_lent(g, &ins, &outs) {
-        Acceptance::Refused(n) => Compared::Refused(n),
-        Acceptance::Accepted => {
-            if table.len() != table_sizes::controller_length(g) {
-                return Compared::Refused(16);
-            }
-            follow(g, player::sizes_of(g), &ins, &outs, table, inputs, outputs)
-        }
+    acceptance::accept_lent(g, &ins, &outs)?;
+    if table.len() != table_sizes::controller_length(g) {
+        return Err(Refusal::OtherTable);
     }
+    follow(g, player::sizes_of(g), &ins, &outs, table, inputs, outputs)
 }
 
 // Whether the recorded outputs are those that the table gives for the recorded inputs; else the first step that shows it. (SPEC 10.4)
@@ -138,7 +134,7 @@ pub fn compare<'a, 'b, 'c>(
     table: &'a [u16],
     inputs: InRecording<'b>,
     outputs: OutRecording<'c>,
-) -> Compared
+) -> Result<Comparison, Refusal>
     ensures { Compares g table.now inputs.entry.states.now outputs.entry.states.now result }
 {
     compare_states(g, table, inputs.states, outputs.states)

@@ -51,13 +51,11 @@ fn all_assumed(b: &[u64; board::WORDS], r: usize, c: InSet) -> bool
     ensures { result ≡ due_by b.now (bits_of c.0) r }
 {
     let n = board::assumed(b, r);
-    let mut j: usize = 0;
-    while j < n {
+    for j in 0..n {
         let x = board::assumption(b, r, j);
         if !sets::meets(x.0, c.0) {
             return false;
         }
-        j += 1;
     }
     true
 }
@@ -68,13 +66,11 @@ fn all_guaranteed(b: &[u64; board::WORDS], r: usize, c: OutSet) -> bool
     ensures { result ≡ served_by b.now (bits_of c.0) r }
 {
     let n = board::guaranteed(b, r);
-    let mut j: usize = 0;
-    while j < n {
+    for j in 0..n {
         let x = board::guarantee(b, r, j);
         if !sets::meets(x.0, c.0) {
             return false;
         }
-        j += 1;
     }
     true
 }
@@ -85,12 +81,10 @@ fn mark(b: &[u64; board::WORDS], from: usize, n: usize, c: OutSet, t: &mut [u64]
     ensures { Marked b.now from n (bits_of c.0) (sets_in t.old) (sets_in t.new)
         × (length t.new ≡ length t.old) }
 {
-    let mut q: usize = 0;
-    while q < n {
+    for q in 0..n {
         let x = sets::row(t, q);
         let y = sets::union_if(x, c.0, all_guaranteed(b, from + q, c));
         sets::put(t, q, y);
-        q += 1;
     }
 }
 
@@ -135,11 +129,9 @@ fn narrow(b: &[u64; board::WORDS], from: usize, n: usize, t: &[u64], a: InSet, x
         && all n (admits_by b.now from (bits_of a.0) (sets_in t.now) d)) }
 {
     let mut y = x;
-    let mut q: usize = 0;
-    while q < n {
+    for q in 0..n {
         let due = all_assumed(b, from + q, a);
         y = admitted(due, OutSet(sets::row(t, q)), y);
-        q += 1;
     }
     y
 }

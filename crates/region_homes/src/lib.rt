@@ -18,13 +18,10 @@ pub fn home_row(s: &[u64], n: usize, m: usize, c: InSet, x: InSet, among: OutSet
 {
     let mut k = scratch::won_first();
     let mut y = among.0;
-    let mut rest = x.0;
-    while !sets::is_empty(rest) {
-        let j = sets::lowest(rest);
+    for j in x.0 {
         k = scratch::won_next(s, n, m, c, InState(j), k);
         let won = k.row;
         y = sets::intersection(y, won.0);
-        rest = sets::without_lowest(rest);
     }
     OutSet(y)
 }

@@ -38,9 +38,7 @@ pub fn reply_row(z: Sizes, b: &[u64; board::WORDS], s: &[u64], c: InSet, i: InSt
     let mut k = scratch::won_first();
     let mut last = OutSet(sets::empty());
     let mut x = sets::below(m);
-    let mut rest = sets::intersection(next.0, sets::below(n));
-    'next: while !sets::is_empty(rest) {
-        let j = sets::lowest(rest);
+    'inputs: for j in sets::intersection(next.0, sets::below(n)) {
         k = scratch::won_next(s, n, m, c, InState(j), k);
         let won = k.row;
         let first = unknown(last, OutSet(x), won);
@@ -49,7 +47,7 @@ pub fn reply_row(z: Sizes, b: &[u64; board::WORDS], s: &[u64], c: InSet, i: InSt
         loop {
             if sets::is_empty(left) {
                 if sets::is_empty(x) {
-                    break 'next;
+                    break 'inputs;
                 }
                 break;
             }
@@ -59,7 +57,6 @@ pub fn reply_row(z: Sizes, b: &[u64; board::WORDS], s: &[u64], c: InSet, i: InSt
             left = sets::without_lowest(left);
         }
         last = won;
-        rest = sets::without_lowest(rest);
     }
     OutSet(x)
 }

@@ -115,11 +115,8 @@ fn put_rows(s: &mut [u64], n: usize, a: InSet, r: OutSet)
     requires { (n ≤ capacity) × ((j : ℕ) → has (bits_of a.0) j ≡ true → j < n) × (n + n ≤ set_count s.old) }
     ensures { RowsPut n (bits_of a.0) (bits_of r.0) s.old s.new }
 {
-    let mut rest = a.0;
-    while !sets::is_empty(rest) {
-        let i = sets::lowest(rest);
+    for i in a.0 {
         scratch::put_region_row(s, n, InState(i), r);
-        rest = sets::without_lowest(rest);
     }
 }
 

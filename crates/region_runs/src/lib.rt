@@ -32,11 +32,8 @@ fn begun(s: &[u64], n: usize, c: InSet) -> InSet
     ensures { Runs (sets_in s.now) n (bits_of c.0) (bits_of result.0) }
 {
     let mut x = sets::empty();
-    let mut rest = sets::intersection(c.0, sets::below(n));
-    while !sets::is_empty(rest) {
-        let j = sets::lowest(rest);
+    for j in sets::intersection(c.0, sets::below(n)) {
         x = sets::insert_if(x, j, begins(s, n, c, InState(j)));
-        rest = sets::without_lowest(rest);
     }
     InSet(x)
 }

@@ -28,12 +28,10 @@ fn opens(g: Game, s: &[u64], c: InSet, i: InState) -> bool
     ensures { result ≡ opens_at (separated_of g) i.0 }
 {
     let m = g.output.states;
-    let mut o: usize = 0;
-    while o < m {
+    for o in 0..m {
         if opens_with(g, s, c, i, OutState(o)) {
             return true;
         }
-        o += 1;
     }
     false
 }
@@ -56,12 +54,10 @@ pub fn system_wins(g: Game, s: &[u64], c: InSet) -> bool
     ensures { result ≡ verdictOf (separated_of g) }
 {
     let n = g.input.states;
-    let mut i: usize = 0;
-    while i < n {
+    for i in 0..n {
         if !opens_if(g, s, c, InState(i)) {
             return false;
         }
-        i += 1;
     }
     true
 }

@@ -173,11 +173,9 @@ fn reaching(s: &[u64], n: usize, m: usize, x: OutSet) -> OutSet
     ensures { bits_of result.0 ≡ pack m (reaching_at (sets_in s.now) n (bits_of x.0)) }
 {
     let mut y = sets::empty();
-    let mut o: usize = 0;
-    while o < m {
+    for o in 0..m {
         let reach = out_reach(s, n, OutState(o));
         y = sets::insert_if(y, o, sets::meets(x.0, reach.0));
-        o += 1;
     }
     OutSet(y)
 }

@@ -1,30 +1,25 @@
 -- Scratch that is cleared from the front.
 --
---   cleared_none, cleared_length, cleared_more, cleared_end    : the turns of `clear`
+--   cleared_filled  : the first words, filled with zeros
 --   cleared_same    : what is changed among the words that are cleared does not show
-use Prim.Native.Nat.{ℕ, ◌+◌, ◌≤◌, ◌<◌}
-use mathlib.Core.Path.{◌≡◌, refl, ◌∙◌, ap}
-use mathlib.Core.List.{List, ◌++◌}
-use native.Mathlib.Omega.{arith}
-use lib.ListN.{length, drop, set}
-use Rattle.finite.specs.Tabulate.{tabulate}
-use Rattle.finite.proofs.Front.{front_none, front_length, front_next}
+use Prim.Native.Nat.{ℕ, zero, suc, ◌≤◌}
+use mathlib.Core.Path.{◌≡◌, refl, sym, ◌∙◌, ap}
+use mathlib.Core.List.{List, ◌∷◌, ◌++◌}
+use lib.ListN.{length, take, drop, replicate}
+use lib.Seq.{length-take-le}
+use Rattle.finite.specs.Tabulate.{tabulate_from, tabulate}
 use Rattle.scratch_clearing.specs.Clearing.{cleared}
 
-pub cleared_none : (s : List ℕ) → s ≡ cleared 0 s
-unfolding cleared
-cleared_none s = front_none (λ k. 0) s
+zeros_from : (k n : ℕ) → tabulate_from {A = ℕ} k n (λ j. 0) ≡ replicate n 0
+unfolding tabulate_from
+zeros_from k zero = refl
+zeros_from k (suc n) = ap (λ (l : List ℕ). 0 ∷ l) (zeros_from (suc k) n)
 
-pub cleared_length : (s l : List ℕ) (i : ℕ) → i ≤ length s → l ≡ cleared i s → length l ≡ length s
-unfolding cleared
-cleared_length s l i b e = ap length e ∙ front_length (λ k. 0) s i b
-
-pub cleared_more : (s l : List ℕ) (i : ℕ) → i < length s → l ≡ cleared i s → set l i 0 ≡ cleared (i + 1) s
-unfolding cleared
-cleared_more s l i b e = ap (λ (x : List ℕ). set x i 0) e ∙ front_next (λ k. 0) s i 0 b refl
-
-pub cleared_end : (s l : List ℕ) (i n : ℕ) → i ≤ n → n ≤ i → l ≡ cleared i s → l ≡ cleared n s
-cleared_end s l i n a b e = let q : i ≡ n = omega arith in e ∙ ap (λ (k : ℕ). cleared k s) q
+-- f are the first n words of s, filled with zeros
+pub cleared_filled : (n : ℕ) (s f : List ℕ) → n ≤ length s → f ≡ replicate (length (take n s)) 0 → f ++ drop n s ≡ cleared n s
+unfolding cleared tabulate
+cleared_filled n s f l e =
+    ap (λ (x : List ℕ). x ++ drop n s) (e ∙ ap (λ (k : ℕ). replicate k 0) (length-take-le n s l) ∙ sym (zeros_from 0 n))
 
 pub cleared_same : (n : ℕ) (s l : List ℕ) → drop n l ≡ drop n s → cleared n l ≡ cleared n s
 unfolding cleared

@@ -9,9 +9,5 @@ pub fn clear(s: &mut [u64], n: usize)
     requires { n ≤ length s.old }
     ensures { s.new ≡ cleared n s.old }
 {
-    let mut i: usize = 0;
-    while i < n {
-        s[i] = 0;
-        i += 1;
-    }
+    s[..n].fill(0);
 }

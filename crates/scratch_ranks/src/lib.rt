@@ -44,8 +44,7 @@ pub fn write_ranks(g: Game, s: &[u64], room: &mut [u16]) -> InSet
     let mut leaders = InSet(sets::empty());
     let mut met = InSet(sets::empty());
     let mut rank: u16 = 0;
-    let mut i: usize = 0;
-    while i < n {
+    for i in 0..n {
         let first = first_of(g, s, leaders, met, InState(i));
         let j = first.0;
         let row = scratch::in_reach(s, first);
@@ -57,7 +56,6 @@ pub fn write_ranks(g: Game, s: &[u64], room: &mut [u16]) -> InSet
         } else {
             room[n + i] = room[n + j];
         }
-        i += 1;
     }
     leaders
 }

@@ -8,7 +8,7 @@ use Rattle.std.specs.Prelude.{ℕ, List, ◌≡◌, ℤ, pos}
 use Rattle.files.specs.declared.Front.{Front}
 use Rattle.files.specs.Front.{front_of}
 use Rattle.text_put.specs.Put.{Fills}
-use Rattle.text.specs.declared.Reading.{Reading}
+use Rattle.text.specs.Reading.{Reading}
 use Rattle.text.specs.Read.{Reads}
 use Rattle.prints.specs.Prints.{reading_print}
 

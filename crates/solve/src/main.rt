@@ -2,8 +2,7 @@
 #![tactic(auto)]
 
 ghost use Rattle.std.specs.Prelude.{◌≡◌, ℕ, ◌≤◌, List, length};
-ghost use Rattle.game.specs.declared.Acceptance.TheVariants.{Accepted};
-ghost use Rattle.game.specs.Acceptance.{acceptance};
+ghost use Rattle.game.specs.Acceptance.{acceptance, accepted};
 ghost use Rattle.play.specs.Play.{separated_of};
 ghost use Rattle.theory.specs.Choice.{guarantees, assumptions};
 ghost use Rattle.print_tables.specs.Print.{controller_answer, environment_answer};
@@ -16,7 +15,7 @@ use files::{Front, STDERR_FILENO, STDOUT_FILENO, Written};
 use game::Game;
 use prints::ROOM;
 use std::rt::{Stdin, Stdout};
-use text::Answer;
+use text::Unread;
 
 // How many bytes of a print there is place for.
 const PRINT: usize = 1048576;
@@ -65,7 +64,7 @@ fn print_front(f: Front, buffer: &[u8; PRINT], n: usize) -> Written
 
 // The print of the controller's table.
 fn put_system(buffer: &mut [u8], g: Game, table: &[u16]) -> usize
-    requires { (acceptance g ≡ Accepted) × (length table.now ≤ room_entries) }
+    requires { (acceptance g ≡ accepted) × (length table.now ≤ room_entries) }
     ensures { PutsWithin print_bytes buffer.old (controller_answer g.input.states g.output.states (length (guarantees (separated_of g)))
         table.now) result buffer.new }
 {
@@ -75,7 +74,7 @@ fn put_system(buffer: &mut [u8], g: Game, table: &[u16]) -> usize
 
 // The print of the panel's table.
 fn put_panel(buffer: &mut [u8], g: Game, table: &[u16]) -> usize
-    requires { (acceptance g ≡ Accepted) × (length table.now ≤ room_entries) }
+    requires { (acceptance g ≡ accepted) × (length table.now ≤ room_entries) }
     ensures { PutsWithin print_bytes buffer.old (environment_answer g.input.states g.output.states (length (assumptions (separated_of g)))
         table.now) result buffer.new }
 {
@@ -97,7 +96,7 @@ fn empty_print() -> [u8; PRINT] {
 
 // The print for an accepted game.
 fn solve(buffer: &mut [u8], g: Game) -> usize
-    requires { acceptance g ≡ Accepted }
+    requires { acceptance g ≡ accepted }
     ensures { PutsWithin print_bytes buffer.old (game_print g) result buffer.new }
 {
     let mut scratch = [0u64; scratch::MOST];
@@ -128,15 +127,10 @@ fn answer(buffer: &mut [u8], file: &[u8]) -> usize
     requires { print_bytes ≤ length buffer.old }
     ensures { Printed file.now buffer.old result buffer.new }
 {
-    let r = text::read(file);
-    let a = r.answer;
-    match a {
-        Answer::Misshapen(p) => print_lines::put_misshapen(buffer, p),
-        Answer::Refused(n) => print_lines::put_refused(buffer, n),
-        Answer::Read => {
-            let g = r.game;
-            solve(buffer, g)
-        }
+    match text::read(file) {
+        Ok(g) => solve(buffer, g),
+        Err(Unread::Misshapen(p)) => print_lines::put_misshapen(buffer, p),
+        Err(Unread::Refused(r)) => print_lines::put_refused(buffer, u8::from(r)),
     }
 }
 

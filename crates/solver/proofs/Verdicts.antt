@@ -10,9 +10,7 @@ use lib.Seq.{take-append_seam}
 use borrow.Author.Tests.{le-leb, lt-leb}
 use Rattle.arena.specs.Win.{system, environment, DemandThree}
 use Rattle.game.specs.declared.Game.{Game}
-use Rattle.game.specs.declared.Acceptance.{Acceptance}
-use Rattle.game.specs.declared.Acceptance.TheVariants.{Accepted, Refused as Faulty}
-use Rattle.game.specs.Acceptance.{acceptance}
+use Rattle.game.specs.Acceptance.{Acceptance, accepted, acceptance}
 use Rattle.game.specs.Numbers.{first_of}
 use Rattle.game.proofs.Numbers.{after, game_after}
 use Rattle.play.specs.Play.{graph_of, separated_of}
@@ -21,8 +19,8 @@ use Rattle.theory.specs.Entries.{controller_entries, environment_entries}
 use Rattle.theory.proofs.Entries as entries
 use Rattle.demands.specs.Demands.{play_of, controller_of, environment_of}
 use Rattle.demands.proofs.Demands.{demand_three_system, demand_three_environment}
-use Rattle.solver.specs.declared.Verdict.{Verdict}
-use Rattle.solver.specs.declared.Verdict.TheVariants.{System, Environment, Refused as NotSolved}
+use Rattle.solver.specs.Verdict.{Verdict}
+use Rattle.solver.specs.declared.Winner.TheVariants.{System, Environment}
 use Rattle.scratch_clearing.specs.Clearing.{cleared}
 use Rattle.scratch.specs.Scratch.{scratch_length}
 use Rattle.solver.specs.Promise.{
@@ -42,6 +40,9 @@ use Rattle.solver.specs.Promise.{
   Solved,
 }
 use Rattle.solver_winner.specs.Written.{Written}
+use Rattle.std.specs.declared.result.Result.TheVariants.{Ok, Err}
+use Rattle.game.specs.declared.Refusal.{Refusal}
+use Rattle.game.specs.declared.Refusal.TheVariants.{ShortController, ShortPanel, ShortScratch}
 
 pub controller_long : (g : Game) → length (controller_entries (separated_of g)) ≡ controller_length g
 unfolding controller_length separated_of graph_of
@@ -54,17 +55,18 @@ environment_long g = entries.environment_long (separated_of g)
 -- ---- the number
 
 module _ (g : Game) (s c e : ℕ) where
-  named_number : (b : Bool) → verdict_number (elim b as (λ x. Verdict) [ true ↦ System (controller_length g) | false ↦ Environment (environment_length g) ]) ≡ 0
+  named_number : (b : Bool)
+      → verdict_number (elim b as (λ x. Verdict) [ true ↦ Ok (System (controller_length g)) | false ↦ Ok (Environment (environment_length g)) ]) ≡ 0
   named_number true = refl
   named_number false = refl
 
-  environment_test_number : (b : Bool) → verdict_number (elim b as (λ x. Verdict) [ true ↦ named g | false ↦ NotSolved 10 ]) ≡ first_of ((10, b) ∷ [])
+  environment_test_number : (b : Bool) → verdict_number (elim b as (λ x. Verdict) [ true ↦ named g | false ↦ Err ShortPanel ]) ≡ first_of ((10, b) ∷ [])
   unfolding named first_of
   environment_test_number true = named_number (verdict (separated_of g))
   environment_test_number false = refl
 
   controller_test_number : (b : Bool)
-      → verdict_number (elim b as (λ x. Verdict) [ true ↦ environment_tested g e | false ↦ NotSolved 9 ])
+      → verdict_number (elim b as (λ x. Verdict) [ true ↦ environment_tested g e | false ↦ Err ShortController ])
       ≡ first_of ((9, b) ∷ (10, leb (environment_length g) e) ∷ [])
   unfolding environment_tested first_of
   controller_test_number true = environment_test_number (leb (environment_length g) e)
@@ -73,17 +75,18 @@ module _ (g : Game) (s c e : ℕ) where
   abbrev rooms : Bool → List (ℕ × Bool)
   rooms b = (8, b) ∷ (9, leb (controller_length g) c) ∷ (10, leb (environment_length g) e) ∷ []
 
-  scratch_test_number : (b : Bool) → verdict_number (elim b as (λ x. Verdict) [ true ↦ controller_tested g c e | false ↦ NotSolved 8 ]) ≡ first_of (rooms b)
+  scratch_test_number : (b : Bool)
+      → verdict_number (elim b as (λ x. Verdict) [ true ↦ controller_tested g c e | false ↦ Err ShortScratch ]) ≡ first_of (rooms b)
   unfolding controller_tested first_of
   scratch_test_number true = controller_test_number (leb (controller_length g) c)
   scratch_test_number false = refl
 
   acceptance_number_lem : (a : Acceptance)
-      → verdict_number (elim a as (λ x. Verdict) [ Accepted ↦ scratch_tested g s c e | Faulty n ↦ NotSolved n ])
+      → verdict_number (elim a as (λ x. Verdict) [ Ok u ↦ scratch_tested g s c e | Err n ↦ Err n ])
       ≡ after a (first_of (rooms (leb (scratch_length g) s)))
   unfolding scratch_tested
-  acceptance_number_lem Accepted = scratch_test_number (leb (scratch_length g) s)
-  acceptance_number_lem (Faulty n) = refl
+  acceptance_number_lem (Ok u) = scratch_test_number (leb (scratch_length g) s)
+  acceptance_number_lem (Err n) = refl
 
   verdict_number_lem : verdict_number (verdict_answer g s c e) ≡ first_of (solve_tests g s c e)
   unfolding verdict_answer solve_tests
@@ -96,36 +99,36 @@ more_scratch g s c e h =
     ap told (le-leb (scratch_length g) s h ∙ sym (le-leb (scratch_length g) (scratch_length g) (omega arith)))
   where
     told : Bool → Verdict
-    told b = elim (acceptance g) [ Accepted ↦ elim b [ true ↦ controller_tested g c e | false ↦ NotSolved 8 ] | Faulty n ↦ NotSolved n ]
+    told b = elim (acceptance g) [ Ok u ↦ elim b [ true ↦ controller_tested g c e | false ↦ Err ShortScratch ] | Err n ↦ Err n ]
 
 module _ (g : Game) (s c e : List ℕ) where
   told : {r : Verdict} → r ≡ verdict_answer g (length s) (length c) (length e) → verdict_number r ≡ first_of (solve_tests g (length s) (length c) (length e))
   told h = ap verdict_number h ∙ verdict_number_lem g (length s) (length c) (length e)
 
-  refused : (n : ℕ) → NotSolved n ≡ verdict_answer g (length s) (length c) (length e) → Solved g s s c c e e (NotSolved n)
+  refused : (n : Refusal) → Err n ≡ verdict_answer g (length s) (length c) (length e) → Solved g s s c c e e (Err n)
   unfolding verdict_scratch controller_after environment_after Decided
   refused n h = record { answer = h; number = told h; scratch = refl; controller = refl; environment = refl; demand = tt }
 
-  pub solve_faulty : (n : ℕ) → acceptance g ≡ Faulty n → Solved g s s c c e e (NotSolved n)
+  pub solve_faulty : (n : Refusal) → acceptance g ≡ Err n → Solved g s s c c e e (Err n)
   unfolding verdict_answer
   solve_faulty n a = refused n (rw (a, verdict_answer) refl)
 
-  module _ (a : acceptance g ≡ Accepted) where
+  module _ (a : acceptance g ≡ accepted) where
     at_scratch_test : verdict_answer g (length s) (length c) (length e) ≡ scratch_tested g (length s) (length c) (length e)
     unfolding verdict_answer
     at_scratch_test = rw (a, verdict_answer) refl
 
-    pub solve_scratch_short : length s < scratch_length g → Solved g s s c c e e (NotSolved 8)
+    pub solve_scratch_short : length s < scratch_length g → Solved g s s c c e e (Err ShortScratch)
     unfolding scratch_tested
-    solve_scratch_short h = refused 8 (sym (at_scratch_test ∙ rw (lt-leb (scratch_length g) (length s) h, scratch_tested) refl))
+    solve_scratch_short h = refused ShortScratch (sym (at_scratch_test ∙ rw (lt-leb (scratch_length g) (length s) h, scratch_tested) refl))
 
     at_controller_test : scratch_length g ≤ length s → verdict_answer g (length s) (length c) (length e) ≡ controller_tested g (length c) (length e)
     unfolding scratch_tested
     at_controller_test h = at_scratch_test ∙ rw (le-leb (scratch_length g) (length s) h, scratch_tested) refl
 
-    pub solve_controller_short : scratch_length g ≤ length s → length c < controller_length g → Solved g s s c c e e (NotSolved 9)
+    pub solve_controller_short : scratch_length g ≤ length s → length c < controller_length g → Solved g s s c c e e (Err ShortController)
     unfolding controller_tested
-    solve_controller_short h k = refused 9 (sym (at_controller_test h ∙ rw (lt-leb (controller_length g) (length c) k, controller_tested) refl))
+    solve_controller_short h k = refused ShortController (sym (at_controller_test h ∙ rw (lt-leb (controller_length g) (length c) k, controller_tested) refl))
 
     at_environment_test : scratch_length g ≤ length s → controller_length g ≤ length c
         → verdict_answer g (length s) (length c) (length e) ≡ environment_tested g (length e)
@@ -133,9 +136,10 @@ module _ (g : Game) (s c e : List ℕ) where
     at_environment_test h k = at_controller_test h ∙ rw (le-leb (controller_length g) (length c) k, controller_tested) refl
 
     pub solve_environment_short : scratch_length g ≤ length s → controller_length g ≤ length c → length e < environment_length g
-        → Solved g s s c c e e (NotSolved 10)
+        → Solved g s s c c e e (Err ShortPanel)
     unfolding environment_tested
-    solve_environment_short h k l = refused 10 (sym (at_environment_test h k ∙ rw (lt-leb (environment_length g) (length e) l, environment_tested) refl))
+    solve_environment_short h k l =
+        refused ShortPanel (sym (at_environment_test h k ∙ rw (lt-leb (environment_length g) (length e) l, environment_tested) refl))
 
     module _ (h : scratch_length g ≤ length s) (k : controller_length g ≤ length c) (l : environment_length g ≤ length e) where
       at_named : verdict_answer g (length s) (length c) (length e) ≡ named g
@@ -143,7 +147,7 @@ module _ (g : Game) (s c e : List ℕ) where
       at_named = at_environment_test h k ∙ rw (le-leb (environment_length g) (length e) l, environment_tested) refl
 
       solved_system : (s' c' : List ℕ) → verdict (separated_of g) ≡ true → s' ≡ cleared (scratch_length g) s
-          → c' ≡ controller_entries (separated_of g) ++ drop (controller_length g) c → Solved g s s' c c' e e (System (controller_length g))
+          → c' ≡ controller_entries (separated_of g) ++ drop (controller_length g) c → Solved g s s' c c' e e (Ok (System (controller_length g)))
       unfolding verdict_scratch controller_after environment_after Decided named
       solved_system s' c' v p q = record {
         answer = wins;
@@ -154,7 +158,7 @@ module _ (g : Game) (s c e : List ℕ) where
         demand = subst⁻¹ (λ (x : List ℕ). DemandThree (play_of g) (system (controller_of g x))) front (demand_three_system g a v);
       }
         where
-          wins : System (controller_length g) ≡ verdict_answer g (length s) (length c) (length e)
+          wins : Ok (System (controller_length g)) ≡ verdict_answer g (length s) (length c) (length e)
           wins = sym (at_named ∙ rw (v, named) refl)
 
           front : take (controller_length g) c' ≡ controller_entries (separated_of g)
@@ -164,7 +168,7 @@ module _ (g : Game) (s c e : List ℕ) where
               ∙ take-append_seam (controller_entries (separated_of g)) (drop (controller_length g) c)
 
       solved_environment : (s' e' : List ℕ) → verdict (separated_of g) ≡ false → s' ≡ cleared (scratch_length g) s
-          → e' ≡ environment_entries (separated_of g) ++ drop (environment_length g) e → Solved g s s' c c e e' (Environment (environment_length g))
+          → e' ≡ environment_entries (separated_of g) ++ drop (environment_length g) e → Solved g s s' c c e e' (Ok (Environment (environment_length g)))
       unfolding verdict_scratch controller_after environment_after Decided named
       solved_environment s' e' v p q = record {
         answer = wins;
@@ -175,7 +179,7 @@ module _ (g : Game) (s c e : List ℕ) where
         demand = subst⁻¹ (λ (x : List ℕ). DemandThree (play_of g) (environment (environment_of g x))) front (demand_three_environment g a v);
       }
         where
-          wins : Environment (environment_length g) ≡ verdict_answer g (length s) (length c) (length e)
+          wins : Ok (Environment (environment_length g)) ≡ verdict_answer g (length s) (length c) (length e)
           wins = sym (at_named ∙ rw (v, named) refl)
 
           front : take (environment_length g) e' ≡ environment_entries (separated_of g)
@@ -186,7 +190,7 @@ module _ (g : Game) (s c e : List ℕ) where
 
 -- ---- from what was written
 
-module _ (g : Game) (s s' c c' e e' : List ℕ) {r : Bool} (W : Written g s s' c c' e e' r) (a : acceptance g ≡ Accepted) (h : scratch_length g ≤ length s)
+module _ (g : Game) (s s' c c' e e' : List ℕ) {r : Bool} (W : Written g s s' c c' e e' r) (a : acceptance g ≡ accepted) (h : scratch_length g ≤ length s)
     (x y : ℕ) (p : x ≡ length (controller_entries (separated_of g))) (q : y ≡ length (environment_entries (separated_of g))) (k : x ≤ length c)
     (l : y ≤ length e) where
   lc : x ≡ controller_length g
@@ -195,10 +199,10 @@ module _ (g : Game) (s s' c c' e e' : List ℕ) {r : Bool} (W : Written g s s' c
   le : y ≡ environment_length g
   le = q ∙ environment_long g
 
-  pub written_system : r ≡ true → Solved g s s' c c' e e' (System x)
+  pub written_system : r ≡ true → Solved g s s' c c' e e' (Ok (System x))
   written_system v =
-      subst⁻¹ (λ (n : ℕ). Solved g s s' c c' e e' (System n)) lc
-      (subst⁻¹ (λ (t : List ℕ). Solved g s s' c c' e t (System (controller_length g))) same
+      subst⁻¹ (λ (n : ℕ). Solved g s s' c c' e e' (Ok (System n))) lc
+      (subst⁻¹ (λ (t : List ℕ). Solved g s s' c c' e t (Ok (System (controller_length g)))) same
       (solved_system g s c e a h (subst (λ (n : ℕ). n ≤ length c) lc k) (subst (λ (n : ℕ). n ≤ length e) le l) s' c' (sym W.wins ∙ v) W.scratch front))
     where
       same : e' ≡ e
@@ -215,10 +219,10 @@ module _ (g : Game) (s s' c c' e e' : List ℕ) {r : Bool} (W : Written g s s' c
           ]) v
           ∙ ap (λ (n : ℕ). controller_entries (separated_of g) ++ drop n c) (controller_long g)
 
-  pub written_environment : r ≡ false → Solved g s s' c c' e e' (Environment y)
+  pub written_environment : r ≡ false → Solved g s s' c c' e e' (Ok (Environment y))
   written_environment v =
-      subst⁻¹ (λ (n : ℕ). Solved g s s' c c' e e' (Environment n)) le
-      (subst⁻¹ (λ (t : List ℕ). Solved g s s' c t e e' (Environment (environment_length g))) same
+      subst⁻¹ (λ (n : ℕ). Solved g s s' c c' e e' (Ok (Environment n))) le
+      (subst⁻¹ (λ (t : List ℕ). Solved g s s' c t e e' (Ok (Environment (environment_length g)))) same
       (solved_environment g s c e a h (subst (λ (n : ℕ). n ≤ length c) lc k) (subst (λ (n : ℕ). n ≤ length e) le l) s' e' (sym W.wins ∙ v) W.scratch
       front))
     where

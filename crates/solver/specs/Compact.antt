@@ -10,7 +10,6 @@
 use Rattle.std.specs.Prelude.{ℕ, ◌<◌, ◌≡◌, Bool, true, false, List, [], ◌∷◌, ◌++◌, leb, length, take, drop}
 use Rattle.arena.specs.Win.{system, environment, DemandThree}
 use Rattle.game.specs.declared.Game.{Game}
-use Rattle.game.specs.declared.Acceptance.TheVariants.{Accepted, Refused as Faulty}
 use Rattle.game.specs.Acceptance.{acceptance}
 use Rattle.game.specs.Numbers.{first_of, game_tests}
 use Rattle.play.specs.Play.{separated_of}
@@ -19,26 +18,28 @@ use Rattle.theory.specs.Entries.{controller_counters, controller_entries}
 use Rattle.demands.specs.Demands.{play_of, environment_of}
 use Rattle.compact.specs.Compact.{compact_length, compact_entries, compact_row, full_row, compact_table}
 use Rattle.scratch.specs.Scratch.{scratch_length}
-use Rattle.solver.specs.declared.Verdict.{Verdict}
-use Rattle.solver.specs.declared.Verdict.TheVariants.{System, Environment, Refused as NotSolved}
+use Rattle.solver.specs.Verdict.{Verdict}
+use Rattle.solver.specs.declared.Winner.TheVariants.{System, Environment}
 use Rattle.solver.specs.Promise.{environment_length, verdict_number, environment_after, verdict_scratch}
+use Rattle.std.specs.declared.result.Result.TheVariants.{Ok, Err}
+use Rattle.game.specs.declared.Refusal.TheVariants.{ShortController, ShortPanel, ShortScratch}
 
 -- the side that wins, with the length of its table
 unfoldable pub compact_named : Game → Verdict
-compact_named g = elim (verdict (separated_of g)) [ true ↦ System (compact_length (separated_of g)) | false ↦ Environment (environment_length g) ]
+compact_named g = elim (verdict (separated_of g)) [ true ↦ Ok (System (compact_length (separated_of g))) | false ↦ Ok (Environment (environment_length g)) ]
 
 -- the same tests in the same order, 9 by the length of the layout that is written
 unfoldable pub compact_environment_tested : Game → ℕ → Verdict
-compact_environment_tested g e = elim (leb (environment_length g) e) [ true ↦ compact_named g | false ↦ NotSolved 10 ]
+compact_environment_tested g e = elim (leb (environment_length g) e) [ true ↦ compact_named g | false ↦ Err ShortPanel ]
 
 unfoldable pub compact_controller_tested : Game → ℕ → ℕ → Verdict
-compact_controller_tested g c e = elim (leb (compact_length (separated_of g)) c) [ true ↦ compact_environment_tested g e | false ↦ NotSolved 9 ]
+compact_controller_tested g c e = elim (leb (compact_length (separated_of g)) c) [ true ↦ compact_environment_tested g e | false ↦ Err ShortController ]
 
 unfoldable pub compact_scratch_tested : Game → ℕ → ℕ → ℕ → Verdict
-compact_scratch_tested g s c e = elim (leb (scratch_length g) s) [ true ↦ compact_controller_tested g c e | false ↦ NotSolved 8 ]
+compact_scratch_tested g s c e = elim (leb (scratch_length g) s) [ true ↦ compact_controller_tested g c e | false ↦ Err ShortScratch ]
 
 unfoldable pub compact_answer : Game → ℕ → ℕ → ℕ → Verdict
-compact_answer g s c e = elim (acceptance g) [ Accepted ↦ compact_scratch_tested g s c e | Faulty n ↦ NotSolved n ]
+compact_answer g s c e = elim (acceptance g) [ Ok u ↦ compact_scratch_tested g s c e | Err n ↦ Err n ]
 
 -- SPEC 9.1, 9.3
 unfoldable pub compact_tests : Game → ℕ → ℕ → ℕ → List (ℕ × Bool)
@@ -47,23 +48,23 @@ compact_tests g s c e =
 
 -- "On a verdict the answer is the filled front of one of two lent rooms; the rest of that room and all of the other stay unchanged." (SPEC 7.4)
 unfoldable pub compact_after : Game → Verdict → List ℕ → List ℕ
-compact_after g (System n) c = compact_entries (separated_of g) ++ drop n c
-compact_after g (Environment n) c = c
-compact_after g (NotSolved n) c = c
+compact_after g (Ok (System n)) c = compact_entries (separated_of g) ++ drop n c
+compact_after g (Ok (Environment n)) c = c
+compact_after g (Err n) c = c
 
 -- Demand 3 for this game: the table read through its layout from the filled front wins for the side named, and no table of any finite size wins for the
 -- other. (SPEC 3.5, 11.2)
 unfoldable pub DecidedCompact : Game → Verdict → List ℕ → List ℕ → Type 0
-DecidedCompact g (System n) c e = DemandThree (play_of g) (system (compact_table (separated_of g) (take n c)))
-DecidedCompact g (Environment n) c e = DemandThree (play_of g) (environment (environment_of g (take n e)))
-DecidedCompact g (NotSolved n) c e = Unit {0}
+DecidedCompact g (Ok (System n)) c e = DemandThree (play_of g) (system (compact_table (separated_of g) (take n c)))
+DecidedCompact g (Ok (Environment n)) c e = DemandThree (play_of g) (environment (environment_of g (take n e)))
+DecidedCompact g (Err n) c e = Unit {0}
 
 -- "every row read from it equals the row of the old one" (SPEC 11.2)
 unfoldable pub EqualRows : Game → Verdict → List ℕ → Type 0
-EqualRows g (System n) c = (o h j : ℕ) → o < g.output.states → h < controller_counters (separated_of g) → j < g.input.states
+EqualRows g (Ok (System n)) c = (o h j : ℕ) → o < g.output.states → h < controller_counters (separated_of g) → j < g.input.states
     → compact_row (separated_of g) c o h j ≡ full_row (separated_of g) (controller_entries (separated_of g)) o h j
-EqualRows g (Environment n) c = Unit {0}
-EqualRows g (NotSolved n) c = Unit {0}
+EqualRows g (Ok (Environment n)) c = Unit {0}
+EqualRows g (Err n) c = Unit {0}
 
 -- SPEC 11.2
 pub record SolvedCompact (g : Game) (s s' c c' e e' : List ℕ) (r : Verdict) : Type 0 where

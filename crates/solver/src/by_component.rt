@@ -1,7 +1,6 @@
 // The solver, the controller's table with its rows by component.
 ghost use Rattle.std.specs.Prelude.{◌≡◌, ltb};
-ghost use Rattle.game.specs.declared.Acceptance.TheVariants.{Accepted};
-ghost use Rattle.game.specs.Acceptance.{acceptance};
+ghost use Rattle.game.specs.Acceptance.{acceptance, accepted};
 ghost use Rattle.board.specs.Board.{game_on, sizes_of};
 ghost use Rattle.game_sets.specs.Lists.{Lists};
 ghost use Rattle.play.specs.Play.{separated_of};
@@ -9,14 +8,14 @@ ghost use Rattle.compact.specs.Compact.{compact_length};
 ghost use Rattle.table_sizes.specs.Outlined.{Outlined};
 ghost use Rattle.solver.specs.Compact.{SolvedCompact};
 
-use crate::Verdict;
-use game::Game;
+use crate::Winner;
+use game::{Game, Refusal};
 use table_sizes::Outline;
 
 // Whether a room of this length is too short for the controller's table, by the count of the components. They are found with no scratch: a short room is
 // refused before anything is written.
 fn is_short_counted(g: Game, long: usize) -> bool
-    requires { acceptance g ≡ Accepted }
+    requires { acceptance g ≡ accepted }
     ensures { result ≡ ltb long (compact_length (separated_of g)) }
 {
     let components = graph_ranks::components(g, graph_ranks::leading(g));
@@ -25,7 +24,7 @@ fn is_short_counted(g: Game, long: usize) -> bool
 
 // The same. There are no more components than inputs, so a room that has a row for each input is never too short, and nothing need be counted.
 fn is_short(g: Game, given: Outline, long: usize) -> bool
-    requires { (acceptance g ≡ Accepted) × Outlined g given }
+    requires { (acceptance g ≡ accepted) × Outlined g given }
     ensures { result ≡ ltb long (compact_length (separated_of g)) }
 {
     let most = g.input.states + table_sizes::controller_length_of(g, given);
@@ -44,24 +43,24 @@ pub fn solve_accepted<'a>(
     scratch: &mut [u64],
     controller: &mut [u16],
     panel: &mut [u16],
-) -> Verdict
-    requires { (acceptance g ≡ Accepted) × Outlined g given × Lists g l.now × (game_on (sizes_of g) b.now ≡ g) }
+) -> Result<Winner, Refusal>
+    requires { (acceptance g ≡ accepted) × Outlined g given × Lists g l.now × (game_on (sizes_of g) b.now ≡ g) }
     ensures { SolvedCompact g scratch.old scratch.new controller.old controller.new panel.old
         panel.new result }
 {
     if scratch.len() < scratch::length(g) {
-        return Verdict::Refused(8);
+        return Err(Refusal::ShortScratch);
     }
     if is_short(g, given, controller.len()) {
-        return Verdict::Refused(9);
+        return Err(Refusal::ShortController);
     }
     let e = table_sizes::environment_length_of(g, given);
     if panel.len() < e {
-        return Verdict::Refused(10);
+        return Err(Refusal::ShortPanel);
     }
     let c = solver_winner::by_component::write_winner(g, given, l, b, scratch, controller, panel);
     if c == 0 {
-        return Verdict::Environment(e);
+        return Ok(Winner::Environment(e));
     }
-    Verdict::System(c)
+    Ok(Winner::System(c))
 }

@@ -16,7 +16,10 @@ use Rattle.scratch.specs.Scratch.{scratch_length}
 pub record Written (g : Game) (s s' c c' e e' : List ℕ) (r : Bool) : Type 0 where
   pub wins : r ≡ verdict (separated_of g)
   pub scratch : s' ≡ cleared (scratch_length g) s
-  pub controller : c' ≡ elim r as (λ x. List ℕ) [ true ↦ controller_entries (separated_of g) ++ drop (length (controller_entries (separated_of g))) c | false ↦ c ]
+  pub controller : c' ≡ elim r as (λ x. List ℕ) [
+    | true ↦ controller_entries (separated_of g) ++ drop (length (controller_entries (separated_of g))) c
+    | false ↦ c
+  ]
   pub environment : e' ≡ elim r as (λ x. List ℕ) [
     | true ↦ e
     | false ↦ environment_entries (separated_of g) ++ drop

@@ -1,7 +1,6 @@
 // The winner's table, the controller's with its rows by component.
 ghost use Rattle.std.specs.Prelude.{◌≡◌, ◌≤◌, length};
-ghost use Rattle.game.specs.declared.Acceptance.TheVariants.{Accepted};
-ghost use Rattle.game.specs.Acceptance.{acceptance};
+ghost use Rattle.game.specs.Acceptance.{acceptance, accepted};
 ghost use Rattle.play.specs.Play.{separated_of};
 ghost use Rattle.theory.specs.Entries.{environment_entries};
 ghost use Rattle.compact.specs.Compact.{compact_length};
@@ -24,7 +23,7 @@ pub fn write_winner<'a>(
     controller: &mut [u16],
     panel: &mut [u16],
 ) -> usize
-    requires { (acceptance g ≡ Accepted) × (scratch_length g ≤ length scratch.old) × (compact_length (separated_of g) ≤ length controller.old)
+    requires { (acceptance g ≡ accepted) × (scratch_length g ≤ length scratch.old) × (compact_length (separated_of g) ≤ length controller.old)
         × (length (environment_entries (separated_of g)) ≤ length panel.old)
         × Outlined g given × Lists g l.now × (game_on (sizes_of g) b.now ≡ g) }
     ensures { WrittenCompact g scratch.old scratch.new controller.old controller.new panel.old

@@ -2,8 +2,7 @@
 #![tactic(auto)]
 
 ghost use Rattle.std.specs.Prelude.{◌≡◌, ◌≤◌, length};
-ghost use Rattle.game.specs.declared.Acceptance.TheVariants.{Accepted};
-ghost use Rattle.game.specs.Acceptance.{acceptance};
+ghost use Rattle.game.specs.Acceptance.{acceptance, accepted};
 ghost use Rattle.play.specs.Play.{separated_of};
 ghost use Rattle.theory.specs.Entries.{controller_entries, environment_entries};
 ghost use Rattle.board.specs.Board.{game_on, sizes_of};
@@ -27,7 +26,7 @@ pub fn write_winner<'a>(
     controller: &mut [u16],
     panel: &mut [u16],
 ) -> bool
-    requires { (acceptance g ≡ Accepted) × (scratch_length g ≤ length scratch.old) × (length (controller_entries (separated_of g)) ≤ length controller.old)
+    requires { (acceptance g ≡ accepted) × (scratch_length g ≤ length scratch.old) × (length (controller_entries (separated_of g)) ≤ length controller.old)
         × (length (environment_entries (separated_of g)) ≤ length panel.old)
         × Outlined g given × Lists g l.now × (game_on (sizes_of g) b.now ≡ g) }
     ensures { Written g scratch.old scratch.new controller.old controller.new panel.old

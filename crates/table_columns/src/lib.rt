@@ -17,10 +17,8 @@ fn front(room: &mut [u16], base: usize, step: usize, count: usize, first: u16, m
     requires { FrontFits (length room.old) base step count first more }
     ensures { Front room.old room.new base step count first more count }
 {
-    let mut h: usize = 0;
-    while h < count {
+    for h in 0..count {
         room[base + step * h] = first + more * (h as u16);
-        h += 1;
     }
 }
 
@@ -58,10 +56,8 @@ fn run(room: &mut [u16], base: usize, width: usize, value: u16)
     requires { (x : ℕ) → x < width → base + x < length room.old }
     ensures { Run room.old room.new base width value width }
 {
-    let mut x: usize = 0;
-    while x < width {
+    for x in 0..width {
         room[base + x] = value;
-        x += 1;
     }
 }
 
@@ -84,11 +80,8 @@ fn scattered(room: &mut [u16], base: usize, width: usize, over: Set, value: u16)
     requires { RowFits (length room.old) base width (bits_of over) }
     ensures { Row room.old room.new base (bits_of over) value }
 {
-    let mut rest = scattered_low(room, base, width, over, value);
-    while !sets::is_empty(rest) {
-        let x = sets::lowest(rest);
+    for x in scattered_low(room, base, width, over, value) {
         room[base + x] = value;
-        rest = sets::without_lowest(rest);
     }
 }
 
@@ -148,11 +141,8 @@ fn by_columns(
     requires { BlockFits (length room.old) base width (bits_of over) which.0 first more }
     ensures { Block room.old room.new base width (bits_of over) which.0 first more }
 {
-    let mut left = sets::intersection(over, sets::below(width));
-    while !sets::is_empty(left) {
-        let x = sets::lowest(left);
+    for x in sets::intersection(over, sets::below(width)) {
         column(room, base + x, width, which, first, more);
-        left = sets::without_lowest(left);
     }
 }
 

@@ -24,11 +24,9 @@ pub fn add_met(q: CounterSet, s: GoalRange, x: Set) -> CounterSet
     ensures { MetMore s (bits_of x) q.0 s.count result.0 }
 {
     let mut m = q;
-    let mut j: usize = 0;
-    while j < s.count {
+    for j in 0..s.count {
         let y = s.sets[j];
         m = table_counters::insert_if(m, s.from + j, sets::meets(y, x));
-        j += 1;
     }
     m
 }

@@ -14,9 +14,8 @@ use Rattle.sets.specs.Words.{bits_of}
 use Rattle.bits.specs.Member.{has}
 use Rattle.game.specs.declared.Game.{Game}
 use Rattle.game.specs.declared.Requirement.{Requirement as RequirementRecord}
-use Rattle.game.specs.declared.Acceptance.TheVariants.{Accepted}
 use Rattle.game.specs.Access.{requirement_at}
-use Rattle.game.specs.Acceptance.{acceptance}
+use Rattle.game.specs.Acceptance.{accepted, acceptance}
 use Rattle.game.proofs.Laws.{accepted_fits}
 use Rattle.play.specs.Play.{requirement_of, requirements_of, separated_of}
 use Rattle.theory.specs.Tour.{goal_at}
@@ -67,7 +66,7 @@ module _ (s : Side) (L : Listed s) (g : Game) where
       ∙ ap (λ (x : List (ℕ → Bool)). get_or x j (λ t. false)) (L (requirement_at g r))
       ∙ get_d_tabulate (λ i. has (bits_of (s.set (requirement_at g r) i))) (s.count (requirement_at g r)) j (λ t. false) b)
 
-module _ (g : Game) (a : acceptance g ≡ Accepted) where
+module _ (g : Game) (a : acceptance g ≡ accepted) where
   pub few : g.k ≤ 8
   few = (accepted_fits g a).few
 

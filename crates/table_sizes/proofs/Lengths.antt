@@ -5,8 +5,7 @@ use mathlib.Core.Path.{◌≡◌, sym, ◌∙◌, ap}
 use native.Mathlib.Omega.{arith}
 use lib.ListN.{length}
 use Rattle.game.specs.declared.Game.{Game}
-use Rattle.game.specs.declared.Acceptance.TheVariants.{Accepted}
-use Rattle.game.specs.Acceptance.{acceptance}
+use Rattle.game.specs.Acceptance.{accepted, acceptance}
 use Rattle.game.proofs.Laws.{accepted_fits}
 use Rattle.play.specs.Play.{graph_of, separated_of}
 use Rattle.theory.specs.Entries.{controller_counters, environment_counters, controller_entries, environment_entries}
@@ -26,14 +25,14 @@ environment_length_lem g m e =
     ap (λ (n : ℕ). 1 + g.input.states * n * g.output.states) e ∙ sym (environment_long (separated_of g))
 
 -- so every sum and product fits a word
-module _ (g : Game) (a : acceptance g ≡ Accepted) where
+module _ (g : Game) (a : acceptance g ≡ accepted) where
   pub inputs_most : g.input.states ≤ 128
   inputs_most = (accepted_fits g a).input.most
 
   pub outputs_most : g.output.states ≤ 128
   outputs_most = (accepted_fits g a).output.most
 
-module _ (g : Game) (a : acceptance g ≡ Accepted) (m : ℕ) where
+module _ (g : Game) (a : acceptance g ≡ accepted) (m : ℕ) where
   pub controller_most : m ≡ controller_counters (separated_of g) → m ≤ 32
   controller_most e = omega (arith, controller_few g (accepted_fits g a))
 

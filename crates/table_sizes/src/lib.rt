@@ -5,8 +5,7 @@ ghost use Rattle.std.specs.Prelude.{◌≡◌, max, ◌≤◌, ◌<◌, length};
 ghost use Rattle.bits.specs.Member.{pack};
 ghost use Rattle.sets.specs.Words.{bits_of};
 ghost use Rattle.game.specs.Access.{requirement_at};
-ghost use Rattle.game.specs.Acceptance.{acceptance};
-ghost use Rattle.game.specs.declared.Acceptance.TheVariants.{Accepted};
+ghost use Rattle.game.specs.Acceptance.{acceptance, accepted};
 ghost use Rattle.game_sets.specs.Lists.{Lists, AssumedCounts, GuaranteedCounts, Counts};
 ghost use Rattle.play.specs.Play.{separated_of};
 ghost use Rattle.theory.specs.Choice.{guarantees, assumptions};
@@ -32,32 +31,28 @@ pub struct Outline {
 
 // How many guarantees all requirements have.
 pub fn guarantee_count(g: Game) -> usize
-    requires { acceptance g ≡ Accepted }
+    requires { acceptance g ≡ accepted }
     ensures { result ≡ length (guarantees (separated_of g)) }
 {
     let requirements = g.requirements;
     let mut n = 0;
-    let mut r = 0;
-    while r < g.k {
+    for r in 0..g.k {
         let q = requirements[r];
         n += q.guaranteed;
-        r += 1;
     }
     n
 }
 
 // How many assumptions all requirements have.
 pub fn assumption_count(g: Game) -> usize
-    requires { acceptance g ≡ Accepted }
+    requires { acceptance g ≡ accepted }
     ensures { result ≡ length (assumptions (separated_of g)) }
 {
     let requirements = g.requirements;
     let mut n = 0;
-    let mut r = 0;
-    while r < g.k {
+    for r in 0..g.k {
         let q = requirements[r];
         n += q.assumed;
-        r += 1;
     }
     n
 }
@@ -90,17 +85,15 @@ pub fn guarantees_of(
 
 // The numbers of the guarantees that have a state in x.
 pub fn guarantees_met(g: Game, given: Outline, l: &[u64; game_sets::WORDS], x: OutSet) -> CounterSet
-    requires { (acceptance g ≡ Accepted) × Outlined g given × Lists g l.now }
+    requires { (acceptance g ≡ accepted) × Outlined g given × Lists g l.now }
     ensures { result.0 ≡ pack (length (guarantees (separated_of g))) (met_in (guarantees (separated_of g)) (bits_of x.0)) }
 {
     let mut q = table_counters::empty();
     let mut n: usize = 0;
-    let mut r: usize = 0;
-    while r < g.k {
+    for r in 0..g.k {
         let s = guarantees_of(g, given, l, r, n);
         q = table_goals::add_met(q, s, x.0);
         n += s.count;
-        r += 1;
     }
     q
 }
@@ -133,17 +126,15 @@ pub fn assumptions_of(
 
 // The numbers of the assumptions that have a state in x.
 pub fn assumptions_met(g: Game, given: Outline, l: &[u64; game_sets::WORDS], x: InSet) -> CounterSet
-    requires { (acceptance g ≡ Accepted) × Outlined g given × Lists g l.now }
+    requires { (acceptance g ≡ accepted) × Outlined g given × Lists g l.now }
     ensures { result.0 ≡ pack (length (assumptions (separated_of g))) (met_in (assumptions (separated_of g)) (bits_of x.0)) }
 {
     let mut q = table_counters::empty();
     let mut n: usize = 0;
-    let mut r: usize = 0;
-    while r < g.k {
+    for r in 0..g.k {
         let s = assumptions_of(g, given, l, r, n);
         q = table_goals::add_met(q, s, x.0);
         n += s.count;
-        r += 1;
     }
     q
 }
@@ -160,7 +151,7 @@ fn at_least_one(n: usize) -> usize
 
 // How many counters the controller's table has.
 pub fn controller_counters(g: Game) -> usize
-    requires { acceptance g ≡ Accepted }
+    requires { acceptance g ≡ accepted }
     ensures { result ≡ controller_counters (separated_of g) }
 {
     at_least_one(guarantee_count(g))
@@ -168,7 +159,7 @@ pub fn controller_counters(g: Game) -> usize
 
 // How many counters the environment's table has.
 pub fn environment_counters(g: Game) -> usize
-    requires { acceptance g ≡ Accepted }
+    requires { acceptance g ≡ accepted }
     ensures { result ≡ environment_counters (separated_of g) }
 {
     at_least_one(assumption_count(g))
@@ -176,35 +167,31 @@ pub fn environment_counters(g: Game) -> usize
 
 // How many guarantees all requirements have, from how many each has.
 fn guarantees_counted(g: Game, guaranteed: &[usize; 8]) -> usize
-    requires { (acceptance g ≡ Accepted) × GuaranteedCounts g guaranteed.now }
+    requires { (acceptance g ≡ accepted) × GuaranteedCounts g guaranteed.now }
     ensures { result ≡ length (guarantees (separated_of g)) }
 {
     let mut n = 0;
-    let mut r = 0;
-    while r < g.k {
+    for r in 0..g.k {
         n += guaranteed[r];
-        r += 1;
     }
     n
 }
 
 // How many assumptions all requirements have, from how many each has.
 fn assumptions_counted(g: Game, assumed: &[usize; 8]) -> usize
-    requires { (acceptance g ≡ Accepted) × AssumedCounts g assumed.now }
+    requires { (acceptance g ≡ accepted) × AssumedCounts g assumed.now }
     ensures { result ≡ length (assumptions (separated_of g)) }
 {
     let mut n = 0;
-    let mut r = 0;
-    while r < g.k {
+    for r in 0..g.k {
         n += assumed[r];
-        r += 1;
     }
     n
 }
 
 // The outline of an accepted game, from how many sets each requirement has.
 pub fn outline_of(g: Game, assumed: [usize; 8], guaranteed: [usize; 8]) -> Outline
-    requires { (acceptance g ≡ Accepted) × Counts g assumed guaranteed }
+    requires { (acceptance g ≡ accepted) × Counts g assumed guaranteed }
     ensures { Outlined g result }
 {
     let controller = at_least_one(guarantees_counted(g, &guaranteed));
@@ -219,7 +206,7 @@ pub fn outline_of(g: Game, assumed: [usize; 8], guaranteed: [usize; 8]) -> Outli
 
 // How many entries the controller's table has.
 pub fn controller_length(g: Game) -> usize
-    requires { acceptance g ≡ Accepted }
+    requires { acceptance g ≡ accepted }
     ensures { result ≡ length (controller_entries (separated_of g)) }
 {
     let inputs = g.input.states;
@@ -228,7 +215,7 @@ pub fn controller_length(g: Game) -> usize
 
 // How many entries the environment's table has.
 pub fn environment_length(g: Game) -> usize
-    requires { acceptance g ≡ Accepted }
+    requires { acceptance g ≡ accepted }
     ensures { result ≡ length (environment_entries (separated_of g)) }
 {
     let outputs = g.output.states;
@@ -237,7 +224,7 @@ pub fn environment_length(g: Game) -> usize
 
 // The same two from the outline, whose counters are known.
 pub fn controller_length_of(g: Game, given: Outline) -> usize
-    requires { (acceptance g ≡ Accepted) × Outlined g given }
+    requires { (acceptance g ≡ accepted) × Outlined g given }
     ensures { result ≡ length (controller_entries (separated_of g)) }
 {
     let inputs = g.input.states;
@@ -245,7 +232,7 @@ pub fn controller_length_of(g: Game, given: Outline) -> usize
 }
 
 pub fn environment_length_of(g: Game, given: Outline) -> usize
-    requires { (acceptance g ≡ Accepted) × Outlined g given }
+    requires { (acceptance g ≡ accepted) × Outlined g given }
     ensures { result ≡ length (environment_entries (separated_of g)) }
 {
     let outputs = g.output.states;

@@ -30,7 +30,7 @@ use Rattle.graphs.specs.Way.{prefer, toward}
 use Rattle.graphs.proofs.Way.{Leads}
 use Rattle.graphs.proofs.Component.{joined_to, nontrivial_same}
 use Rattle.graphs.proofs.Graph.{edge_moves}
-use Rattle.theory.specs.Tour.{goal_at, goal, inside, target}
+use Rattle.theory.specs.Tour.{goal_at, inside, target}
 use Rattle.theory.specs.Entries.{stride, entry}
 use Rattle.arena.specs.Table.{gives}
 use Rattle.table_entries.proofs.Packed.{entry_steps}

@@ -27,12 +27,9 @@ pub fn stay(moves: &[u64; sets::ROW_WORDS], room: &mut [u16], z: Layout, c: OwnS
         miss: 0,
         more: table_entries::STEP,
     };
-    let mut left = c.0;
-    while !sets::is_empty(left) {
-        let s = sets::lowest(left);
+    for s in c.0 {
         let inside = sets::intersection(sets::row_of(moves, s), c.0);
         table_walks::write_move(room, z, Own(s), Own(graph_ways::prefer(s, inside)), w);
-        left = sets::without_lowest(left);
     }
 }
 
@@ -84,13 +81,11 @@ pub fn aim_some(
     requires { LayoutFits z (length room.old) × (within (bits_of c.0) z.states ≡ true) × Goals q.0 z.counters 0 × Short t }
     ensures { RangeWritten (sets_in moves.now) z (bits_of c.0) (bits_of over.0) q.0 t t.count room.old room.new }
 {
-    let mut j: usize = 0;
-    while j < t.count {
+    for j in 0..t.count {
         let a = t.from + j;
         if table_counters::member(q, a) {
             let x = t.sets[j];
             aim(moves, room, z, c, over, q, OwnSet(x), a);
         }
-        j += 1;
     }
 }

@@ -104,15 +104,12 @@ fn settle(
 {
     let low = settle_low(rows, room, z, inside, left, reached, w);
     let mut settled = low.settled;
-    let mut rest = low.rest;
-    while !sets::is_empty(rest) {
-        let t = sets::lowest(rest);
+    for t in low.rest {
         let moves = graph_ways::choices(rows, inside, left, reached, t);
         if !sets::is_empty(moves) {
             write_move(room, z, Own(t), Own(graph_ways::prefer(t, moves)), w);
             settled = sets::insert(settled, t);
         }
-        rest = sets::without_lowest(rest);
     }
     settled
 }
@@ -171,13 +168,10 @@ pub fn enter(
     ensures { Enters (sets_in rows.now) z (bits_of own.0) (bits_of target.0) b.0 room.old room.new }
 {
     let all = table_counters::below(z.counters);
-    let mut rest = own.0;
-    while !sets::is_empty(rest) {
-        let s = sets::lowest(rest);
+    for s in own.0 {
         let open = sets::intersection(sets::row_of(rows, s), target.0);
         let first = table_entries::pack(sets::lowest(open), 0);
         table_layout::write_column(room, z, Own(s), b, all, first, table_entries::STEP);
-        rest = sets::without_lowest(rest);
     }
 }
 

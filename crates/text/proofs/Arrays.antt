@@ -19,7 +19,7 @@ use denote.Builtin.{u64}
 use denote.Array.{each, in_array}
 use denote.Struct.Declared.{row}
 use Rattle.sets.specs.declared.Set.{Set}
-use Rattle.sets.specs.Words.{row_words, WordsFit, no_states}
+use Rattle.sets.specs.Words.{row_words, WordsFit}
 use Rattle.sets.specs.contracts.Set.{the_type as set-type}
 use Rattle.game.specs.declared.Graph.{Graph}
 use Rattle.game.specs.declared.Requirement.{Requirement}
@@ -90,8 +90,10 @@ requirement_arrays q vs s =
     record {
       assumptions = array_length (row in_set-type).own_val no_input 4 q.assumptions ins;
       guarantees = array_length (row out_set-type).own_val no_output 4 q.guarantees outs;
-      in_sets_lem = array_all (row in_set-type).own_val no_input 4 q.assumptions ins (λ x. WordsFit x.0) (λ x u e. set_words x.0 _ e.1.1.0) (omega arith, omega arith);
-      out_sets_lem = array_all (row out_set-type).own_val no_output 4 q.guarantees outs (λ x. WordsFit x.0) (λ x u e. set_words x.0 _ e.1.1.0) (omega arith, omega arith);
+      in_sets_lem =
+          array_all (row in_set-type).own_val no_input 4 q.assumptions ins (λ x. WordsFit x.0) (λ x u e. set_words x.0 _ e.1.1.0) (omega arith, omega arith);
+      out_sets_lem =
+          array_all (row out_set-type).own_val no_output 4 q.guarantees outs (λ x. WordsFit x.0) (λ x u e. set_words x.0 _ e.1.1.0) (omega arith, omega arith);
     }
 
 pub game_arrays : (g : Game) (vs : List Val) → Is (row game-type) g vs → Arrays g
@@ -101,5 +103,7 @@ game_arrays g vs s =
       input = graph_arrays g.input _ s.1.1.0;
       output = graph_arrays g.output _ s.1.1.1.0;
       requirements = array_length (row requirement-type).own_val no_requirement 8 g.requirements qs;
-      requirement = λ r h. let e = array_at (row requirement-type).own_val no_requirement 8 g.requirements qs r h in requirement_arrays (requirement_at g r) _ e.1;
+      requirement = λ r h.
+          let e = array_at (row requirement-type).own_val no_requirement 8 g.requirements qs r h in
+          requirement_arrays (requirement_at g r) _ e.1;
     }

@@ -1,5 +1,5 @@
 -- One text for each game: the laws that specs/OneText.antt states.
-use Prim.Native.Nat.{ℕ, suc, ◌≤◌, ◌<◌, ◌^◌}
+use Prim.Native.Nat.{ℕ, suc, ◌≤◌, ◌<◌}
 use native.Mathlib.Omega.{arith}
 use mathlib.Core.Bool.{true}
 use mathlib.Core.List.{List, [], ◌∷◌}
@@ -9,7 +9,7 @@ use lib.ListN.{length, get_or, replicate, length-map, get_or-eq_default}
 use lib.Seq.{ext_get_or}
 use borrow.Author.Tests.{ltb-true, ltb-false, leb-true, leb-false}
 use Rattle.sets.specs.declared.Set.{Set}
-use Rattle.sets.specs.Words.{capacity, row_words, bits_of, set_of, sets_in, WordsFit, no_states}
+use Rattle.sets.specs.Words.{capacity, bits_of, set_of, sets_in, WordsFit, no_states}
 use Rattle.sets.proofs.Rows.{no_states_lem, set_is, sets_all, words_sets}
 use Rattle.bits.specs.Member.{has, within}
 use Rattle.bits.proofs.Membership.{has_within, zero_within}
@@ -20,14 +20,13 @@ use Rattle.text_grammar.proofs.Format.{by_cases}
 use Rattle.finite.proofs.Lists.{any_default}
 use Rattle.text_grammar.proofs.Place.{one_value, read_got, read_fault_none}
 use Rattle.game.specs.Access.{no_input, no_output, no_requirement, requirement_at}
-use Rattle.game.specs.Acceptance.{acceptance}
+use Rattle.game.specs.Acceptance.{accepted, acceptance}
 use Rattle.game.specs.declared.InSet.{InSet}
 use Rattle.game.specs.declared.OutSet.{OutSet}
 use Rattle.game.specs.declared.Graph.{Graph}
 use Rattle.game.specs.declared.Requirement.{Requirement}
 use Rattle.game.specs.declared.Game.{Game}
-use Rattle.game.specs.declared.Acceptance.{Acceptance}
-use Rattle.game.specs.declared.Acceptance.TheVariants.{Accepted, Refused}
+use Rattle.game.specs.Acceptance.{Acceptance}
 use Rattle.game.proofs.Laws.{GraphFits, RequirementFits, accepted_fits}
 use Rattle.text_shape.specs.Text.{plain, record_of, game_text, in_words, out_words, in_sets, out_sets}
 use Rattle.text_shape.specs.Text.{ShapedGraph, ShapedSets, ShapedRequirement, Shaped, empty_requirement}
@@ -35,14 +34,16 @@ use Rattle.text_shape.specs.Shape.{game_format}
 use Rattle.text_shape.proofs.Graphs.{empty_shaped}
 use Rattle.text_shape.proofs.Shape.{game_sound, game_complete, game_live}
 use Rattle.text_put.proofs.Pieces.{in_word, out_word}
-use Rattle.text.specs.Read.{Reads, text_refused, misshapen, judged}
+use Rattle.text.specs.Read.{Reads, judged_by, judged}
 use Rattle.text.specs.OneText.{IsText, OneText}
-use Rattle.text.specs.declared.Answer.TheVariants.{Read, Misshapen, Refused as NotRead}
-use Rattle.text.specs.declared.Reading.{Reading}
-use Rattle.text.proofs.Reader.{text_of, judged_refused, judged_accepted}
+use Rattle.text.specs.declared.Unread.{Unread}
+use Rattle.text.specs.Reading.{Reading}
+use Rattle.text.proofs.Reader.{text_of, judged_as, judged_accepted}
 use Rattle.text.proofs.Arrays.{GraphArrays, RequirementArrays, Arrays}
+use Rattle.std.specs.declared.result.Result.TheVariants.{Ok, Err}
 
 -- two games within the shape's limits with one text are one game
+
 one_game : (g h : Game) → Shaped g → Shaped h → game_text g ≡ game_text h → g ≡ h
 one_game g h S T e = one_value game_format (game_text g) g h (game_complete g S) (text_of (game_text g) h T e)
 
@@ -125,10 +126,12 @@ unused_empty q a b F W e f =
     let n = W.guarantees in
     let ins : q.assumptions ≡ replicate 4 no_input =
     ext_get_or no_input q.assumptions (replicate 4 no_input) m
-    (λ j l. no_input_lem (get_or q.assumptions j no_input) (W.in_sets_lem j) (F.assumption_past j (omega arith) (omega arith)) ∙ sym (four_ins j (omega arith))) in
+    (λ j l. no_input_lem (get_or q.assumptions j no_input) (W.in_sets_lem j) (F.assumption_past j (omega arith) (omega arith))
+    ∙ sym (four_ins j (omega arith))) in
     let outs : q.guarantees ≡ replicate 4 no_output =
     ext_get_or no_output q.guarantees (replicate 4 no_output) n
-    (λ j l. no_output_lem (get_or q.guarantees j no_output) (W.out_sets_lem j) (F.guarantee_past j (omega arith) (omega arith)) ∙ sym (four_outs j (omega arith))) in
+    (λ j l. no_output_lem (get_or q.guarantees j no_output) (W.out_sets_lem j) (F.guarantee_past j (omega arith) (omega arith))
+    ∙ sym (four_outs j (omega arith))) in
     λ i. record { assumptions = ins i; assumed = e i; guarantees = outs i; guaranteed = f i }
   where
     no_input_lem : (x : InSet) → WordsFit x.0 → bits_of x.0 ≡ 0 → x ≡ no_input
@@ -143,7 +146,7 @@ unused_empty q a b F W e f =
     four_outs : (j : ℕ) → j < 4 → get_or (replicate 4 no_output) j no_output ≡ no_output
     four_outs j h = lib.ListN.get_or-replicate 4 j no_output no_output h
 
-pub accepted_shaped : (g : Game) → acceptance g ≡ Accepted → Arrays g → Shaped g
+pub accepted_shaped : (g : Game) → acceptance g ≡ accepted → Arrays g → Shaped g
 accepted_shaped g h A =
     let F = accepted_fits g h in
     record {
@@ -171,41 +174,33 @@ accepted_shaped g h A =
     past r l = let m = A.requirements in get_or-eq_default g.requirements empty_requirement (omega arith)
 
 -- the text of an accepted game that a file can hold is read as that game
-pub read_written : (g : Game) (r : Reading) → acceptance g ≡ Accepted → Shaped g → length (game_text g) ≤ 40960 → Reads (game_text g) r
-    → r ≡ record { game = g; answer = Read }
+pub read_written : (g : Game) (r : Reading) → acceptance g ≡ accepted → Shaped g → length (game_text g) ≤ 40960 → Reads (game_text g) r → r ≡ Ok g
 read_written g r h S l R = R.text l g S refl ∙ judged_accepted g h
 
--- what is read as a game is that game's text, byte for byte
-judged_read : (s : List ℕ) (g : Game) (r : Reading) (a : Acceptance) → acceptance g ≡ a → Shaped g → s ≡ game_text g → r ≡ judged g → r.answer ≡ Read
-    → IsText s r.game
-unfolding text_refused
-judged_read s g r Accepted h S t e f =
-    let same : g ≡ r.game = sym (ap (λ (x : Reading). x.game) (e ∙ judged_accepted g h)) in
-    subst (λ (x : Game). IsText s x) same (record { accepted = h; shaped = S; text = t })
-judged_read s g r (Refused n) h S t e f =
-    let no : NotRead n ≡ Read = sym (ap (λ (x : Reading). x.answer) (e ∙ judged_refused g n h)) ∙ f in
-    let z : ◌≡◌ {A = ℕ} 0 1 = cc in
-    absurd (omega arith)
+-- a game is no refusal
+is_read : {A : Type 0} {g : Game} {u : Unread} → ◌≡◌ {A = Reading} (Ok g) (Err u) → A
+is_read h = let z : ◌≡◌ {A = ℕ} 0 1 = cc in absurd (omega arith)
 
-pub written_read : (s : List ℕ) (r : Reading) → Reads s r → r.answer ≡ Read → IsText s r.game
-unfolding text_refused misshapen
-written_read s r R f =
+-- what is read as a game is that game's text, byte for byte
+judged_read : (s : List ℕ) (g h : Game) (a : Acceptance) → acceptance h ≡ a → Shaped h → s ≡ game_text h → Ok g ≡ judged h → IsText s g
+unfolding judged_by
+judged_read s g h (Ok u) e S t f =
+    let read : Ok g ≡ Ok h = f ∙ judged_accepted h e in
+    let same : h ≡ g = cc in
+    subst (IsText s) same (record { accepted = e; shaped = S; text = t })
+judged_read s g h (Err r) e S t f = is_read (f ∙ judged_as h e)
+
+pub written_read : (s : List ℕ) (g : Game) → Reads s (Ok g) → IsText s g
+written_read s g R =
     by_cases (leb (length s) 40960)
     (λ b. short (leb-true (length s) 40960 b) (reading game_format s) refl)
-    (λ b.
-    let no : NotRead 12 ≡ Read = sym (ap (λ (x : Reading). x.answer) (R.long (leb-false (length s) 40960 b))) ∙ f in
-    let z : ◌≡◌ {A = ℕ} 0 1 = cc in
-    absurd (omega arith))
+    (λ b. is_read (R.long (leb-false (length s) 40960 b)))
   where
-    short : length s ≤ 40960 → (x : Run Game) → reading game_format s ≡ x → IsText s r.game
-    short l (got g j) e =
-        let q = game_sound s g (read_got game_format game_live s e) in
-        judged_read s g r (acceptance g) refl q.0 q.1 (R.text l g q.0 q.1) f
-    short l (fault p) e =
-        let w = R.place l (λ g S t. read_fault_none game_format game_live s e g (text_of s g S t)) in
-        let no : Misshapen w.0 ≡ Read = sym (ap (λ (x : Reading). x.answer) w.2) ∙ f in
-        let z : ◌≡◌ {A = ℕ} 0 1 = cc in
-        absurd (omega arith)
+    short : length s ≤ 40960 → (x : Run Game) → reading game_format s ≡ x → IsText s g
+    short l (got h j) e =
+        let q = game_sound s h (read_got game_format game_live s e) in
+        judged_read s g h (acceptance h) refl q.0 q.1 (R.text l h q.0 q.1)
+    short l (fault p) e = is_read (R.place l (λ h S t. read_fault_none game_format game_live s e h (text_of s h S t))).2
 
 pub one_text_holds : OneText
 one_text_holds = record {
@@ -213,5 +208,5 @@ one_text_holds = record {
   read_back = read_written;
   too_long = λ g r h l R. R.long l;
   only_texts = written_read;
-  one_text = λ s t q r Q R e f g. (written_read s q Q e).text ∙ ap game_text g ∙ sym (written_read t r R f).text;
+  one_text = λ s t g Q R. (written_read s g Q).text ∙ sym (written_read t g R).text;
 }

@@ -2,7 +2,7 @@
 --
 --   BeginsText s       == s begins the text of some game: a well-shaped file
 --   LongestFront s p   == p is the length of the longest front of s that begins a well-shaped file
---   text_refused n      == the refusal n, with the empty game beside it
+--   text_refused r      == the refusal r
 --   misshapen p        == the refusal 11 at place p
 --   judged g           == the answer to a file that is the text of g: g itself, or the first of 1 to 7
 --   reading_number a    == document 01's number of the answer a, 0 for a game that is read
@@ -12,13 +12,15 @@
 use Rattle.std.specs.Prelude.{ℕ, ◌≤◌, ◌<◌, List, ◌++◌, ◌≡◌, length, take}
 use Rattle.game.specs.Acceptance.{acceptance}
 use Rattle.game.specs.Numbers.{first_of, game_tests}
+use Rattle.game.specs.Refusals.{number}
 use Rattle.game.specs.declared.Game.{Game}
-use Rattle.game.specs.declared.Acceptance.{Acceptance}
-use Rattle.game.specs.declared.Acceptance.TheVariants.{Accepted, Refused}
-use Rattle.text_shape.specs.Text.{game_text, Shaped, empty_game}
-use Rattle.text.specs.declared.Answer.{Answer}
-use Rattle.text.specs.declared.Answer.TheVariants.{Read, Misshapen, Refused as NotRead}
-use Rattle.text.specs.declared.Reading.{Reading}
+use Rattle.game.specs.declared.Refusal.{Refusal}
+use Rattle.game.specs.declared.Refusal.TheVariants.{LongText}
+use Rattle.game.specs.Acceptance.{Acceptance}
+use Rattle.text_shape.specs.Text.{game_text, Shaped}
+use Rattle.text.specs.declared.Unread.TheVariants.{Misshapen, Refused}
+use Rattle.text.specs.Reading.{Reading}
+use Rattle.std.specs.declared.result.Result.TheVariants.{Ok, Err}
 
 pub record BeginsText (s : List ℕ) : Type 0 where
   pub game : Game
@@ -32,28 +34,28 @@ pub record LongestFront (s : List ℕ) (p : ℕ) : Type 0 where
   pub front : BeginsText (take p s)
   pub longest : (q : ℕ) → p < q → q ≤ length s → BeginsText (take q s) → ⊥
 
-unfoldable pub text_refused : ℕ → Reading
-text_refused n = record { game = empty_game; answer = NotRead n }
+abbrev pub text_refused : Refusal → Reading
+text_refused r = Err (Refused r)
 
-unfoldable pub misshapen : ℕ → Reading
-misshapen p = record { game = empty_game; answer = Misshapen p }
+abbrev pub misshapen : ℕ → Reading
+misshapen p = Err (Misshapen p)
 
 unfoldable pub judged_by : Game → Acceptance → Reading
-judged_by g Accepted = record { game = g; answer = Read }
-judged_by g (Refused n) = text_refused n
+judged_by g (Ok u) = Ok g
+judged_by g (Err r) = text_refused r
 
 unfoldable pub judged : Game → Reading
 judged g = judged_by g (acceptance g)
 
-abbrev pub reading_number : Answer → ℕ
-reading_number Read = 0
-reading_number (Misshapen p) = 11
-reading_number (NotRead n) = n
+abbrev pub reading_number : Reading → ℕ
+reading_number (Ok g) = 0
+reading_number (Err (Misshapen p)) = 11
+reading_number (Err (Refused r)) = number r
 
-abbrev pub place_of : Answer → ℕ
-place_of Read = 0
-place_of (Misshapen p) = p
-place_of (NotRead n) = 0
+abbrev pub place_of : Reading → ℕ
+place_of (Ok g) = 0
+place_of (Err (Misshapen p)) = p
+place_of (Err (Refused r)) = 0
 
 -- "Whoever sends a file: 12 over 40,960 bytes; then 11 not of the shape above, ..; then 1 to 7." (SPEC 9.4)
 pub record ReadNumber (s : List ℕ) (n p : ℕ) : Type 0 where
@@ -63,7 +65,7 @@ pub record ReadNumber (s : List ℕ) (n p : ℕ) : Type 0 where
 
 -- the same of the whole answer (SPEC 8.2, 9.4)
 pub record Reads (s : List ℕ) (r : Reading) : Type 0 where
-  pub number : ReadNumber s (reading_number r.answer) (place_of r.answer)
-  pub long : 40960 < length s → r ≡ text_refused 12
+  pub number : ReadNumber s (reading_number r) (place_of r)
+  pub long : 40960 < length s → r ≡ text_refused LongText
   pub place : length s ≤ 40960 → ((g : Game) → Shaped g → s ≡ game_text g → ⊥) → (p : ℕ) × LongestFront s p × (r ≡ misshapen p)
   pub text : length s ≤ 40960 → (g : Game) → Shaped g → s ≡ game_text g → r ≡ judged g

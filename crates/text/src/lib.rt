@@ -2,105 +2,62 @@
 #![tactic(auto)]
 
 ghost use Rattle.std.specs.Prelude.{◌≡◌};
+ghost use Rattle.text.specs.declared.Unread.TheVariants.{Misshapen, Refused};
 ghost use Rattle.text.specs.Write.{Writes};
-ghost use Rattle.text.specs.Read.{Reads, text_refused as noGame, misshapen as no_shape, judged};
+ghost use Rattle.text.specs.Read.{Reads};
 
-use game::{Acceptance, Game};
-use text_pieces::Step;
+use game::{Game, Refusal};
+use text_pieces::Fault;
 use text_put::measure;
 use text_scan::whole;
 
-// The answer to a file. Misshapen is number 11, with its place; the others hold their number.
-#[derive(Clone, Copy)]
-pub enum Answer {
-    Read,
+// Why a file is not read: it is no game's text, with the place of the fault (number 11), or the refusal.
+#[derive(Clone, Copy, PartialEq, Eq)]
+pub enum Unread {
     Misshapen(usize),
-    Refused(u8),
+    Refused(Refusal),
 }
 
-// A file read: the answer, and the game, which is the empty one unless the answer is Read.
-#[derive(Clone, Copy)]
-pub struct Reading {
-    pub game: Game,
-    pub answer: Answer,
-}
+impl From<Fault> for Unread {
+    ghost from_gives = { λ f u. u ≡ Misshapen f.at };
 
-fn refused(n: u8) -> Reading
-    ensures { result ≡ noGame n }
-{
-    let g = whole::empty_game();
-    Reading {
-        game: g,
-        answer: Answer::Refused(n),
+    fn from(f: Fault) -> Unread {
+        Unread::Misshapen(f.at)
     }
 }
 
-fn misshapen(p: usize) -> Reading
-    ensures { result ≡ no_shape p }
-{
-    let g = whole::empty_game();
-    Reading {
-        game: g,
-        answer: Answer::Misshapen(p),
-    }
-}
+impl From<Refusal> for Unread {
+    ghost from_gives = { λ r u. u ≡ Refused r };
 
-// The game of a well-shaped file, if it is accepted.
-fn judge(g: Game) -> Reading
-    ensures { result ≡ judged g }
-{
-    let a = acceptance::accept(g);
-    match a {
-        Acceptance::Refused(n) => refused(n),
-        Acceptance::Accepted => Reading {
-            game: g,
-            answer: Answer::Read,
-        },
+    fn from(r: Refusal) -> Unread {
+        Unread::Refused(r)
     }
 }
 
 // The game that a file describes. (SPEC 8.2, 9.4)
-pub fn read(text: &[u8]) -> Reading
+pub fn read(text: &[u8]) -> Result<Game, Unread>
     ensures { Reads text.now result }
 {
     if 40960 < text.len() {
-        return refused(12);
+        return Err(Unread::Refused(Refusal::LongText));
     }
-    let g = whole::game_at(text);
-    let e = g.end;
-    match e {
-        Step::Fault(p) => misshapen(p),
-        Step::At(j) => {
-            if j != text.len() {
-                return misshapen(j);
-            }
-            let x = g.game;
-            judge(x)
-        }
+    let x = whole::game_at(text)?;
+    if x.end != text.len() {
+        return Err(Unread::Misshapen(x.end));
     }
-}
-
-// The answer to writing: the text's length, or a refusal's number.
-#[derive(Clone, Copy)]
-pub enum WriteAnswer {
-    Written(usize),
-    Refused(u8),
+    acceptance::accept(x.value)?;
+    Ok(x.value)
 }
 
 // The text of a game, at the front of the buffer. (SPEC 8.2, 9.3)
-pub fn write(g: Game, buffer: &mut [u8]) -> WriteAnswer
+pub fn write(g: Game, buffer: &mut [u8]) -> Result<usize, Refusal>
     ensures { Writes g buffer.old result buffer.new }
 {
-    let a = acceptance::accept(g);
-    match a {
-        Acceptance::Refused(n) => WriteAnswer::Refused(n),
-        Acceptance::Accepted => {
-            let n = measure::game_length(g);
-            if buffer.len() < n {
-                return WriteAnswer::Refused(13);
-            }
-            text_put::put_game(buffer, 0, g);
-            WriteAnswer::Written(n)
-        }
+    acceptance::accept(g)?;
+    let n = measure::game_length(g);
+    if buffer.len() < n {
+        return Err(Refusal::ShortText);
     }
+    text_put::put_game(buffer, 0, g);
+    Ok(n)
 }

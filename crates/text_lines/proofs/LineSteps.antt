@@ -5,17 +5,16 @@ use mathlib.Core.List.{List, [], ◌∷◌}
 use mathlib.Core.Path.{◌≡◌, sym, ◌∙◌, ap}
 use lib.ListN.{length, get_or, drop, drop_of_length-le}
 use lib.Seq.{drop-cons}
+use Rattle.std.specs.Prelude.{Ok}
 use Rattle.sets.specs.declared.Set.{Set}
 use Rattle.sets.specs.Words.{capacity, bits_of, set_of}
-use Rattle.text_grammar.specs.Format.{Format, Run, run, chars}
+use Rattle.text_grammar.specs.Format.{Run, run, chars}
 use Rattle.text_grammar.specs.Format.Format.{done}
 use Rattle.text_grammar.specs.Format.Run.{got, fault}
 use Rattle.text_grammar.proofs.Format.{run_done, run_lit_fault}
-use Rattle.text_shape.specs.Shape.{set_format, opening, num_then, Header, outputs_format, header_format, StateRow, row_format, state_format}
-use Rattle.text_lines.specs.Lines.{header_of, state_of}
-use Rattle.text_lines.specs.declared.Header.TheVariants.{Counts, Fault as NoHeader}
-use Rattle.text_lines.specs.declared.Row.{Row}
-use Rattle.text_lines.specs.declared.Row.TheVariants.{Moves, Fault as NoRow}
+use Rattle.text_shape.specs.Shape.{set_format, opening, num_then, outputs_format, header_format, StateRow, row_format, state_format}
+use Rattle.text_lines.specs.Lines.{row_of, state_of}
+use Rattle.text_pieces.proofs.Outcomes.{found_got}
 use Rattle.text_pieces.proofs.Steps.{lit_got, lit_on, bind_got, bind_fault}
 
 -- fixed bytes, one at a time
@@ -52,23 +51,10 @@ pub end_both : (w : ℕ → ℕ) (i : ℕ) → w i ≡ 41 → w (i + 1) ≡ 10 �
 unfolding chars
 end_both w i h g = lit_on 41 (chars (10 ∷ [])) w i h ∙ lit_got 10 tt w (i + 1) g
 
--- the answers
-pub header_counts : {x : Run Header} {a o k j : ℕ} → x ≡ got (record { inputs = a; outputs = o; k = k }) j → Counts a o k j ≡ header_of x
-unfolding header_of
-header_counts e = sym (ap header_of e)
-
-pub header_fault : {x : Run Header} {p : ℕ} → x ≡ fault p → NoHeader p ≡ header_of x
-unfolding header_of
-header_fault e = sym (ap header_of e)
-
+-- a state that is read
 pub state_moves : {x : Run StateRow} {f : ℕ} {m : Set} {j : ℕ} → set_of (bits_of m) ≡ m
-    → x ≡ got (record { initial = f; moves = bits_of m }) j → Moves f m j ≡ state_of x
-unfolding state_of
-state_moves {f = f} {j = j} h e = ap (λ (y : Set). Moves f y j) (sym h) ∙ sym (ap state_of e)
-
-pub state_fault : {x : Run StateRow} {p : ℕ} → x ≡ fault p → NoRow p ≡ state_of x
-unfolding state_of
-state_fault e = sym (ap state_of e)
+    → x ≡ got (record { initial = f; moves = bits_of m }) j → Ok (record { value = record { initial = f; moves = m }; end = j }) ≡ state_of x
+state_moves {f = f} {j = j} h e = ap (λ (y : Set). Ok (record { value = record { initial = f; moves = y }; end = j })) (sym h) ∙ found_got row_of e
 
 -- the header
 module _ (a : ℕ) (w : ℕ → ℕ) (i : ℕ) where

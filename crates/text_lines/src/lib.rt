@@ -10,132 +10,105 @@ ghost use Rattle.text_pieces.specs.Pieces.{step_of};
 ghost use Rattle.text_lines.specs.Lines.{header_of, state_of};
 
 use sets::Set;
-use text_pieces::{Number, SetScan, Step};
+use text_pieces::{Fault, Found};
 use text_shape::words;
 
-// The counts of the header and the place behind it.
+// The counts of the header.
 #[derive(Clone, Copy)]
-pub enum Header {
-    Counts(usize, usize, usize, usize),
-    Fault(usize),
+pub struct Header {
+    pub inputs: usize,
+    pub outputs: usize,
+    pub k: usize,
 }
 
-// A state's flag and moves, and the place behind its line.
+// A state's flag and moves.
 #[derive(Clone, Copy)]
-pub enum Row {
-    Moves(usize, Set, usize),
-    Fault(usize),
+pub struct Row {
+    pub initial: usize,
+    pub moves: Set,
 }
 
-// The opening bracket, the word w and a blank, at place i.
-pub fn opening_at(s: &[u8], i: usize, w: usize) -> Step
+// The opening bracket, the word w and a blank, at place i: the place behind them.
+pub fn opening_at(s: &[u8], i: usize, w: usize) -> Result<usize, Fault>
     requires { w < 10 }
     ensures { result ≡ step_of (run (chars (opening w)) (bytes s.now) i) }
 {
     let n = words::letters(w) + 2;
     let mut at = i;
-    let mut k = 0;
-    while k < n {
+    for k in 0..n {
         let b = words::opening_byte(w, k);
         if text_pieces::byte_at(s, at) != b as usize {
-            return Step::Fault(at);
+            return Err(Fault { at });
         }
         at += 1;
-        k += 1;
     }
-    Step::At(at)
+    Ok(at)
 }
 
-// The closing bracket and the line's end, at place i.
-pub fn end_at(s: &[u8], i: usize) -> Step
+// The closing bracket and the line's end, at place i: the place behind them.
+pub fn end_at(s: &[u8], i: usize) -> Result<usize, Fault>
     ensures { result ≡ step_of (run (chars (close_bracket ∷ newline ∷ [])) (bytes s.now) i) }
 {
     if text_pieces::byte_at(s, i) != text_pieces::CLOSE {
-        return Step::Fault(i);
+        return Err(Fault { at: i });
     }
     let j = i + 1;
     if text_pieces::byte_at(s, j) != text_pieces::LINE_END {
-        return Step::Fault(j);
+        return Err(Fault { at: j });
     }
-    Step::At(j + 1)
+    Ok(j + 1)
 }
 
 // The header's line at place i, behind the count a of inputs.
-fn outputs_at(s: &[u8], i: usize, a: usize) -> Header
+fn outputs_at(s: &[u8], i: usize, a: usize) -> Result<Found<Header>, Fault>
     ensures { result ≡ header_of (run (outputs_format a) (bytes s.now) i) }
 {
-    let o = text_pieces::number_then(s, i, 1, sets::CAPACITY, b' ');
-    match o {
-        Number::Fault(p) => Header::Fault(p),
-        Number::Value(b, j) => {
-            let n = text_pieces::number_then(s, j, 0, 8, b')');
-            match n {
-                Number::Fault(p) => Header::Fault(p),
-                Number::Value(k, m) => {
-                    if text_pieces::byte_at(s, m) != text_pieces::LINE_END {
-                        return Header::Fault(m);
-                    }
-                    Header::Counts(a, b, k, m + 1)
-                }
-            }
-        }
+    let o = text_pieces::number_then(s, i, 1, sets::CAPACITY, b' ')?;
+    let k = text_pieces::number_then(s, o.end, 0, 8, b')')?;
+    if text_pieces::byte_at(s, k.end) != text_pieces::LINE_END {
+        return Err(Fault { at: k.end });
     }
+    Ok(Found {
+        value: Header {
+            inputs: a,
+            outputs: o.value,
+            k: k.value,
+        },
+        end: k.end + 1,
+    })
 }
 
 // The header's line.
-pub fn header_at(s: &[u8], i: usize) -> Header
+pub fn header_at(s: &[u8], i: usize) -> Result<Found<Header>, Fault>
     ensures { result ≡ header_of (run header_format (bytes s.now) i) }
 {
-    let o = opening_at(s, i, 0);
-    match o {
-        Step::Fault(p) => Header::Fault(p),
-        Step::At(j) => {
-            let n = text_pieces::number_then(s, j, 1, sets::CAPACITY, b' ');
-            match n {
-                Number::Fault(p) => Header::Fault(p),
-                Number::Value(a, m) => outputs_at(s, m, a),
-            }
-        }
-    }
+    let j = opening_at(s, i, 0)?;
+    let a = text_pieces::number_then(s, j, 1, sets::CAPACITY, b' ')?;
+    outputs_at(s, a.end, a.value)
 }
 
 // A state's line at place i, behind its number.
-fn row_at(s: &[u8], i: usize) -> Row
+fn row_at(s: &[u8], i: usize) -> Result<Found<Row>, Fault>
     ensures { result ≡ state_of (run row_format (bytes s.now) i) }
 {
-    let n = text_pieces::number_then(s, i, 0, 1, b' ');
-    match n {
-        Number::Fault(p) => Row::Fault(p),
-        Number::Value(f, j) => {
-            let t = text_pieces::set_at(s, j);
-            match t {
-                SetScan::Fault(p) => Row::Fault(p),
-                SetScan::Members(x, m) => {
-                    let e = end_at(s, m);
-                    match e {
-                        Step::Fault(p) => Row::Fault(p),
-                        Step::At(next) => Row::Moves(f, x, next),
-                    }
-                }
-            }
-        }
-    }
+    let f = text_pieces::number_then(s, i, 0, 1, b' ')?;
+    let x = text_pieces::set_at(s, f.end)?;
+    let end = end_at(s, x.end)?;
+    Ok(Found {
+        value: Row {
+            initial: f.value,
+            moves: x.value,
+        },
+        end,
+    })
 }
 
 // The line of the given state at place i, by the word w.
-pub fn state_at(s: &[u8], i: usize, w: usize, state: usize) -> Row
+pub fn state_at(s: &[u8], i: usize, w: usize, state: usize) -> Result<Found<Row>, Fault>
     requires { (w < 10) × (state < 1000) }
     ensures { result ≡ state_of (run (state_format w state) (bytes s.now) i) }
 {
-    let o = opening_at(s, i, w);
-    match o {
-        Step::Fault(p) => Row::Fault(p),
-        Step::At(j) => {
-            let n = text_pieces::number_then(s, j, state, state, b' ');
-            match n {
-                Number::Fault(p) => Row::Fault(p),
-                Number::Value(_, m) => row_at(s, m),
-            }
-        }
-    }
+    let j = opening_at(s, i, w)?;
+    let n = text_pieces::number_then(s, j, state, state, b' ')?;
+    row_at(s, n.end)
 }

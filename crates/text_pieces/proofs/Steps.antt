@@ -4,6 +4,7 @@ use native.Mathlib.Omega.{arith}
 use native.Mathlib.Numerals.{add-one}
 use mathlib.Core.Bool.{◌||◌}
 use mathlib.Core.Path.{◌≡◌, sym, ◌∙◌, ap}
+use Rattle.std.specs.Prelude.{Ok, Err, None, Some}
 use lib.Dec.{eqb}
 use mathlib.Core.Logic.{◌⊎◌, inl, inr}
 use borrow.Author.Tests.{eq-eqb, ne_eqb, eqb-true, eqb-false}
@@ -17,9 +18,10 @@ use Rattle.text_grammar.specs.Number.{num, number_at}
 use Rattle.text_grammar.proofs.Format.{by_cases, run_bind, run_done, run_lit, run_lit_fault, run_alt_left, run_alt_right, follow_got, follow_fault, lit_node}
 use Rattle.text_grammar.proofs.Number.{run_num, num_node, number_range}
 use Rattle.text_shape.specs.Shape.{insert, more_members, members_format, set_format, num_then}
+use Rattle.text_pieces.proofs.Outcomes.{ok_not_err}
 use Rattle.text_pieces.specs.Pieces.{next_member, member_of}
-use Rattle.text_pieces.specs.declared.Next.{Next}
-use Rattle.text_pieces.specs.declared.Next.TheVariants.{Closed, Member, Fault as NoNext}
+use Rattle.text_pieces.specs.declared.Fault.{Fault}
+use Rattle.text_pieces.specs.declared.Found.{Found}
 use Rattle.text_shape.proofs.Members.{has_insert, more_on, more_off, more_ends}
 
 -- bytes
@@ -57,9 +59,9 @@ unfolding num_then
 then_fault lo hi b w i p h = num_fault lo hi (λ u. lit b (done u)) (λ u. lit_node b (done u)) w i p h
 
 -- what follows a member
-pub next_closed : (lo : ℕ) (w : ℕ → ℕ) (i : ℕ) → w i ≡ 41 → Closed (i + 1) ≡ next_member lo w i
+pub next_closed : (lo : ℕ) (w : ℕ → ℕ) (i : ℕ) → w i ≡ 41 → Ok None ≡ next_member lo w i
 unfolding next_member
-next_closed lo w i h = sym (rw (eq-eqb (w i) 41 h, next_member) (ap Closed (sym (add-one i))))
+next_closed lo w i h = sym (rw (eq-eqb (w i) 41 h, next_member))
 
 next_blank : (lo : ℕ) (w : ℕ → ℕ) (i : ℕ) → w i ≡ 32 → member_of (number_at lo highest w (i + 1)) ≡ next_member lo w i
 unfolding next_member
@@ -67,15 +69,16 @@ next_blank lo w i h =
     sym (rw (ne_eqb (w i) 41 (λ (e : w i ≡ 41). omega arith), next_member)
     (rw (eq-eqb (w i) 32 h) (ap (λ (j : ℕ). member_of (number_at lo highest w j)) (sym (add-one i)))))
 
-pub next_member_lem : (lo : ℕ) (w : ℕ → ℕ) (i v j : ℕ) → w i ≡ 32 → number_at lo highest w (i + 1) ≡ got v j → Member v j ≡ next_member lo w i
+pub next_member_lem : (lo : ℕ) (w : ℕ → ℕ) (i v j : ℕ) → w i ≡ 32 → number_at lo highest w (i + 1) ≡ got v j
+    → Ok (Some (record { value = v; end = j })) ≡ next_member lo w i
 unfolding member_of
 next_member_lem lo w i v j h e = sym (ap member_of e) ∙ next_blank lo w i h
 
-pub next_fault : (lo : ℕ) (w : ℕ → ℕ) (i p : ℕ) → w i ≡ 32 → number_at lo highest w (i + 1) ≡ fault p → NoNext p ≡ next_member lo w i
+pub next_fault : (lo : ℕ) (w : ℕ → ℕ) (i p : ℕ) → w i ≡ 32 → number_at lo highest w (i + 1) ≡ fault p → Err (record { at = p }) ≡ next_member lo w i
 unfolding member_of
 next_fault lo w i p h e = sym (ap member_of e) ∙ next_blank lo w i h
 
-pub next_none : (lo : ℕ) (w : ℕ → ℕ) (i : ℕ) → (w i ≡ 41 → ⊥) → (w i ≡ 32 → ⊥) → NoNext i ≡ next_member lo w i
+pub next_none : (lo : ℕ) (w : ℕ → ℕ) (i : ℕ) → (w i ≡ 41 → ⊥) → (w i ≡ 32 → ⊥) → Err (record { at = i }) ≡ next_member lo w i
 unfolding next_member
 next_none lo w i p q = sym (rw (ne_eqb (w i) 41 p, next_member) (rw (ne_eqb (w i) 32 q)))
 
@@ -91,20 +94,30 @@ next_cases lo w i =
     (λ d. inr (inl (eqb-true (w i) 32 d)))
     (λ d. inr (inr (eqb-false (w i) 41 b, eqb-false (w i) 32 d))))
 
-member_not_closed : {A : Type 0} (y : Run ℕ) (j : ℕ) → Closed j ≡ member_of y → A
+member_not_closed : {A : Type 0} (y : Run ℕ) → Ok None ≡ member_of y → A
 unfolding member_of
-member_not_closed (got v i) j e = let z : ◌≡◌ {A = ℕ} 0 1 = cc in absurd (omega arith)
-member_not_closed (fault p) j e = let z : ◌≡◌ {A = ℕ} 0 1 = cc in absurd (omega arith)
+member_not_closed (got v i) e = let z : ◌≡◌ {A = ℕ} 0 1 = cc in absurd (omega arith)
+member_not_closed (fault p) e = let z : ◌≡◌ {A = ℕ} 0 1 = cc in absurd (omega arith)
 
-fault_member : (y : Run ℕ) (q : ℕ) → NoNext q ≡ member_of y → y ≡ fault q
+fault_member : (y : Run ℕ) (q : Fault) → Err q ≡ member_of y → y ≡ fault q.at
 unfolding member_of
 fault_member (got v i) q e = let z : ◌≡◌ {A = ℕ} 0 1 = cc in absurd (omega arith)
-fault_member (fault p) q e = cc
+fault_member (fault p) q e = let same : record { at = p } ≡ q = cc in ap (λ (f : Fault). fault f.at) same
 
-got_member : (y : Run ℕ) (v j : ℕ) → Member v j ≡ member_of y → y ≡ got v j
+got_member : (y : Run ℕ) (n : Found ℕ) → Ok (Some n) ≡ member_of y → y ≡ got n.value n.end
 unfolding member_of
-got_member (got u i) v j e = cc
-got_member (fault p) v j e = let z : ◌≡◌ {A = ℕ} 0 1 = cc in absurd (omega arith)
+got_member (got u i) n e = let same : record { value = u; end = i } ≡ n = cc in ap (λ (f : Found ℕ). got f.value f.end) same
+got_member (fault p) n e = let z : ◌≡◌ {A = ℕ} 0 1 = cc in absurd (omega arith)
+
+-- no member means that the closing bracket stands there
+pub closed_byte : (lo : ℕ) (w : ℕ → ℕ) (i : ℕ) → Ok None ≡ next_member lo w i → w i ≡ 41
+closed_byte lo w i n = elim (next_cases lo w i) [
+  | inl c ↦ c
+  | inr d ↦ elim d [
+    | inl c ↦ member_not_closed (number_at lo highest w (i + 1)) (n ∙ sym (next_blank lo w i c))
+    | inr c ↦ ok_not_err (n ∙ sym (next_none lo w i c.0 c.1))
+  ]
+]
 
 -- one turn of reading members
 module _ (x : Run ℕ) (left lo acc : ℕ) (w : ℕ → ℕ) (i : ℕ) (e : x ≡ run (more_members left lo acc) w i) where
@@ -133,17 +146,9 @@ module _ (x : Run ℕ) (left lo acc : ℕ) (w : ℕ → ℕ) (i : ℕ) (e : x �
             f ∙ ap (λ (g : Format ℕ). run g w i) (more_on n lo acc h)
             ∙ ap (λ (m : ℕ). run (alt 41 (done acc) (lit 32 (num lo highest (λ v. more_members m (suc v) (insert acc v))))) w i) (less n)
 
-    pub members_closed : (j : ℕ) → Closed j ≡ next_member lo w i → x ≡ got acc j
-    members_closed j n = elim (next_cases lo w i) [
-      | inl c ↦ (
-          let same : Closed j ≡ Closed (i + 1) = n ∙ sym (next_closed lo w i c) in
-          let k : i + 1 ≡ j = cc in
-          members_open ∙ run_alt_left 41 (done acc) _ w i c ∙ run_done acc w (suc i) ∙ ap (got acc) (sym (add-one i) ∙ k))
-      | inr d ↦ elim d [
-        | inl c ↦ member_not_closed (number_at lo highest w (i + 1)) j (n ∙ sym (next_blank lo w i c))
-        | inr c ↦ (let same : Closed j ≡ NoNext i = n ∙ sym (next_none lo w i c.0 c.1) in let z : ◌≡◌ {A = ℕ} 0 1 = cc in absurd (omega arith))
-      ]
-    ]
+    pub members_closed : Ok None ≡ next_member lo w i → x ≡ got acc (i + 1)
+    members_closed n =
+        members_open ∙ run_alt_left 41 (done acc) _ w i (closed_byte lo w i n) ∙ run_done acc w (suc i) ∙ ap (got acc) (sym (add-one i))
 
     blank_on : w i ≡ 32 → x ≡ run (num lo highest (λ v. more_members (left - 1) (suc v) (insert acc v))) w (i + 1)
     blank_on c =
@@ -153,42 +158,43 @@ module _ (x : Run ℕ) (left lo acc : ℕ) (w : ℕ → ℕ) (i : ℕ) (e : x �
     wants : (v : ℕ) → IsNode (more_members (left - 1) (suc v) (insert acc v))
     wants v = (more_ends (left - 1) (suc v) (insert acc v)).wants
 
-    pub members_fault : (q : ℕ) → NoNext q ≡ next_member lo w i → x ≡ fault q
+    pub members_fault : (q : Fault) → Err q ≡ next_member lo w i → x ≡ fault q.at
     members_fault q n = elim (next_cases lo w i) [
-      | inl c ↦ (let same : NoNext q ≡ Closed (i + 1) = n ∙ sym (next_closed lo w i c) in let z : ◌≡◌ {A = ℕ} 0 1 = cc in absurd (omega arith))
+      | inl c ↦ ok_not_err (next_closed lo w i c ∙ sym n)
       | inr d ↦ elim d [
         | inl c ↦ (
             let f = fault_member (number_at lo highest w (i + 1)) q (n ∙ sym (next_blank lo w i c)) in
-            blank_on c ∙ num_fault lo highest (λ v. more_members (left - 1) (suc v) (insert acc v)) wants w (i + 1) q f)
+            blank_on c ∙ num_fault lo highest (λ v. more_members (left - 1) (suc v) (insert acc v)) wants w (i + 1) q.at f)
         | inr c ↦ (
-            let same : NoNext q ≡ NoNext i = n ∙ sym (next_none lo w i c.0 c.1) in
-            let k : i ≡ q = cc in
-            members_open ∙ run_alt_right 41 (done acc) _ w i c.0 (lit_node 32 _) ∙ run_lit_fault 32 _ w i c.1 ∙ ap fault k)
+            let same : Err q ≡ Err (record { at = i }) = n ∙ sym (next_none lo w i c.0 c.1) in
+            let k : record { at = i } ≡ q = cc in
+            members_open ∙ run_alt_right 41 (done acc) _ w i c.0 (lit_node 32 _) ∙ run_lit_fault 32 _ w i c.1 ∙ ap (λ (f : Fault). fault f.at) k)
       ]
     ]
 
-    pub members_more : (v j : ℕ) → Member v j ≡ next_member lo w i → (lo ≤ v) × (v ≤ highest) × (x ≡ run (more_members (left - 1) (v + 1) (insert acc v)) w j)
-    members_more v j n = elim (next_cases lo w i) [
-      | inl c ↦ (let same : Member v j ≡ Closed (i + 1) = n ∙ sym (next_closed lo w i c) in let z : ◌≡◌ {A = ℕ} 0 1 = cc in absurd (omega arith))
+    pub members_more : (m : Found ℕ) → Ok (Some m) ≡ next_member lo w i
+        → (lo ≤ m.value) × (m.value ≤ highest) × (x ≡ run (more_members (left - 1) (m.value + 1) (insert acc m.value)) w m.end)
+    members_more m n = elim (next_cases lo w i) [
+      | inl c ↦ (let no : Ok (Some m) ≡ Ok None = n ∙ sym (next_closed lo w i c) in let z : ◌≡◌ {A = ℕ} 0 1 = cc in absurd (omega arith))
       | inr d ↦ elim d [
         | inl c ↦ (
-            let f = got_member (number_at lo highest w (i + 1)) v j (n ∙ sym (next_blank lo w i c)) in
-            let r = number_range lo highest w (i + 1) v j f in (
+            let f = got_member (number_at lo highest w (i + 1)) m (n ∙ sym (next_blank lo w i c)) in
+            let r = number_range lo highest w (i + 1) m.value m.end f in (
               r.0,
               r.1,
-              blank_on c ∙ num_got lo highest (λ u. more_members (left - 1) (suc u) (insert acc u)) wants w (i + 1) v j f
-                  ∙ ap (λ (m : ℕ). run (more_members (left - 1) m (insert acc v)) w j) (sym (add-one v)),
+              blank_on c ∙ num_got lo highest (λ u. more_members (left - 1) (suc u) (insert acc u)) wants w (i + 1) m.value m.end f
+                  ∙ ap (λ (k : ℕ). run (more_members (left - 1) k (insert acc m.value)) w m.end) (sym (add-one m.value)),
             ))
-        | inr c ↦ (let same : Member v j ≡ NoNext i = n ∙ sym (next_none lo w i c.0 c.1) in let z : ◌≡◌ {A = ℕ} 0 1 = cc in absurd (omega arith))
+        | inr c ↦ ok_not_err (n ∙ sym (next_none lo w i c.0 c.1))
       ]
     ]
 
-    pub members_next : (v j y : ℕ) → Member v j ≡ next_member lo w i → ((t : ℕ) → has y t ≡ (has acc t || eqb t v))
-        → (x ≡ run (more_members (left - 1) (v + 1) y) w j) × (v + 1 ≤ capacity)
-    members_next v j y n g =
-        let m = members_more v j n in
-        let high = m.1 in
-        (m.2 ∙ ap (λ (z : ℕ). run (more_members (left - 1) (v + 1) z) w j) (sym (insert_is y acc v g)), omega arith)
+    pub members_next : (m : Found ℕ) (y : ℕ) → Ok (Some m) ≡ next_member lo w i → ((t : ℕ) → has y t ≡ (has acc t || eqb t m.value))
+        → (x ≡ run (more_members (left - 1) (m.value + 1) y) w m.end) × (m.value + 1 ≤ capacity)
+    members_next m y n g =
+        let r = members_more m n in
+        let high = r.1 in
+        (r.2 ∙ ap (λ (z : ℕ). run (more_members (left - 1) (m.value + 1) z) w m.end) (sym (insert_is y acc m.value g)), omega arith)
 
 -- behind the opening bracket
 pub members_none : (w : ℕ → ℕ) (i y : ℕ) → w i ≡ 41 → y ≡ 0 → run members_format w i ≡ got y (i + 1)

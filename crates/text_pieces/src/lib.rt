@@ -27,33 +27,20 @@ const ZERO: usize = b'0' as usize;
 
 const NINE: usize = b'9' as usize;
 
-// Fixed bytes.
-#[derive(Clone, Copy)]
-pub enum Step {
-    At(usize),
-    Fault(usize),
+// A number has at most this many digits behind its first.
+const MORE_DIGITS: usize = 2;
+
+// The place of the first fault.
+#[derive(Clone, Copy, PartialEq, Eq)]
+pub struct Fault {
+    pub at: usize,
 }
 
-// A number: its value and the place behind it.
+// What stands at a place, and the place behind it.
 #[derive(Clone, Copy)]
-pub enum Number {
-    Value(usize, usize),
-    Fault(usize),
-}
-
-// A set and the place behind it.
-#[derive(Clone, Copy)]
-pub enum SetScan {
-    Members(Set, usize),
-    Fault(usize),
-}
-
-// What follows a member of a set: the closing bracket, or a further member.
-#[derive(Clone, Copy)]
-pub enum Next {
-    Closed(usize),
-    Member(usize, usize),
-    Fault(usize),
+pub struct Found<T> {
+    pub value: T,
+    pub end: usize,
 }
 
 // The byte at place i; 256 past the end.
@@ -128,38 +115,35 @@ fn starts(lo: usize, hi: usize, b: usize) -> bool
 }
 
 // The number v, whose digits end at place j, if it is in lo..hi.
-fn number_end(lo: usize, hi: usize, v: usize, j: usize) -> Number
+fn number_end(lo: usize, hi: usize, v: usize, j: usize) -> Result<Found<usize>, Fault>
     ensures { result ≡ number_read (number_end lo hi v j) }
 {
     if inside(lo, hi, v) {
-        return Number::Value(v, j);
+        return Ok(Found { value: v, end: j });
     }
-    Number::Fault(j)
+    Err(Fault { at: j })
 }
 
 // The digits at place i behind those of v, at most two.
-fn more_digits(s: &[u8], i: usize, lo: usize, hi: usize, v: usize) -> Number
+fn more_digits(s: &[u8], i: usize, lo: usize, hi: usize, v: usize) -> Result<Found<usize>, Fault>
     requires { (hi < 1000) × (v < 1000) }
     ensures { result ≡ number_read (digits_at 2 lo hi v (bytes s.now) i) }
 {
     let mut value = v;
     let mut at = i;
-    let mut left: usize = 2;
-    while 0 < left {
+    for _turn in 0..MORE_DIGITS {
         let b = byte_at(s, at);
-        if extends(lo, hi, value, b) {
-            value = 10 * value + (b - ZERO);
-            at += 1;
-            left -= 1;
-        } else {
-            return number_end(lo, hi, value, at);
+        if !extends(lo, hi, value, b) {
+            break;
         }
+        value = 10 * value + (b - ZERO);
+        at += 1;
     }
     number_end(lo, hi, value, at)
 }
 
 // The number in lo..hi at place i.
-pub fn number_at(s: &[u8], i: usize, lo: usize, hi: usize) -> Number
+pub fn number_at(s: &[u8], i: usize, lo: usize, hi: usize) -> Result<Found<usize>, Fault>
     requires { hi < 1000 }
     ensures { result ≡ number_read (number_at lo hi (bytes s.now) i) }
 {
@@ -167,80 +151,75 @@ pub fn number_at(s: &[u8], i: usize, lo: usize, hi: usize) -> Number
     if starts(lo, hi, b) {
         return more_digits(s, i + 1, lo, hi, b - ZERO);
     }
-    Number::Fault(i)
+    Err(Fault { at: i })
 }
 
 // The number in lo..hi at place i, and the byte b behind it.
-pub fn number_then(s: &[u8], i: usize, lo: usize, hi: usize, b: u8) -> Number
+pub fn number_then(s: &[u8], i: usize, lo: usize, hi: usize, b: u8) -> Result<Found<usize>, Fault>
     requires { hi < 1000 }
     ensures { result ≡ number_read (run (num_then lo hi b) (bytes s.now) i) }
 {
-    let n = number_at(s, i, lo, hi);
-    match n {
-        Number::Fault(p) => Number::Fault(p),
-        Number::Value(v, j) => {
-            if byte_at(s, j) == b as usize {
-                return Number::Value(v, j + 1);
-            }
-            Number::Fault(j)
-        }
+    let n = number_at(s, i, lo, hi)?;
+    if byte_at(s, n.end) == b as usize {
+        return Ok(Found {
+            value: n.value,
+            end: n.end + 1,
+        });
     }
+    Err(Fault { at: n.end })
 }
 
-// What stands at place i behind a member, the next one being at least lo.
-fn next_member(s: &[u8], i: usize, lo: usize) -> Next
+// What stands at place i behind a member: the closing bracket, which is no member, or a member that is at least lo.
+fn next_member(s: &[u8], i: usize, lo: usize) -> Result<Option<Found<usize>>, Fault>
     ensures { result ≡ next_member lo (bytes s.now) i }
 {
     let b = byte_at(s, i);
     if b == CLOSE {
-        return Next::Closed(i + 1);
+        return Ok(None);
     }
     if b == BLANK {
-        let n = number_at(s, i + 1, lo, sets::HIGHEST);
-        return match n {
-            Number::Fault(p) => Next::Fault(p),
-            Number::Value(v, j) => Next::Member(v, j),
-        };
+        let n = number_at(s, i + 1, lo, sets::HIGHEST)?;
+        return Ok(Some(n));
     }
-    Next::Fault(i)
+    Err(Fault { at: i })
 }
 
 // The set x, closed at place i.
-fn closed_set(s: &[u8], i: usize, x: Set) -> SetScan
+fn closed_set(s: &[u8], i: usize, x: Set) -> Result<Found<Set>, Fault>
     ensures { result ≡ set_scan_of (run (lit close_bracket (done (bits_of x))) (bytes s.now) i) }
 {
     if byte_at(s, i) == CLOSE {
-        return SetScan::Members(x, i + 1);
+        return Ok(Found {
+            value: x,
+            end: i + 1,
+        });
     }
-    SetScan::Fault(i)
+    Err(Fault { at: i })
 }
 
 // The members at place i behind those of x, all at least lo.
-fn more_members(s: &[u8], i: usize, lo: usize, x: Set) -> SetScan
+fn more_members(s: &[u8], i: usize, lo: usize, x: Set) -> Result<Found<Set>, Fault>
     requires { lo ≤ capacity }
     ensures { result ≡ set_scan_of (run (more_members highest lo (bits_of x)) (bytes s.now) i) }
 {
     let mut at = i;
     let mut low = lo;
     let mut set = x;
-    let mut left: usize = sets::HIGHEST;
-    while 0 < left {
+    for _turn in 0..sets::HIGHEST {
         if sets::HIGHEST < low {
-            return closed_set(s, at, set);
+            break;
         }
-        let n = next_member(s, at, low);
-        match n {
-            Next::Closed(j) => {
-                return SetScan::Members(set, j);
+        match next_member(s, at, low)? {
+            None => {
+                return Ok(Found {
+                    value: set,
+                    end: at + 1,
+                });
             }
-            Next::Fault(p) => {
-                return SetScan::Fault(p);
-            }
-            Next::Member(v, j) => {
-                set = sets::insert(set, v);
-                low = v + 1;
-                at = j;
-                left -= 1;
+            Some(m) => {
+                set = sets::insert(set, m.value);
+                low = m.value + 1;
+                at = m.end;
             }
         }
     }
@@ -248,25 +227,25 @@ fn more_members(s: &[u8], i: usize, lo: usize, x: Set) -> SetScan
 }
 
 // The members at place i behind the opening bracket.
-fn members_at(s: &[u8], i: usize) -> SetScan
+fn members_at(s: &[u8], i: usize) -> Result<Found<Set>, Fault>
     ensures { result ≡ set_scan_of (run members_format (bytes s.now) i) }
 {
     if byte_at(s, i) == CLOSE {
-        return SetScan::Members(sets::empty(), i + 1);
+        return Ok(Found {
+            value: sets::empty(),
+            end: i + 1,
+        });
     }
-    let n = number_at(s, i, 0, sets::HIGHEST);
-    match n {
-        Number::Fault(p) => SetScan::Fault(p),
-        Number::Value(v, j) => more_members(s, j, v + 1, sets::insert(sets::empty(), v)),
-    }
+    let n = number_at(s, i, 0, sets::HIGHEST)?;
+    more_members(s, n.end, n.value + 1, sets::insert(sets::empty(), n.value))
 }
 
 // The set at place i.
-pub fn set_at(s: &[u8], i: usize) -> SetScan
+pub fn set_at(s: &[u8], i: usize) -> Result<Found<Set>, Fault>
     ensures { result ≡ set_scan_of (run set_format (bytes s.now) i) }
 {
     if byte_at(s, i) == OPEN {
         return members_at(s, i + 1);
     }
-    SetScan::Fault(i)
+    Err(Fault { at: i })
 }

@@ -90,11 +90,9 @@ pub fn put_opening(buffer: &mut [u8], at: usize, w: usize) -> usize
 {
     let n = words::letters(w) + 2;
     let mut to = at;
-    let mut k = 0;
-    while k < n {
+    for k in 0..n {
         let b = words::opening_byte(w, k);
         to = put_byte(buffer, to, b);
-        k += 1;
     }
     to
 }
@@ -125,10 +123,7 @@ pub fn put_set(buffer: &mut [u8], at: usize, x: Set) -> usize
 {
     let mut to = put_byte(buffer, at, b'(');
     let mut gap = false;
-    let mut rest = x;
-    while !sets::is_empty(rest) {
-        let s = sets::lowest(rest);
-        rest = sets::without_lowest(rest);
+    for s in x {
         to = put_member(buffer, to, gap, s);
         gap = true;
     }
@@ -154,12 +149,10 @@ fn put_assumptions(buffer: &mut [u8], at: usize, q: Requirement) -> usize
     let n = q.assumed;
     let mut to = put_byte(buffer, at, b'(');
     let mut gap = false;
-    let mut j: usize = 0;
-    while j < n {
+    for j in 0..n {
         let x = q.assumptions[j];
         to = put_item(buffer, to, gap, x.0);
         gap = true;
-        j += 1;
     }
     put_byte(buffer, to, b')')
 }
@@ -172,12 +165,10 @@ fn put_guarantees(buffer: &mut [u8], at: usize, q: Requirement) -> usize
     let n = q.guaranteed;
     let mut to = put_byte(buffer, at, b'(');
     let mut gap = false;
-    let mut j: usize = 0;
-    while j < n {
+    for j in 0..n {
         let x = q.guarantees[j];
         to = put_item(buffer, to, gap, x.0);
         gap = true;
-        j += 1;
     }
     put_byte(buffer, to, b')')
 }
@@ -224,12 +215,10 @@ fn put_states(buffer: &mut [u8], at: usize, w: usize, h: Graph) -> usize
     let n = h.states;
     let initial = h.initial;
     let mut to = at;
-    let mut s: usize = 0;
-    while s < n {
+    for s in 0..n {
         let x = sets::row_of(&h.moves, s);
         let f = flag(initial, s);
         to = put_state(buffer, to, w, s, f, x);
-        s += 1;
     }
     to
 }
@@ -253,11 +242,9 @@ fn put_requirements(buffer: &mut [u8], at: usize, g: Game) -> usize
 {
     let k = g.k;
     let mut to = at;
-    let mut r: usize = 0;
-    while r < k {
+    for r in 0..k {
         let q = g.requirements[r];
         to = put_requirement(buffer, to, q);
-        r += 1;
     }
     to
 }

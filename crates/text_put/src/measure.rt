@@ -75,10 +75,8 @@ fn states_length(w: usize, n: usize, rows: &[u64; sets::ROW_WORDS]) -> usize
     ensures { (h : PlainGraph) → h.moves ≡ sets_in rows.now → result ≡ length (state_lines w n 0 h) }
 {
     let mut to: usize = 0;
-    let mut s: usize = 0;
-    while s < n {
+    for s in 0..n {
         to += state_length(w, s, sets::row_of(rows, s));
-        s += 1;
     }
     to
 }
@@ -90,11 +88,9 @@ fn assumptions_length(q: Requirement) -> usize
 {
     let n = q.assumed;
     let mut to: usize = 0;
-    let mut j: usize = 0;
-    while j < n {
+    for j in 0..n {
         let x = q.assumptions[j];
         to += 1 + set_length(x.0);
-        j += 1;
     }
     bracketed(to)
 }
@@ -106,11 +102,9 @@ fn guarantees_length(q: Requirement) -> usize
 {
     let n = q.guaranteed;
     let mut to: usize = 0;
-    let mut j: usize = 0;
-    while j < n {
+    for j in 0..n {
         let x = q.guarantees[j];
         to += 1 + set_length(x.0);
-        j += 1;
     }
     bracketed(to)
 }
@@ -130,11 +124,9 @@ fn requirements_length(g: Game) -> usize
 {
     let k = g.k;
     let mut to: usize = 0;
-    let mut r: usize = 0;
-    while r < k {
+    for r in 0..k {
         let q = g.requirements[r];
         to += requirement_length(q);
-        r += 1;
     }
     to
 }

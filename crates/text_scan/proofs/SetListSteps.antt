@@ -4,25 +4,24 @@ use native.Mathlib.Omega.{arith}
 use native.Mathlib.Numerals.{add-one}
 use mathlib.Core.List.{List, [], ◌∷◌, map}
 use mathlib.Core.Path.{◌≡◌, refl, sym, ◌∙◌, ap}
-use lib.ListN.{length, get_or, set, replicate, length-map}
+use lib.ListN.{length, set, replicate, length-map}
+use Rattle.std.specs.Prelude.{Ok}
 use Rattle.sets.specs.declared.Set.{Set}
-use Rattle.sets.specs.Words.{bits_of, set_of, no_states}
+use Rattle.sets.specs.Words.{bits_of, set_of}
 use Rattle.sets.proofs.Rows.{bits_of_lem}
-use Rattle.text_grammar.specs.Format.{Format, Run, run, alt, bind, chars}
+use Rattle.text_grammar.specs.Format.{Run, run, alt, bind, chars}
 use Rattle.text_grammar.specs.Format.Format.{done}
 use Rattle.text_grammar.specs.Format.Run.{got, fault}
 use Rattle.text_shape.proofs.SetLists.{list_sound}
 use Rattle.text_grammar.proofs.Format.{run_got, run_done, run_lit_fault, run_alt_left, run_alt_right, lit_node, bind_node}
 use Rattle.game.specs.declared.InSet.{InSet}
 use Rattle.game.specs.declared.OutSet.{OutSet}
-use Rattle.game.specs.declared.Requirement.{Requirement}
 use Rattle.text_shape.specs.Shape.{set_format, Sets, no_sets, push, more_sets, sets_format, opening, requirement, guarantees_format, requirement_format}
 use Rattle.text_shape.specs.Text.{in_sets, out_sets}
-use Rattle.text_scan.specs.Scan.{numbers_of, sets_with, sets_of, requirement_of}
-use Rattle.text_pieces.specs.declared.Step.{Step}
-use Rattle.text_pieces.specs.declared.Step.TheVariants.{At, Fault}
+use Rattle.text_scan.specs.Scan.{numbers_of, sets_with, list_of, sets_of}
+use Rattle.text_pieces.specs.declared.Found.{Found}
+use Rattle.text_pieces.proofs.Outcomes.{found_got, got_found}
 use Rattle.text_scan.specs.declared.set_lists.SetList.{SetList}
-use Rattle.text_scan.specs.declared.set_lists.RequirementScan.{RequirementScan}
 use Rattle.text_shape.proofs.Members.{set_node}
 use Rattle.text_pieces.proofs.Steps.{lit_got, lit_on, bind_got, bind_fault}
 
@@ -30,37 +29,6 @@ use Rattle.text_pieces.proofs.Steps.{lit_got, lit_on, bind_got, bind_fault}
 bits_all : (ns : List ℕ) → numbers_of (sets_with ns) ≡ ns
 bits_all [] = refl
 bits_all (x ∷ ns) = λ i. bits_of_lem x i ∷ bits_all ns i
-
-in_whole : (l : List Set) → sets_with (numbers_of l) ≡ l → map (λ (x : Set). record { 0 = x }) l ≡ in_sets (numbers_of l)
-in_whole l h = ap (map (λ (x : Set). record { 0 = x })) (sym h) ∙ both (numbers_of l)
-  where
-    both : (ns : List ℕ) → ◌≡◌ {A = List InSet} (map (λ (x : Set). record { 0 = x }) (sets_with ns)) (in_sets ns)
-    both [] = refl
-    both (x ∷ ns) = ap (λ (k : List InSet). record { 0 = set_of x } ∷ k) (both ns)
-
-out_whole : (l : List Set) → sets_with (numbers_of l) ≡ l → map (λ (x : Set). record { 0 = x }) l ≡ out_sets (numbers_of l)
-out_whole l h = ap (map (λ (x : Set). record { 0 = x })) (sym h) ∙ both (numbers_of l)
-  where
-    both : (ns : List ℕ) → ◌≡◌ {A = List OutSet} (map (λ (x : Set). record { 0 = x }) (sets_with ns)) (out_sets ns)
-    both [] = refl
-    both (x ∷ ns) = ap (λ (k : List OutSet). record { 0 = set_of x } ∷ k) (both ns)
-
-four : (w : List Set) → length w ≡ 4 → get_or w 0 no_states ∷ get_or w 1 no_states ∷ get_or w 2 no_states ∷ get_or w 3 no_states ∷ [] ≡ w
-four [] h = absurd (omega arith)
-four (a ∷ []) h = absurd (omega arith)
-four (a ∷ b ∷ []) h = absurd (omega arith)
-four (a ∷ b ∷ c ∷ []) h = absurd (omega arith)
-four (a ∷ b ∷ c ∷ d ∷ []) h = refl
-four (a ∷ b ∷ c ∷ d ∷ e ∷ w) h = absurd (omega arith)
-
-module _ (w : List Set) (h : length w ≡ 4) (p : sets_with (numbers_of w) ≡ w) where
-  pub four_in :
-      map (λ (x : Set). record { 0 = x }) (get_or w 0 no_states ∷ get_or w 1 no_states ∷ get_or w 2 no_states ∷ get_or w 3 no_states ∷ []) ≡ in_sets (numbers_of w)
-  four_in = ap (map (λ (x : Set). record { 0 = x })) (four w h) ∙ in_whole w p
-
-  pub four_out :
-      map (λ (x : Set). record { 0 = x }) (get_or w 0 no_states ∷ get_or w 1 no_states ∷ get_or w 2 no_states ∷ get_or w 3 no_states ∷ []) ≡ out_sets (numbers_of w)
-  four_out = ap (map (λ (x : Set). record { 0 = x })) (four w h) ∙ out_whole w p
 
 -- one set among others
 map_set : {A B : Type 0} (f : A → B) (l : List A) (i : ℕ) (x : A) → map f (set l i x) ≡ set (map f l) i (f x)
@@ -77,32 +45,21 @@ first_whole x y p q = λ i. p i ∷ q i ∷ q i ∷ q i ∷ []
 pub empty_whole : (x : Set) → set_of (bits_of x) ≡ x → sets_with (numbers_of (replicate 4 x)) ≡ replicate 4 x
 empty_whole x p = first_whole x x p p
 
--- the answers
+-- a list with the numbers of its sets
 pub list_got : {x : Run Sets} {l : List Set} {n j : ℕ} → sets_with (numbers_of l) ≡ l → x ≡ got (record { words = numbers_of l; count = n }) j
-    → ◌≡◌ {A = SetList} (record { sets = l; count = n; end = At j }) (sets_of x)
-unfolding sets_of
-list_got {n = n} {j = j} h e = ap (λ (k : List Set). record { sets = k; count = n; end = At j }) (sym h) ∙ sym (ap sets_of e)
-
-pub list_fault : {x : Run Sets} {p : ℕ} {r : SetList} → r ≡ sets_of (fault p) → x ≡ fault p → r ≡ sets_of x
-list_fault q e = q ∙ sym (ap sets_of e)
+    → Ok (record { value = record { sets = l; count = n }; end = j }) ≡ sets_of x
+list_got {n = n} {j = j} h e =
+    ap (λ (k : List Set). Ok (record { value = record { sets = k; count = n }; end = j })) (sym h) ∙ found_got list_of e
 
 -- a list that is read: its sets, and that they are those with their numbers
-pub got_list : (x : Run Sets) (r : SetList) (j : ℕ) → r ≡ sets_of x → r.end ≡ At j
-    → (x ≡ got (record { words = numbers_of r.sets; count = r.count }) j) × (sets_with (numbers_of r.sets) ≡ r.sets)
-unfolding sets_of
-got_list (got a i) r j e f =
-    let same : At i ≡ At j = sym (ap (λ (y : SetList). y.end) e) ∙ f in
-    let k : i ≡ j = cc in
-    let made : r.sets ≡ sets_with a.words = ap (λ (y : SetList). y.sets) e in
-    let count : r.count ≡ a.count = ap (λ (y : SetList). y.count) e in
-    let numbers : a.words ≡ numbers_of r.sets = sym (ap numbers_of made ∙ bits_all a.words) in
-    ((λ n. got (record { words = numbers n; count = sym count n }) (k n)), ap sets_with (sym numbers) ∙ sym made)
-got_list (fault p) r j e f = let same : Fault p ≡ At j = sym (ap (λ (y : SetList). y.end) e) ∙ f in let z : ◌≡◌ {A = ℕ} 0 1 = cc in absurd (omega arith)
-
-pub fault_list : (x : Run Sets) (r : SetList) (p : ℕ) → r ≡ sets_of x → r.end ≡ Fault p → x ≡ fault p
-unfolding sets_of
-fault_list (got a i) r p e f = let same : At i ≡ Fault p = sym (ap (λ (y : SetList). y.end) e) ∙ f in let z : ◌≡◌ {A = ℕ} 0 1 = cc in absurd (omega arith)
-fault_list (fault q) r p e f = let same : Fault q ≡ Fault p = sym (ap (λ (y : SetList). y.end) e) ∙ f in cc
+pub got_list : (x : Run Sets) {r : Found SetList} → Ok r ≡ sets_of x
+    → (x ≡ got (record { words = numbers_of r.value.sets; count = r.value.count }) r.end) × (sets_with (numbers_of r.value.sets) ≡ r.value.sets)
+got_list x {r} h =
+    let g = got_found list_of x h in
+    let made : sets_with g.0.words ≡ r.value.sets = ap (λ (y : SetList). y.sets) g.2 in
+    let count : g.0.count ≡ r.value.count = ap (λ (y : SetList). y.count) g.2 in
+    let numbers : g.0.words ≡ numbers_of r.value.sets = sym (bits_all g.0.words) ∙ ap numbers_of made in
+    (g.1 ∙ (λ n. got (record { words = numbers n; count = count n }) r.end), ap sets_with (sym numbers) ∙ made)
 
 -- behind a set
 module _ (x : Run Sets) (n : ℕ) (a : Sets) (w : ℕ → ℕ) (at : ℕ) (e : x ≡ run (more_sets n a) w at) where
@@ -165,6 +122,13 @@ sets_turn x l count w at e less h y j g =
     ∙ ap (λ (m : ℕ). run (more_sets m (record { words = set (numbers_of l) count (bits_of y); count = suc count })) w j) fewer
     ∙ (λ i. run (more_sets (4 - (count + 1)) (record { words = sym (map_set bits_of l count y) i; count = sym (add-one count) i })) w j)
 
+-- four sets
+pub sets_last : (x : Run Sets) (ws : List ℕ) (count : ℕ) (w : ℕ → ℕ) (at : ℕ)
+    → x ≡ run (more_sets (4 - count) (record { words = ws; count = count })) w at
+    → count ≡ 4 → w at ≡ 41 → x ≡ got (record { words = ws; count = 4 }) (at + 1)
+sets_last x ws count w at e full h =
+    sets_closed x (4 - count) (record { words = ws; count = count }) w at e h ∙ ap (λ (n : ℕ). got (record { words = ws; count = n }) (at + 1)) full
+
 pub sets_first : (x y : Set) (w : ℕ → ℕ) (i : ℕ) → bits_of y ≡ 0
     → run (more_sets 3 (push no_sets (bits_of x))) w i ≡ run (more_sets (4 - 1) (record { words = numbers_of (x ∷ y ∷ y ∷ y ∷ []); count = 1 })) w i
 unfolding push no_sets
@@ -199,39 +163,16 @@ module _ (w : ℕ → ℕ) (i : ℕ) where
         list_open ∙ run_alt_right 41 (done no_sets) (bind set_format (λ x. more_sets 3 (push no_sets x))) w (i + 1) g (bind_node set_format _ set_node)
         ∙ bind_got set_format (λ x. more_sets 3 (push no_sets x)) w (i + 1) x j f
 
--- requirements
-pub requirement_got : {x : Run Requirement} {q : Requirement} {j : ℕ} → x ≡ got q j
-    → ◌≡◌ {A = RequirementScan} (record { requirement = q; end = At j }) (requirement_of x)
-unfolding requirement_of
-requirement_got e = sym (ap requirement_of e)
-
-pub requirement_fault : {x : Run Requirement} {p : ℕ} {r : RequirementScan} → r ≡ requirement_of (fault p) → x ≡ fault p → r ≡ requirement_of x
-requirement_fault q e = q ∙ sym (ap requirement_of e)
-
-pub got_requirement : (x : Run Requirement) (r : RequirementScan) (j : ℕ) → r ≡ requirement_of x → r.end ≡ At j → x ≡ got r.requirement j
-unfolding requirement_of
-got_requirement (got q i) r j e f =
-    let same : At i ≡ At j = sym (ap (λ (y : RequirementScan). y.end) e) ∙ f in
-    let k : i ≡ j = cc in
-    ap (λ (y : RequirementScan). got y.requirement i) (sym e) ∙ ap (got r.requirement) k
-got_requirement (fault p) r j e f = let same : Fault p ≡ At j = sym (ap (λ (y : RequirementScan). y.end) e) ∙ f in let z : ◌≡◌ {A = ℕ} 0 1 = cc in absurd
-    (omega arith)
-
-pub fault_requirement : (x : Run Requirement) (r : RequirementScan) (p : ℕ) → r ≡ requirement_of x → r.end ≡ Fault p → x ≡ fault p
-unfolding requirement_of
-fault_requirement (got a i) r p e f = let same : At i ≡ Fault p = sym (ap (λ (y : RequirementScan). y.end) e) ∙ f in let z : ◌≡◌ {A = ℕ} 0 1 = cc in
-    absurd (omega arith)
-fault_requirement (fault q) r p e f = let same : Fault q ≡ Fault p = sym (ap (λ (y : RequirementScan). y.end) e) ∙ f in cc
-
 -- a list that is read has four places
-pub list_four : (w : ℕ → ℕ) (i : ℕ) (r : SetList) (j : ℕ) → r ≡ sets_of (run sets_format w i) → r.end ≡ At j
-    → (length r.sets ≡ 4) × (sets_with (numbers_of r.sets) ≡ r.sets)
-list_four w i r j e f =
-    let read = got_list (run sets_format w i) r j e f in
+pub list_four : (w : ℕ → ℕ) (i : ℕ) {r : Found SetList} → Ok r ≡ sets_of (run sets_format w i)
+    → (length r.value.sets ≡ 4) × (sets_with (numbers_of r.value.sets) ≡ r.value.sets)
+list_four w i {r} h =
+    let read = got_list (run sets_format w i) h in
     let F = run_got sets_format w i read.0 in
-    let S = (list_sound F.text (record { words = numbers_of r.sets; count = r.count }) F.is_text).0 in
-    (sym (length-map r.sets bits_of) ∙ S.all, read.1)
+    let S = (list_sound F.text (record { words = numbers_of r.value.sets; count = r.value.count }) F.is_text).0 in
+    (sym (length-map r.value.sets bits_of) ∙ S.all, read.1)
 
+-- requirements
 module _ (a : Sets) (w : ℕ → ℕ) (i : ℕ) where
   pub if_no_blank : (w i ≡ 32 → ⊥) → run (guarantees_format a) w i ≡ fault i
   unfolding guarantees_format chars

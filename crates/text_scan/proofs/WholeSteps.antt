@@ -5,15 +5,15 @@ use native.Mathlib.Numerals.{add-one}
 use mathlib.Core.List.{List}
 use mathlib.Core.Path.{◌≡◌, sym, ◌∙◌, ap}
 use lib.ListN.{set, replicate}
+use Rattle.std.specs.Prelude.{Ok}
 use Rattle.sets.specs.declared.Set.{Set}
 use Rattle.sets.specs.Words.{capacity, row_words, bits_of, set_of, sets_in, words_of, no_states}
 use Rattle.sets.proofs.Rows.{bits_of_lem, no_states_lem, words_none}
-use Rattle.text_grammar.specs.Format.{Format, Run, run, bind}
+use Rattle.text_grammar.specs.Format.{Run, run, bind}
 use Rattle.text_grammar.specs.Format.Run.{got, fault}
 use Rattle.text_grammar.proofs.Format.{run_got, run_done}
 use Rattle.game.specs.declared.Graph.{Graph}
 use Rattle.game.specs.declared.Requirement.{Requirement}
-use Rattle.game.specs.declared.Game.{Game}
 use Rattle.text_shape.specs.Text.{PlainGraph, plain, record_of, empty_requirement}
 use Rattle.text_shape.specs.Shape.{
   mark,
@@ -29,15 +29,12 @@ use Rattle.text_shape.specs.Shape.{
   output_format,
   game_format,
 }
-use Rattle.text_lines.specs.Lines.{header_of, state_of}
-use Rattle.text_scan.specs.Scan.{graph_of, requirements_of, game_of}
-use Rattle.text_pieces.specs.declared.Step.{Step}
-use Rattle.text_pieces.specs.declared.Step.TheVariants.{At, Fault}
-use Rattle.text_lines.specs.declared.Header.TheVariants.{Counts, Fault as NoHeader}
-use Rattle.text_lines.specs.declared.Row.TheVariants.{Moves, Fault as NoRow}
-use Rattle.text_scan.specs.declared.whole.GraphScan.{GraphScan}
-use Rattle.text_scan.specs.declared.whole.RequirementsScan.{RequirementsScan}
-use Rattle.text_scan.specs.declared.whole.GameScan.{GameScan}
+use Rattle.text_lines.specs.Lines.{counts_of, header_of, row_of, state_of}
+use Rattle.text_lines.specs.declared.Header.{Header as HeaderScan}
+use Rattle.text_lines.specs.declared.Row.{Row}
+use Rattle.text_scan.specs.Scan.{graph_of}
+use Rattle.text_pieces.specs.declared.Found.{Found}
+use Rattle.text_pieces.proofs.Outcomes.{found_got, got_found}
 use Rattle.text_pieces.proofs.Steps.{bind_got, bind_fault}
 use Rattle.text_shape.proofs.LineTexts.{header_sound}
 use Rattle.text_shape.proofs.Shape.{plain_record}
@@ -47,73 +44,29 @@ pub empty_record : record_of (empty_graph 0) ≡ record { states = 0; initial = 
 unfolding record_of empty_graph
 empty_record = λ i. record { states = 0; initial = no_states_lem i; moves = sym words_none i }
 
--- the answers
-pub moves_state : (x : Run StateRow) {f : ℕ} {m : Set} {j : ℕ} → Moves f m j ≡ state_of x → x ≡ got (record { initial = f; moves = bits_of m }) j
-unfolding state_of
-moves_state (got q i) {f} {m} {j} e =
-    let p : q.initial ≡ f = cc in
-    let o : set_of q.moves ≡ m = cc in
-    let r : q.moves ≡ bits_of m = sym (bits_of_lem q.moves) ∙ ap bits_of o in
-    let s : i ≡ j = cc in
-    λ n. got (record { initial = p n; moves = r n }) (s n)
-moves_state (fault p) e = let z : ◌≡◌ {A = ℕ} 0 1 = cc in absurd (omega arith)
+-- a state that is read
+pub moves_state : (x : Run StateRow) {n : Found Row} → Ok n ≡ state_of x → x ≡ got (record { initial = n.value.initial; moves = bits_of n.value.moves }) n.end
+moves_state x {n} h =
+    let g = got_found row_of x h in
+    let flag : g.0.initial ≡ n.value.initial = ap (λ (y : Row). y.initial) g.2 in
+    let bits : g.0.moves ≡ bits_of n.value.moves = sym (bits_of_lem g.0.moves) ∙ ap (λ (y : Row). bits_of y.moves) g.2 in
+    g.1 ∙ (λ i. got (record { initial = flag i; moves = bits i }) n.end)
 
-pub fault_state : (x : Run StateRow) {p : ℕ} → NoRow p ≡ state_of x → x ≡ fault p
-unfolding state_of
-fault_state (got q i) e = let z : ◌≡◌ {A = ℕ} 0 1 = cc in absurd (omega arith)
-fault_state (fault q) e = cc
-
+-- a graph with the numbers of its sets
 pub graph_got : {x : Run PlainGraph} {n : ℕ} {m : Set} {ms : List ℕ} {j : ℕ} → set_of (bits_of m) ≡ m → words_of (sets_in ms) ≡ ms
     → x ≡ got (record { states = n; initial = bits_of m; moves = sets_in ms }) j
-    → ◌≡◌ {A = GraphScan} (record { graph = record { states = n; initial = m; moves = ms }; end = At j }) (graph_of x)
-unfolding graph_of record_of
+    → Ok (record { value = record { states = n; initial = m; moves = ms }; end = j }) ≡ graph_of x
+unfolding record_of
 graph_got {n = n} {j = j} p q e =
-    (λ i. record { graph = record { states = n; initial = sym p i; moves = sym q i }; end = At j }) ∙ sym (ap graph_of e)
-
-pub graph_fault : {x : Run PlainGraph} {p : ℕ} {r : GraphScan} → r ≡ graph_of (fault p) → x ≡ fault p → r ≡ graph_of x
-graph_fault q e = q ∙ sym (ap graph_of e)
+    (λ i. Ok (record { value = record { states = n; initial = sym p i; moves = sym q i }; end = j })) ∙ found_got record_of e
 
 -- a graph that is read: its lines, and that it is the record of the numbers of its sets
-pub got_graph : (x : Run PlainGraph) (r : GraphScan) (j : ℕ) → r ≡ graph_of x → r.end ≡ At j
-    → (x ≡ got (plain r.graph) j) × (record_of (plain r.graph) ≡ r.graph)
-unfolding graph_of
-got_graph (got h i) r j e f =
-    let same : At i ≡ At j = sym (ap (λ (y : GraphScan). y.end) e) ∙ f in
-    let k : i ≡ j = cc in
-    let made : r.graph ≡ record_of h = ap (λ (y : GraphScan). y.graph) e in
-    let numbers : h ≡ plain r.graph = sym (ap plain made ∙ plain_record h) in
-    ((λ n. got (numbers n) (k n)), ap record_of (sym numbers) ∙ sym made)
-got_graph (fault p) r j e f = let same : Fault p ≡ At j = sym (ap (λ (y : GraphScan). y.end) e) ∙ f in let z : ◌≡◌ {A = ℕ} 0 1 = cc in absurd (omega arith)
-
-pub fault_graph : (x : Run PlainGraph) (r : GraphScan) (p : ℕ) → r ≡ graph_of x → r.end ≡ Fault p → x ≡ fault p
-unfolding graph_of
-fault_graph (got a i) r p e f = let same : At i ≡ Fault p = sym (ap (λ (y : GraphScan). y.end) e) ∙ f in let z : ◌≡◌ {A = ℕ} 0 1 = cc in absurd (omega arith)
-fault_graph (fault q) r p e f = let same : Fault q ≡ Fault p = sym (ap (λ (y : GraphScan). y.end) e) ∙ f in cc
-
-pub requirements_got : {x : Run (List Requirement)} {qs : List Requirement} {j : ℕ} → x ≡ got qs j
-    → ◌≡◌ {A = RequirementsScan} (record { requirements = qs; end = At j }) (requirements_of x)
-unfolding requirements_of
-requirements_got e = sym (ap requirements_of e)
-
-pub requirements_fault : {x : Run (List Requirement)} {p : ℕ} {qs : List Requirement} → qs ≡ replicate 8 empty_requirement → x ≡ fault p
-    → ◌≡◌ {A = RequirementsScan} (record { requirements = qs; end = Fault p }) (requirements_of x)
-unfolding requirements_of
-requirements_fault {p = p} h e = ap (λ (q : List Requirement). record { requirements = q; end = Fault p }) h ∙ sym (ap requirements_of e)
-
-pub got_requirements : (x : Run (List Requirement)) (r : RequirementsScan) (j : ℕ) → r ≡ requirements_of x → r.end ≡ At j → x ≡ got r.requirements j
-unfolding requirements_of
-got_requirements (got q i) r j e f =
-    let same : At i ≡ At j = sym (ap (λ (y : RequirementsScan). y.end) e) ∙ f in
-    let k : i ≡ j = cc in
-    ap (λ (y : RequirementsScan). got y.requirements i) (sym e) ∙ ap (got r.requirements) k
-got_requirements (fault p) r j e f = let same : Fault p ≡ At j = sym (ap (λ (y : RequirementsScan). y.end) e) ∙ f in let z : ◌≡◌ {A = ℕ} 0 1 = cc in
-    absurd (omega arith)
-
-pub fault_requirements : (x : Run (List Requirement)) (r : RequirementsScan) (p : ℕ) → r ≡ requirements_of x → r.end ≡ Fault p → x ≡ fault p
-unfolding requirements_of
-fault_requirements (got a i) r p e f = let same : At i ≡ Fault p = sym (ap (λ (y : RequirementsScan). y.end) e) ∙ f in let z : ◌≡◌ {A = ℕ} 0 1 = cc in
-    absurd (omega arith)
-fault_requirements (fault q) r p e f = let same : Fault q ≡ Fault p = sym (ap (λ (y : RequirementsScan). y.end) e) ∙ f in cc
+pub got_graph : (x : Run PlainGraph) {r : Found Graph} → Ok r ≡ graph_of x
+    → (x ≡ got (plain r.value) r.end) × (record_of (plain r.value) ≡ r.value)
+got_graph x {r} h =
+    let g = got_found record_of x h in
+    let numbers : g.0 ≡ plain r.value = sym (plain_record g.0) ∙ ap plain g.2 in
+    (g.1 ∙ ap (λ (y : PlainGraph). got y r.end) numbers, ap record_of (sym numbers) ∙ g.2)
 
 -- one state
 module _ (x : Run PlainGraph) (v n t m : ℕ) (ms : List ℕ) (w : ℕ → ℕ) (at : ℕ)
@@ -204,20 +157,11 @@ requirements_begin n qs w i h =
     (λ (l : List Requirement). run (requirements_format (n - 0) 0 l) w i) (sym h)
 
 -- the whole text
-pub counts_header : (x : Run Header) {a o k j : ℕ} → Counts a o k j ≡ header_of x → x ≡ got (record { inputs = a; outputs = o; k = k }) j
-unfolding header_of
-counts_header (got h i) {a} {o} {k} {j} e =
-    let p : h.inputs ≡ a = cc in
-    let q : h.outputs ≡ o = cc in
-    let r : h.k ≡ k = cc in
-    let s : i ≡ j = cc in
-    λ n. got (record { inputs = p n; outputs = q n; k = r n }) (s n)
-counts_header (fault p) e = let z : ◌≡◌ {A = ℕ} 0 1 = cc in absurd (omega arith)
-
-pub fault_header : (x : Run Header) {p : ℕ} → NoHeader p ≡ header_of x → x ≡ fault p
-unfolding header_of
-fault_header (got h i) e = let z : ◌≡◌ {A = ℕ} 0 1 = cc in absurd (omega arith)
-fault_header (fault q) e = cc
+pub counts_header : (x : Run Header) {n : Found HeaderScan} → Ok n ≡ header_of x
+    → x ≡ got (record { inputs = n.value.inputs; outputs = n.value.outputs; k = n.value.k }) n.end
+counts_header x {n} h =
+    let g = got_found counts_of x h in
+    g.1 ∙ ap (λ (y : HeaderScan). got (record { inputs = y.inputs; outputs = y.outputs; k = y.k }) n.end) g.2
 
 pub header_range : (w : ℕ → ℕ) (i a o k j : ℕ) → run header_format w i ≡ got (record { inputs = a; outputs = o; k = k }) j
     → (a ≤ capacity) × (o ≤ capacity) × (k ≤ 8)
@@ -225,26 +169,6 @@ header_range w i a o k j h =
     let F = run_got header_format w i h in
     let H = header_sound F.text (record { inputs = a; outputs = o; k = k }) F.is_text in
     (H.most_inputs, H.most_outputs, H.most_k)
-
-pub game_got : {x : Run Game} {g : Game} {j : ℕ} → x ≡ got g j → ◌≡◌ {A = GameScan} (record { game = g; end = At j }) (game_of x)
-unfolding game_of
-game_got e = sym (ap game_of e)
-
-pub game_fault : {x : Run Game} {p : ℕ} {r : GameScan} → r ≡ game_of (fault p) → x ≡ fault p → r ≡ game_of x
-game_fault q e = q ∙ sym (ap game_of e)
-
-pub got_game : (x : Run Game) (r : GameScan) (j : ℕ) → r ≡ game_of x → r.end ≡ At j → x ≡ got r.game j
-unfolding game_of
-got_game (got q i) r j e f =
-    let same : At i ≡ At j = sym (ap (λ (y : GameScan). y.end) e) ∙ f in
-    let k : i ≡ j = cc in
-    ap (λ (y : GameScan). got y.game i) (sym e) ∙ ap (got r.game) k
-got_game (fault p) r j e f = let same : Fault p ≡ At j = sym (ap (λ (y : GameScan). y.end) e) ∙ f in let z : ◌≡◌ {A = ℕ} 0 1 = cc in absurd (omega arith)
-
-pub fault_game : (x : Run Game) (r : GameScan) (p : ℕ) → r ≡ game_of x → r.end ≡ Fault p → x ≡ fault p
-unfolding game_of
-fault_game (got a i) r p e f = let same : At i ≡ Fault p = sym (ap (λ (y : GameScan). y.end) e) ∙ f in let z : ◌≡◌ {A = ℕ} 0 1 = cc in absurd (omega arith)
-fault_game (fault q) r p e f = let same : Fault q ≡ Fault p = sym (ap (λ (y : GameScan). y.end) e) ∙ f in cc
 
 module _ (a : Graph) (o k : ℕ) (w : ℕ → ℕ) (i : ℕ) where
   pub output_none : (p : ℕ) → run (states_format 2 o 0 (empty_graph o)) w i ≡ fault p → run (output_format a o k) w i ≡ fault p
@@ -256,7 +180,8 @@ module _ (a : Graph) (o k : ℕ) (w : ℕ → ℕ) (i : ℕ) where
     unfolding output_format
     output_bad p f = bind_got (states_format 2 o 0 (empty_graph o)) _ w i b j e ∙ bind_fault (requirements_format k 0 (replicate 8 empty_requirement)) _ w j p f
 
-    pub output_got : (h : Graph) → record_of b ≡ h → (qs : List Requirement) (m : ℕ) → run (requirements_format k 0 (replicate 8 empty_requirement)) w j ≡ got qs m
+    pub output_got : (h : Graph) → record_of b ≡ h → (qs : List Requirement) (m : ℕ)
+        → run (requirements_format k 0 (replicate 8 empty_requirement)) w j ≡ got qs m
         → run (output_format a o k) w i ≡ got (record { input = a; output = h; k = k; requirements = qs }) m
     unfolding output_format
     output_got h r qs m f =
@@ -272,7 +197,8 @@ module _ (w : ℕ → ℕ) (i : ℕ) where
   module _ (a o k j : ℕ) (e : run header_format w i ≡ got (record { inputs = a; outputs = o; k = k }) j) where
     pub game_no_input : (p : ℕ) → run (states_format 1 a 0 (empty_graph a)) w j ≡ fault p → run game_format w i ≡ fault p
     unfolding game_format
-    game_no_input p f = bind_got header_format _ w i (record { inputs = a; outputs = o; k = k }) j e ∙ bind_fault (states_format 1 a 0 (empty_graph a)) _ w j p f
+    game_no_input p f =
+        bind_got header_format _ w i (record { inputs = a; outputs = o; k = k }) j e ∙ bind_fault (states_format 1 a 0 (empty_graph a)) _ w j p f
 
     pub game_on_lem : (b : PlainGraph) (m : ℕ) (h : Graph) → run (states_format 1 a 0 (empty_graph a)) w j ≡ got b m → record_of b ≡ h
         → run game_format w i ≡ run (output_format h o k) w m

@@ -2,7 +2,6 @@
 ghost use Rattle.std.specs.Prelude.{◌≡◌, ◌+◌, ◌<◌, length};
 ghost use Rattle.sets.specs.Words.{bits_of};
 ghost use Rattle.text_grammar.specs.Format.{run};
-ghost use Rattle.text_grammar.specs.Format.Run.{fault};
 ghost use Rattle.text_grammar.specs.Place.{bytes};
 ghost use Rattle.text_shape.specs.Shape.{no_sets, push, more_sets, sets_format, guarantees_format, requirement_format};
 ghost use Rattle.text_shape.specs.Text.{in_sets, out_sets, empty_requirement};
@@ -10,98 +9,70 @@ ghost use Rattle.text_scan.specs.Scan.{numbers_of, sets_with, sets_of, requireme
 
 use game::{InSet, OutSet, Requirement};
 use sets::Set;
-use text_pieces::{SetScan, Step};
+use text_pieces::{Fault, Found};
 
-// A list of sets and the place behind it; no sets where there is a fault.
+// A list of sets, and how many of them it has.
 #[derive(Clone, Copy)]
 pub struct SetList {
     pub sets: [Set; 4],
     pub count: usize,
-    pub end: Step,
-}
-
-// A requirement and the place behind its line; no sets where there is a fault.
-#[derive(Clone, Copy)]
-pub struct RequirementScan {
-    pub requirement: Requirement,
-    pub end: Step,
-}
-
-fn no_list(p: usize) -> SetList
-    ensures { result ≡ sets_of (fault p) }
-{
-    let x = sets::empty();
-    SetList {
-        sets: [x; 4],
-        count: 0,
-        end: Step::Fault(p),
-    }
 }
 
 // The sets at place i behind the first, x.
-fn more_sets(s: &[u8], i: usize, x: Set) -> SetList
+fn more_sets(s: &[u8], i: usize, x: Set) -> Result<Found<SetList>, Fault>
     ensures { result ≡ sets_of (run (more_sets 3 (push no_sets (bits_of x))) (bytes s.now) i) }
 {
     let none = sets::empty();
     let mut list = [none; 4];
     list[0] = x;
-    let mut count: usize = 1;
     let mut at = i;
-    while count < 4 {
+    for count in 1..4 {
         let b = text_pieces::byte_at(s, at);
         if b == text_pieces::CLOSE {
-            return SetList {
-                sets: list,
-                count,
-                end: Step::At(at + 1),
-            };
+            return Ok(Found {
+                value: SetList { sets: list, count },
+                end: at + 1,
+            });
         }
         if b != text_pieces::BLANK {
-            return no_list(at);
+            return Err(Fault { at });
         }
-        let t = text_pieces::set_at(s, at + 1);
-        match t {
-            SetScan::Fault(p) => {
-                return no_list(p);
-            }
-            SetScan::Members(y, j) => {
-                list[count] = y;
-                count += 1;
-                at = j;
-            }
-        }
+        let y = text_pieces::set_at(s, at + 1)?;
+        list[count] = y.value;
+        at = y.end;
     }
     if text_pieces::byte_at(s, at) != text_pieces::CLOSE {
-        return no_list(at);
+        return Err(Fault { at });
     }
-    SetList {
-        sets: list,
-        count,
-        end: Step::At(at + 1),
-    }
+    Ok(Found {
+        value: SetList {
+            sets: list,
+            count: 4,
+        },
+        end: at + 1,
+    })
 }
 
 // The list of sets at place i.
-pub fn sets_at(s: &[u8], i: usize) -> SetList
+pub fn sets_at(s: &[u8], i: usize) -> Result<Found<SetList>, Fault>
     ensures { result ≡ sets_of (run sets_format (bytes s.now) i) }
 {
     if text_pieces::byte_at(s, i) != text_pieces::OPEN {
-        return no_list(i);
+        return Err(Fault { at: i });
     }
     let j = i + 1;
     if text_pieces::byte_at(s, j) == text_pieces::CLOSE {
         let none = sets::empty();
-        return SetList {
-            sets: [none; 4],
-            count: 0,
-            end: Step::At(j + 1),
-        };
+        return Ok(Found {
+            value: SetList {
+                sets: [none; 4],
+                count: 0,
+            },
+            end: j + 1,
+        });
     }
-    let t = text_pieces::set_at(s, j);
-    match t {
-        SetScan::Fault(p) => no_list(p),
-        SetScan::Members(x, m) => more_sets(s, m, x),
-    }
+    let x = text_pieces::set_at(s, j)?;
+    more_sets(s, x.end, x.value)
 }
 
 // Sets of the list as sets of input states.
@@ -135,71 +106,35 @@ pub fn empty_requirement() -> Requirement
     }
 }
 
-fn no_requirement(p: usize) -> RequirementScan
-    ensures { result ≡ requirement_of (fault p) }
-{
-    let q = empty_requirement();
-    RequirementScan {
-        requirement: q,
-        end: Step::Fault(p),
-    }
-}
-
 // A requirement's line at place i, behind its first list.
-fn guarantees_at(s: &[u8], i: usize, first: [Set; 4], count: usize) -> RequirementScan
+fn guarantees_at(
+    s: &[u8],
+    i: usize,
+    first: [Set; 4],
+    count: usize,
+) -> Result<Found<Requirement>, Fault>
     requires { (length first ≡ 4) × (sets_with (numbers_of first) ≡ first) }
     ensures { result ≡ requirement_of (run (guarantees_format (record { words = numbers_of first; count = count })) (bytes s.now) i) }
 {
     if text_pieces::byte_at(s, i) != text_pieces::BLANK {
-        return no_requirement(i);
+        return Err(Fault { at: i });
     }
-    let b = sets_at(s, i + 1);
-    let e = b.end;
-    match e {
-        Step::Fault(p) => no_requirement(p),
-        Step::At(j) => {
-            let t = text_lines::end_at(s, j);
-            match t {
-                Step::Fault(p) => no_requirement(p),
-                Step::At(m) => {
-                    let v = b.sets;
-                    let n = b.count;
-                    let x = in_sets(first);
-                    let y = out_sets(v);
-                    let q = Requirement {
-                        assumptions: x,
-                        assumed: count,
-                        guarantees: y,
-                        guaranteed: n,
-                    };
-                    RequirementScan {
-                        requirement: q,
-                        end: Step::At(m),
-                    }
-                }
-            }
-        }
-    }
+    let b = sets_at(s, i + 1)?;
+    let end = text_lines::end_at(s, b.end)?;
+    let value = Requirement {
+        assumptions: in_sets(first),
+        assumed: count,
+        guarantees: out_sets(b.value.sets),
+        guaranteed: b.value.count,
+    };
+    Ok(Found { value, end })
 }
 
 // A requirement's line at place i.
-pub fn requirement_at(s: &[u8], i: usize) -> RequirementScan
+pub fn requirement_at(s: &[u8], i: usize) -> Result<Found<Requirement>, Fault>
     ensures { result ≡ requirement_of (run requirement_format (bytes s.now) i) }
 {
-    let o = text_lines::opening_at(s, i, 3);
-    match o {
-        Step::Fault(p) => no_requirement(p),
-        Step::At(j) => {
-            let a = sets_at(s, j);
-            let e = a.end;
-            match e {
-                Step::Fault(p) => no_requirement(p),
-                Step::At(m) => {
-                    let v = a.sets;
-                    let n = a.count;
-                    guarantees_at(s, m, v, n)
-                }
-            }
-        }
-    }
+    let j = text_lines::opening_at(s, i, 3)?;
+    let a = sets_at(s, j)?;
+    guarantees_at(s, a.end, a.value.sets, a.value.count)
 }

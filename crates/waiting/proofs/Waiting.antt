@@ -17,8 +17,7 @@ use Rattle.arena.specs.Table.{Some}
 use Rattle.arena.specs.Play.{Configuration, ControllerFirst, ControllerTurn, Reachable, visits_output}
 use Rattle.arena.specs.Win.{SystemWins}
 use Rattle.game.specs.declared.Game.{Game}
-use Rattle.game.specs.declared.Acceptance.TheVariants.{Accepted}
-use Rattle.game.specs.Acceptance.{acceptance}
+use Rattle.game.specs.Acceptance.{accepted, acceptance}
 use Rattle.play.specs.Play.{graph_of, separated_of}
 use Rattle.theory.specs.Tour.{goal_at}
 use Rattle.theory.specs.Choice.{guarantees, home}
@@ -34,6 +33,7 @@ use Rattle.waiting.specs.Waiting.{ours, KeptFrom, StaysIn, entered, AtHome, Righ
 use Rattle.waiting.proofs.Staying.{Turn, stays_first, stays_turn, homecoming, visits}
 
 -- where a walk to a state begins
+
 walk_above : (G : Graph) {s t : ℕ} → Walk (Moves G) s t → t < G.states → s < G.states
 walk_above G stay b = b
 walk_above G (step {a = s} {b = u} e w) b = edge_from G s u e
@@ -50,7 +50,7 @@ entered_inside G s b n =
     let v = nontrivial_move G s n in
     entered_from G s s v.0 v.1 (reaches_self G s b) (reaches_path G v.0 s (joined_back G s v.0 v.2))
 
-module _ (g : Game) (a : acceptance g ≡ Accepted) where
+module _ (g : Game) (a : acceptance g ≡ accepted) where
   -- our table does what the rows say
   follows : Follows (separated_of g) (ours g)
   unfolding ours controller_of separated_of graph_of

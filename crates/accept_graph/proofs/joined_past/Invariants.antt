@@ -6,6 +6,3 @@ use Rattle.accept_graph.proofs.joined_past.Given as goal
 
 abbrev pub invariant-loop-s : goal.invariant-loop-s
 invariant-loop-s l = (l.n ≤ l.s) × Past (sets_in l.moves) l.n l.s (bits_of l.x)
-
-abbrev pub decreases-loop-s : goal.decreases-loop-s
-decreases-loop-s l = capacity - l.s

@@ -33,10 +33,6 @@ returns-then-not-row_fits c =
     (omega (arith, c.loop-s-test.true, c.first_rows-m.ensures))
     (failed (row_fits_lem _ _ _ _ (rw lent at c.row.ensures) c.row_fits.ensures) c.if-not-row_fits.true-raw)
 
-pub overflow_add-s : goal.overflow_add-s
-overflow_add-s c =
-    omega (arith, c.loop-s-test.true, c.first_rows-m.ensures)
-
 pub loop-s-preserved : goal.loop-s-preserved
 loop-s-preserved c =
     let lent = c.requires.0 in (

@@ -8,6 +8,3 @@ use Rattle.accept_graph.proofs.states_fit.Given as goal
 
 abbrev pub invariant-loop-s : goal.invariant-loop-s
 invariant-loop-s l = (l.s ≤ l.m) × (all l.s (row_fits l.g) ≡ true)
-
-abbrev pub decreases-loop-s : goal.decreases-loop-s
-decreases-loop-s l = l.m - l.s

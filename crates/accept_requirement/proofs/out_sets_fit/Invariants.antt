@@ -8,6 +8,3 @@ use Rattle.accept_requirement.proofs.out_sets_fit.Given as goal
 
 abbrev pub invariant-loop-j : goal.invariant-loop-j
 invariant-loop-j l = (l.j ≤ 4) × (all l.j (out_set_fits l.q l.n) ≡ true)
-
-abbrev pub decreases-loop-j : goal.decreases-loop-j
-decreases-loop-j l = 4 - l.j

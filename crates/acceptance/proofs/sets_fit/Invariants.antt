@@ -8,6 +8,3 @@ use Rattle.acceptance.proofs.sets_fit.Given as goal
 
 abbrev pub invariant-loop-r : goal.invariant-loop-r
 invariant-loop-r l = (l.r ≤ 8) × (all l.r (requirement_fits_at l.g) ≡ true)
-
-abbrev pub decreases-loop-r : goal.decreases-loop-r
-decreases-loop-r l = 8 - l.r

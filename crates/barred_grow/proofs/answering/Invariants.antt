@@ -1,5 +1,4 @@
 -- `answering`.
-use Rattle.finite.specs.Bounded.{count}
 use Rattle.bits.specs.Member.{has}
 use Rattle.sets.specs.Words.{capacity, bits_of, sets_in}
 use Prim.Native.Nat.{ℕ}
@@ -10,9 +9,7 @@ use Rattle.bits.specs.Member.{sets_meet}
 use Rattle.barred_grow.specs.Grow.{Low}
 use Rattle.barred_grow.proofs.answering.Given as goal
 
-abbrev pub invariant-loop-x : goal.invariant-loop-x
-invariant-loop-x l =
-    ((o : ℕ) → has (bits_of l.c) o ≡ true → sets_meet capacity (get_or (sets_in l.moves) o 0) (bits_of l.x) ≡ true) × Low l.m (bits_of l.rest)
-
-abbrev pub decreases-loop-x : goal.decreases-loop-x
-decreases-loop-x l = count capacity (has (bits_of l.rest))
+abbrev pub invariant-loop-o : goal.invariant-loop-o
+invariant-loop-o l =
+    ((o : ℕ) → has (bits_of l.c) o ≡ true → sets_meet capacity (get_or (sets_in l.moves) o 0) (bits_of l.x) ≡ true)
+    × Low l.m (bits_of l.o-iterator.rest)

@@ -2,7 +2,7 @@
 use mathlib.Core.Path.{refl, ◌∙◌}
 use native.Mathlib.Omega.{arith}
 use Rattle.sets.specs.Words.{bits_of}
-use Rattle.sets.proofs.Rows.{count_same, is_some}
+use Rattle.sets.proofs.Rows.{count_same, some}
 use Rattle.barred_grow.proofs.Rows.{grown_self, grown_then, grown_any}
 use Rattle.barred_grow.proofs.Growing.{inside_moves, followed_next, followed_falls, grown_inputs, grown_within, grown_wider}
 use Rattle.barred_grow.proofs.grow.Goals as goal
@@ -33,7 +33,7 @@ follow-left-requires c =
 
 pub loop-g-smaller : goal.loop-g-smaller
 loop-g-smaller c =
-    followed_falls _ c.requires.0 _ _ _ _ _ c.follow-left.ensures (is_some _ c.is_empty.ensures c.loop-g-test.true-raw) (grown_inputs _ c.requires.0 _ _ _ _ _ c.empty.ensures c.empty-2.ensures _ _ (grown_then _ _ _ _ c.requires.0.input.most (grown_any _ _ _ _ c.requires.0.input.most (c.grow_rows.ensures _ _) _) c.loop-g.invariant.1) c.requires.2 c.below.ensures) (grown_within _ c.requires.0 _ _ _ _ _ c.empty.ensures c.empty-2.ensures _ _ (grown_then _ _ _ _ c.requires.0.input.most (grown_any _ _ _ _ c.requires.0.input.most (c.grow_rows.ensures _ _) _) c.loop-g.invariant.1) c.requires.2)
+    followed_falls _ c.requires.0 _ _ _ _ _ c.follow-left.ensures (some _ c.is_empty.ensures c.loop-g-test.true) (grown_inputs _ c.requires.0 _ _ _ _ _ c.empty.ensures c.empty-2.ensures _ _ (grown_then _ _ _ _ c.requires.0.input.most (grown_any _ _ _ _ c.requires.0.input.most (c.grow_rows.ensures _ _) _) c.loop-g.invariant.1) c.requires.2 c.below.ensures) (grown_within _ c.requires.0 _ _ _ _ _ c.empty.ensures c.empty-2.ensures _ _ (grown_then _ _ _ _ c.requires.0.input.most (grown_any _ _ _ _ c.requires.0.input.most (c.grow_rows.ensures _ _) _) c.loop-g.invariant.1) c.requires.2)
 
 pub loop-g-preserved : goal.loop-g-preserved
 loop-g-preserved c =

@@ -7,7 +7,4 @@ use Rattle.barred_region.specs.Region.{Freed}
 use Rattle.barred_region.proofs.free.Given as goal
 
 abbrev pub invariant-loop-i : goal.invariant-loop-i
-invariant-loop-i l = (l.i ≤ l.g.input.states) × (length l.s ≡ length l.initial.s) × Freed l.g l.i (sets_in l.bars) (sets_in l.initial.s) (sets_in l.s)
-
-abbrev pub decreases-loop-i : goal.decreases-loop-i
-decreases-loop-i l = l.g.input.states - l.i
+invariant-loop-i l = (l.i ≤ l.fn.g.input.states) × (length l.s ≡ length l.initial.s) × Freed l.fn.g l.i (sets_in l.bars) (sets_in l.initial.s) (sets_in l.s)

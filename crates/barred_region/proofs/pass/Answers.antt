@@ -23,10 +23,6 @@ pub settle-requires : goal.settle-requires
 settle-requires c =
     (c.requires.0, omega (arith, c.requires.1, count_same c.loop-j.s c.args.s.now c.loop-j.invariant.1), passed_within _ _ _ _ _ c.loop-j.invariant.2 c.requires.2)
 
-pub overflow_add-j : goal.overflow_add-j
-overflow_add-j c =
-    omega (arith, (c.requires.0.requirement 0 (omega arith)).few_guaranteed)
-
 pub loop-j-preserved : goal.loop-j-preserved
 loop-j-preserved c =
     let more : c.loop-j.j < (requirement_at c.args.g 0).guaranteed = omega arith in

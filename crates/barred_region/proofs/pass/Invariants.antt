@@ -10,6 +10,3 @@ use Rattle.barred_region.proofs.pass.Given as goal
 abbrev pub invariant-loop-j : goal.invariant-loop-j
 invariant-loop-j l =
     (l.j ≤ (requirement_at l.g 0).guaranteed) × (length l.s ≡ length l.initial.s) × Passed l.g l.j (sets_in l.initial.s) (sets_in l.s) l.changed
-
-abbrev pub decreases-loop-j : goal.decreases-loop-j
-decreases-loop-j l = (requirement_at l.g 0).guaranteed - l.j

@@ -7,16 +7,13 @@ use Rattle.sets.proofs.Rows.{count_same}
 use Rattle.barred_region.proofs.Widening.{assumed_length, widened_within, widened_none, widened_grew, widened_next}
 use Rattle.barred_region.proofs.widen.Goals as goal
 
-pub overflow_add-j : goal.overflow_add-j
-overflow_add-j c =
+pub overflow_step-j : goal.overflow_step-j
+overflow_step-j c =
     omega (arith, (c.requires.0.requirement 0 (omega arith)).few_assumed)
 
 pub loop-j-init : goal.loop-j-init
 loop-j-init c =
     (omega arith, refl, widened_none _ c.requires.0 _ _ _ (omega (arith, assumed_length c.args.g)))
-
-pub overflow_sub-j : goal.overflow_sub-j
-overflow_sub-j c = omega (arith, c.loop-j-test.true)
 
 pub waited-wait-requires : goal.waited-wait-requires
 waited-wait-requires c =
@@ -37,10 +34,6 @@ pub returns-then-widen_by : goal.returns-then-widen_by
 returns-then-widen_by c =
     widened_grew _ c.requires.0 _ _ (c.loop-j.j - 1) c.loop-j.j (omega (arith, c.loop-j-test.true)) _ c.loop-j.invariant.2 _ _ _ c.widen_by.ensures
     c.waited-wait.ensures (omega (arith, assumed_length c.args.g, c.loop-j-test.true, c.loop-j.invariant.0)) _ c.if-widen_by.true
-
-pub loop-j-smaller : goal.loop-j-smaller
-loop-j-smaller c =
-    omega (arith, c.loop-j-test.true)
 
 pub loop-j-preserved : goal.loop-j-preserved
 loop-j-preserved c = (

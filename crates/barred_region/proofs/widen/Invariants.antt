@@ -11,6 +11,3 @@ use Rattle.barred_region.proofs.widen.Given as goal
 abbrev pub invariant-loop-j : goal.invariant-loop-j
 invariant-loop-j l =
     (l.j ≤ (requirement_at l.g 0).assumed + 1) × (length l.s ≡ length l.initial.s) × Widened l.g (bits_of l.goal.0) l.j (sets_in l.initial.s) (sets_in l.s) false
-
-abbrev pub decreases-loop-j : goal.decreases-loop-j
-decreases-loop-j l = l.j

@@ -1,6 +1,6 @@
 -- `unite`.
 use native.Mathlib.Omega.{arith}
-use Rattle.sets.proofs.Rows.{is_some, is_none}
+use Rattle.sets.proofs.Rows.{some, none}
 use Rattle.barred_rows.proofs.Merging.{merging_start, merging_skip, merging_next, merging_end, united, or_same}
 use Rattle.barred_rows.proofs.unite.Goals as goal
 use Rattle.barred_rows.proofs.unite.Goals.{then-not-is_empty, else-not-is_empty}
@@ -12,9 +12,9 @@ pub loop-i-preserved : goal.loop-i-preserved
 loop-i-preserved c =
     elim c.if-not-is_empty.branch [
       | then-not-is_empty w ↦ rw (w.s-is, w.grew-is) (merging_next or_same c.loop-i.invariant c.requires.3 (omega arith) c.row-old.ensures c.row.ensures c.difference-more.ensures _ _
-          w.union.ensures (is_some _ c.is_empty.ensures w.if-not-is_empty.true-raw) c.requires.2 w.put.auto.l w.put.ensures)
+          w.union.ensures (some _ c.is_empty.ensures w.if-not-is_empty.true) c.requires.2 w.put.auto.l w.put.ensures)
       | else-not-is_empty w ↦ rw (w.s-is, w.grew-is) (merging_skip or_same c.loop-i.invariant c.requires.3 (omega arith) c.row-old.ensures c.row.ensures c.difference-more.ensures
-          (is_none _ c.is_empty.ensures w.if-not-is_empty.false-raw))
+          (none _ c.is_empty.ensures w.if-not-is_empty.false))
     ]
 
 pub shape_of-s : goal.shape_of-s

@@ -1,5 +1,5 @@
 -- `answering`.
-use Prim.Native.Nat.{◌-◌, ◌≤◌}
+use Prim.Native.Nat.{◌≤◌}
 use mathlib.Core.Path.{◌≡◌}
 use lib.ListN.{get_or}
 use Rattle.bits.specs.Member.{sets_meet, pack}
@@ -8,6 +8,3 @@ use Rattle.barred_stay.proofs.answering.Given as goal
 
 abbrev pub invariant-loop-o : goal.invariant-loop-o
 invariant-loop-o l = (l.o ≤ l.m) × (bits_of l.c ≡ pack l.o (λ q. sets_meet capacity (get_or (sets_in l.moves) q 0) (bits_of l.x.0)))
-
-abbrev pub decreases-loop-o : goal.decreases-loop-o
-decreases-loop-o l = l.m - l.o

@@ -1,5 +1,5 @@
 -- `shrink`.
-use Prim.Native.Nat.{◌-◌, ◌≤◌}
+use Prim.Native.Nat.{◌≤◌}
 use mathlib.Core.Path.{◌≡◌}
 use lib.ListN.{length}
 use Rattle.sets.specs.Words.{bits_of, sets_in}
@@ -10,6 +10,3 @@ abbrev pub invariant-loop-i : goal.invariant-loop-i
 invariant-loop-i l =
     (l.i ≤ l.n) × (length l.s ≡ length l.initial.s)
     × Shrunk (sets_in l.moves) l.i l.next (bits_of l.allowed.0) (bits_of l.wait.0) (bits_of l.initial.more.0) (bits_of l.more.0) (sets_in l.initial.s) (sets_in l.s)
-
-abbrev pub decreases-loop-i : goal.decreases-loop-i
-decreases-loop-i l = l.n - l.i

@@ -2,7 +2,7 @@
 use mathlib.Core.Path.{refl, ◌∙◌}
 use mathlib.Core.Logic.{inl}
 use native.Mathlib.Omega.{arith}
-use Rattle.sets.proofs.Rows.{count_same, is_some, is_none}
+use Rattle.sets.proofs.Rows.{count_same, some, none}
 use Rattle.barred_stay.proofs.Staying.{staying_start, staying_next, staying_falls, staying_end, copied_within, copied_rows, copied_stayed}
 use Rattle.barred_stay.proofs.stay.Goals as goal
 
@@ -25,20 +25,20 @@ follow-left-requires c =
       F.input.most,
       F.output.most,
       omega (arith, c.requires.1, count_same c.loop-g.s c.args.s.now (c.loop-g.invariant.0 ∙ c.copy.auto.s)),
-      is_some _ c.is_empty.ensures c.loop-g-test.true-raw,
+      some _ c.is_empty.ensures c.loop-g-test.true,
       T.inputs,
     )
 
 pub loop-g-smaller : goal.loop-g-smaller
 loop-g-smaller c =
     let F = c.requires.0 in
-    staying_falls _ F _ _ _ _ _ c.loop-g.invariant.1 _ _ c.follow-left.ensures (is_some _ c.is_empty.ensures c.loop-g-test.true-raw)
+    staying_falls _ F _ _ _ _ _ c.loop-g.invariant.1 _ _ c.follow-left.ensures (some _ c.is_empty.ensures c.loop-g-test.true)
     (copied_within _ F _ _ c.copy.ensures c.requires.2)
 
 pub loop-g-preserved : goal.loop-g-preserved
 loop-g-preserved c = (
   c.follow-left.auto.s ∙ c.loop-g.invariant.0,
-  staying_next _ c.requires.0 _ _ _ _ _ c.loop-g.invariant.1 _ _ c.follow-left.ensures (is_some _ c.is_empty.ensures c.loop-g-test.true-raw),
+  staying_next _ c.requires.0 _ _ _ _ _ c.loop-g.invariant.1 _ _ c.follow-left.ensures (some _ c.is_empty.ensures c.loop-g-test.true),
 )
 
 pub shape_of-s : goal.shape_of-s
@@ -49,4 +49,4 @@ pub returns : goal.returns
 returns c =
     let F = c.requires.0 in
     copied_stayed _ F _ _ c.copy.ensures _ _ _
-    (staying_end _ F _ _ _ _ _ c.loop-g.invariant.1 (is_none _ c.is_empty.ensures c.loop-g-test.false-raw))
+    (staying_end _ F _ _ _ _ _ c.loop-g.invariant.1 (none _ c.is_empty.ensures c.loop-g-test.false))

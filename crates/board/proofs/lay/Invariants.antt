@@ -12,6 +12,3 @@ abbrev pub invariant-loop-r : goal.invariant-loop-r
 invariant-loop-r l =
     (l.r ≤ 8) × (length l.b ≡ board_words)
     × ((ins outs : List ℕ) (x y : Set) → Upto 0 ins outs x y l.requirements l.initial.b → Upto l.r ins outs x y l.requirements l.b)
-
-abbrev pub decreases-loop-r : goal.decreases-loop-r
-decreases-loop-r l = 8 - l.r

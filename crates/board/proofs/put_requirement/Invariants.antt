@@ -5,6 +5,3 @@ use Rattle.board.proofs.put_requirement.Given as goal
 
 abbrev pub invariant-loop-j : goal.invariant-loop-j
 invariant-loop-j l = (l.j ≤ 4) × SetsPut l.r l.j l.q l.initial.b l.b
-
-abbrev pub decreases-loop-j : goal.decreases-loop-j
-decreases-loop-j l = 4 - l.j

@@ -5,7 +5,7 @@ use Rattle.catalogue.proofs.answer.Goals as goal
 pub returns-then-count_names-gt1000 : goal.returns-then-count_names-gt1000
 returns-then-count_names-gt1000 c =
     prints_many c.requires c.count_names.ensures c.if-count_names-gt1000.true
-    c.put_refused.ensures
+    (rw c.from.ensures at c.put_refused.ensures)
 
 pub returns : goal.returns
 returns c =

@@ -7,7 +7,7 @@ use Rattle.catalogue.proofs.Names.{not_whole, from_front}
 use Rattle.catalogue.proofs.judge_front.Goals as goal
 
 pub returns-then-not-read_whole : goal.returns-then-not-read_whole
-returns-then-not-read_whole c = not_whole _ c.read_whole.ensures c.if-not-read_whole.true-raw
+returns-then-not-read_whole c = not_whole _ c.read_whole.ensures c.if-not-read_whole.true
 
 pub slice_bounds-file-end : goal.slice_bounds-file-end
 slice_bounds-file-end c =
@@ -19,4 +19,4 @@ slice_bounds-judge-end c =
 
 pub returns : goal.returns
 returns c =
-    from_front _ c.read_whole.ensures c.if-not-read_whole.false-raw (front_is c.args.f c.bytes-file.ensures c.len-n.ensures) c.judge.ensures
+    from_front _ c.read_whole.ensures c.if-not-read_whole.false (front_is c.args.f c.bytes-file.ensures c.len-n.ensures) c.judge.ensures

@@ -9,6 +9,3 @@ abbrev pub invariant-loop-r : goal.invariant-loop-r
 invariant-loop-r l =
     Remains l.initial.buffer l.at (number_lines 256 0 l.numbers) l.buffer l.to (number_lines (256 - l.r) l.r l.numbers) × (l.r ≤ 256)
     × (length (number_lines 256 0 l.numbers) ≤ length (number_lines (256 - l.r) l.r l.numbers) + 60 * l.r)
-
-abbrev pub decreases-loop-r : goal.decreases-loop-r
-decreases-loop-r l = 256 - l.r

@@ -3,15 +3,15 @@ use native.Mathlib.Omega.{arith}
 use Rattle.catalogue_names.proofs.Keeping.{keeps_none, keeps_next, keeps_whole, keeps_room}
 use Rattle.catalogue_names.proofs.keep.Goals as goal
 
-pub loop-i-init : goal.loop-i-init
-loop-i-init c = (omega arith, keeps_none)
+pub loop-b-init : goal.loop-b-init
+loop-b-init c = (omega arith, keeps_none)
 
-pub loop-i-preserved : goal.loop-i-preserved
-loop-i-preserved c =
-    (omega arith, keeps_next _ _ c.loop-i.invariant.1 c.loop-i-test.true c.keep_byte-kept.ensures)
+pub loop-b-preserved : goal.loop-b-preserved
+loop-b-preserved c =
+    (omega arith, keeps_next _ _ c.loop-b.invariant.1 c.loop-b-test.true c.keep_byte-kept.ensures)
 
 pub shape_of-list : goal.shape_of-list
-shape_of-list c = keeps_room c.loop-i.invariant.1
+shape_of-list c = keeps_room c.loop-b.invariant.1
 
 pub returns : goal.returns
-returns c = keeps_whole _ _ c.loop-i.invariant.1 c.loop-i-test.false
+returns c = keeps_whole _ _ c.loop-b.invariant.1 c.loop-b-test.false

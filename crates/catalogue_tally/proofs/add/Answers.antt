@@ -1,33 +1,34 @@
 -- `add` meets its contract.
 use native.Mathlib.Omega.{arith}
-use mathlib.Core.Path.{◌∙◌}
+use mathlib.Core.Path.{◌∙◌, ap}
+use Rattle.std.specs.declared.result.Result.TheVariants.{Ok}
 use Rattle.catalogue_tally.specs.Figures.{added}
 use Rattle.catalogue_tally.proofs.Counting.{modest_system, modest_environment, added_as}
 use Rattle.catalogue_tally.proofs.add.Goals as goal
 
-pub overflow_add-result-in-System : goal.overflow_add-result-in-System
-overflow_add-result-in-System c =
-    omega (arith, modest_system c.in-System.is c.requires.1)
+pub overflow_add-result-in-Ok-System : goal.overflow_add-result-in-Ok-System
+overflow_add-result-in-Ok-System c =
+    omega (arith, modest_system (c.in-Ok-System.is ∙ ap Ok (rw c.in-Ok-System.is at c.in-Ok-System.field-0-is)) c.requires.1)
 
-pub overflow_add-result-in-System-2 : goal.overflow_add-result-in-System-2
-overflow_add-result-in-System-2 c =
-    omega (arith, modest_system c.in-System.is c.requires.1)
+pub overflow_add-result-in-Ok-System-2 : goal.overflow_add-result-in-Ok-System-2
+overflow_add-result-in-Ok-System-2 c =
+    omega (arith, modest_system (c.in-Ok-System.is ∙ ap Ok (rw c.in-Ok-System.is at c.in-Ok-System.field-0-is)) c.requires.1)
 
-pub overflow_add-result-in-Environment-2 : goal.overflow_add-result-in-Environment-2
-overflow_add-result-in-Environment-2 c =
-    omega (arith, modest_environment c.in-Environment.is c.requires.1)
+pub overflow_add-result-in-Ok-Environment-2 : goal.overflow_add-result-in-Ok-Environment-2
+overflow_add-result-in-Ok-Environment-2 c =
+    omega (arith, modest_environment (c.in-Ok-Environment.is ∙ ap Ok (rw c.in-Ok-Environment.is at c.in-Ok-Environment.field-0-is)) c.requires.1)
 
-pub overflow_add-result-in-Environment-3 : goal.overflow_add-result-in-Environment-3
-overflow_add-result-in-Environment-3 c =
-    omega (arith, modest_environment c.in-Environment.is c.requires.1)
+pub overflow_add-result-in-Ok-Environment-3 : goal.overflow_add-result-in-Ok-Environment-3
+overflow_add-result-in-Ok-Environment-3 c =
+    omega (arith, modest_environment (c.in-Ok-Environment.is ∙ ap Ok (rw c.in-Ok-Environment.is at c.in-Ok-Environment.field-0-is)) c.requires.1)
 
-pub returns-in-System : goal.returns-in-System
+pub returns-in-Ok-System : goal.returns-in-Ok-System
 unfolding added
-returns-in-System c = added_as _ c.in-System.is
+returns-in-Ok-System c = added_as _ (c.in-Ok-System.is ∙ ap Ok (rw c.in-Ok-System.is at c.in-Ok-System.field-0-is))
 
-pub returns-in-Environment : goal.returns-in-Environment
+pub returns-in-Ok-Environment : goal.returns-in-Ok-Environment
 unfolding added
-returns-in-Environment c = added_as _ c.in-Environment.is
+returns-in-Ok-Environment c = added_as _ (c.in-Ok-Environment.is ∙ ap Ok (rw c.in-Ok-Environment.is at c.in-Ok-Environment.field-0-is))
 
-pub returns-in-Refused : goal.returns-in-Refused
-returns-in-Refused c = c.add_refusal.ensures ∙ added_as _ c.in-Refused.is
+pub returns-in-Err : goal.returns-in-Err
+returns-in-Err c = c.add_refusal.ensures ∙ added_as _ c.in-Err.is

@@ -4,14 +4,13 @@ use Rattle.catalogue_verdict.proofs.Counting.{judged_misshapen, judged_refused, 
 use Rattle.catalogue_verdict.proofs.judge.Goals as goal
 
 pub solve-requires : goal.solve-requires
-solve-requires c = (written_read _ _ c.read-r.ensures c.in-Read.is).accepted
+solve-requires c = (written_read _ _ c.in-Ok.ensures).accepted
 
-pub returns-in-Misshapen : goal.returns-in-Misshapen
-returns-in-Misshapen c = judged_misshapen c.read-r.ensures c.in-Misshapen.is
+pub returns-in-Ok : goal.returns-in-Ok
+returns-in-Ok c = (judged_game c.in-Ok.ensures c.solve.ensures.0, c.solve.ensures.1)
 
-pub returns-in-Refused : goal.returns-in-Refused
-returns-in-Refused c = judged_refused c.read-r.ensures c.in-Refused.is
+pub returns-in-Err-Misshapen : goal.returns-in-Err-Misshapen
+returns-in-Err-Misshapen c = judged_misshapen (rw c.in-Err-Misshapen.field-0-is at c.in-Err-Misshapen.ensures)
 
-pub returns-in-Read : goal.returns-in-Read
-returns-in-Read c =
-    (judged_game c.read-r.ensures c.in-Read.is c.solve.ensures.0, c.solve.ensures.1)
+pub returns-in-Err-Refused : goal.returns-in-Err-Refused
+returns-in-Err-Refused c = judged_refused (rw c.in-Err-Refused.field-0-is at c.in-Err-Refused.ensures)

@@ -1,13 +1,9 @@
 -- `judge` meets its contract.
 use Rattle.checker_pairs.proofs.Serving.{judging_start, judging_place, judging_fits, judging_broken, judging_next, judging_end}
-use native.Mathlib.Omega.{arith}
 use Rattle.checker_pairs.proofs.judge.Goals as goal
 
 pub loop-r-init : goal.loop-r-init
 loop-r-init c = judging_start _ _ _ _ _ _ _ _ c.requires
-
-pub offset_bounds-g-r : goal.offset_bounds-g-r
-offset_bounds-g-r c = omega (arith, judging_place _ _ _ _ _ _ _ _ c.requires _ _ _ _ _ _ _ _ c.loop-r.invariant c.loop-r-test.true)
 
 pub bounds-g-r : goal.bounds-g-r
 bounds-g-r c = judging_place _ _ _ _ _ _ _ _ c.requires _ _ _ _ _ _ _ _ c.loop-r.invariant c.loop-r-test.true
@@ -18,17 +14,13 @@ serve-t-requires c =
     c.loop-r.invariant
     c.loop-r-test.true
 
-pub returns-then-t-ne0 : goal.returns-then-t-ne0
-returns-then-t-ne0 c =
+pub returns-in-Some : goal.returns-in-Some
+returns-in-Some c =
     judging_broken _ _ _ _ _ _ _ _
     c.requires _ _ _ _ _ _ _ _
     c.loop-r.invariant
     c.loop-r-test.true _ _ _ _ _ _ _
-    c.serve-t.ensures c.if-t-ne0.true
-
-pub overflow_add-r : goal.overflow_add-r
-overflow_add-r c =
-    omega (arith, c.requires.few)
+    c.serve-t.ensures _ c.in-Some.is
 
 pub loop-r-preserved : goal.loop-r-preserved
 loop-r-preserved c =
@@ -36,7 +28,7 @@ loop-r-preserved c =
     c.requires _ _ _ _ _ _ _ _
     c.loop-r.invariant
     c.loop-r-test.true _ _ _ _ _ _ _
-    c.serve-t.ensures c.if-t-ne0.false
+    c.serve-t.ensures c.in_default.is
 
 pub returns : goal.returns
 returns c = judging_end _ _ _ _ _ _ _ _ c.requires _ _ _ _ _ _ _ _ c.loop-r.invariant c.loop-r-test.false

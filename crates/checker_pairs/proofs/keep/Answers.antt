@@ -12,19 +12,10 @@ antisym l m = omega (arith, l, m)
 pub loop-c-init : goal.loop-c-init
 loop-c-init c = keep_start _ _ _ _ _ _ c.requires
 
-pub bounds-reached-c : goal.bounds-reached-c
-bounds-reached-c c = omega (arith, c.requires.places)
-
 pub outside-requires : goal.outside-requires
 outside-requires c =
     let P = c.requires in
     (P.inputs, P.counters, P.output _ c.loop-c-test.true)
-
-pub bounds-kept-c : goal.bounds-kept-c
-bounds-kept-c c = omega (arith, c.requires.places)
-
-pub overflow_add-c : goal.overflow_add-c
-overflow_add-c c = omega (arith, c.requires.places)
 
 pub loop-c-preserved : goal.loop-c-preserved
 loop-c-preserved c =

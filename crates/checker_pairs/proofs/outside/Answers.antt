@@ -10,9 +10,6 @@ use Rattle.checker_pairs.proofs.outside.Goals as goal
 pub returns-then-reached-ne1 : goal.returns-then-reached-ne1
 returns-then-reached-ne1 c = and_stop _ (ne_eqb _ 1 c.if-reached-ne1.true)
 
-pub member-requires : goal.member-requires
-member-requires c = c.requires.2
-
 pub returns-then-member : goal.returns-then-member
 returns-then-member c =
     sym (and_false_right (eqb c.args.reached 1) (ap not (sym c.member.ensures ∙ c.if-member.true)))

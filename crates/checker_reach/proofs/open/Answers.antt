@@ -1,61 +1,27 @@
 -- `open` meets its contract.
 use Rattle.checker_reach.proofs.Opening.{opening_start, opening_skip, opening_fits, opening_bad, opening_next, opening_end}
-use Rattle.game.proofs.Laws.{accepted_fits}
 use mathlib.Core.Path.{◌∙◌}
-use native.Mathlib.Omega.{arith}
 use Rattle.checker_reach.proofs.open.Goals as goal
 
 pub loop-i-init : goal.loop-i-init
 loop-i-init c = opening_start _ _ _ _ _ _ _ _ c.requires
 
-pub begins_with-requires : goal.begins_with-requires
-begins_with-requires c = c.requires.ready.accepted
-
-pub overflow_add-i : goal.overflow_add-i
-overflow_add-i c =
-    omega (
-      arith,
-      c.loop-i-test.true,
-      (accepted_fits _
-          c.requires.ready.accepted).input.most,
-    )
-
-pub loop-i-smaller-then-not-begins_with : goal.loop-i-smaller-then-not-begins_with
-loop-i-smaller-then-not-begins_with c = omega (arith, c.loop-i-test.true)
-
 pub loop-i-preserved-then-not-begins_with : goal.loop-i-preserved-then-not-begins_with
 loop-i-preserved-then-not-begins_with c =
     opening_skip _ _ _ _ _ _ _ _ c.requires _ _ _ _ _ c.loop-i.invariant
-    c.loop-i-test.true c.begins_with.ensures c.if-not-begins_with.true-raw
-
-pub start-requires : goal.start-requires
-start-requires c =
-    (c.requires.ready, c.loop-i-test.true)
+    c.loop-i-test.true c.begins_with.ensures c.if-not-begins_with.true
 
 pub returns-then-s-eq65535 : goal.returns-then-s-eq65535
 returns-then-s-eq65535 c =
     opening_bad _ _ _ _ _ _ _ _ c.requires _ _ _ _ _
     c.loop-i.invariant c.loop-i-test.true
-    c.begins_with.ensures c.if-not-begins_with.false-raw _
-    (c.wide-s.ensures.0 ∙ c.start.ensures) c.if-s-eq65535.true
+    c.begins_with.ensures c.if-not-begins_with.false _
+    (c.from-s.ensures ∙ c.start.ensures) c.if-s-eq65535.true
 
 pub visit-found-requires : goal.visit-found-requires
 visit-found-requires c =
     opening_fits _ _ _ _ _ _ _ _ c.requires _ _ _ _ _
     c.loop-i.invariant
-
-pub overflow_add-i-in-loop-i : goal.overflow_add-i-in-loop-i
-overflow_add-i-in-loop-i c =
-    omega (
-      arith,
-      c.loop-i-test.true,
-      (accepted_fits _
-          c.requires.ready.accepted).input.most,
-    )
-
-pub loop-i-smaller : goal.loop-i-smaller
-loop-i-smaller c =
-    omega (arith, c.loop-i-test.true)
 
 pub loop-i-preserved : goal.loop-i-preserved
 loop-i-preserved c =
@@ -64,8 +30,8 @@ loop-i-preserved c =
     c.loop-i.invariant
     c.loop-i-test.true
     c.begins_with.ensures
-    c.if-not-begins_with.false-raw _
-    (c.wide-s.ensures.0 ∙ c.start.ensures)
+    c.if-not-begins_with.false _
+    (c.from-s.ensures ∙ c.start.ensures)
     c.if-s-eq65535.false _ _ _ _ c.visit-found.ensures
 
 pub returns : goal.returns

@@ -1,10 +1,6 @@
 -- `open` meets its contract.
-use Prim.Native.Nat.{◌-◌}
 use Rattle.checker_reach.proofs.Opening.{Opening}
 use Rattle.checker_reach.proofs.open.Given as goal
 
 abbrev pub invariant-loop-i : goal.invariant-loop-i
 invariant-loop-i l = Opening l.g l.places l.table l.mark l.queue l.from l.found l.i
-
-abbrev pub decreases-loop-i : goal.decreases-loop-i
-decreases-loop-i l = l.g.input.states - l.i

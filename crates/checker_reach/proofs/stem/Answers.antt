@@ -3,9 +3,6 @@ use Rattle.checker_reach.proofs.Gaps.{stem_made}
 use native.Mathlib.Omega.{arith}
 use Rattle.checker_reach.proofs.stem.Goals as goal
 
-pub chain-first-requires : goal.chain-first-requires
-chain-first-requires c = let P = c.requires in (P.place, P.finders, P.way_long)
-
 pub copy-requires : goal.copy-requires
 copy-requires c =
     let W = c.chain-first.ensures in (
@@ -14,13 +11,6 @@ copy-requires c =
       omega
           (arith, c.requires.room_long),
     )
-
-pub overflow_sub-result : goal.overflow_sub-result
-overflow_sub-result c =
-    omega (arith, c.chain-first.ensures.some)
-
-pub shape_of-room : goal.shape_of-room
-shape_of-room c = c.copy.ensures.long
 
 pub returns : goal.returns
 returns c =

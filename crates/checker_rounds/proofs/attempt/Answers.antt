@@ -1,7 +1,7 @@
 -- `attempt` meets its contract.
-use Rattle.checker_rounds.proofs.Attempts.{pivot_start, pivot_legs, pivot_next, pivot_falls, alone_fits, held, missed_fits, closing_fits, attempt_alone, attempt_missed, attempt_round, fits_same, tried_same}
+use Rattle.checker_rounds.proofs.Attempts.{pivot_start, pivot_legs, pivot_next, pivot_falls, alone_fits, held, missed_fits}
+use Rattle.checker_rounds.proofs.Attempts.{closing_some, closing_fits, attempt_alone, attempt_missed, attempt_round, fits_same, tried_same}
 use mathlib.Core.Path.{refl}
-use native.Mathlib.Omega.{arith}
 use Rattle.checker_rounds.proofs.attempt.Goals as goal
 
 pub reach-found-requires : goal.reach-found-requires
@@ -9,14 +9,6 @@ reach-found-requires c = let F = c.requires in (F.grid, F.sized, F.held, F.below
 
 pub loop-mark-init : goal.loop-mark-init
 loop-mark-init c = (refl, pivot_start _ _ _ _ _ _ _ _ _ _ _ _ _ c.requires _ _ _ _ c.reach-found.ensures)
-
-pub bounds-mark-pivot : goal.bounds-mark-pivot
-bounds-mark-pivot c =
-    omega (arith, c.loop-mark.invariant.1.below, c.requires.grid.places)
-
-pub overflow_cast-walk : goal.overflow_cast-walk
-overflow_cast-walk c =
-    omega (arith, c.loop-mark.invariant.1.below, c.requires.grid.places)
 
 pub legs-l-requires : goal.legs-l-requires
 legs-l-requires c =
@@ -32,22 +24,22 @@ cut-requires c =
     c.loop-mark.invariant.1 _ _ _ _ _ _
     c.legs-l.ensures
 
-pub returns-then-l : goal.returns-then-l
-returns-then-l c =
+pub returns-in_default : goal.returns-in_default
+returns-in_default c =
     tried_same c.loop-mark.invariant.0
     (attempt_missed _ _ _ _ _ _ _ _ _ _ _ _ _ (fits_same
     c.loop-mark.invariant.0
     c.requires) _ _ _ _ _ _ _
     c.loop-mark.invariant.1 _ _ _ _ _ _
-    c.legs-l.ensures c.if-l.true _ c.cut.ensures)
+    c.legs-l.ensures c.in_default.is _ c.cut.ensures)
 
-pub bounds-mark-pivot-in-loop-mark : goal.bounds-mark-pivot-in-loop-mark
-bounds-mark-pivot-in-loop-mark c =
-    omega
-    (arith, c.loop-mark.invariant.1.below, c.requires.grid.places)
+pub unwrap-k-requires : goal.unwrap-k-requires
+unwrap-k-requires c =
+    closing_some _ _ _ _ _ _ _ _ _ _ _ _ _ (fits_same c.loop-mark.invariant.0 c.requires) _ _ _ _ _ _ _ c.loop-mark.invariant.1 _ _ _ _ _ _
+    c.legs-l.ensures _ c.in-Some.is c.if-mark-pivot-eq1.true _ c.first_at.ensures
 
-pub first_at-k-requires : goal.first_at-k-requires
-first_at-k-requires c =
+pub first_at-requires : goal.first_at-requires
+first_at-requires c =
     (held _ _ _ _ _ _ _ _ _ _ _ _ _ (fits_same
     c.loop-mark.invariant.0
     c.requires) _ _ _ _ _ _ _
@@ -56,16 +48,18 @@ first_at-k-requires c =
 
 pub leg-round-requires : goal.leg-round-requires
 leg-round-requires c =
+    let A = rw c.unwrap-k.ensures at c.first_at.ensures in
     closing_fits _ _ _ _ _ _ _ _ _ _ _ _ _ (fits_same
     c.loop-mark.invariant.0
     c.requires) _ _ _ _ _ _ _
     c.loop-mark.invariant.1 _ _ _ _ _ _
     c.legs-l.ensures
-    c.if-l.false c.if-mark-pivot-eq1.true _
-    c.first_at-k.ensures
+    _ c.in-Some.is c.if-mark-pivot-eq1.true _
+    A
 
 pub returns-then-mark-pivot-eq1 : goal.returns-then-mark-pivot-eq1
 returns-then-mark-pivot-eq1 c =
+    let A = rw c.unwrap-k.ensures at c.first_at.ensures in
     tried_same
     c.loop-mark.invariant.0
     (attempt_round _ _ _ _ _ _ _ _ _ _ _ _ _ (fits_same
@@ -73,8 +67,8 @@ returns-then-mark-pivot-eq1 c =
     c.requires) _ _ _ _ _ _ _
     c.loop-mark.invariant.1 _ _ _ _ _ _
     c.legs-l.ensures
-    c.if-l.false
-    c.if-mark-pivot-eq1.true _ c.first_at-k.ensures _ _ _
+    _ c.in-Some.is
+    c.if-mark-pivot-eq1.true _ A _ _ _
     c.leg-round.ensures)
 
 pub loop-mark-smaller : goal.loop-mark-smaller
@@ -83,7 +77,7 @@ loop-mark-smaller c =
     c.loop-mark.invariant.0
     c.requires) _ _ _ _ _ _ _
     c.loop-mark.invariant.1 _ _ _ _ _ _
-    c.legs-l.ensures c.if-l.false
+    c.legs-l.ensures _ c.in-Some.is
     c.loop-mark-test.true c.if-mark-pivot-eq1.false
 
 pub loop-mark-preserved : goal.loop-mark-preserved
@@ -93,7 +87,7 @@ loop-mark-preserved c = (
       (fits_same c.loop-mark.invariant.0
       c.requires) _ _ _ _ _ _ _
       c.loop-mark.invariant.1 _ _ _ _ _ _
-      c.legs-l.ensures c.if-l.false,
+      c.legs-l.ensures _ c.in-Some.is,
 )
 
 pub cut-requires-2 : goal.cut-requires-2

@@ -1,10 +1,6 @@
 -- `cut` meets its contract.
-use Prim.Native.Nat.{◌-◌}
 use Rattle.checker_rounds.proofs.Cuts.{Cutting}
 use Rattle.checker_rounds.proofs.cut.Given as goal
 
 abbrev pub invariant-loop-k : goal.invariant-loop-k
 invariant-loop-k l = Cutting l.initial.kept l.queue l.n l.kept l.k
-
-abbrev pub decreases-loop-k : goal.decreases-loop-k
-decreases-loop-k l = l.n - l.k

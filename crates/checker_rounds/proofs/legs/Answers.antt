@@ -8,35 +8,29 @@ use Rattle.checker_rounds.proofs.legs.Goals as goal
 pub loop-j-init : goal.loop-j-init
 loop-j-init c = going_start c.requires
 
-pub offset_bounds-q-j : goal.offset_bounds-q-j
-offset_bounds-q-j c = omega (arith, c.requires.few)
-
-pub bounds-q-j : goal.bounds-q-j
-bounds-q-j c = omega (arith, c.requires.few)
-
-pub first_in-k-requires : goal.first_in-k-requires
-first_in-k-requires c =
+pub first_in-requires : goal.first_in-requires
+first_in-requires c =
     let P = c.requires in
     (P.grid.some, P.grid.few, going_found P c.loop-j.invariant)
 
-pub returns-then-k-found : goal.returns-then-k-found
-returns-then-k-found c =
-    going_missed c.requires c.loop-j.invariant c.loop-j-test.true refl c.first_in-k.ensures c.if-k-found.true
+pub returns-in_default : goal.returns-in_default
+returns-in_default c =
+    going_missed c.requires c.loop-j.invariant c.loop-j-test.true refl c.in_default.ensures
 
 pub leg-length-requires : goal.leg-length-requires
 leg-length-requires c =
-    going_leg c.requires c.loop-j.invariant c.loop-j-test.true refl c.first_in-k.ensures c.if-k-found.false
+    going_leg c.requires c.loop-j.invariant c.loop-j-test.true refl c.in-Some.ensures
 
 pub offset_bounds-queue-k : goal.offset_bounds-queue-k
 offset_bounds-queue-k c =
     omega (
       arith,
-      (going_leg c.requires c.loop-j.invariant c.loop-j-test.true refl c.first_in-k.ensures c.if-k-found.false).place,
+      (going_leg c.requires c.loop-j.invariant c.loop-j-test.true refl c.in-Some.ensures).place,
     )
 
 pub bounds-queue-k : goal.bounds-queue-k
 bounds-queue-k c =
-    (going_leg c.requires c.loop-j.invariant c.loop-j-test.true refl c.first_in-k.ensures c.if-k-found.false).place
+    (going_leg c.requires c.loop-j.invariant c.loop-j-test.true refl c.in-Some.ensures).place
 
 pub reach-found-requires : goal.reach-found-requires
 reach-found-requires c =
@@ -47,19 +41,15 @@ reach-found-requires c =
       reach_held _ _ _ _ _ _ _ _ _ _ P.grid R,
       omega (
         arith,
-        c.wide-end.ensures,
-        going_below P c.loop-j.invariant c.loop-j-test.true refl c.first_in-k.ensures c.if-k-found.false,
+        c.from-end.ensures,
+        going_below P c.loop-j.invariant c.loop-j-test.true refl c.in-Some.ensures,
       ),
     )
 
-pub overflow_add-j : goal.overflow_add-j
-overflow_add-j c =
-    omega (arith, c.requires.few)
-
 pub loop-j-preserved : goal.loop-j-preserved
 loop-j-preserved c =
-    going_next c.requires c.loop-j.invariant c.loop-j-test.true refl c.first_in-k.ensures c.if-k-found.false c.leg-length.ensures
-    c.wide-end.ensures.0 c.reach-found.ensures
+    going_next c.requires c.loop-j.invariant c.loop-j-test.true refl c.in-Some.ensures c.leg-length.ensures
+    c.from-end.ensures c.reach-found.ensures
 
 pub returns : goal.returns
 returns c = going_end c.requires c.loop-j.invariant c.loop-j-test.false

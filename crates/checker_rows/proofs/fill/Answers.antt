@@ -63,10 +63,6 @@ pub bounds-to-r : goal.bounds-to-r
 bounds-to-r c =
     omega (arith, row_below _ _ _ c.requires.0 _ _ c.requires.1 c.loop-r-test.true, few _ _ _ c.requires.0)
 
-pub overflow_add-r : goal.overflow_add-r
-overflow_add-r c =
-    omega (arith, row_below _ _ _ c.requires.0 _ _ c.requires.1 c.loop-r-test.true, few _ _ _ c.requires.0)
-
 pub loop-r-preserved : goal.loop-r-preserved
 loop-r-preserved c =
     let b = row_below _ _ _ c.requires.0 _ _ c.requires.1 c.loop-r-test.true in (

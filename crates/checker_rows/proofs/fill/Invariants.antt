@@ -5,6 +5,3 @@ use Rattle.checker_rows.proofs.fill.Given as goal
 
 abbrev pub invariant-loop-r : goal.invariant-loop-r
 invariant-loop-r l = (l.r ≤ l.places) × Filled l.g l.table l.to l.r
-
-abbrev pub decreases-loop-r : goal.decreases-loop-r
-decreases-loop-r l = l.places - l.r

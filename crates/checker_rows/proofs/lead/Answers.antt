@@ -7,7 +7,7 @@ pub overflow_mul-result : goal.overflow_mul-result
 overflow_mul-result c =
     omega (
       arith,
-      (lead_parts _ _ _ _ _ _ c.arrive.ensures _ c.in-At.is
+      (lead_parts _ _ _ _ _ _ c.arrive.ensures _ c.in-Ok.is
           c.requires.0 c.requires.1).0,
     )
 
@@ -15,24 +15,24 @@ pub overflow_add-result : goal.overflow_add-result
 overflow_add-result c =
     omega (
       arith,
-      (lead_parts _ _ _ _ _ _ c.arrive.ensures _ c.in-At.is
+      (lead_parts _ _ _ _ _ _ c.arrive.ensures _ c.in-Ok.is
           c.requires.0 c.requires.1).1,
     )
 
-pub overflow_mul-result-in-At : goal.overflow_mul-result-in-At
-overflow_mul-result-in-At c =
+pub overflow_mul-result-in-Ok : goal.overflow_mul-result-in-Ok
+overflow_mul-result-in-Ok c =
     omega (
       arith,
-      (lead_parts _ _ _ _ _ _ c.arrive.ensures _ c.in-At.is
+      (lead_parts _ _ _ _ _ _ c.arrive.ensures _ c.in-Ok.is
           c.requires.0 c.requires.1).2,
     )
 
-pub overflow_add-result-in-At : goal.overflow_add-result-in-At
-overflow_add-result-in-At c =
+pub overflow_add-result-in-Ok : goal.overflow_add-result-in-Ok
+overflow_add-result-in-Ok c =
     omega (
       arith,
       (lead_parts _ _ _ _ _ _ c.arrive.ensures _
-          c.in-At.is c.requires.0
+          c.in-Ok.is c.requires.0
           c.requires.1).3,
     )
 
@@ -41,13 +41,13 @@ overflow_cast-result c =
     omega (
       arith,
       (lead_parts _ _ _ _ _ _ c.arrive.ensures _
-          c.in-At.is c.requires.0
+          c.in-Ok.is c.requires.0
           c.requires.1).3,
     )
 
-pub returns-in-At : goal.returns-in-At
-returns-in-At c =
-    lead_at _ _ _ _ _ _ c.arrive.ensures _ c.in-At.is
+pub returns-in-Ok : goal.returns-in-Ok
+returns-in-Ok c =
+    lead_at _ _ _ _ _ _ c.arrive.ensures _ c.in-Ok.is
 
-pub returns-in-Refused : goal.returns-in-Refused
-returns-in-Refused c = lead_refused _ _ _ _ _ _ c.arrive.ensures _ c.in-Refused.is
+pub returns-in-Err : goal.returns-in-Err
+returns-in-Err c = lead_refused _ _ _ _ _ _ c.arrive.ensures _ c.in-Err.is

@@ -3,29 +3,14 @@ use Rattle.checker_search.proofs.Ways.{chaining_start, chaining_finder, chaining
 use native.Mathlib.Omega.{arith}
 use Rattle.checker_search.proofs.chain.Goals as goal
 
-pub offset_bounds-queue-k : goal.offset_bounds-queue-k
-offset_bounds-queue-k c = omega (arith, c.requires.0)
-
-pub bounds-queue-k : goal.bounds-queue-k
-bounds-queue-k c = c.requires.0
-
 pub loop-k-init : goal.loop-k-init
 loop-k-init c = chaining_start _ _ _ c.args.out.now c.requires.0 c.requires.2
-
-pub offset_bounds-from-k : goal.offset_bounds-from-k
-offset_bounds-from-k c = omega (arith, c.loop-k.invariant.room, c.loop-k.invariant.some)
-
-pub bounds-from-k : goal.bounds-from-k
-bounds-from-k c = omega (arith, c.loop-k.invariant.room, c.loop-k.invariant.some)
 
 pub offset_bounds-from-k-in-loop-k : goal.offset_bounds-from-k-in-loop-k
 offset_bounds-from-k-in-loop-k c = let I = c.loop-k.invariant in omega (arith, I.room, I.some)
 
 pub bounds-from-k-in-loop-k : goal.bounds-from-k-in-loop-k
 bounds-from-k-in-loop-k c = let I = c.loop-k.invariant in omega (arith, I.room, I.some)
-
-pub overflow_sub-k : goal.overflow_sub-k
-overflow_sub-k c = omega (arith, c.wide-k.ensures, c.loop-k-test.true)
 
 pub overflow_sub-i : goal.overflow_sub-i
 overflow_sub-i c =
@@ -36,31 +21,22 @@ overflow_sub-i c =
           c.requires.1 c.loop-k-test.true,
     )
 
-pub offset_bounds-queue-k-in-loop-k : goal.offset_bounds-queue-k-in-loop-k
-offset_bounds-queue-k-in-loop-k c = omega (arith, c.wide-k.ensures)
-
 pub bounds-queue-k-in-loop-k : goal.bounds-queue-k-in-loop-k
 bounds-queue-k-in-loop-k c =
     let I = c.loop-k.invariant in omega (
       arith,
       I.room,
       I.some,
-      c.wide-k.ensures,
+      c.from-k.ensures,
       chaining_finder _ _ _ _ _ _ I
           c.requires.1 c.loop-k-test.true,
     )
-
-pub offset_bounds-out-i-in-loop-k : goal.offset_bounds-out-i-in-loop-k
-offset_bounds-out-i-in-loop-k c = omega (arith, c.loop-k.invariant.some)
-
-pub bounds-out-i-in-loop-k : goal.bounds-out-i-in-loop-k
-bounds-out-i-in-loop-k c = omega (arith, c.loop-k.invariant.some)
 
 pub loop-k-smaller : goal.loop-k-smaller
 loop-k-smaller c =
     let I = c.loop-k.invariant in omega (
       arith,
-      c.wide-k.ensures,
+      c.from-k.ensures,
       chaining_finder _ _ _ _ _ _ I
           c.requires.1 c.loop-k-test.true,
     )
@@ -68,7 +44,7 @@ loop-k-smaller c =
 pub loop-k-preserved : goal.loop-k-preserved
 loop-k-preserved c =
     chaining_on _ _ _ _ _ _ c.loop-k.invariant c.requires.1
-    c.loop-k-test.true _ c.wide-k.ensures.0
+    c.loop-k-test.true _ c.from-k.ensures
 
 pub returns : goal.returns
 returns c = chaining_end _ _ _ _ _ _ c.loop-k.invariant c.requires.1 c.loop-k-test.false

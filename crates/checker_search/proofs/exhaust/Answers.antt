@@ -29,20 +29,11 @@ spread-found-requires c = (
       c.loop-a.invariant c.loop-a-test.true,
   omega (
     arith,
-    c.wide-c.ensures,
+    c.from-c.ensures,
     c.loop-a.invariant.grown.queued.below _
         c.loop-a-test.true,
   ),
 )
-
-pub overflow_add-a-in-loop-a : goal.overflow_add-a-in-loop-a
-overflow_add-a-in-loop-a c =
-    omega (
-      arith,
-      exhausting_short _ _ _ _ _ _ _ _ _ _ _ _ _ _
-          c.loop-a.invariant,
-      c.loop-a.invariant.grown.queued.places,
-    )
 
 pub loop-a-smaller : goal.loop-a-smaller
 loop-a-smaller c =
@@ -56,7 +47,7 @@ loop-a-smaller c =
 pub loop-a-preserved : goal.loop-a-preserved
 loop-a-preserved c =
     exhausting_next _ _ _ _ _ _ _ _ _ _ _ _ _ _ c.loop-a.invariant
-    c.loop-a-test.true _ c.wide-c.ensures.0 _ _ _ _ c.spread-found.ensures
+    c.loop-a-test.true _ c.from-c.ensures _ _ _ _ c.spread-found.ensures
 
 pub returns : goal.returns
 returns c = exhausting_end _ _ _ _ _ _ _ _ _ _ _ _ _ _ c.loop-a.invariant c.loop-a-test.false

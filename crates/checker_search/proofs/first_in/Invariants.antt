@@ -1,5 +1,5 @@
 -- `first_in` meets its contract.
-use Prim.Native.Nat.{ℕ, ◌-◌, ◌%◌, ◌≤◌, ◌<◌}
+use Prim.Native.Nat.{ℕ, ◌%◌, ◌≤◌, ◌<◌}
 use Rattle.bits.specs.Member.{has}
 use Rattle.sets.specs.Words.{bits_of}
 use lib.ListN.{get_or}
@@ -9,6 +9,3 @@ use Rattle.checker_search.proofs.first_in.Given as goal
 
 abbrev pub invariant-loop-k : goal.invariant-loop-k
 invariant-loop-k l = (l.k ≤ l.n) × ((i : ℕ) → i < l.k → has (bits_of l.x) (get_or l.queue i 0 % l.inputs) ≡ false)
-
-abbrev pub decreases-loop-k : goal.decreases-loop-k
-decreases-loop-k l = l.n - l.k

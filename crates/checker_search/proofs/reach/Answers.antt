@@ -2,9 +2,6 @@
 use Rattle.checker_search.proofs.Grow.{reach_fits, reach_end}
 use Rattle.checker_search.proofs.reach.Goals as goal
 
-pub unmark-requires : goal.unmark-requires
-unmark-requires c = c.requires.2
-
 pub spread-first-requires : goal.spread-first-requires
 spread-first-requires c = (
   c.requires.0,
@@ -12,10 +9,6 @@ spread-first-requires c = (
       c.unmark.ensures,
   c.requires.3,
 )
-
-pub exhaust-requires : goal.exhaust-requires
-exhaust-requires c =
-    (c.requires.0, c.spread-first.ensures.grown.queued)
 
 pub returns : goal.returns
 returns c =

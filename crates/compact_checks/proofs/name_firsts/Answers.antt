@@ -31,9 +31,6 @@ pub mark-requires : goal.mark-requires
 mark-requires c =
     (c.requires.2, omega (arith, c.requires.3, (accepted_fits _ c.requires.0).input.most), c.loop-j.invariant.2.long)
 
-pub overflow_add-j : goal.overflow_add-j
-overflow_add-j c = omega (arith, c.loop-j-test.true)
-
 pub loop-j-smaller : goal.loop-j-smaller
 loop-j-smaller c = omega (arith, c.loop-j-test.true)
 

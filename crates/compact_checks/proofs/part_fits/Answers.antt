@@ -1,5 +1,4 @@
 -- `part_fits` goes through the row numbers.
-use mathlib.Core.Bool.{true}
 use native.Mathlib.Omega.{arith}
 use Rattle.finite.proofs.Loops.{failed, passed}
 use Rattle.compact_rows.proofs.Copying.{row_last}
@@ -24,9 +23,6 @@ row_fits-requires c =
 
 pub returns-then-not-row_fits : goal.returns-then-not-row_fits
 returns-then-not-row_fits c = part_stop _ _ _ _ _ _ _ c.loop-x-test.true (failed c.row_fits.ensures c.if-not-row_fits.true-raw)
-
-pub overflow_add-x : goal.overflow_add-x
-overflow_add-x c = omega (arith, c.loop-x-test.true)
 
 pub loop-x-smaller : goal.loop-x-smaller
 loop-x-smaller c = omega (arith, c.loop-x-test.true)

@@ -1,5 +1,5 @@
 -- `part_fits` goes through the row numbers.
-use Prim.Native.Nat.{◌≤◌, ◌-◌}
+use Prim.Native.Nat.{◌≤◌}
 use mathlib.Core.Path.{◌≡◌}
 use mathlib.Core.Bool.{true}
 use Rattle.compact_checks.specs.Parts.{part_fits}
@@ -7,6 +7,3 @@ use Rattle.compact_checks.proofs.part_fits.Given as goal
 
 abbrev pub invariant-loop-x : goal.invariant-loop-x
 invariant-loop-x l = (l.x ≤ l.rows) × (part_fits l.table l.firsts l.inputs l.x l.part l.count ≡ true)
-
-abbrev pub decreases-loop-x : goal.decreases-loop-x
-decreases-loop-x l = l.rows - l.x

@@ -5,7 +5,6 @@ use mathlib.Core.Logic.{⊎_elim, inl, inr}
 use native.Mathlib.Omega.{arith}
 use Rattle.finite.proofs.Loops.{failed, passed}
 use Rattle.game.proofs.Laws.{accepted_fits}
-use Rattle.theory.specs.Entries.{controller_counters}
 use Rattle.table_sizes.proofs.Lengths.{controller_rows}
 use Rattle.compact_checks.proofs.Game.{firsts_below, rows_long, parts_none, parts_next, parts_stop, parts_end}
 use Rattle.compact_checks.proofs.parts_fit.Goals as goal

@@ -26,19 +26,15 @@ bounds-table-row c =
 
 pub overflow_add-row-in-loop-k-2 : goal.overflow_add-row-in-loop-k-2
 overflow_add-row-in-loop-k-2 c =
-    omega (arith, c.wide-s.ensures, c.requires.2 c.loop-k.k c.loop-k-test.true)
+    omega (arith, c.from-s.ensures, c.requires.2 c.loop-k.k c.loop-k-test.true)
 
 pub offset_bounds-table-row-in-loop-k : goal.offset_bounds-table-row-in-loop-k
 offset_bounds-table-row-in-loop-k c =
-    omega (arith, c.wide-s.ensures, c.requires.2 c.loop-k.k c.loop-k-test.true)
+    omega (arith, c.from-s.ensures, c.requires.2 c.loop-k.k c.loop-k-test.true)
 
 pub bounds-table-row-in-loop-k : goal.bounds-table-row-in-loop-k
 bounds-table-row-in-loop-k c =
-    omega (arith, c.wide-s.ensures, c.requires.2 c.loop-k.k c.loop-k-test.true)
-
-pub overflow_add-k : goal.overflow_add-k
-overflow_add-k c =
-    omega (arith, c.loop-k-test.true)
+    omega (arith, c.from-s.ensures, c.requires.2 c.loop-k.k c.loop-k-test.true)
 
 pub loop-k-smaller : goal.loop-k-smaller
 loop-k-smaller c =
@@ -49,8 +45,8 @@ loop-k-preserved c =
     let l = c.loop-k in (
       omega (arith, c.loop-k-test.true),
       elim c.if-table-row.branch [
-        | then-table-row t ↦ t.same-is ∙ row_other _ _ _ _ l.k c.wide-s.ensures t.if-table-row.true
-        | else-table-row t ↦ t.same-is ∙ row_same _ _ _ _ l.k c.wide-s.ensures t.if-table-row.false l.invariant.1
+        | then-table-row t ↦ t.same-is ∙ row_other _ _ _ _ l.k c.from-s.ensures t.if-table-row.true
+        | else-table-row t ↦ t.same-is ∙ row_same _ _ _ _ l.k c.from-s.ensures t.if-table-row.false l.invariant.1
       ],
     )
 

@@ -1,10 +1,13 @@
 -- `to_compact`.
 use mathlib.Core.Path.{sym, ◌∙◌}
+use Rattle.std.proofs.lemmas.Result.{err_from_is_err_and}
 use Rattle.compact_moves.proofs.Answers.{over_faulty}
 use Rattle.compact_moves.proofs.to_compact.Goals as goal
 
 pub over_accepted-requires : goal.over_accepted-requires
-over_accepted-requires c = sym c.accept-accepted.ensures.answer ∙ c.in-Accepted.is
+over_accepted-requires c = sym c.accept.ensures.answer ∙ c.in_ok-accept.was
 
-pub returns-in-Refused : goal.returns-in-Refused
-returns-in-Refused c = over_faulty _ _ _ _ (sym c.accept-accepted.ensures.answer ∙ c.in-Refused.is)
+pub returns-in_err-accept : goal.returns-in_err-accept
+returns-in_err-accept c =
+    let p = err_from_is_err_and c.from_residual.result c.from_residual.ensures.1 in
+    rw (p.1, p.2) (over_faulty _ _ _ _ (sym c.accept.ensures.answer ∙ c.in_err-accept.was))

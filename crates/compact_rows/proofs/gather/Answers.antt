@@ -19,15 +19,15 @@ bounds-table-inputs c =
 
 pub overflow_add-room : goal.overflow_add-room
 overflow_add-room c =
-    omega (arith, c.wide-c.ensures, c.requires.cells c.loop-j.j c.loop-j-test.true)
+    omega (arith, c.from-c.ensures, c.requires.cells c.loop-j.j c.loop-j-test.true)
 
 pub offset_bounds-table-from : goal.offset_bounds-table-from
 offset_bounds-table-from c =
-    omega (arith, c.wide-c.ensures, c.requires.cells c.loop-j.j c.loop-j-test.true)
+    omega (arith, c.from-c.ensures, c.requires.cells c.loop-j.j c.loop-j-test.true)
 
 pub bounds-table-from : goal.bounds-table-from
 bounds-table-from c =
-    omega (arith, c.wide-c.ensures, c.requires.cells c.loop-j.j c.loop-j-test.true)
+    omega (arith, c.from-c.ensures, c.requires.cells c.loop-j.j c.loop-j-test.true)
 
 pub overflow_add-room-in-loop-j : goal.overflow_add-room-in-loop-j
 overflow_add-room-in-loop-j c =
@@ -41,9 +41,6 @@ pub bounds-room-at : goal.bounds-room-at
 bounds-room-at c =
     omega (arith, c.requires.room, c.loop-j.invariant.1.long)
 
-pub overflow_add-j : goal.overflow_add-j
-overflow_add-j c = omega (arith, c.loop-j-test.true)
-
 pub loop-j-smaller : goal.loop-j-smaller
 loop-j-smaller c = omega (arith, c.loop-j-test.true)
 
@@ -51,7 +48,7 @@ pub loop-j-preserved : goal.loop-j-preserved
 loop-j-preserved c = (
   omega (arith, c.loop-j-test.true),
   gathered_next _ _ _ _ c.loop-j.j c.loop-j-test.true (omega (arith, c.requires.room, c.loop-j.invariant.1.long))
-      c.wide-c.ensures refl c.loop-j.invariant.1,
+      c.from-c.ensures refl c.loop-j.invariant.1,
 )
 
 pub shape_of-room : goal.shape_of-room

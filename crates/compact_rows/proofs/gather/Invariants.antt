@@ -5,6 +5,3 @@ use Rattle.compact_rows.proofs.gather.Given as goal
 
 abbrev pub invariant-loop-j : goal.invariant-loop-j
 invariant-loop-j l = (l.j ≤ l.inputs) × Gathered l.table l.inputs l.from l.at l.j l.initial.room l.room
-
-abbrev pub decreases-loop-j : goal.decreases-loop-j
-decreases-loop-j l = l.inputs - l.j

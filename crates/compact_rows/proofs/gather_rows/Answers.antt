@@ -32,9 +32,6 @@ pub gather-requires : goal.gather-requires
 gather-requires c =
     gather_fits _ _ _ _ _ _ _ c.requires c.loop-x-test.true c.loop-x.invariant.1.long
 
-pub overflow_add-x : goal.overflow_add-x
-overflow_add-x c = omega (arith, c.loop-x-test.true)
-
 pub loop-x-smaller : goal.loop-x-smaller
 loop-x-smaller c = omega (arith, c.loop-x-test.true)
 

@@ -5,6 +5,3 @@ use Rattle.compact_rows.proofs.gather_rows.Given as goal
 
 abbrev pub invariant-loop-x : goal.invariant-loop-x
 invariant-loop-x l = (l.x ≤ l.rows) × GatheredRows l.table l.inputs l.components l.rows l.x l.initial.room l.room
-
-abbrev pub decreases-loop-x : goal.decreases-loop-x
-decreases-loop-x l = l.rows - l.x

@@ -20,17 +20,17 @@ bounds-room-at c =
 pub overflow_add-room : goal.overflow_add-room
 overflow_add-room c =
     let i = c.loop-c in
-    omega (arith, c.requires.table i.c c.loop-c-test.true, input_stays _ _ _ _ _ _ c.requires c.loop-c-test.true i.invariant.1, c.wide-j.ensures)
+    omega (arith, c.requires.table i.c c.loop-c-test.true, input_stays _ _ _ _ _ _ c.requires c.loop-c-test.true i.invariant.1, c.from-j.ensures)
 
 pub offset_bounds-table-from : goal.offset_bounds-table-from
 offset_bounds-table-from c =
     let i = c.loop-c in
-    omega (arith, c.requires.table i.c c.loop-c-test.true, input_stays _ _ _ _ _ _ c.requires c.loop-c-test.true i.invariant.1, c.wide-j.ensures)
+    omega (arith, c.requires.table i.c c.loop-c-test.true, input_stays _ _ _ _ _ _ c.requires c.loop-c-test.true i.invariant.1, c.from-j.ensures)
 
 pub bounds-table-from : goal.bounds-table-from
 bounds-table-from c =
     let i = c.loop-c in
-    omega (arith, c.requires.table i.c c.loop-c-test.true, input_stays _ _ _ _ _ _ c.requires c.loop-c-test.true i.invariant.1, c.wide-j.ensures)
+    omega (arith, c.requires.table i.c c.loop-c-test.true, input_stays _ _ _ _ _ _ c.requires c.loop-c-test.true i.invariant.1, c.from-j.ensures)
 
 pub overflow_add-room-in-loop-c : goal.overflow_add-room-in-loop-c
 overflow_add-room-in-loop-c c =
@@ -44,16 +44,13 @@ pub bounds-room-cells : goal.bounds-room-cells
 bounds-room-cells c =
     omega (arith, c.requires.room, c.loop-c.invariant.1.long, c.loop-c-test.true)
 
-pub overflow_add-c : goal.overflow_add-c
-overflow_add-c c = omega (arith, c.loop-c-test.true)
-
 pub loop-c-smaller : goal.loop-c-smaller
 loop-c-smaller c = omega (arith, c.loop-c-test.true)
 
 pub loop-c-preserved : goal.loop-c-preserved
 loop-c-preserved c = (
   omega (arith, c.loop-c-test.true),
-  picked_next _ _ _ _ _ _ c.requires c.loop-c-test.true c.loop-c.invariant.1 c.wide-j.ensures refl,
+  picked_next _ _ _ _ _ _ c.requires c.loop-c-test.true c.loop-c.invariant.1 c.from-j.ensures refl,
 )
 
 pub shape_of-room : goal.shape_of-room

@@ -5,6 +5,3 @@ use Rattle.compact_rows.proofs.pick.Given as goal
 
 abbrev pub invariant-loop-c : goal.invariant-loop-c
 invariant-loop-c l = (l.c ≤ l.components) × Picked l.table l.from l.at l.cells l.c l.initial.room l.room
-
-abbrev pub decreases-loop-c : goal.decreases-loop-c
-decreases-loop-c l = l.components - l.c

@@ -24,18 +24,15 @@ overflow_cast-room c = omega (arith, c.requires.few)
 
 pub overflow_add-room : goal.overflow_add-room
 overflow_add-room c =
-    omega (arith, rank_in _ _ _ _ c.requires c.loop-j-test.true c.loop-j.invariant.1 c.wide-c.ensures)
+    omega (arith, rank_in _ _ _ _ c.requires c.loop-j-test.true c.loop-j.invariant.1 c.from-c.ensures)
 
 pub offset_bounds-room-at : goal.offset_bounds-room-at
 offset_bounds-room-at c =
-    omega (arith, rank_in _ _ _ _ c.requires c.loop-j-test.true c.loop-j.invariant.1 c.wide-c.ensures)
+    omega (arith, rank_in _ _ _ _ c.requires c.loop-j-test.true c.loop-j.invariant.1 c.from-c.ensures)
 
 pub bounds-room-at : goal.bounds-room-at
 bounds-room-at c =
-    rank_in _ _ _ _ c.requires c.loop-j-test.true c.loop-j.invariant.1 c.wide-c.ensures
-
-pub overflow_add-j : goal.overflow_add-j
-overflow_add-j c = omega (arith, c.loop-j-test.true)
+    rank_in _ _ _ _ c.requires c.loop-j-test.true c.loop-j.invariant.1 c.from-c.ensures
 
 pub loop-j-smaller : goal.loop-j-smaller
 loop-j-smaller c = omega (arith, c.loop-j-test.true)
@@ -43,7 +40,7 @@ loop-j-smaller c = omega (arith, c.loop-j-test.true)
 pub loop-j-preserved : goal.loop-j-preserved
 loop-j-preserved c = (
   omega (arith, c.loop-j-test.true),
-  represented_next _ _ _ _ c.requires c.loop-j-test.true c.loop-j.invariant.1 c.wide-c.ensures refl,
+  represented_next _ _ _ _ c.requires c.loop-j-test.true c.loop-j.invariant.1 c.from-c.ensures refl,
 )
 
 pub shape_of-room : goal.shape_of-room

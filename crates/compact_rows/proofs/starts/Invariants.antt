@@ -5,6 +5,3 @@ use Rattle.compact_rows.proofs.starts.Given as goal
 
 abbrev pub invariant-loop-i : goal.invariant-loop-i
 invariant-loop-i l = (l.i ≤ l.inputs) × Started l.table l.inputs l.i l.initial.room l.room
-
-abbrev pub decreases-loop-i : goal.decreases-loop-i
-decreases-loop-i l = l.inputs - l.i

@@ -17,7 +17,7 @@ overflow_add-inputs c = omega (arith, range_bounds _ _ _ _ _ (passed c.in_range.
 
 pub returns-then-c-components : goal.returns-then-c-components
 returns-then-c-components c =
-    none_rank _ _ _ _ _ _ _ (passed c.in_range.ensures c.if-not-in_range.false-raw) c.if-components-inputs.false (c.wide-c.ensures ∙ c.entry.ensures)
+    none_rank _ _ _ _ _ _ _ (passed c.in_range.ensures c.if-not-in_range.false-raw) c.if-components-inputs.false (c.from-c.ensures ∙ c.entry.ensures)
     c.if-c-components.true
 
 pub overflow_mul-o : goal.overflow_mul-o
@@ -51,5 +51,5 @@ overflow_add-inputs-3 c =
 
 pub returns : goal.returns
 returns c =
-    read_rank _ _ _ _ _ _ _ (passed c.in_range.ensures c.if-not-in_range.false-raw) c.if-components-inputs.false (c.wide-c.ensures ∙ c.entry.ensures)
+    read_rank _ _ _ _ _ _ _ (passed c.in_range.ensures c.if-not-in_range.false-raw) c.if-components-inputs.false (c.from-c.ensures ∙ c.entry.ensures)
     c.if-c-components.false c.entry-2.ensures

@@ -1,14 +1,9 @@
 -- `alike` visits the members of x.
-use Rattle.finite.specs.Bounded.{count}
-use Rattle.bits.specs.Member.{has}
 use Rattle.bits.proofs.Visit.{Collected}
 use Rattle.sets.specs.Words.{capacity, bits_of, sets_in}
 use Rattle.controller_homeward.specs.Homes.{alike_at}
 use Rattle.controller_homeward.proofs.alike.Given as goal
 
-abbrev pub invariant-loop-homes : goal.invariant-loop-homes
-invariant-loop-homes l =
-    Collected capacity (bits_of l.initial.rest) l.n (alike_at (sets_in l.s) l.n l.d.0 (bits_of l.homes.0)) (bits_of l.rest) (bits_of l.y)
-
-abbrev pub decreases-loop-homes : goal.decreases-loop-homes
-decreases-loop-homes l = count capacity (has (bits_of l.rest))
+abbrev pub invariant-loop-j : goal.invariant-loop-j
+invariant-loop-j l =
+    Collected capacity (bits_of l.initial.j-iterator.rest) l.n (alike_at (sets_in l.s) l.n l.d.0 (bits_of l.homes.0)) (bits_of l.j-iterator.rest) (bits_of l.y)

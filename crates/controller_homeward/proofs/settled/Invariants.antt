@@ -1,15 +1,11 @@
 -- `settled` collects the inputs whose lowest home in reach is d.
-use Rattle.finite.specs.Bounded.{count}
-use Rattle.bits.specs.Member.{has}
 use Rattle.bits.proofs.Visit.{Collected}
 use Rattle.sets.specs.Words.{capacity, bits_of, sets_in}
 use Rattle.scratch.specs.Stored.{row_at}
 use Rattle.controller_homeward.specs.Homes.{lowest_is}
 use Rattle.controller_homeward.proofs.settled.Given as goal
 
-abbrev pub invariant-loop-reach : goal.invariant-loop-reach
-invariant-loop-reach l =
-    Collected capacity (bits_of l.initial.rest) l.n (λ j. lowest_is (row_at (sets_in l.s) l.n j) (bits_of l.reach.0) l.d.0) (bits_of l.rest) (bits_of l.x)
-
-abbrev pub decreases-loop-reach : goal.decreases-loop-reach
-decreases-loop-reach l = count capacity (has (bits_of l.rest))
+abbrev pub invariant-loop-j : goal.invariant-loop-j
+invariant-loop-j l =
+    Collected capacity (bits_of l.initial.j-iterator.rest) l.n (λ j. lowest_is (row_at (sets_in l.s) l.n j) (bits_of l.reach.0) l.d.0)
+    (bits_of l.j-iterator.rest) (bits_of l.x)

@@ -9,6 +9,3 @@ use Rattle.controller_tour.proofs.seek_all.Given as goal
 abbrev pub invariant-loop-r : goal.invariant-loop-r
 invariant-loop-r l =
     (l.r ≤ l.g.k) × (l.g.k ≤ 8) × Upto guarantee_side l.g l.r l.n × Toured l.g l.y (bits_of l.component.0) (bits_of l.over.0) l.q.0 l.n l.initial.room l.room
-
-abbrev pub decreases-loop-r : goal.decreases-loop-r
-decreases-loop-r l = l.g.k - l.r

@@ -1,6 +1,5 @@
 -- `walked_rows` goes through the numbers of components.
 use native.Mathlib.Omega.{arith}
-use mathlib.Core.Bool.{false}
 use Rattle.graphs.specs.Component.{number}
 use Rattle.environment_table.proofs.Places.{filled_none, filled_join, filled_same, roomy_more, below_next}
 use Rattle.environment_table.proofs.Walked.{ahead_start, number_within}

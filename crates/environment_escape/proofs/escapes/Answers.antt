@@ -51,10 +51,6 @@ pub insert_if-touring-requires : goal.insert_if-touring-requires
 insert_if-touring-requires c =
     omega (arith, c.loop-o-test.true, c.requires.0.ready.fits.output.most)
 
-pub overflow_add-o : goal.overflow_add-o
-overflow_add-o c =
-    omega (arith, c.loop-o-test.true, c.requires.0.ready.fits.output.most)
-
 pub loop-o-preserved : goal.loop-o-preserved
 loop-o-preserved c =
     let pressed : let a = c.args in EscapeFits c.layout_of-z.result (sets_in a.ins.now) a.s.now (bits_of a.inner.0) (bits_of a.c.0) (bits_of c.leaving.result) a.first.0 c.loop-o.o (bits_of c.row_of.result) (length c.loop-o.room) = record {

@@ -1,6 +1,5 @@
 -- `none_rows` goes through the inputs.
 use native.Mathlib.Omega.{arith}
-use mathlib.Core.Bool.{true}
 use Rattle.environment_table.proofs.Places.{filled_none, filled_join, filled_same, roomy_more, below_next}
 use Rattle.environment_plain.proofs.none_rows.Goals as goal
 

@@ -1,5 +1,5 @@
 -- `none_rows` goes through the inputs.
-use Prim.Native.Nat.{◌<◌, ◌≤◌, ◌-◌}
+use Prim.Native.Nat.{◌<◌, ◌≤◌}
 use mathlib.Core.Path.{◌≡◌}
 use mathlib.Core.Bool.{true}
 use Rattle.play.specs.Play.{separated_of}
@@ -9,6 +9,3 @@ use Rattle.environment_plain.proofs.none_rows.Given as goal
 
 abbrev pub invariant-loop-i : goal.invariant-loop-i
 invariant-loop-i l = (l.i ≤ l.n) × EnvironmentFilled l.g (λ a h b. (a < l.i) × (region (separated_of l.g) a b ≡ true)) l.initial.room l.room
-
-abbrev pub decreases-loop-i : goal.decreases-loop-i
-decreases-loop-i l = l.n - l.i

@@ -5,7 +5,6 @@ use mathlib.Core.Path.{◌∙◌, ap}
 use mathlib.Core.List.{List}
 use lib.ListN.{get_or}
 use Rattle.sets.specs.Words.{sets_in}
-use mathlib.Core.Bool.{true, false}
 use Rattle.environment_table.proofs.Places.{filled_none, filled_same, roomy_more}
 use Rattle.environment_table.proofs.Known.{pushed_of, pushes_next}
 use Rattle.environment_plain.proofs.push_columns.Goals as goal

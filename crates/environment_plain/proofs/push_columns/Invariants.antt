@@ -1,5 +1,5 @@
 -- `push_columns` goes through the outputs.
-use Prim.Native.Nat.{◌<◌, ◌≤◌, ◌-◌}
+use Prim.Native.Nat.{◌<◌, ◌≤◌}
 use mathlib.Core.Path.{◌≡◌}
 use mathlib.Core.Bool.{true, false}
 use Rattle.play.specs.Play.{separated_of}
@@ -11,6 +11,3 @@ use Rattle.environment_plain.proofs.push_columns.Given as goal
 abbrev pub invariant-loop-o : goal.invariant-loop-o
 invariant-loop-o l =
     (l.o ≤ l.m) × EnvironmentFilled l.g (λ a k b. (b < l.o) × (unwalked l.g a b ≡ true) × (region (separated_of l.g) a b ≡ false)) l.initial.room l.room
-
-abbrev pub decreases-loop-o : goal.decreases-loop-o
-decreases-loop-o l = l.m - l.o

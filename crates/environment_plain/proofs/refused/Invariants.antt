@@ -1,5 +1,5 @@
 -- `refused` collects the inputs below j.
-use Prim.Native.Nat.{◌≤◌, ◌-◌}
+use Prim.Native.Nat.{◌≤◌}
 use mathlib.Core.Path.{◌≡◌}
 use Rattle.bits.specs.Member.{pack}
 use Rattle.sets.specs.Words.{bits_of, sets_in}
@@ -9,6 +9,3 @@ use Rattle.environment_plain.proofs.refused.Given as goal
 abbrev pub invariant-loop-j : goal.invariant-loop-j
 invariant-loop-j l =
     (l.j ≤ l.n) × (bits_of l.x ≡ pack l.j (refused_at (sets_in l.s) l.n l.m (bits_of l.inner.0) (bits_of l.set.0)))
-
-abbrev pub decreases-loop-j : goal.decreases-loop-j
-decreases-loop-j l = l.n - l.j

@@ -1,5 +1,7 @@
 -- `explain_accepted`.
 use native.Mathlib.Omega.{arith}
+use mathlib.Core.Path.{ap}
+use Rattle.std.specs.declared.result.Result.TheVariants.{Ok}
 use Rattle.game.proofs.Laws.{accepted_fits}
 use Rattle.explain.proofs.Made.{outside_input, outside_output, short, explained}
 use Rattle.explain.proofs.explain_accepted.Goals as goal
@@ -27,4 +29,4 @@ explain_position-requires c =
 pub returns : goal.returns
 returns c =
     explained _ _ _ _ c.requires (omega arith) (omega arith) (omega (arith, c.length.ensures))
-    c.explain_position.ensures.0 c.explain_position.ensures.1
+    c.explain_position.ensures.0 (ap Ok c.explain_position.ensures.1)

@@ -9,6 +9,3 @@ use Rattle.game_sets.proofs.list_of.Given as goal
 abbrev pub invariant-loop-r : goal.invariant-loop-r
 invariant-loop-r l =
     (l.r ≤ 8) × (length l.l ≡ list_words) × (length l.assumed ≡ 8) × (length l.guaranteed ≡ 8) × Upto l.requirements l.r l.l × CountsUpto l.requirements l.r l.assumed l.guaranteed
-
-abbrev pub decreases-loop-r : goal.decreases-loop-r
-decreases-loop-r l = 8 - l.r

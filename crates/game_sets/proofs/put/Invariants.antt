@@ -5,6 +5,3 @@ use Rattle.game_sets.proofs.put.Given as goal
 
 abbrev pub invariant-loop-j : goal.invariant-loop-j
 invariant-loop-j l = (l.j ≤ 4) × Begun l.q l.r l.j l.initial.l l.l
-
-abbrev pub decreases-loop-j : goal.decreases-loop-j
-decreases-loop-j l = 4 - l.j

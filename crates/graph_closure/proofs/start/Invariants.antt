@@ -1,5 +1,5 @@
 -- `start` writes the rows one after the other.
-use Prim.Native.Nat.{◌≤◌, ◌-◌}
+use Prim.Native.Nat.{◌≤◌}
 use mathlib.Core.Path.{◌≡◌}
 use mathlib.Core.List.{◌++◌}
 use lib.ListN.{length, drop}
@@ -15,6 +15,3 @@ abbrev pub invariant-loop-s : goal.invariant-loop-s
 invariant-loop-s l =
     (l.s ≤ l.n) × (length l.rows ≡ length l.initial.rows)
     × ((h : Graph) → Given h l.n l.moves → sets_in l.rows ≡ rows_of l.s h.states (nearby (graph_of h)) ++ drop l.s (sets_in l.initial.rows))
-
-abbrev pub decreases-loop-s : goal.decreases-loop-s
-decreases-loop-s l = l.n - l.s

@@ -1,5 +1,5 @@
 -- `sweep` goes through the rows in rising order, each from the rows as they are by then.
-use Prim.Native.Nat.{◌≤◌, ◌-◌}
+use Prim.Native.Nat.{◌≤◌}
 use mathlib.Core.Path.{◌≡◌}
 use lib.ListN.{length}
 use Rattle.sets.specs.Words.{bits_of, sets_in}
@@ -9,6 +9,3 @@ use Rattle.graph_closure.proofs.sweep.Given as goal
 abbrev pub invariant-loop-s : goal.invariant-loop-s
 invariant-loop-s l =
     (l.s ≤ l.n) × (length l.rows ≡ length l.initial.rows) × Swept l.n (sets_in l.initial.rows) l.s (sets_in l.rows) l.added × Fixed (sets_in l.rows) l.n (bits_of l.fixed)
-
-abbrev pub decreases-loop-s : goal.decreases-loop-s
-decreases-loop-s l = l.n - l.s

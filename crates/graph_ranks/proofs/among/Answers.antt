@@ -1,6 +1,5 @@
 -- `among` answers the state alone where it moves to no other; else it searches backward, then forward.
 use mathlib.Core.Path.{sym, ◌∙◌}
-use Rattle.finite.proofs.Truth.{not_true}
 use Rattle.graph_ranks.proofs.Search.{alone_component, search_component}
 use Rattle.graph_ranks.proofs.among.Goals as goal
 
@@ -13,7 +12,7 @@ row_of-requires c = c.requires.1 _ c.requires.2
 pub returns-then-not-meets : goal.returns-then-not-meets
 returns-then-not-meets c =
     alone_component _ _ _ _ _ _ c.requires.1 c.row_of.ensures.1 (λ t. rw (sym c.empty.ensures.1) (c.insert-alone.ensures t))
-    c.difference.ensures (sym c.meets.ensures ∙ not_true _ c.if-not-meets.true-raw)
+    c.difference.ensures (sym c.meets.ensures ∙ c.if-not-meets.true)
 
 pub behind-requires : goal.behind-requires
 behind-requires c =

@@ -16,10 +16,6 @@ pub span-requires : goal.span-requires
 span-requires c =
     omega (arith, c.requires, c.loop-t-test.true)
 
-pub overflow_add-t : goal.overflow_add-t
-overflow_add-t c =
-    omega (arith, c.requires, c.loop-t-test.true)
-
 pub loop-t-smaller : goal.loop-t-smaller
 loop-t-smaller c =
     omega (arith, c.loop-t-test.true)

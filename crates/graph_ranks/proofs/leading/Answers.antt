@@ -36,10 +36,6 @@ reduced-left-requires c =
       c.crossed-places.ensures,
     )
 
-pub overflow_add-j : goal.overflow_add-j
-overflow_add-j c =
-    omega (arith, input_small _ c.requires _ c.loop-j-test.true)
-
 pub loop-j-smaller : goal.loop-j-smaller
 loop-j-smaller c =
     omega (arith, c.loop-j-test.true)

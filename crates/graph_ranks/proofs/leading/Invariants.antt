@@ -1,5 +1,5 @@
 -- `leading` walks the inputs; one that is still left is the smallest of its component.
-use Prim.Native.Nat.{◌-◌, ◌≤◌}
+use Prim.Native.Nat.{◌≤◌}
 use mathlib.Core.Path.{◌≡◌}
 use Rattle.bits.specs.Member.{pack}
 use Rattle.sets.specs.Words.{bits_of}
@@ -11,6 +11,3 @@ use Rattle.graph_ranks.proofs.leading.Given as goal
 abbrev pub invariant-loop-j : goal.invariant-loop-j
 invariant-loop-j l =
     (l.j ≤ l.g.input.states) × (bits_of l.leaders ≡ pack l.j (leads (separated_of l.g))) × Left (separated_of l.g) l.j (bits_of l.left)
-
-abbrev pub decreases-loop-j : goal.decreases-loop-j
-decreases-loop-j l = l.g.input.states - l.j

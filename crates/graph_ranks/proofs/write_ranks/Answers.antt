@@ -33,10 +33,6 @@ pub overflow_add-rank : goal.overflow_add-rank
 overflow_add-rank c =
     omega (arith, walked_rank c.loop-j.invariant.0 c.loop-j-test.true)
 
-pub overflow_add-j : goal.overflow_add-j
-overflow_add-j c =
-    omega (arith, walked_small c.loop-j.invariant.0 c.loop-j-test.true)
-
 pub loop-j-smaller : goal.loop-j-smaller
 loop-j-smaller c = omega (arith, c.loop-j-test.true)
 

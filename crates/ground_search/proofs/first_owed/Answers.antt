@@ -1,6 +1,5 @@
 -- `first_owed`.
 use native.Mathlib.Omega.{arith}
-use mathlib.Core.Bool.{false}
 use mathlib.Core.Path.{sym, ◌∙◌}
 use Rattle.finite.proofs.Loops.{any_start, any_turn}
 use Rattle.ground_search.proofs.Search.{search_found, search_none}

@@ -1,9 +1,7 @@
 -- `first_unreplied`.
 use native.Mathlib.Omega.{arith}
-use mathlib.Core.Bool.{false}
 use mathlib.Core.Path.{sym, ◌∙◌}
 use Rattle.finite.proofs.Loops.{any_start, any_turn}
-use Rattle.grounds.specs.Ground.{unreplied}
 use Rattle.ground_search.proofs.Search.{search_found, search_none}
 use Rattle.ground_search.proofs.first_unreplied.Goals as goal
 

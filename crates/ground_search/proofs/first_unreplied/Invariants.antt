@@ -1,7 +1,7 @@
 -- `first_unreplied`.
 use mathlib.Core.Bool.{false}
 use mathlib.Core.Path.{◌≡◌}
-use Prim.Native.Nat.{◌-◌, ◌≤◌}
+use Prim.Native.Nat.{◌≤◌}
 use Rattle.finite.specs.Bounded.{any}
 use Rattle.grounds.specs.Ground.{unreplied}
 use Rattle.play.specs.Play.{separated_of}
@@ -9,6 +9,3 @@ use Rattle.ground_search.proofs.first_unreplied.Given as goal
 
 abbrev pub invariant-loop-j : goal.invariant-loop-j
 invariant-loop-j l = (l.j ≤ l.n) × (any l.j (unreplied (separated_of l.g) l.i.0 l.o.0) ≡ false)
-
-abbrev pub decreases-loop-j : goal.decreases-loop-j
-decreases-loop-j l = l.n - l.j

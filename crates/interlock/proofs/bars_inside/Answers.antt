@@ -3,7 +3,7 @@ use mathlib.Core.Path.{◌∙◌, ap₂}
 use native.Mathlib.Omega.{arith}
 use Rattle.finite.proofs.Loops.{all_start, all_turn, all_stop, all_end, failed, passed}
 use Rattle.bits.specs.Member.{within}
-use Rattle.interlock.specs.Bars.{barrable, bars_inside}
+use Rattle.interlock.specs.Bars.{bars_inside}
 use Rattle.interlock.proofs.bars_inside.Goals as goal
 
 pub loop-i-init : goal.loop-i-init

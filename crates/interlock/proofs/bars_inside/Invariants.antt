@@ -1,5 +1,5 @@
 -- `bars_inside`.
-use Prim.Native.Nat.{◌-◌, ◌≤◌}
+use Prim.Native.Nat.{◌≤◌}
 use mathlib.Core.Path.{◌≡◌}
 use mathlib.Core.Bool.{true}
 use lib.ListN.{length, get_or}
@@ -11,6 +11,3 @@ use Rattle.interlock.proofs.bars_inside.Given as goal
 
 abbrev pub invariant-loop-i : goal.invariant-loop-i
 invariant-loop-i l = (l.i ≤ length (sets_in l.bars)) × (all l.i (λ k. within (get_or (sets_in l.bars) k 0) (barrable l.g k)) ≡ true)
-
-abbrev pub decreases-loop-i : goal.decreases-loop-i
-decreases-loop-i l = l.n - l.i

@@ -1,5 +1,5 @@
 -- `some_barred`.
-use Prim.Native.Nat.{◌-◌, ◌≤◌}
+use Prim.Native.Nat.{◌≤◌}
 use mathlib.Core.Path.{◌≡◌}
 use mathlib.Core.Bool.{false, not}
 use lib.Dec.{eqb}
@@ -10,6 +10,3 @@ use Rattle.interlock.proofs.some_barred.Given as goal
 
 abbrev pub invariant-loop-i : goal.invariant-loop-i
 invariant-loop-i l = (l.i ≤ length (sets_in l.bars)) × (any l.i (λ k. not (eqb (get_or (sets_in l.bars) k 0) 0)) ≡ false)
-
-abbrev pub decreases-loop-i : goal.decreases-loop-i
-decreases-loop-i l = l.n - l.i

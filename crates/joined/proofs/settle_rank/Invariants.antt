@@ -1,10 +1,7 @@
 -- `settle_rank`.
-use Prim.Native.Nat.{◌≤◌, ◌-◌}
+use Prim.Native.Nat.{◌≤◌}
 use Rattle.joined.specs.Order.{Passed}
 use Rattle.joined.proofs.settle_rank.Given as goal
 
 abbrev pub invariant-loop-c : goal.invariant-loop-c
 invariant-loop-c l = (l.c ≤ l.positions) × (l.positions ≤ 1024) × Passed l.g l.n l.c l.initial.s l.s
-
-abbrev pub decreases-loop-c : goal.decreases-loop-c
-decreases-loop-c l = l.positions - l.c

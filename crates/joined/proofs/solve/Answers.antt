@@ -1,4 +1,5 @@
 -- `solve`.
+use Prim.Native.Nat.{◌+◌}
 use mathlib.Core.Path.{◌∙◌}
 use native.Mathlib.Omega.{arith}
 use Rattle.finite.specs.But.{ButFor}
@@ -53,3 +54,10 @@ pub returns : goal.returns
 returns c =
     let begun : ButFor 0 2048 c.args.s.now c.clear.new.s = begun_kept _ c.requires.0 _ _ _ c.requires.1 c.count_ahead.ensures c.clear.ensures in
     (but_then (begun) c.loop-n.invariant.3, solved _ c.requires.0 _ c.loop-n.n c.loop-n-test.false c.loop-n.invariant.4)
+
+pub returns-2 : goal.returns-2
+returns-2 c =
+    let begun : ButFor 0 2048 c.args.s.now c.clear.new.s = begun_kept _ c.requires.0 _ _ _ c.requires.1 c.count_ahead.ensures c.clear.ensures in (
+      but_then (begun) (but_then c.loop-n.invariant.3 c.settle_rank.ensures.kept),
+      solved _ c.requires.0 _ (c.loop-n.n + 1) (omega arith) (backward_next _ c.requires.0 _ _ _ c.settle_rank.ensures),
+    )

@@ -1,5 +1,5 @@
 -- `accepts`.
-use Prim.Native.Nat.{◌≤◌, ◌-◌}
+use Prim.Native.Nat.{◌≤◌}
 use mathlib.Core.Path.{◌≡◌}
 use mathlib.Core.Bool.{true}
 use Rattle.finite.specs.Bounded.{all}
@@ -9,6 +9,3 @@ use Rattle.joined_component.proofs.accepts.Given as goal
 
 abbrev pub invariant-loop-r : goal.invariant-loop-r
 invariant-loop-r l = (l.r ≤ l.g.k) × (all l.r (accepts_at l.g (bits_of l.x.0) (bits_of l.y.0)) ≡ true)
-
-abbrev pub decreases-loop-r : goal.decreases-loop-r
-decreases-loop-r l = l.g.k - l.r

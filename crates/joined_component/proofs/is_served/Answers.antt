@@ -28,11 +28,6 @@ returns-then-not-meets c =
     all_stop _ c.loop-j.j (served_at (get_or a.g.requirements a.r no_requirement) (bits_of a.y.0)) (omega arith) (failed c.meets.ensures
     c.if-not-meets.true-raw)
 
-pub overflow_add-j : goal.overflow_add-j
-overflow_add-j c =
-    let few : (get_or c.args.g.requirements c.args.r no_requirement).guaranteed ≤ 4 = (c.requires.0.fits.requirement c.args.r (omega (arith, c.requires.0.fits.few))).few_guaranteed in
-    omega (arith, few)
-
 pub loop-j-preserved : goal.loop-j-preserved
 unfolding served_at
 loop-j-preserved c =

@@ -1,10 +1,7 @@
 -- `count_ahead`.
-use Prim.Native.Nat.{◌-◌, ◌≤◌}
+use Prim.Native.Nat.{◌≤◌}
 use Rattle.joined_reach.proofs.Counting.{Ranking}
 use Rattle.joined_reach.proofs.count_ahead.Given as goal
 
 abbrev pub invariant-loop-c : goal.invariant-loop-c
 invariant-loop-c l = (l.c ≤ l.positions) × (l.positions ≤ 1024) × Ranking l.g l.c l.initial.s l.s
-
-abbrev pub decreases-loop-c : goal.decreases-loop-c
-decreases-loop-c l = l.positions - l.c

@@ -1,5 +1,4 @@
 -- `drive_fits` looks at every mode.
-use mathlib.Core.Bool.{true}
 use native.Mathlib.Omega.{arith}
 use Rattle.finite.specs.Bounded.{all}
 use Rattle.finite.proofs.Loops.{all_start, all_turn, all_stop, all_end, failed, passed}

@@ -1,5 +1,5 @@
 -- `drive_fits` looks at every mode.
-use Prim.Native.Nat.{◌≤◌, ◌-◌}
+use Prim.Native.Nat.{◌≤◌}
 use mathlib.Core.Path.{◌≡◌}
 use mathlib.Core.Bool.{true}
 use Rattle.finite.specs.Bounded.{all}
@@ -9,6 +9,3 @@ use Rattle.kit_checks.proofs.drive_fits.Given as goal
 
 abbrev pub invariant-loop-m : goal.invariant-loop-m
 invariant-loop-m l = (l.m ≤ capacity) × (all l.m (λ j. all 16 (entry_fits l.d.next l.d.modes l.d.commands j)) ≡ true)
-
-abbrev pub decreases-loop-m : goal.decreases-loop-m
-decreases-loop-m l = capacity - l.m

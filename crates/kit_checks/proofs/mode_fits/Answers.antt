@@ -1,8 +1,6 @@
 -- `mode_fits` looks at every command's place.
-use mathlib.Core.Bool.{true}
 use native.Mathlib.Omega.{arith}
 use Rattle.finite.proofs.Loops.{all_start, all_turn, all_stop, all_end, failed, passed}
-use Rattle.kit_drives.specs.Acceptance.{entry_fits}
 use Rattle.kit_checks.proofs.mode_fits.Goals as goal
 
 pub loop-u-init : goal.loop-u-init

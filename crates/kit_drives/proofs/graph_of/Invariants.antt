@@ -1,5 +1,5 @@
 -- `graph_of` goes through the modes.
-use Prim.Native.Nat.{◌≤◌, ◌-◌}
+use Prim.Native.Nat.{◌≤◌}
 use mathlib.Core.Path.{◌≡◌}
 use mathlib.Core.List.{◌++◌}
 use lib.ListN.{length, drop, replicate}
@@ -11,6 +11,3 @@ use Rattle.kit_drives.proofs.graph_of.Given as goal
 abbrev pub invariant-loop-m : goal.invariant-loop-m
 invariant-loop-m l =
     (l.m ≤ capacity) × (length l.moves ≡ row_words) × (l.moves ≡ words_of (rows_of l.m l.d.modes (made_by l.d.next l.d.commands) ++ drop l.m (replicate capacity 0)))
-
-abbrev pub decreases-loop-m : goal.decreases-loop-m
-decreases-loop-m l = capacity - l.m

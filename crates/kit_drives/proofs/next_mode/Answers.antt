@@ -4,4 +4,4 @@ use Rattle.kit_drives.proofs.next_mode.Goals as goal
 
 pub returns : goal.returns
 unfolding next_in
-returns c = c.wide.ensures
+returns c = c.from.ensures

@@ -1,10 +1,7 @@
 -- `counter_rows` goes through the old modes.
-use Prim.Native.Nat.{◌≤◌, ◌-◌}
+use Prim.Native.Nat.{◌≤◌}
 use Rattle.kit_rows.specs.Writing.{Counted}
 use Rattle.kit_rows.proofs.counter_rows.Given as goal
 
 abbrev pub invariant-loop-i : goal.invariant-loop-i
 invariant-loop-i l = (l.i ≤ l.modes) × Counted l.next l.modes l.commands l.kept l.first l.i l.initial.room l.room
-
-abbrev pub decreases-loop-i : goal.decreases-loop-i
-decreases-loop-i l = l.modes - l.i

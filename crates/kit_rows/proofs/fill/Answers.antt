@@ -1,7 +1,8 @@
 -- `fill`: the starts, then the rows of one output after the other, and scratch cleared.
 use mathlib.Core.Path.{refl, ◌∙◌}
 use native.Mathlib.Omega.{arith}
-use Rattle.scratch_clearing.proofs.Clearing.{cleared_length, cleared_same}
+use Rattle.scratch_clearing.proofs.Clearing.{cleared_same}
+use Rattle.kit_rows.proofs.Cleared.{cleared_length}
 use Rattle.kit_rows.proofs.Search.{lent_none, lent_more}
 use Rattle.kit_rows.proofs.Kits.{modes_in, modes_room, ready_long, outputs_long, outputs_none, outputs_next, outputs_all}
 use Rattle.kit_rows.proofs.fill.Goals as goal
@@ -21,12 +22,6 @@ output_rows-requires c = (
   c.loop-o-test.true,
   omega (arith, c.requires.1, c.loop-o.invariant.2.long),
 )
-
-pub overflow_add-o : goal.overflow_add-o
-overflow_add-o c = omega (arith, c.loop-o-test.true)
-
-pub loop-o-smaller : goal.loop-o-smaller
-loop-o-smaller c = omega (arith, c.loop-o-test.true)
 
 pub loop-o-preserved : goal.loop-o-preserved
 loop-o-preserved c = (

@@ -1,5 +1,4 @@
 -- `lowest_command` stops at the first command that leads there.
-use mathlib.Core.Bool.{false}
 use native.Mathlib.Omega.{arith}
 use Rattle.kit_rows.proofs.Search.{lowest_start, lowest_past, lowest_here, lowest_none}
 use Rattle.kit_rows.proofs.lowest_command.Goals as goal

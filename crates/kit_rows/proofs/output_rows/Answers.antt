@@ -43,12 +43,6 @@ counter_rows-requires c =
     count_fits_lem _ c.args.controller.now _ _ c.requires.0 _ c.requires.1 _ _ c.loop-c-test.true c.loop-c.invariant.1.long
     (omega (arith, c.requires.2, c.loop-c.invariant.2.long, c.translate.ensures.long)) c.translate.ensures
 
-pub overflow_add-c : goal.overflow_add-c
-overflow_add-c c = omega (arith, c.loop-c-test.true)
-
-pub loop-c-smaller : goal.loop-c-smaller
-loop-c-smaller c = omega (arith, c.loop-c-test.true)
-
 pub loop-c-preserved : goal.loop-c-preserved
 loop-c-preserved c = (
   omega (arith, c.loop-c-test.true),

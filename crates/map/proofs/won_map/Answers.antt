@@ -1,6 +1,7 @@
 -- `won_map`: what it refuses; else it works out the region, writes the map and clears scratch.
 use mathlib.Core.Path.{refl, sym, ◌∙◌, ap}
 use native.Mathlib.Omega.{arith}
+use Rattle.std.proofs.lemmas.Result.{err_from_is_err_and}
 use Rattle.finite.proofs.Truth.{not_true, not_false}
 use Rattle.sets.proofs.Rows.{words_held}
 use Rattle.game.specs.declared.Game.{Game}
@@ -13,8 +14,8 @@ use Rattle.map.proofs.won_map.Goals as goal
 pub lay-z-requires : goal.lay-z-requires
 lay-z-requires c = refl
 
-pub accept_lent-accepted-requires : goal.accept_lent-accepted-requires
-accept_lent-accepted-requires c =
+pub accept_lent-requires : goal.accept_lent-requires
+accept_lent-requires c =
     let same = c.lay-z.ensures in (
       c.in_rows.ensures.0 ∙ ap (λ (y : Game). y.input.moves) same,
       c.out_rows.ensures.0 ∙ ap (λ (y : Game). y.output.moves) same,
@@ -23,17 +24,17 @@ accept_lent-accepted-requires c =
     )
 
 pub fits-requires : goal.fits-requires
-fits-requires c = sym c.accept_lent-accepted.ensures.answer ∙ c.in-Accepted.is
+fits-requires c = sym c.accept_lent.ensures.answer ∙ c.in_ok-accept_lent.was
 
 pub returns-then-not-fits : goal.returns-then-not-fits
 returns-then-not-fits c =
-    map_short _ _ _ (sym c.accept_lent-accepted.ensures.answer ∙ c.in-Accepted.is) (sym c.fits.ensures ∙ not_true _ c.if-not-fits.true-raw)
+    map_short _ _ _ (sym c.accept_lent.ensures.answer ∙ c.in_ok-accept_lent.was) (sym c.fits.ensures ∙ not_true _ c.if-not-fits.true-raw)
 
 pub prepare-x-requires : goal.prepare-x-requires
 prepare-x-requires c = (
   refl,
   let same = c.lay-z.ensures in (
-    fits_on same (accepted_fits _ (sym c.accept_lent-accepted.ensures.answer ∙ c.in-Accepted.is)),
+    fits_on same (accepted_fits _ (sym c.accept_lent.ensures.answer ∙ c.in_ok-accept_lent.was)),
     scratch_on same (fits_scratch _ _ _ (sym c.fits.ensures ∙ not_false _ c.if-not-fits.false-raw)),
   ),
 )
@@ -48,7 +49,7 @@ fill_map-requires c = (
 
 pub length-requires : goal.length-requires
 length-requires c =
-    let F = accepted_fits _ (sym c.accept_lent-accepted.ensures.answer ∙ c.in-Accepted.is) in
+    let F = accepted_fits _ (sym c.accept_lent.ensures.answer ∙ c.in_ok-accept_lent.was) in
     (F.input.most, F.output.most)
 
 pub clear-requires : goal.clear-requires
@@ -56,12 +57,14 @@ clear-requires c =
     let fits = fits_scratch _ _ _ (sym c.fits.ensures ∙ not_false _ c.if-not-fits.false-raw) in
     omega (arith, c.length.ensures, c.prepare-x.ensures.kept.long, fits)
 
-pub returns-in-Refused : goal.returns-in-Refused
-returns-in-Refused c = map_faulty _ _ _ _ (sym c.accept_lent-accepted.ensures.answer ∙ c.in-Refused.is)
+pub returns-in_err-accept_lent : goal.returns-in_err-accept_lent
+returns-in_err-accept_lent c =
+    let p = err_from_is_err_and c.from_residual.result c.from_residual.ensures.1 in
+    rw (p.1, p.2) (map_faulty _ _ _ _ (sym c.accept_lent.ensures.answer ∙ c.in_err-accept_lent.was))
 
-pub returns-else-not-fits : goal.returns-else-not-fits
-returns-else-not-fits c =
+pub returns : goal.returns
+returns c =
     let same = c.lay-z.ensures in
-    map_done _ _ _ _ _ (sym c.accept_lent-accepted.ensures.answer ∙ c.in-Accepted.is) (sym c.fits.ensures ∙ not_false _ c.if-not-fits.false-raw)
+    map_done _ _ _ _ _ (sym c.accept_lent.ensures.answer ∙ c.in_ok-accept_lent.was) (sym c.fits.ensures ∙ not_false _ c.if-not-fits.false-raw)
     (cleared_kept _ _ _ _ (prepared_on same c.prepare-x.ensures).kept c.length.ensures c.clear.ensures)
     (filled_on same c.fill_map.ensures)

@@ -3,4 +3,4 @@ use mathlib.Core.Path.{◌∙◌}
 use Rattle.nanpuwiq.proofs.nanpuwiq_accept_kit.Goals as goal
 
 pub returns : goal.returns
-returns c = c.accept_code.ensures ∙ c.accept_kit.ensures.number
+returns c = c.refusal_code.ensures ∙ c.accept_kit.ensures.number

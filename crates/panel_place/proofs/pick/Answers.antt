@@ -2,9 +2,9 @@
 use mathlib.Core.Path.{refl, ◌∙◌, ap}
 use Rattle.finite.proofs.Loops.{failed, passed}
 use Rattle.game.specs.declared.InState.{InState}
-use Rattle.panel_place.specs.declared.Picked.TheVariants.{To}
 use Rattle.panel_place.proofs.Picks.{pick_none, pick_counter, pick_input, pick_to}
 use Rattle.panel_place.proofs.pick.Goals as goal
+use Rattle.std.specs.declared.result.Result.TheVariants.{Ok}
 
 pub returns-then-entry-eq-NONE : goal.returns-then-entry-eq-NONE
 returns-then-entry-eq-NONE c = pick_none _ _ _ c.if-entry-eq-NONE.true
@@ -19,5 +19,5 @@ returns-then-not-allowed c =
 
 pub returns : goal.returns
 returns c =
-    ap (λ (i : InState). To (record { input = i; counter = c.counter-counter.result })) c.named.ensures
+    ap (λ (i : InState). Ok (record { input = i; counter = c.counter-counter.result })) c.named.ensures
     ∙ pick_to _ _ _ c.if-entry-eq-NONE.false c.counter-counter.ensures refl c.if-counter-counters.false (passed refl c.if-not-allowed.false-raw)

@@ -1,18 +1,20 @@
 -- `first` asks for acceptance first.
 use mathlib.Core.Path.{sym, ◌∙◌}
+use Rattle.std.proofs.lemmas.Result.{err_from_is_err_and}
 use Rattle.panel_player.specs.Panel.{panel_first}
 use Rattle.panel_player.proofs.Answers.{pick_refused, pick_accepted, picks_first}
 use Rattle.panel_player.proofs.first.Goals as goal
 
 pub first_accepted-requires : goal.first_accepted-requires
-first_accepted-requires c = sym c.accept.ensures.answer ∙ c.in-Accepted.is
+first_accepted-requires c = sym c.accept.ensures.answer ∙ c.in_ok-accept.was
 
-pub returns-in-Refused : goal.returns-in-Refused
+pub returns-in_err-accept : goal.returns-in_err-accept
 unfolding panel_first
-returns-in-Refused c =
-    picks_first _ _ (pick_refused _ _ (sym c.accept.ensures.answer ∙ c.in-Refused.is))
+returns-in_err-accept c =
+    let p = err_from_is_err_and c.from_residual.result c.from_residual.ensures.1 in
+    rw (p.1, p.2) (picks_first _ _ (pick_refused _ _ (sym c.accept.ensures.answer ∙ c.in_err-accept.was)))
 
-pub returns-in-Accepted : goal.returns-in-Accepted
+pub returns : goal.returns
 unfolding panel_first
-returns-in-Accepted c =
-    picks_first _ _ (c.first_accepted.ensures ∙ pick_accepted _ (sym c.accept.ensures.answer ∙ c.in-Accepted.is))
+returns c =
+    picks_first _ _ (c.first_accepted.ensures ∙ pick_accepted _ (sym c.accept.ensures.answer ∙ c.in_ok-accept.was))

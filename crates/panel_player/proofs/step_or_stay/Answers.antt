@@ -3,10 +3,10 @@ use mathlib.Core.Path.{sym, ap, ◌∙◌}
 use Rattle.player.specs.Player.{moved_of}
 use Rattle.panel_player.proofs.step_or_stay.Goals as goal
 
-pub returns-in-At : goal.returns-in-At
+pub returns-in-Ok : goal.returns-in-Ok
 unfolding moved_of
-returns-in-At c = ap (moved_of _) (sym c.in-At.is ∙ c.step.ensures.answer)
+returns-in-Ok c = ap (moved_of _) (sym c.in-Ok.is ∙ c.step.ensures.answer)
 
-pub returns-in-Refused : goal.returns-in-Refused
+pub returns-in-Err : goal.returns-in-Err
 unfolding moved_of
-returns-in-Refused c = ap (moved_of _) (sym c.in-Refused.is ∙ c.step.ensures.answer)
+returns-in-Err c = rw c.from.ensures (ap (moved_of _) (sym c.in-Err.is ∙ c.step.ensures.answer))

@@ -1,15 +1,18 @@
 -- `step` asks for acceptance first.
 use mathlib.Core.Path.{sym, ◌∙◌}
+use Rattle.std.proofs.lemmas.Result.{err_from_is_err_and}
 use Rattle.player.proofs.Answers.{stepping_refused, stepping_accepted, plays_step}
 use Rattle.player.proofs.step.Goals as goal
 
 pub step_accepted-requires : goal.step_accepted-requires
-step_accepted-requires c = sym c.accept.ensures.answer ∙ c.in-Accepted.is
+step_accepted-requires c = sym c.accept.ensures.answer ∙ c.in_ok-accept.was
 
-pub returns-in-Refused : goal.returns-in-Refused
-returns-in-Refused c = plays_step _ _ _ _ (stepping_refused _ _ _ _ _ (sym c.accept.ensures.answer ∙ c.in-Refused.is))
+pub returns-in_err-accept : goal.returns-in_err-accept
+returns-in_err-accept c =
+    let p = err_from_is_err_and c.from_residual.result c.from_residual.ensures.1 in
+    rw (p.1, p.2) (plays_step _ _ _ _ (stepping_refused _ _ _ _ _ (sym c.accept.ensures.answer ∙ c.in_err-accept.was)))
 
-pub returns-in-Accepted : goal.returns-in-Accepted
-returns-in-Accepted c =
+pub returns : goal.returns
+returns c =
     plays_step _ _ _ _
-    (stepping_accepted _ _ _ _ _ (sym c.accept.ensures.answer ∙ c.in-Accepted.is) c.step_accepted.ensures)
+    (stepping_accepted _ _ _ _ _ (sym c.accept.ensures.answer ∙ c.in_ok-accept.was) c.step_accepted.ensures)

@@ -13,13 +13,6 @@ offset_bounds-table-i c = omega (arith, c.loop-i.invariant, c.loop-i-test.true)
 pub bounds-table-i : goal.bounds-table-i
 bounds-table-i c = omega (arith, c.loop-i.invariant, c.loop-i-test.true)
 
-pub overflow_add-i : goal.overflow_add-i
-overflow_add-i c =
-    omega (arith, c.loop-i.invariant)
-
-pub loop-i-smaller : goal.loop-i-smaller
-loop-i-smaller c = omega (arith, c.loop-i-test.true)
-
 pub loop-i-preserved : goal.loop-i-preserved
 loop-i-preserved c = (
   starts_on _ _ (omega arith) c.loop-i.invariant.0 c.put_start-to.ensures,

@@ -20,13 +20,6 @@ offset_bounds-table-first c = omega (arith, c.loop-k.invariant, c.loop-k-test.tr
 pub bounds-table-first : goal.bounds-table-first
 bounds-table-first c = omega (arith, c.loop-k.invariant, c.loop-k-test.true)
 
-pub overflow_add-k : goal.overflow_add-k
-overflow_add-k c =
-    omega (arith, c.loop-k.invariant)
-
-pub loop-k-smaller : goal.loop-k-smaller
-loop-k-smaller c = omega (arith, c.loop-k-test.true)
-
 pub loop-k-preserved : goal.loop-k-preserved
 loop-k-preserved c = (
   steps_on _ _ _ _ _ (omega arith) c.loop-k.invariant.0 c.put_step-to.ensures,

@@ -8,7 +8,5 @@ use Rattle.print_tables.proofs.put_steps.Given as goal
 
 abbrev pub invariant-loop-k : goal.invariant-loop-k
 invariant-loop-k l =
-    Puts l.initial.buffer l.at (step_lines l.k 0 l.sets l.last l.first l.table) l.to l.buffer × (l.k ≤ l.n) × (l.n ≡ length l.table - l.first) × (l.first ≤ length l.table)
-
-abbrev pub decreases-loop-k : goal.decreases-loop-k
-decreases-loop-k l = l.n - l.k
+    Puts l.initial.buffer l.at (step_lines l.k 0 l.sets l.last l.first l.table) l.to l.buffer × (l.k ≤ l.n) × (l.n ≡ length l.table - l.first)
+    × (l.first ≤ length l.table)

@@ -2,6 +2,7 @@
 use mathlib.Core.Path.{refl, sym, ◌∙◌}
 use native.Mathlib.Omega.{arith}
 use lib.ListN.{length-map}
+use Rattle.std.proofs.lemmas.Result.{err_from_is_err_and}
 use Rattle.sets.proofs.Rows.{words_held}
 use Rattle.player.proofs.Answers.{fits}
 use Rattle.recorder.proofs.Steps.{compared_faulty, compared_misfit, compared_in, compares}
@@ -18,30 +19,32 @@ accept_lent-requires c =
     )
 
 pub controller_length-requires : goal.controller_length-requires
-controller_length-requires c = sym c.accept_lent.ensures.answer ∙ c.in-Accepted.is
+controller_length-requires c = sym c.accept_lent.ensures.answer ∙ c.in_ok-accept_lent.was
 
 pub returns-then-table-controller_length : goal.returns-then-table-controller_length
 returns-then-table-controller_length c =
     compares _ _ _ _
-    (compared_misfit _ _ _ _ (sym c.accept_lent.ensures.answer ∙ c.in-Accepted.is)
+    (compared_misfit _ _ _ _ (sym c.accept_lent.ensures.answer ∙ c.in_ok-accept_lent.was)
     (λ h. c.if-table-controller_length.true (h ∙ sym c.controller_length.ensures)))
 
 pub sizes_of-requires : goal.sizes_of-requires
 sizes_of-requires c =
-    sym c.accept_lent.ensures.answer ∙ c.in-Accepted.is
+    sym c.accept_lent.ensures.answer ∙ c.in_ok-accept_lent.was
 
 pub follow-requires : goal.follow-requires
 follow-requires c = (
-  sym c.accept_lent.ensures.answer ∙ c.in-Accepted.is,
+  sym c.accept_lent.ensures.answer ∙ c.in_ok-accept_lent.was,
   record { sizes = c.sizes_of.ensures; inputs = refl; outputs = refl },
   fits _ _ _ c.controller_length.ensures c.if-table-controller_length.false,
 )
 
-pub returns-in-Refused : goal.returns-in-Refused
-returns-in-Refused c = compares _ _ _ _ (compared_faulty _ _ _ _ _ (sym c.accept_lent.ensures.answer ∙ c.in-Refused.is))
+pub returns-in_err-accept_lent : goal.returns-in_err-accept_lent
+returns-in_err-accept_lent c =
+    let p = err_from_is_err_and c.from_residual.result c.from_residual.ensures.1 in
+    rw (p.1, p.2) (compares _ _ _ _ (compared_faulty _ _ _ _ _ (sym c.accept_lent.ensures.answer ∙ c.in_err-accept_lent.was)))
 
-pub returns-else-table-controller_length : goal.returns-else-table-controller_length
-returns-else-table-controller_length c =
+pub returns : goal.returns
+returns c =
     compares _ _ _ _
-    (compared_in _ _ _ _ (sym c.accept_lent.ensures.answer ∙ c.in-Accepted.is)
+    (compared_in _ _ _ _ (sym c.accept_lent.ensures.answer ∙ c.in_ok-accept_lent.was)
     (c.if-table-controller_length.false ∙ c.controller_length.ensures) c.follow.ensures)

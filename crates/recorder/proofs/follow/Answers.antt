@@ -1,5 +1,6 @@
 -- `follow` plays step by step.
-use mathlib.Core.Path.{refl, sym, ◌∙◌}
+use mathlib.Core.Path.{◌≡◌, refl, sym, ◌∙◌}
+use lib.ListN.{length}
 use native.Mathlib.Omega.{arith}
 use Rattle.recorder.proofs.Steps.{step_fault, step_ended, step_differs, step_same, at_end_lem}
 use Rattle.recorder.proofs.follow.Goals as goal
@@ -7,40 +8,36 @@ use Rattle.recorder.proofs.follow.Goals as goal
 pub loop-n-init : goal.loop-n-init
 loop-n-init c = (omega arith, omega arith, refl)
 
-pub answer_at-answer-requires : goal.answer_at-answer-requires
-answer_at-answer-requires c =
-    c.requires
+pub answer_at-requires : goal.answer_at-requires
+answer_at-requires c = c.requires
 
-pub returns-in-Refused : goal.returns-in-Refused
-returns-in-Refused c =
+pub returns-in-Err : goal.returns-in-Err
+returns-in-Err c =
     step_fault _ _ _ _ c.loop-n.n _ c.loop-n-test.true _ c.state_at.ensures _
-    c.answer_at-answer.ensures _ c.in-Refused.is ∙ sym c.loop-n.invariant.2
+    c.answer_at.ensures _ c.in-Err.is ∙ sym c.loop-n.invariant.2
 
 pub returns-then-n-outputs : goal.returns-then-n-outputs
 returns-then-n-outputs c =
     step_ended _ _ _ _ c.loop-n.n _ c.loop-n-test.true _ c.state_at.ensures _
-    c.answer_at-answer.ensures _ c.in-At.is c.if-n-outputs.true ∙ sym c.loop-n.invariant.2
+    c.answer_at.ensures _ c.in-Ok.is c.if-n-outputs.true ∙ sym c.loop-n.invariant.2
 
 pub returns-then-p-state_at : goal.returns-then-p-state_at
 returns-then-p-state_at c =
-    step_differs _ _ _ _ c.loop-n.n _ c.loop-n-test.true _ c.state_at.ensures _ c.answer_at-answer.ensures _
-    c.in-At.is c.if-n-outputs.false _ c.state_at-in-At.ensures c.if-p-state_at.true ∙ sym
+    step_differs _ _ _ _ c.loop-n.n _ c.loop-n-test.true _ c.state_at.ensures _ c.answer_at.ensures _
+    c.in-Ok.is c.if-n-outputs.false _ c.state_at-in-Ok.ensures c.if-p-state_at.true ∙ sym
     c.loop-n.invariant.2
-
-pub overflow_add-n : goal.overflow_add-n
-overflow_add-n c =
-    let inputs-good = c.well_formed.1.1.1.1.1.0 in
-    omega (arith, inputs-good)
 
 pub loop-n-preserved : goal.loop-n-preserved
 loop-n-preserved c = (
   omega arith,
   omega arith,
   c.loop-n.invariant.2 ∙ step_same _ _ _ _ c.loop-n.n _ c.loop-n-test.true _ c.state_at.ensures
-      _ c.answer_at-answer.ensures _ c.in-At.is c.if-n-outputs.false _
-      c.state_at-in-At.ensures
+      _ c.answer_at.ensures _ c.in-Ok.is c.if-n-outputs.false _
+      c.state_at-in-Ok.ensures
       c.if-p-state_at.false,
 )
 
 pub returns : goal.returns
-returns c = at_end_lem _ _ _ _ c.loop-n.n _ c.loop-n-test.false c.at_end.ensures ∙ sym c.loop-n.invariant.2
+returns c =
+    let whole : length c.args.inputs.now ≡ c.loop-n.n = omega arith in
+    at_end_lem _ _ _ _ c.loop-n.n _ c.loop-n-test.false (rw whole at c.at_end.ensures) ∙ sym c.loop-n.invariant.2

@@ -8,6 +8,3 @@ use Rattle.recorder.proofs.follow.Given as goal
 abbrev pub invariant-loop-n : goal.invariant-loop-n
 invariant-loop-n l =
     (l.n ≤ length l.inputs) × (l.n ≤ length l.outputs) × (recorded l.g l.table l.inputs l.outputs 0 nowhere ≡ recorded l.g l.table (drop l.n l.inputs) (drop l.n l.outputs) l.n l.at)
-
-abbrev pub decreases-loop-n : goal.decreases-loop-n
-decreases-loop-n l = length l.inputs - l.n

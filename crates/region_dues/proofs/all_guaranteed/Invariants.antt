@@ -1,7 +1,7 @@
 -- `all_guaranteed`.
 use mathlib.Core.Bool.{true}
 use mathlib.Core.Path.{◌≡◌}
-use Prim.Native.Nat.{◌-◌, ◌≤◌}
+use Prim.Native.Nat.{◌≤◌}
 use Rattle.finite.specs.Bounded.{all}
 use Rattle.sets.specs.Words.{bits_of}
 use Rattle.board.specs.Board.{requirement_on}
@@ -10,6 +10,3 @@ use Rattle.region_dues.proofs.all_guaranteed.Given as goal
 
 abbrev pub invariant-loop-j : goal.invariant-loop-j
 invariant-loop-j l = (l.j ≤ l.n) × (all l.j (out_meets_at (requirement_on l.b l.r) (bits_of l.c.0)) ≡ true)
-
-abbrev pub decreases-loop-j : goal.decreases-loop-j
-decreases-loop-j l = l.n - l.j

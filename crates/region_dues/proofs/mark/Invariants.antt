@@ -1,5 +1,5 @@
 -- `mark`. Invariant: the sets of the first q requirements are done.
-use Prim.Native.Nat.{◌-◌, ◌≤◌}
+use Prim.Native.Nat.{◌≤◌}
 use mathlib.Core.Path.{◌≡◌}
 use lib.ListN.{length}
 use Rattle.sets.specs.Words.{bits_of, sets_in}
@@ -8,6 +8,3 @@ use Rattle.region_dues.proofs.mark.Given as goal
 
 abbrev pub invariant-loop-q : goal.invariant-loop-q
 invariant-loop-q l = (l.q ≤ l.n) × Marked l.b l.from l.q (bits_of l.c.0) (sets_in l.initial.t) (sets_in l.t) × (length l.t ≡ length l.initial.t)
-
-abbrev pub decreases-loop-q : goal.decreases-loop-q
-decreases-loop-q l = l.n - l.q

@@ -1,5 +1,5 @@
 -- `narrow`. Invariant: y has the members of x that the first q requirements admit.
-use Prim.Native.Nat.{ℕ, ◌-◌, ◌≤◌}
+use Prim.Native.Nat.{ℕ, ◌≤◌}
 use mathlib.Core.Path.{◌≡◌}
 use mathlib.Core.Bool.{◌&&◌}
 use Rattle.finite.specs.Bounded.{all}
@@ -11,6 +11,3 @@ use Rattle.region_dues.proofs.narrow.Given as goal
 abbrev pub invariant-loop-q : goal.invariant-loop-q
 invariant-loop-q l =
     (l.q ≤ l.n) × ((d : ℕ) → has (bits_of l.y.0) d ≡ (has (bits_of l.initial.y.0) d && all l.q (admits_by l.b l.from (bits_of l.a.0) (sets_in l.t) d)))
-
-abbrev pub decreases-loop-q : goal.decreases-loop-q
-decreases-loop-q l = l.n - l.q

@@ -17,11 +17,8 @@ invariant-loop-left l = Looking (sets_in (out_rows l.b)) (bits_of l.won.0) (bits
 abbrev pub decreases-loop-left : goal.decreases-loop-left
 decreases-loop-left l = count capacity (has (bits_of l.left))
 
-abbrev pub invariant-next : goal.invariant-next
-invariant-next l =
+abbrev pub invariant-inputs : goal.invariant-inputs
+invariant-inputs l =
     WonKept (sets_in l.s) l.n l.m l.k
-    × Narrowed (answered (sets_in l.s) l.n (bits_of l.c.0) (sets_in (out_rows l.b)) l.m) l.n l.m (bits_of l.initial.rest) (bits_of l.initial.x) (bits_of l.rest) (bits_of l.x)
+    × Narrowed (answered (sets_in l.s) l.n (bits_of l.c.0) (sets_in (out_rows l.b)) l.m) l.n l.m (bits_of l.initial.j-iterator.rest) (bits_of l.initial.x) (bits_of l.j-iterator.rest) (bits_of l.x)
     × Held (sets_in (out_rows l.b)) (bits_of l.last.0) (bits_of l.x)
-
-abbrev pub decreases-next : goal.decreases-next
-decreases-next l = count capacity (has (bits_of l.rest))

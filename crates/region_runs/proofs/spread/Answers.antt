@@ -7,7 +7,7 @@ use mathlib.Core.Path.{sym, ◌∙◌}
 use Rattle.finite.proofs.Bounded.{least_le}
 use Rattle.bits.specs.Member.{has}
 use Rattle.sets.specs.Words.{capacity, bits_of}
-use Rattle.sets.proofs.Rows.{is_some, is_none}
+use Rattle.sets.proofs.Rows.{some, none}
 use Rattle.region_runs.proofs.Runs.{spread_alone, spreading_start, spreading_below, spreading_falls, spreading_next, spreading_end}
 use Rattle.region_runs.proofs.spread.Goals as goal
 
@@ -22,12 +22,12 @@ loop-x-init c =
 
 pub without_lowest-rest-requires : goal.without_lowest-rest-requires
 without_lowest-rest-requires c =
-    let some_left : bits_of c.loop-x.rest ≢ 0 = is_some _ c.is_empty.ensures c.loop-x-test.true-raw in
+    let some_left : bits_of c.loop-x.rest ≢ 0 = some _ c.is_empty.ensures c.loop-x-test.true in
     some_left
 
 pub between-run-requires : goal.between-run-requires
 between-run-requires c =
-    let some_left : bits_of c.loop-x.rest ≢ 0 = is_some _ c.is_empty.ensures c.loop-x-test.true-raw in
+    let some_left : bits_of c.loop-x.rest ≢ 0 = some _ c.is_empty.ensures c.loop-x-test.true in
     let first_below : c.lowest-j.result < capacity = let p = c.requires in
     spreading_below _ _ _ _ p.0 p.1 p.2 _ _ c.loop-x.invariant (some_left) _ c.lowest-j.ensures in
     let left = c.without_lowest-rest.result in
@@ -35,21 +35,21 @@ between-run-requires c =
 
 pub member-requires : goal.member-requires
 member-requires c =
-    let some_left : bits_of c.loop-x.rest ≢ 0 = is_some _ c.is_empty.ensures c.loop-x-test.true-raw in
+    let some_left : bits_of c.loop-x.rest ≢ 0 = some _ c.is_empty.ensures c.loop-x-test.true in
     let first_below : c.lowest-j.result < capacity = let p = c.requires in
     spreading_below _ _ _ _ p.0 p.1 p.2 _ _ c.loop-x.invariant (some_left) _ c.lowest-j.ensures in
     first_below
 
 pub loop-x-smaller : goal.loop-x-smaller
 loop-x-smaller c =
-    let some_left : bits_of c.loop-x.rest ≢ 0 = is_some _ c.is_empty.ensures c.loop-x-test.true-raw in
+    let some_left : bits_of c.loop-x.rest ≢ 0 = some _ c.is_empty.ensures c.loop-x-test.true in
     let p = c.requires in
     spreading_falls _ _ _ _ p.0 p.1 p.2 _ _ c.loop-x.invariant (some_left) _ c.lowest-j.ensures _ c.without_lowest-rest.ensures _
     c.lowest.ensures
 
 pub loop-x-preserved : goal.loop-x-preserved
 loop-x-preserved c =
-    let some_left : bits_of c.loop-x.rest ≢ 0 = is_some _ c.is_empty.ensures c.loop-x-test.true-raw in
+    let some_left : bits_of c.loop-x.rest ≢ 0 = some _ c.is_empty.ensures c.loop-x-test.true in
     let p = c.requires in
     spreading_next _ _ _ _ p.0 p.1 p.2 _ _ c.loop-x.invariant (some_left) _ c.lowest-j.ensures _ c.without_lowest-rest.ensures _
     c.lowest.ensures _ c.between-run.ensures c.member.ensures c.union_if-y.ensures
@@ -58,4 +58,4 @@ pub returns : goal.returns
 returns c =
     let p = c.requires in
     spreading_end _ _ _ _ p.0 p.1 p.2 _ _ c.below.ensures c.intersection-all.ensures _ _ c.loop-x.invariant
-    (is_none _ c.is_empty.ensures c.loop-x-test.false-raw)
+    (none _ c.is_empty.ensures c.loop-x-test.false)

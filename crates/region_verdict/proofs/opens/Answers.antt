@@ -1,8 +1,6 @@
 -- `opens`.
 use native.Mathlib.Omega.{arith}
-use mathlib.Core.Bool.{false}
 use Rattle.finite.proofs.Loops.{any_start, any_turn}
-use Rattle.region_verdict.specs.Opens.{opens_with}
 use Rattle.region_verdict.proofs.Begin.{opens_found, opens_none}
 use mathlib.Core.Path.{sym, ◌∙◌}
 use Rattle.region_verdict.proofs.opens.Goals as goal

@@ -1,7 +1,6 @@
 -- `verdict`.
 use native.Mathlib.Omega.{arith}
 use Rattle.finite.proofs.Loops.{all_start, all_turn, failed, passed}
-use Rattle.region_verdict.specs.Opens.{opens_if}
 use Rattle.region_verdict.proofs.Begin.{verdict_no, verdict_yes}
 use Rattle.region_verdict.proofs.system_wins.Goals as goal
 

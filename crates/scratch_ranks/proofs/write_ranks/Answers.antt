@@ -69,10 +69,6 @@ pub bounds-room-n-else-j-i-2 : goal.bounds-room-n-else-j-i-2
 bounds-room-n-else-j-i-2 c =
     omega (arith, c.requires.2, c.loop-i.invariant.3.long, first_below c.args.g _ _ c.loop-i-test.true c.first_of-first.ensures)
 
-pub overflow_add-i : goal.overflow_add-i
-overflow_add-i c =
-    omega (arith, c.requires.0, c.loop-i-test.true)
-
 pub loop-i-smaller : goal.loop-i-smaller
 loop-i-smaller c = omega (arith, c.loop-i-test.true)
 

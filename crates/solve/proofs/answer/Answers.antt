@@ -5,18 +5,15 @@ use Rattle.solve.proofs.Printed.{answers_game, answers_misshapen, answers_refuse
 use Rattle.solve.proofs.answer.Goals as goal
 
 pub solve-requires : goal.solve-requires
-solve-requires c = (written_read _ _ c.read-r.ensures c.in-Read.is).accepted
+solve-requires c = (written_read _ _ c.in-Ok.ensures).accepted
 
-pub returns-in-Misshapen : goal.returns-in-Misshapen
-returns-in-Misshapen c =
-    answers_misshapen c.read-r.ensures c.requires _ c.in-Misshapen.is (omega (arith, c.in-Misshapen.known_told-1-own.given))
-    c.put_misshapen.ensures
+pub returns-in-Ok : goal.returns-in-Ok
+returns-in-Ok c = answers_game c.requires _ c.in-Ok.ensures c.solve.ensures
 
-pub returns-in-Refused : goal.returns-in-Refused
-returns-in-Refused c =
-    answers_refused c.read-r.ensures c.requires _ c.in-Refused.is (omega (arith, c.in-Refused.known_told-in-Refused-1-own.given))
-    c.put_refused.ensures
+pub returns-in-Err-Misshapen : goal.returns-in-Err-Misshapen
+returns-in-Err-Misshapen c =
+    answers_misshapen c.requires c.in-Err-Misshapen.ensures _ c.in-Err-Misshapen.field-0-is (grind arith) c.put_misshapen.ensures
 
-pub returns-in-Read : goal.returns-in-Read
-returns-in-Read c =
-    answers_game c.read-r.ensures c.requires c.in-Read.is c.solve.ensures
+pub returns-in-Err-Refused : goal.returns-in-Err-Refused
+returns-in-Err-Refused c =
+    answers_refused c.requires c.in-Err-Refused.ensures _ c.in-Err-Refused.field-0-is c.from.ensures c.from.type_inv c.put_refused.ensures

@@ -5,4 +5,4 @@ use Rattle.solve.proofs.put_panel.Goals as goal
 
 pub returns : goal.returns
 returns c =
-    makes_environment _ _ _ (λ j. omega (arith, c.shared_slice_known-1.given j)) c.requires.1 c.assumption_count-sets.ensures c.put_environment.ensures
+    makes_environment _ _ _ (λ j. omega (arith, c.type_inv.table j)) c.requires.1 c.assumption_count-sets.ensures c.put_environment.ensures

@@ -1,7 +1,8 @@
 -- `solve_accepted`.
 use native.Mathlib.Omega.{arith}
 use Rattle.game.proofs.Laws.{accepted_fits}
-use Rattle.solver.proofs.Verdicts.{controller_long, environment_long, solve_scratch_short, solve_controller_short, solve_environment_short, written_system, written_environment}
+use Rattle.solver.proofs.Verdicts.{controller_long, environment_long}
+use Rattle.solver.proofs.Verdicts.{solve_scratch_short, solve_controller_short, solve_environment_short, written_system, written_environment}
 use Rattle.solver.proofs.solve_accepted.Goals as goal
 
 pub length-requires : goal.length-requires

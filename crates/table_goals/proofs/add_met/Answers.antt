@@ -18,9 +18,6 @@ overflow_add-s c = omega (arith, c.requires.numbers)
 pub insert_if-m-requires : goal.insert_if-m-requires
 insert_if-m-requires c = omega (arith, c.requires.numbers)
 
-pub overflow_add-j : goal.overflow_add-j
-overflow_add-j c = omega (arith, c.requires.places)
-
 pub loop-j-preserved : goal.loop-j-preserved
 loop-j-preserved c = (
   omega arith,

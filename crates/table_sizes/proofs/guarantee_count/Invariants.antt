@@ -1,12 +1,9 @@
 -- `guarantee_count` adds up the lengths, one requirement after the other.
-use Prim.Native.Nat.{◌*◌, ◌≤◌, ◌-◌}
+use Prim.Native.Nat.{◌*◌, ◌≤◌}
 use mathlib.Core.Path.{◌≡◌}
 use lib.ListN.{length}
 use Rattle.table_sizes.specs.Below.{guarantee_side, sets_below}
 use Rattle.table_sizes.proofs.guarantee_count.Given as goal
 
 abbrev pub invariant-loop-r : goal.invariant-loop-r
-invariant-loop-r l = (l.r ≤ l.g.k) × (l.g.k ≤ 8) × (l.n ≤ 4 * l.r) × (l.n ≡ length (sets_below guarantee_side l.g l.r))
-
-abbrev pub decreases-loop-r : goal.decreases-loop-r
-decreases-loop-r l = l.g.k - l.r
+invariant-loop-r l = (l.r ≤ l.fn.g.k) × (l.fn.g.k ≤ 8) × (l.n ≤ 4 * l.r) × (l.n ≡ length (sets_below guarantee_side l.fn.g l.r))

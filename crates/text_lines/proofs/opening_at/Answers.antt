@@ -9,20 +9,11 @@ use Rattle.text_grammar.proofs.Place.{byte_within}
 use Rattle.text_pieces.proofs.Outcomes.{step_at, step_fault}
 use Rattle.text_lines.proofs.opening_at.Goals as goal
 
-pub letters-n-requires : goal.letters-n-requires
-letters-n-requires c = c.requires
-
 pub overflow_add-n : goal.overflow_add-n
 overflow_add-n c = omega (arith, c.letters-n.ensures, word_short c.args.w)
 
 pub loop-k-init : goal.loop-k-init
 loop-k-init c = (refl, omega (arith), omega (arith, c.letters-n.ensures, opening_length c.args.w), c.requires)
-
-pub opening_byte-b-requires : goal.opening_byte-b-requires
-opening_byte-b-requires c = (c.loop-k.invariant.3, omega (arith, c.loop-k.invariant, c.loop-k-test.true))
-
-pub byte_at-requires : goal.byte_at-requires
-byte_at-requires c = tt
 
 pub returns-then-byte_at-b : goal.returns-then-byte_at-b
 returns-then-byte_at-b c =
@@ -32,13 +23,6 @@ returns-then-byte_at-b c =
 
 pub overflow_add-at : goal.overflow_add-at
 overflow_add-at c = omega (arith, byte_within _ _ _ (sym c.byte_at.ensures ∙ c.if-byte_at-b.false) (omega (arith, c.opening_byte-b.type_inv)))
-
-pub overflow_add-k : goal.overflow_add-k
-overflow_add-k c =
-    omega (arith, word_short c.args.w, opening_length c.args.w, c.loop-k.invariant, c.loop-k-test.true)
-
-pub loop-k-smaller : goal.loop-k-smaller
-loop-k-smaller c = omega (arith, c.loop-k-test.true)
 
 pub loop-k-preserved : goal.loop-k-preserved
 loop-k-preserved c = (

@@ -1,19 +1,18 @@
 -- `state_at` meets its contract.
 use mathlib.Core.Path.{sym, ◌∙◌, ap}
-use Rattle.text_lines.proofs.LineSteps.{state_fault, state_no_word, state_no_number, state_on}
+use Rattle.text_lines.proofs.LineSteps.{state_no_word, state_no_number, state_on}
 use Rattle.text_lines.specs.Lines.{state_of}
-use Rattle.text_pieces.proofs.Outcomes.{at_step, fault_step, value_number, fault_number_lem}
+use Rattle.text_pieces.proofs.Outcomes.{at_step, fault_step, found_fault, found_value, fault_found, handed_on}
 use Rattle.text_lines.proofs.state_at.Goals as goal
 
-pub returns-in-Fault : goal.returns-in-Fault
-returns-in-Fault c = state_fault (state_no_word _ _ _ _ _ (fault_step _ (sym c.in-Fault.is ∙ c.opening_at-o.ensures)))
+pub returns-in_err-j : goal.returns-in_err-j
+returns-in_err-j c = handed_on c.from_residual.ensures.1 (found_fault _ (state_no_word _ _ _ _ _ (fault_step _ c.in_err-j.ensures)))
 
-pub returns-in-Fault-n : goal.returns-in-Fault-n
-returns-in-Fault-n c =
-    state_fault (state_no_number _ _ _ _ _ (at_step _ (sym c.in-At.is ∙ c.opening_at-o.ensures)) _
-    (fault_number_lem _ (sym c.in-Fault-n.is ∙ c.number_then-n.ensures)))
+pub returns-in_err-n : goal.returns-in_err-n
+returns-in_err-n c =
+    handed_on c.from_residual-in_err-n.ensures.1
+    (found_fault _ (state_no_number _ _ _ _ _ (at_step _ c.in_ok-j.ensures) _ (fault_found _ _ c.in_err-n.ensures)))
 
-pub returns-in-Value : goal.returns-in-Value
-returns-in-Value c =
-    c.row_at.ensures ∙ sym (ap state_of (state_on _ _ _ _ _ (at_step _ (sym c.in-At.is ∙ c.opening_at-o.ensures)) _ _
-    (value_number _ (sym c.in-Value.is ∙ c.number_then-n.ensures))))
+pub returns : goal.returns
+returns c =
+    c.row_at.ensures ∙ sym (ap state_of (state_on _ _ _ _ _ (at_step _ c.in_ok-j.ensures) _ _ (found_value _ c.in_ok-n.ensures)))

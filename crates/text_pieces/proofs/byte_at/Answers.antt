@@ -1,10 +1,6 @@
 -- `byte_at` meets its contract.
-use native.Mathlib.Omega.{arith}
 use Rattle.text_grammar.proofs.Place.{bytes_in, bytes_past}
 use Rattle.text_pieces.proofs.byte_at.Goals as goal
-
-pub overflow_cast-result : goal.overflow_cast-result
-overflow_cast-result c = omega (arith, c.shared_slice_known-1.given c.args.i)
 
 pub returns-then-i-s : goal.returns-then-i-s
 returns-then-i-s c = bytes_in _ _ c.if-i-s.true

@@ -1,68 +1,68 @@
 -- `more_members` meets its contract. The invariant: what is left, with what is done, makes the whole.
-use mathlib.Core.Path.{refl, sym, ◌∙◌, ap}
+use Prim.Native.Nat.{ℕ, ◌+◌, ◌-◌}
+use mathlib.Core.Path.{◌≡◌, refl, sym, ◌∙◌, ap}
 use native.Mathlib.Omega.{arith}
-use Rattle.text_pieces.proofs.Steps.{members_next, members_past, members_end, members_closed, members_fault, members_more}
-use Rattle.text_pieces.specs.Pieces.{set_scan_of}
+use Rattle.std.specs.Prelude.{Ok}
+use Rattle.sets.specs.Words.{highest}
 use Rattle.sets.proofs.Rows.{set_is}
-use Rattle.text_pieces.proofs.Outcomes.{whole_members, set_fault}
+use Rattle.text_grammar.specs.Format.{Run, run}
+use Rattle.text_grammar.proofs.Place.{byte_within}
+use Rattle.text_shape.specs.Shape.{more_members}
+use Rattle.text_pieces.specs.Pieces.{set_scan_of}
+use Rattle.text_pieces.proofs.Steps.{members_next, members_past, members_end, members_closed, members_fault, members_more, closed_byte}
+use Rattle.text_pieces.proofs.Outcomes.{found_fault, whole_members, handed_on}
+use Rattle.text_pieces.proofs.more_members.Goals.{else-loop-turn-test, then-loop-turn-test+then-low-gt-HIGHEST}
 use Rattle.text_pieces.proofs.more_members.Goals as goal
 
-pub loop-left-init : goal.loop-left-init
-loop-left-init c = (refl, c.requires, set_is _ (omega arith))
+-- one member fewer is left
+fewer : (x : Run ℕ) (n lo v : ℕ) (w : ℕ → ℕ) (j : ℕ) → x ≡ run (more_members (highest - n - 1) lo v) w j → x ≡ run (more_members (highest - (n + 1)) lo v) w j
+fewer x n lo v w j e = let less : highest - n - 1 ≡ highest - (n + 1) = omega arith in e ∙ ap (λ (m : ℕ). run (more_members m lo v) w j) less
 
-pub closed_set-requires : goal.closed_set-requires
-closed_set-requires c = tt
+pub loop-turn-init : goal.loop-turn-init
+loop-turn-init c = (refl, c.requires, set_is _ (omega arith))
 
-pub returns-then-low-gt-HIGHEST : goal.returns-then-low-gt-HIGHEST
-returns-then-low-gt-HIGHEST c = c.closed_set.ensures ∙ sym (ap set_scan_of (members_past _ _ _ _ _ _ c.loop-left.invariant.0 c.if-low-gt-HIGHEST.true))
+pub returns-in_err-next_member : goal.returns-in_err-next_member
+returns-in_err-next_member c =
+    handed_on c.from_residual.ensures.1
+    (found_fault _ (members_fault _ _ _ _ _ _ c.loop-turn.invariant.0 (omega (arith, c.loop-turn-test.true)) c.if-low-gt-HIGHEST.false _
+    c.in_err-next_member.ensures))
 
-pub next_member-n-requires : goal.next_member-n-requires
-next_member-n-requires c = tt
+pub overflow_add-result : goal.overflow_add-result
+overflow_add-result c =
+    omega (arith, byte_within _ _ _ (closed_byte c.loop-turn.low _ _ (sym (ap Ok c.in-None.is) ∙ c.in_ok-next_member.ensures)) (omega arith))
 
-pub returns-in-Closed : goal.returns-in-Closed
-returns-in-Closed c =
-    whole_members c.loop-left.invariant.2
-    (members_closed _ _ _ _ _ _ c.loop-left.invariant.0 c.loop-left-test.true c.if-low-gt-HIGHEST.false _
-    (sym c.in-Closed.is ∙ c.next_member-n.ensures))
-
-pub returns-in-Fault : goal.returns-in-Fault
-returns-in-Fault c =
-    set_fault (members_fault _ _ _ _ _ _ c.loop-left.invariant.0 c.loop-left-test.true c.if-low-gt-HIGHEST.false _
-    (sym c.in-Fault.is ∙ c.next_member-n.ensures))
+pub returns-in-None : goal.returns-in-None
+returns-in-None c =
+    whole_members c.loop-turn.invariant.2
+    (members_closed _ _ _ _ _ _ c.loop-turn.invariant.0 (omega (arith, c.loop-turn-test.true)) c.if-low-gt-HIGHEST.false
+    (sym (ap Ok c.in-None.is) ∙ c.in_ok-next_member.ensures))
 
 pub insert-set-requires : goal.insert-set-requires
 insert-set-requires c =
     omega (
       arith,
-      (members_more _ _ _ _ _ _ c.loop-left.invariant.0 c.loop-left-test.true c.if-low-gt-HIGHEST.false _ _
-          (sym c.in-Member.is ∙ c.next_member-n.ensures)),
+      members_more _ _ _ _ _ _ c.loop-turn.invariant.0 (omega (arith, c.loop-turn-test.true)) c.if-low-gt-HIGHEST.false c.in-Some.m
+          (sym (ap Ok c.in-Some.is) ∙ c.in_ok-next_member.ensures),
     )
 
 pub overflow_add-low : goal.overflow_add-low
 overflow_add-low c =
     omega (
       arith,
-      (members_more _ _ _ _ _ _ c.loop-left.invariant.0 c.loop-left-test.true c.if-low-gt-HIGHEST.false _ _
-          (sym c.in-Member.is ∙ c.next_member-n.ensures)),
+      members_more _ _ _ _ _ _ c.loop-turn.invariant.0 (omega (arith, c.loop-turn-test.true)) c.if-low-gt-HIGHEST.false c.in-Some.m
+          (sym (ap Ok c.in-Some.is) ∙ c.in_ok-next_member.ensures),
     )
 
-pub overflow_sub-left : goal.overflow_sub-left
-overflow_sub-left c =
-    omega (arith, c.loop-left-test.true)
-
-pub loop-left-smaller : goal.loop-left-smaller
-loop-left-smaller c =
-    omega (arith, c.loop-left-test.true)
-
-pub loop-left-preserved : goal.loop-left-preserved
-loop-left-preserved c =
+pub loop-turn-preserved : goal.loop-turn-preserved
+loop-turn-preserved c =
     let more =
-    members_next _ _ _ _ _ _ c.loop-left.invariant.0 c.loop-left-test.true c.if-low-gt-HIGHEST.false _ _ _
-    (sym c.in-Member.is ∙ c.next_member-n.ensures) c.insert-set.ensures in
-    (more.0, more.1, set_is _ (omega (arith, c.insert-set.type_inv)))
-
-pub closed_set-requires-2 : goal.closed_set-requires-2
-closed_set-requires-2 c = tt
+    members_next _ _ _ _ _ _ c.loop-turn.invariant.0 (omega (arith, c.loop-turn-test.true)) c.if-low-gt-HIGHEST.false c.in-Some.m _
+    (sym (ap Ok c.in-Some.is) ∙ c.in_ok-next_member.ensures) c.insert-set.ensures in
+    (fewer _ _ _ _ _ _ more.0, more.1, set_is _ (omega (arith, c.insert-set.type_inv)))
 
 pub returns : goal.returns
-returns c = c.closed_set-2.ensures ∙ sym (ap set_scan_of (members_end _ _ _ _ _ _ c.loop-left.invariant.0 c.loop-left-test.false))
+returns c =
+    c.closed_set.ensures ∙ elim c.loop-turn-test.branch [
+      | else-loop-turn-test w ↦ sym (ap set_scan_of (members_end _ _ _ _ _ _ c.loop-turn.invariant.0 (omega (arith, w.loop-turn-test.false))))
+      | then-loop-turn-test+then-low-gt-HIGHEST w ↦ sym (ap set_scan_of (members_past _ _ _ _ _ _ c.loop-turn.invariant.0 w.if-low-gt-HIGHEST.true))
+    ]

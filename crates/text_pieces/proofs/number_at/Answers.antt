@@ -2,7 +2,7 @@
 use mathlib.Core.Path.{sym, ◌∙◌, ap}
 use native.Mathlib.Omega.{arith}
 use borrow.Author.Rules.{rules}
-use Rattle.text_pieces.proofs.Outcomes.{number_fault}
+use Rattle.text_pieces.proofs.Outcomes.{found_fault}
 use Rattle.text_pieces.specs.Pieces.{number_read}
 use Rattle.text_grammar.proofs.Place.{byte_within}
 use Rattle.text_grammar.proofs.Number.{started_digit, number_first, number_never}
@@ -28,4 +28,4 @@ returns-then-starts c =
     (sym c.starts.ensures ∙ c.if-starts.true)))
 
 pub returns : goal.returns
-returns c = number_fault (number_never _ _ _ _ _ c.byte_at-b.ensures (sym c.starts.ensures ∙ c.if-starts.false))
+returns c = found_fault _ (number_never _ _ _ _ _ c.byte_at-b.ensures (sym c.starts.ensures ∙ c.if-starts.false))

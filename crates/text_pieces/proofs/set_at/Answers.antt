@@ -4,7 +4,7 @@ use native.Mathlib.Omega.{arith}
 use Rattle.text_pieces.proofs.Steps.{set_on, set_off}
 use Rattle.text_pieces.specs.Pieces.{set_scan_of}
 use Rattle.text_grammar.proofs.Place.{byte_within}
-use Rattle.text_pieces.proofs.Outcomes.{set_fault}
+use Rattle.text_pieces.proofs.Outcomes.{found_fault}
 use Rattle.text_pieces.proofs.set_at.Goals as goal
 
 pub overflow_add-i : goal.overflow_add-i
@@ -14,4 +14,4 @@ pub returns-then-byte_at-eq-OPEN : goal.returns-then-byte_at-eq-OPEN
 returns-then-byte_at-eq-OPEN c = c.members_at.ensures ∙ sym (ap set_scan_of (set_on _ _ (sym c.byte_at.ensures ∙ c.if-byte_at-eq-OPEN.true)))
 
 pub returns : goal.returns
-returns c = set_fault (set_off _ _ (λ e. c.if-byte_at-eq-OPEN.false (c.byte_at.ensures ∙ e)))
+returns c = found_fault _ (set_off _ _ (λ e. c.if-byte_at-eq-OPEN.false (c.byte_at.ensures ∙ e)))

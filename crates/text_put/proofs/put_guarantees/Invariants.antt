@@ -1,11 +1,7 @@
 -- `put_guarantees` meets its contract. The invariant: what is left, with what is done, makes the whole.
-use Prim.Native.Nat.{◌-◌}
 use Rattle.text_shape.specs.Text.{out_words}
 use Rattle.text_put.proofs.Pieces.{SetsLeft}
 use Rattle.text_put.proofs.put_guarantees.Given as goal
 
 abbrev pub invariant-loop-j : goal.invariant-loop-j
 invariant-loop-j l = SetsLeft l.initial.buffer l.initial.to l.n (out_words l.q.guarantees) l.buffer l.to l.gap l.j
-
-abbrev pub decreases-loop-j : goal.decreases-loop-j
-decreases-loop-j l = l.n - l.j

@@ -24,13 +24,6 @@ loop-k-init c = (
 pub opening_byte-b-requires : goal.opening_byte-b-requires
 opening_byte-b-requires c = (c.loop-k.invariant.3, omega (arith, c.loop-k.invariant, c.loop-k-test.true))
 
-pub overflow_add-k : goal.overflow_add-k
-overflow_add-k c =
-    omega (arith, c.loop-k.invariant, c.loop-k-test.true, opening_length c.args.w, word_short c.args.w)
-
-pub loop-k-smaller : goal.loop-k-smaller
-loop-k-smaller c = omega (arith, c.loop-k-test.true)
-
 pub loop-k-preserved : goal.loop-k-preserved
 loop-k-preserved c = (
   bytes_step (opening c.args.w) c.loop-k.k _ c.loop-k.invariant.0

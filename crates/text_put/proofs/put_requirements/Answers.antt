@@ -18,13 +18,6 @@ pub put_requirement-to-requires : goal.put_requirement-to-requires
 put_requirement-to-requires c =
     c.loop-r.invariant.1.sets c.loop-r.r c.loop-r-test.true
 
-pub overflow_add-r : goal.overflow_add-r
-overflow_add-r c =
-    omega (arith, c.loop-r.invariant.3, c.loop-r-test.true)
-
-pub loop-r-smaller : goal.loop-r-smaller
-loop-r-smaller c = omega (arith, c.loop-r-test.true)
-
 pub loop-r-preserved : goal.loop-r-preserved
 loop-r-preserved c = (
   remains_step _ _ c.loop-r.invariant.0 (requirements_take _ _ c.args.g.requirements _ c.loop-r-test.true

@@ -8,7 +8,5 @@ use Rattle.text_put.proofs.put_requirements.Given as goal
 
 abbrev pub invariant-loop-r : goal.invariant-loop-r
 invariant-loop-r l =
-    Remains l.initial.buffer l.at (requirement_lines l.k 0 l.g.requirements) l.buffer l.to (requirement_lines (l.k - l.r) l.r l.g.requirements) × Writable l.g × (l.k ≡ l.g.k) × (l.k ≤ 8)
-
-abbrev pub decreases-loop-r : goal.decreases-loop-r
-decreases-loop-r l = l.k - l.r
+    Remains l.initial.buffer l.at (requirement_lines l.k 0 l.g.requirements) l.buffer l.to (requirement_lines (l.k - l.r) l.r l.g.requirements)
+    × Writable l.g × (l.k ≡ l.g.k) × (l.k ≤ 8)

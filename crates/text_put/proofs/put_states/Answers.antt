@@ -17,14 +17,6 @@ pub flag-f-requires : goal.flag-f-requires
 flag-f-requires c =
     omega (arith, c.loop-s.invariant, c.loop-s-test.true)
 
-pub overflow_add-s : goal.overflow_add-s
-overflow_add-s c =
-    omega (arith, c.loop-s.invariant, c.loop-s-test.true)
-
-pub loop-s-smaller : goal.loop-s-smaller
-loop-s-smaller c =
-    omega (arith, c.loop-s-test.true)
-
 pub loop-s-preserved : goal.loop-s-preserved
 loop-s-preserved c = (
   remains_step _ _ c.loop-s.invariant.0

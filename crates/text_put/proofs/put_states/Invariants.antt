@@ -10,6 +10,3 @@ abbrev pub invariant-loop-s : goal.invariant-loop-s
 invariant-loop-s l =
     Remains l.initial.buffer l.at (state_lines l.w l.n 0 (plain l.h)) l.buffer l.to (state_lines l.w (l.n - l.s) l.s (plain l.h))
     × (l.n ≤ capacity) × (l.w < 10) × (l.n ≡ l.h.states) × (l.initial' ≡ l.h.initial)
-
-abbrev pub decreases-loop-s : goal.decreases-loop-s
-decreases-loop-s l = l.n - l.s

@@ -1,5 +1,5 @@
 -- `plain` writes the rows of one output, leader by leader, unless all of them have a home in reach.
-use Prim.Native.Nat.{ℕ, ◌-◌, ◌≤◌, ◌<◌}
+use Prim.Native.Nat.{ℕ, ◌≤◌, ◌<◌}
 use mathlib.Core.Path.{◌≡◌}
 use mathlib.Core.List.{List}
 use Rattle.bits.specs.Member.{has}
@@ -17,6 +17,3 @@ abbrev pub invariant-loop-j : goal.invariant-loop-j
 invariant-loop-j l =
     (l.j ≤ l.z.inputs) × (column_of l.z l.j ≡ l.b)
     × ((k : ℕ) → Told (sets_in l.s) l.z l.o.0 (bits_of l.x.0) k → Plain l.z (sets_in l.s) k l.o.0 (bits_of l.moves.0) l.j l.initial.room l.room)
-
-abbrev pub decreases-loop-j : goal.decreases-loop-j
-decreases-loop-j l = l.z.inputs - l.j

@@ -1,14 +1,11 @@
 -- `settling` collects the inputs with a home in reach.
-use Rattle.finite.specs.Bounded.{count}
-use Rattle.bits.specs.Member.{has, sets_meet}
+use Rattle.bits.specs.Member.{sets_meet}
 use Rattle.bits.proofs.Visit.{Collected}
 use Rattle.sets.specs.Words.{capacity, bits_of, sets_in}
 use Rattle.scratch.specs.Stored.{row_at}
 use Rattle.controller_opening.proofs.unsettled.settling.Given as goal
 
-abbrev pub invariant-loop-reach : goal.invariant-loop-reach
-invariant-loop-reach l =
-    Collected capacity (bits_of l.initial.rest) l.n (λ j. sets_meet capacity (row_at (sets_in l.s) l.n j) (bits_of l.reach.0)) (bits_of l.rest) (bits_of l.y)
-
-abbrev pub decreases-loop-reach : goal.decreases-loop-reach
-decreases-loop-reach l = count capacity (has (bits_of l.rest))
+abbrev pub invariant-loop-j : goal.invariant-loop-j
+invariant-loop-j l =
+    Collected capacity (bits_of l.initial.j-iterator.rest) l.n (λ j. sets_meet capacity (row_at (sets_in l.s) l.n j) (bits_of l.reach.0))
+    (bits_of l.j-iterator.rest) (bits_of l.y)

@@ -3,7 +3,6 @@ use Prim.Native.Nat.{◌+◌, ◌≤◌}
 use mathlib.Core.Path.{◌≡◌, refl}
 use native.Mathlib.Omega.{arith}
 use lib.ListN.{length}
-use Rattle.game.specs.declared.Game.{Game}
 use Rattle.text_shape.specs.Text.{plain, header_line, state_lines, requirement_lines}
 use Rattle.text_put.proofs.Pieces.{game_length}
 use Rattle.text_put.proofs.Bounds.{game_short}

@@ -28,12 +28,6 @@ overflow_add-to c =
     let short : c.requirement_length-to.result ≤ 4140 = requirement_few _ c.requirement_length-to.ensures (few) in
     omega (arith, c.loop-r.invariant.4, c.loop-r.invariant.1, c.loop-r-test.true, short)
 
-pub overflow_add-r : goal.overflow_add-r
-overflow_add-r c = omega (arith, c.loop-r.invariant.1, c.loop-r-test.true)
-
-pub loop-r-smaller : goal.loop-r-smaller
-loop-r-smaller c = omega (arith, c.loop-r-test.true)
-
 pub loop-r-preserved : goal.loop-r-preserved
 loop-r-preserved c =
     let few : Few (requirement_at c.args.g c.loop-r.r) = c.loop-r.invariant.3.sets c.loop-r.r c.loop-r-test.true in

@@ -10,6 +10,3 @@ abbrev pub invariant-loop-r : goal.invariant-loop-r
 invariant-loop-r l =
     (l.r ≤ l.k) × (l.k ≤ 8) × (l.k ≡ l.g.k) × Writable l.g × (l.to ≤ 4140 * l.r)
     × (l.to + length (requirement_lines (l.k - l.r) l.r l.g.requirements) ≡ length (requirement_lines l.k 0 l.g.requirements))
-
-abbrev pub decreases-loop-r : goal.decreases-loop-r
-decreases-loop-r l = l.k - l.r

@@ -23,12 +23,6 @@ overflow_add-to c =
     let short : c.state_length-to.result ≤ 537 = state_few _ _ _ c.state_length-to.ensures (omega (arith, c.loop-s.invariant.1, c.loop-s-test.true)) in
     omega (arith, c.loop-s.invariant.3, c.loop-s.invariant.1, c.loop-s-test.true, short)
 
-pub overflow_add-s : goal.overflow_add-s
-overflow_add-s c = omega (arith, c.loop-s.invariant.1, c.loop-s-test.true)
-
-pub loop-s-smaller : goal.loop-s-smaller
-loop-s-smaller c = omega (arith, c.loop-s-test.true)
-
 pub loop-s-preserved : goal.loop-s-preserved
 loop-s-preserved c =
     let short : c.state_length-to.result ≤ 537 = state_few _ _ _ c.state_length-to.ensures (omega (arith, c.loop-s.invariant.1, c.loop-s-test.true)) in

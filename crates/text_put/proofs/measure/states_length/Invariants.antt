@@ -10,6 +10,3 @@ abbrev pub invariant-loop-s : goal.invariant-loop-s
 invariant-loop-s l =
     (l.s ≤ l.n) × (l.n ≤ capacity) × (l.w < 10) × (l.to ≤ 537 * l.s)
     × ((h : PlainGraph) → h.moves ≡ sets_in l.rows → l.to + length (state_lines l.w (l.n - l.s) l.s h) ≡ length (state_lines l.w l.n 0 h))
-
-abbrev pub decreases-loop-s : goal.decreases-loop-s
-decreases-loop-s l = l.n - l.s

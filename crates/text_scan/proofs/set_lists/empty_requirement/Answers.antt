@@ -3,9 +3,6 @@ use lib.ListN.{replicate}
 use Rattle.text_shape.specs.Text.{empty_requirement}
 use Rattle.text_scan.proofs.set_lists.empty_requirement.Goals as goal
 
-pub empty-none-requires : goal.empty-none-requires
-empty-none-requires c = tt
-
 pub returns : goal.returns
 unfolding empty_requirement
 returns c =

@@ -14,6 +14,3 @@ invariant-loop-count l =
     (run (more_sets 3 (push no_sets (bits_of (get_or l.initial.list 0 no_states)))) (bytes l.s) l.initial.at
     ≡ run (more_sets (4 - l.count) (record { words = numbers_of l.list; count = l.count })) (bytes l.s) l.at)
     × (l.count ≤ 4) × (length l.list ≡ 4) × (sets_with (numbers_of l.list) ≡ l.list)
-
-abbrev pub decreases-loop-count : goal.decreases-loop-count
-decreases-loop-count l = 4 - l.count

@@ -5,9 +5,6 @@ use Rattle.text_shape.specs.Text.{record_of}
 use Rattle.text_shape.specs.Shape.{empty_graph}
 use Rattle.text_scan.proofs.whole.empty_graph.Goals as goal
 
-pub empty-none-requires : goal.empty-none-requires
-empty-none-requires c = tt
-
 pub returns : goal.returns
 unfolding empty_graph record_of
 returns c = let none = c.empty-none.ensures.0 ∙ sym no_states_lem in λ i. record { states = c.args.n; initial = none i; moves = words_none i }

@@ -4,11 +4,9 @@ use native.Mathlib.Omega.{arith}
 use lib.ListN.{replicate}
 use Rattle.sets.specs.Words.{capacity, sets_in, words_of}
 use Rattle.sets.proofs.Rows.{set_is, words_none, sets_words, rows_put}
-use Rattle.text_scan.proofs.WholeSteps.{moves_state, fault_state, graph_got, graph_fault, states_begin, states_fault, states_turn, states_end}
+use Rattle.text_pieces.proofs.Outcomes.{found_fault, fault_found, handed_on}
+use Rattle.text_scan.proofs.WholeSteps.{moves_state, graph_got, states_begin, states_fault, states_turn, states_end}
 use Rattle.text_scan.proofs.whole.graph_at.Goals as goal
-
-pub empty-initial-requires : goal.empty-initial-requires
-empty-initial-requires c = tt
 
 pub loop-t-init : goal.loop-t-init
 loop-t-init c =
@@ -21,39 +19,17 @@ loop-t-init c =
       refl,
     )
 
-pub state_at-q-requires : goal.state_at-q-requires
-state_at-q-requires c = (c.loop-t.invariant.2, omega (arith, c.loop-t.invariant, c.loop-t-test.true))
-
-pub no_graph-requires : goal.no_graph-requires
-no_graph-requires c = tt
-
-pub returns-in-Fault : goal.returns-in-Fault
-returns-in-Fault c =
-    graph_fault c.no_graph.ensures (states_fault _ _ _ _ _ _ _ _ c.loop-t.invariant.0 c.loop-t-test.true _
-    (fault_state _ (sym c.in-Fault.is ∙ c.state_at-q.ensures)))
-
-pub put_of-requires : goal.put_of-requires
-put_of-requires c =
-    (omega (arith, c.loop-t-test.true, c.loop-t.invariant.1), c.loop-t.invariant.5)
-
-pub marked-initial-requires : goal.marked-initial-requires
-marked-initial-requires c =
-    omega (arith, c.loop-t-test.true, c.loop-t.invariant.1)
-
-pub overflow_add-t : goal.overflow_add-t
-overflow_add-t c =
-    omega (arith, c.loop-t-test.true, c.loop-t.invariant.1)
-
-pub loop-t-smaller : goal.loop-t-smaller
-loop-t-smaller c =
-    omega (arith, c.loop-t-test.true)
+pub returns-in_err-q : goal.returns-in_err-q
+returns-in_err-q c =
+    handed_on c.from_residual.ensures.1
+    (found_fault _ (states_fault _ _ _ _ _ _ _ _ c.loop-t.invariant.0 c.loop-t-test.true _ (fault_found _ _ c.in_err-q.ensures)))
 
 pub loop-t-preserved : goal.loop-t-preserved
 loop-t-preserved c =
     let put = c.put_of.ensures in
     let rows = rows_put _ _ _ _ c.loop-t.invariant.4 put.0 in (
       states_turn _ _ _ _ _ _ _ _ c.loop-t.invariant.0 c.loop-t-test.true _ _ _ _ _
-          (moves_state _ (sym c.in-Moves.is ∙ c.state_at-q.ensures)) c.marked-initial.ensures.0 rows.0,
+          (moves_state _ c.in_ok-q.ensures) c.marked-initial.ensures.0 rows.0,
       c.loop-t.invariant.1,
       c.loop-t.invariant.2,
       c.marked-initial.ensures.1,

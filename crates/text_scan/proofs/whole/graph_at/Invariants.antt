@@ -13,6 +13,3 @@ invariant-loop-t l =
     (run (states_format l.w l.n 0 (empty_graph l.n)) (bytes l.s) l.i
     ≡ run (states_format l.w (l.n - l.t) l.t (record { states = l.n; initial = bits_of l.initial'; moves = sets_in l.moves })) (bytes l.s) l.at)
     × (l.n ≤ capacity) × (l.w < 10) × (set_of (bits_of l.initial') ≡ l.initial') × (words_of (sets_in l.moves) ≡ l.moves) × (length l.moves ≡ row_words)
-
-abbrev pub decreases-loop-t : goal.decreases-loop-t
-decreases-loop-t l = l.n - l.t

@@ -10,7 +10,6 @@ use Rattle.text_scan.proofs.whole.requirements_at.Given as goal
 
 abbrev pub invariant-loop-t : goal.invariant-loop-t
 invariant-loop-t l =
-    (run (requirements_format l.k 0 (replicate 8 empty_requirement)) (bytes l.s) l.i ≡ run (requirements_format (l.k - l.t) l.t l.qs) (bytes l.s) l.at) × (l.k ≤ 8)
-
-abbrev pub decreases-loop-t : goal.decreases-loop-t
-decreases-loop-t l = l.k - l.t
+    (run (requirements_format l.k 0 (replicate 8 empty_requirement)) (bytes l.s) l.i
+    ≡ run (requirements_format (l.k - l.t) l.t l.qs) (bytes l.s) l.at)
+    × (l.k ≤ 8)

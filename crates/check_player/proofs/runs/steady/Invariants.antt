@@ -1,9 +1,0 @@
--- `steady` counts its steps.
-use Prim.Native.Nat.{◌≤◌, ◌-◌}
-use Rattle.check_player.proofs.runs.steady.Given as goal
-
-abbrev pub invariant-loop-k : goal.invariant-loop-k
-invariant-loop-k l = l.k ≤ l.steps
-
-abbrev pub decreases-loop-k : goal.decreases-loop-k
-decreases-loop-k l = l.steps - l.k

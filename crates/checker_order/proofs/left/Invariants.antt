@@ -1,9 +1,0 @@
--- `left` meets its contract.
-use Prim.Native.Nat.{◌≤◌}
-use Rattle.checker_order.proofs.left.Given as goal
-
-abbrev pub invariant-loop-k : goal.invariant-loop-k
-invariant-loop-k l = l.k ≤ l.n
-
-abbrev pub decreases-loop-k : goal.decreases-loop-k
-decreases-loop-k l = l.k
