@@ -152,18 +152,32 @@ module _ (g : Game) (l : List ℕ) where
   S = separated_of g
 
   over_number_lem : (n : ℕ) → move_number (over_answer g l n) ≡ first_of (over_tests g l n)
-  unfolding over_answer over_tests
+  unfolding over_answer over_tests over_refusals numbered
   over_number_lem n =
       accepted_as (acceptance g) (first_failing (over_refusals S l n)) (compact_length S)
       ∙ ap (after (acceptance g)) (tests_number (over_refusals S l n))
       ∙ sym (game_after g (numbered (over_refusals S l n)))
 
   back_number_lem : (n : ℕ) → move_number (back_answer g l n) ≡ first_of (back_tests g l n)
-  unfolding back_answer back_tests
+  unfolding back_answer back_tests back_refusals numbered
   back_number_lem n =
       accepted_as (acceptance g) (first_failing (back_refusals S l n)) (full_length S)
       ∙ ap (after (acceptance g)) (tests_number (back_refusals S l n))
       ∙ sym (game_after g (numbered (back_refusals S l n)))
+
+  over_counted : (n : ℕ) → acceptance g ≡ accepted → move_number (over_answer g l n) ≡ over_number S l n
+  unfolding over_answer
+  over_counted n a =
+      accepted_as (acceptance g) (first_failing (over_refusals S l n)) (compact_length S)
+      ∙ ap (λ (x : Acceptance). after x (acceptance_number (first_failing (over_refusals S l n)))) a
+      ∙ sym (over_number_as S l n)
+
+  back_counted : (n : ℕ) → acceptance g ≡ accepted → move_number (back_answer g l n) ≡ back_number S l n
+  unfolding back_answer
+  back_counted n a =
+      accepted_as (acceptance g) (first_failing (back_refusals S l n)) (full_length S)
+      ∙ ap (λ (x : Acceptance). after x (acceptance_number (first_failing (back_refusals S l n)))) a
+      ∙ sym (back_number_as S l n)
 
   -- ---- refusals
 
@@ -173,6 +187,7 @@ module _ (g : Game) (l : List ℕ) where
     over_refused r h = record {
       answer = h;
       number = ap move_number h ∙ over_number_lem (length w);
+      counted = λ a. ap move_number h ∙ over_counted (length w) a;
       room = refl;
       over_and_back = λ n e. not_moved n r e;
     }
@@ -182,6 +197,7 @@ module _ (g : Game) (l : List ℕ) where
     back_refused r h = record {
       answer = h;
       number = ap move_number h ∙ back_number_lem (length w);
+      counted = λ a. ap move_number h ∙ back_counted (length w) a;
       room = refl;
       back_and_over = λ n e. not_moved n r e;
     }
@@ -226,6 +242,7 @@ module _ (g : Game) (l : List ℕ) where
           over_made n {w'} z h e = record {
             answer = made;
             number = ap move_number made ∙ over_number_lem (length w);
+            counted = λ b. ap move_number made ∙ over_counted (length w) b;
             room = e ∙ ap (λ (k : ℕ). to_compact S l ++ drop k w) (sym z);
             over_and_back = λ k q. (again, over_and_back S l (full_fits_intro S l long) rows);
           }
@@ -256,6 +273,7 @@ module _ (g : Game) (l : List ℕ) where
           back_made n {w'} z h e = record {
             answer = made;
             number = ap move_number made ∙ back_number_lem (length w);
+            counted = λ b. ap move_number made ∙ back_counted (length w) b;
             room = e ∙ ap (λ (k : ℕ). from_compact S l ++ drop k w) (sym z);
             back_and_over = λ k q. (again, back_and_over S l (compact_fits_intro S l long) ranks);
           }

@@ -16,12 +16,12 @@ use Rattle.game.specs.declared.Game.{Game}
 use Rattle.game.specs.declared.Refusal.{Refusal}
 use Rattle.game.specs.declared.Refusal.TheVariants.{OtherLayout, RowsDiffer, OtherRanks, ShortController}
 use Rattle.arena.specs.Arena.{Separated}
-use Rattle.game.specs.Acceptance.{Acceptance, first_failing, acceptance}
-use Rattle.game.specs.Numbers.{numbered, first_of, game_tests}
+use Rattle.game.specs.Acceptance.{Acceptance, accepted, first_failing, acceptance}
+use Rattle.game.specs.Numbers.{first_of, game_tests}
 use Rattle.play.specs.Play.{separated_of}
 use Rattle.compact.specs.Rank.{component_count}
 use Rattle.compact.specs.Compact.{full_length, compact_length}
-use Rattle.compact.specs.Moving.{to_compact, from_compact, full_fits, compact_fits, ranks_fit, rows_fit}
+use Rattle.compact.specs.Moving.{to_compact, from_compact, full_fits, compact_fits, ranks_fit, rows_fit, over_number, back_number}
 use Rattle.compact_moves.specs.Move.{Move, Count}
 use Rattle.std.specs.declared.result.Result.TheVariants.{Ok, Err}
 
@@ -51,11 +51,15 @@ back_answer g l n =
       | Err r ↦ Err r
     ]
 
+-- the same tests once more, their numbers written out (SPEC 9.1, 11.3)
 unfoldable pub over_tests : Game → List ℕ → ℕ → List (ℕ × Bool)
-over_tests g l n = game_tests g ++ numbered (over_refusals (separated_of g) l n)
+over_tests g l n =
+    game_tests g ++ (23, full_fits (separated_of g) l) ∷ (21, rows_fit (separated_of g) l) ∷ (9, leb (compact_length (separated_of g)) n) ∷ []
 
+-- SPEC 9.1, 11.3
 unfoldable pub back_tests : Game → List ℕ → ℕ → List (ℕ × Bool)
-back_tests g l n = game_tests g ++ numbered (back_refusals (separated_of g) l n)
+back_tests g l n =
+    game_tests g ++ (23, compact_fits (separated_of g) l) ∷ (22, ranks_fit (separated_of g) l) ∷ (9, leb (full_length (separated_of g)) n) ∷ []
 
 abbrev pub move_number : Move → ℕ
 move_number (Ok n) = 0
@@ -71,10 +75,12 @@ unfoldable pub back_room : Game → Move → List ℕ → List ℕ → List ℕ
 back_room g (Ok n) l w = from_compact (separated_of g) l ++ drop n w
 back_room g (Err n) l w = w
 
+-- `counted`: the number is that of `over_number` or `back_number`, of which the laws of the layouts speak
 -- `over_and_back`, `back_and_over`: what was written, moved again to a room of the table's length, is not refused and is the table (SPEC 11.3)
 pub record MovedOver (g : Game) (l w w' : List ℕ) (r : Move) : Type 0 where
   pub answer : r ≡ over_answer g l (length w)
   pub number : move_number r ≡ first_of (over_tests g l (length w))
+  pub counted : acceptance g ≡ accepted → move_number r ≡ over_number (separated_of g) l (length w)
   pub room : w' ≡ over_room g r l w
   pub over_and_back : (n : ℕ) → r ≡ Ok n
       → (back_answer g (to_compact (separated_of g) l) (length l) ≡ Ok (length l)) × (from_compact (separated_of g) (to_compact (separated_of g) l) ≡ l)
@@ -83,6 +89,7 @@ pub record MovedOver (g : Game) (l w w' : List ℕ) (r : Move) : Type 0 where
 pub record MovedBack (g : Game) (l w w' : List ℕ) (r : Move) : Type 0 where
   pub answer : r ≡ back_answer g l (length w)
   pub number : move_number r ≡ first_of (back_tests g l (length w))
+  pub counted : acceptance g ≡ accepted → move_number r ≡ back_number (separated_of g) l (length w)
   pub room : w' ≡ back_room g r l w
   pub back_and_over : (n : ℕ) → r ≡ Ok n
       → (over_answer g (from_compact (separated_of g) l) (length l) ≡ Ok (length l)) × (to_compact (separated_of g) (from_compact (separated_of g) l) ≡ l)

@@ -163,7 +163,7 @@ module _ (g : Game) (b : List ℕ) (s : ℕ) where
 
 module _ (g : Game) (b s m : List ℕ) where
   map_number_lem : map_number (barred_map_answer g b (length s) (length m)) ≡ first_of (barred_map_tests g b (length s) (length m))
-  unfolding barred_map_tests barred_map_answer room_tests
+  unfolding barred_map_tests barred_map_answer room_tests room_refusals numbered
   map_number_lem = go (acceptance g) ∙ sym (game_after g (room_tests g b (length s) (length m)))
     where
       same : (a : Acceptance) → map_number a ≡ acceptance_number a
@@ -242,7 +242,7 @@ module _ (g : Game) (b s m : List ℕ) where
 
 module _ (g : Game) (b s : List ℕ) where
   verdict_number_lem : (w : Bool) → barred_number (barred_verdict_answer g b (length s) w) ≡ first_of (verdict_tests g b (length s))
-  unfolding verdict_tests barred_verdict_answer barred_judged bar_tests
+  unfolding verdict_tests barred_verdict_answer barred_judged bar_tests bar_refusals numbered
   verdict_number_lem w = go (acceptance g) ∙ sym (game_after g (bar_tests g b (length s)))
     where
       told : (a : Acceptance) (w : Bool) → barred_number (barred_judged a w) ≡ acceptance_number a

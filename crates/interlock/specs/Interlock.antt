@@ -21,7 +21,7 @@ use Rattle.game.specs.declared.Game.{Game}
 use Rattle.game.specs.declared.Refusal.{Refusal}
 use Rattle.game.specs.declared.Refusal.TheVariants.{BarOutside, NotOneRequirement, ShortScratch}
 use Rattle.game.specs.Acceptance.{Acceptance, first_failing, acceptance}
-use Rattle.game.specs.Numbers.{numbered, first_of, game_tests}
+use Rattle.game.specs.Numbers.{first_of, game_tests}
 use Rattle.play.specs.Play.{separated_of}
 use Rattle.scratch_clearing.specs.Clearing.{cleared}
 use Rattle.map_marks.specs.Marks.{MapFilled}
@@ -45,7 +45,7 @@ unfoldable pub bar_refusals : Game → List ℕ → ℕ → List (Refusal × Boo
 bar_refusals g b s = (BarOutside, bars_inside g b) ∷ (NotOneRequirement, one_requirement g b) ∷ (ShortScratch, bars_fit g (length b) s) ∷ []
 
 unfoldable pub bar_tests : Game → List ℕ → ℕ → List (ℕ × Bool)
-bar_tests g b s = numbered (bar_refusals g b s)
+bar_tests g b s = (29, bars_inside g b) ∷ (28, one_requirement g b) ∷ (8, bars_fit g (length b) s) ∷ []
 
 -- ---- the map
 
@@ -59,7 +59,7 @@ room_refusals g b s m =
     ∷ []
 
 unfoldable pub room_tests : Game → List ℕ → ℕ → ℕ → List (ℕ × Bool)
-room_tests g b s m = numbered (room_refusals g b s m)
+room_tests g b s m = (29, bars_inside g b) ∷ (28, one_requirement g b) ∷ (8, bars_fit g (length b) s) ∷ (8, leb (words_for g.input.states) m) ∷ []
 
 unfoldable pub barred_map_tests : Game → List ℕ → ℕ → ℕ → List (ℕ × Bool)
 barred_map_tests g b s m = game_tests g ++ room_tests g b s m
