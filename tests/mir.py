@@ -9,8 +9,9 @@ import json
 import pathlib
 
 
-# What the crates call of std. Each of these looks at a value, moves it, or writes a slice that is lent to it, and calls nothing of ours: a local of theirs
-# holds no more than the caller's own locals do. Any other function that is not there is an error.
+# What the crates call of std. Each of these looks at a value, moves it, or writes a slice that is lent to it: a local of theirs holds no more than the caller's
+# own locals do. Of ours they call the methods of the impls that the call hands over, and nothing else; those are followed. Any other function that is not
+# there is an error.
 STD = {
     "core::clone::UsizeClone::clone",
     "core::cmp::numbers::UsizePartialEq::eq",
@@ -49,16 +50,27 @@ class Function:
         self.name, self.body = name, said["body"]
         self.types = [local["ty"] for local in said["locals"]]
         self.shapes = {named["name"]: named["shape"] for named in said["types"]}
-        self.calls, self.other = set(), []
+        self.calls, self.other, self.impls = set(), [], set()
         for word, inner in terms(self.body):
             if word == "Fn":
                 self.calls.add(inner[0])
+                if inner[0] in STD:
+                    self.impls |= {handed[0] for kind, handed in terms(inner[1]) if kind == "Impl"}
             elif word in ("CallV", "Fork") or word == "Call" and "Fn" not in inner[0]:
                 self.other.append(word)
 
 
 def functions(text):
     return [Function(name, said) for name, said in json.loads(text)]
+
+
+def methods(program, impl):
+    """The methods of an impl that a function of std is handed: none where it is std's own, and none to free what needs no freeing. An impl of ours without a
+    method is an error."""
+    found = {name for name in program if name.startswith(f"{impl}::")}
+    if not found and not impl.startswith("core::") and not impl.endswith("::Destruct++none"):
+        raise ValueError(f"{impl} has no method")
+    return found
 
 
 def reached(program, entry):
@@ -69,7 +81,7 @@ def reached(program, entry):
         f = program[left.pop()]
         if f.other:
             raise ValueError(f"{f.name} calls what no name tells: {f.other[0]}")
-        for name in f.calls - seen - STD:
+        for name in f.calls.union(*(methods(program, impl) for impl in f.impls)) - seen - STD:
             seen.add(name)
             left.append(name)
     return [program[name] for name in sorted(seen)]
