@@ -30,7 +30,7 @@
  *   nanpuwiq_compact_row             64
  *   nanpuwiq_accept_kit          31,000
  *   nanpuwiq_solve_kit           41,000
- *   nanpuwiq_read                46,400
+ *   nanpuwiq_read                41,100
  *   nanpuwiq_write               24,000
  *   nanpuwiq_begin               20,500
  *   nanpuwiq_step                21,000

@@ -1,7 +1,7 @@
 // The answers of the public entries as records for callers in other languages. A code is document 01's number of a refusal, 0 for none.
 #![tactic(auto)]
 
-ghost use Rattle.std.specs.Prelude.{◌≡◌};
+ghost use Rattle.std.specs.Prelude.{◌≡◌, Err};
 ghost use Rattle.player.specs.Player.{moved_of};
 ghost use Rattle.game.specs.Acceptance.{acceptance_number};
 ghost use Rattle.nanpuwiq_results.specs.Results.{solve_result, read_result, write_result, compare_result, panel_moved, zero_position};
@@ -274,6 +274,26 @@ pub fn check_result(a: Result<Finding, Refusal>) -> CheckResult
     }
 }
 
+// One empty game for either refusal: a game is 5,304 bytes of the stack.
+#[tactic(auto, unfolding(crate::specs::Results::read_result))]
+fn unread_result(u: Unread) -> ReadResult
+    ensures { result ≡ read_result (Err u) }
+{
+    let game = whole::empty_game();
+    match u {
+        Unread::Misshapen(p) => ReadResult {
+            code: u8::from(Refusal::NoGame),
+            place: p,
+            game,
+        },
+        Unread::Refused(r) => ReadResult {
+            code: u8::from(r),
+            place: 0,
+            game,
+        },
+    }
+}
+
 #[tactic(auto, unfolding(crate::specs::Results::read_result))]
 pub fn read_result(a: Result<Game, Unread>) -> ReadResult
     ensures { result ≡ read_result a }
@@ -284,16 +304,7 @@ pub fn read_result(a: Result<Game, Unread>) -> ReadResult
             place: 0,
             game,
         },
-        Err(Unread::Misshapen(p)) => ReadResult {
-            code: u8::from(Refusal::NoGame),
-            place: p,
-            game: whole::empty_game(),
-        },
-        Err(Unread::Refused(r)) => ReadResult {
-            code: u8::from(r),
-            place: 0,
-            game: whole::empty_game(),
-        },
+        Err(u) => unread_result(u),
     }
 }
 
