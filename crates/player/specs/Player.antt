@@ -98,11 +98,11 @@ unfoldable pub moved_of : Position → Played → Moved
 moved_of old (Ok p) = record { at = p; code = 0 }
 moved_of old (Err r) = record { at = old; code = number r }
 
--- What the step in place leaves: "each accepted input moves that place on", and a refusal leaves it as it was. (SPEC 10.1)
 unfoldable pub refusal_of : Played → Acceptance
 refusal_of (Ok p) = accepted
 refusal_of (Err r) = Err r
 
+-- What the step in place leaves: "each accepted input moves that place on", and a refusal leaves it as it was. (SPEC 10.1)
 pub record Advanced (old : Position) (answer : Played) (new : Position) (r : Acceptance) : Type 0 where
   pub position : new ≡ (moved_of old answer).at
   pub refusal : r ≡ refusal_of answer
