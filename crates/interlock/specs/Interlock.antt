@@ -44,6 +44,7 @@ bars_fit g b s = leb (words_for g.input.states) b && leb barred_words s
 unfoldable pub bar_refusals : Game → List ℕ → ℕ → List (Refusal × Bool)
 bar_refusals g b s = (BarOutside, bars_inside g b) ∷ (NotOneRequirement, one_requirement g b) ∷ (ShortScratch, bars_fit g (length b) s) ∷ []
 
+-- SPEC 9.1, 15.3
 unfoldable pub bar_tests : Game → List ℕ → ℕ → List (ℕ × Bool)
 bar_tests g b s = (29, bars_inside g b) ∷ (28, one_requirement g b) ∷ (8, bars_fit g (length b) s) ∷ []
 
@@ -58,6 +59,7 @@ room_refusals g b s m =
     ∷ (ShortScratch, leb (words_for g.input.states) m)
     ∷ []
 
+-- the same tests once more, their numbers written out (SPEC 9.1, 15.3)
 unfoldable pub room_tests : Game → List ℕ → ℕ → ℕ → List (ℕ × Bool)
 room_tests g b s m = (29, bars_inside g b) ∷ (28, one_requirement g b) ∷ (8, bars_fit g (length b) s) ∷ (8, leb (words_for g.input.states) m) ∷ []
 
