@@ -274,7 +274,7 @@ pub fn check_result(a: Result<Finding, Refusal>) -> CheckResult
     }
 }
 
-// One empty game for either refusal: a game is 5,304 bytes of the stack.
+// One empty game for either refusal, so that the stack holds one and not two.
 #[tactic(auto, unfolding(crate::specs::Results::read_result))]
 fn unread_result(u: Unread) -> ReadResult
     ensures { result ≡ read_result (Err u) }
